@@ -1,0 +1,87 @@
+//! A request as the client sends it.
+ghost use Rattle.std.specs.Prelude.{◌≡◌, ◌≢◌, ◌∷◌, ◌++◌, take, IfOk, IfErr};
+ghost use Rattle.byteorder.specs.Endian.{big_bytes};
+ghost use Rattle.fa_cmds.specs.Requests.{request_bytes, body_length, command_number, IsNamed, IsRequest};
+
+use byteorder::{BigEndian, ByteOrder};
+use thiserror::Error;
+
+/// The bytes of a request, without the data that may follow it.
+pub const REQUEST_BYTES: usize = 28;
+
+/// The first four bytes of a request.
+const REQUEST_MAGIC: u32 = 0x2560_9513;
+
+/// What a request asks for.
+#[derive(Clone, Copy, Debug, PartialEq, Eq)]
+pub enum Command {
+    /// Command 0: bytes of the disk.
+    Read,
+    /// Command 1: new bytes of the disk, which follow the request.
+    Write,
+    /// Command 2: the end of the connection.
+    Disconnect,
+    /// Another command, by its number.
+    Other(u16),
+}
+
+/// The fields of a request.
+#[derive(Clone, Copy, Debug, PartialEq, Eq)]
+pub struct Request {
+    /// Bit 0 is FUA.
+    pub flags: u16,
+    /// What is asked for.
+    pub command: Command,
+    /// The client's mark, which the reply repeats.
+    pub cookie: u64,
+    /// Where the range begins, in bytes.
+    pub offset: u64,
+    /// How many bytes the range has.
+    pub length: u32,
+}
+
+/// The bytes do not begin as a request does.
+#[derive(Clone, Copy, Debug, PartialEq, Eq, Error)]
+#[error("wrong magic")]
+pub struct WrongMagic;
+
+/// The request that the bytes spell.
+pub fn read_request(bytes: &[u8; 28]) -> Result<Request, WrongMagic>
+    ensures fits { IfOk result IsRequest }
+    ensures spelled { IfOk result (λ r. bytes.now ≡ request_bytes r) }
+    ensures magic { IfErr result (λ _. take 4 bytes.now ≢ big_bytes 4 0x25609513) }
+{
+    if BigEndian::read_u32(&bytes[0..4]) != REQUEST_MAGIC {
+        return Err(WrongMagic);
+    }
+    Ok(Request {
+        flags: BigEndian::read_u16(&bytes[4..6]),
+        command: command_of(BigEndian::read_u16(&bytes[6..8])),
+        cookie: BigEndian::read_u64(&bytes[8..16]),
+        offset: BigEndian::read_u64(&bytes[16..24]),
+        length: BigEndian::read_u32(&bytes[24..28]),
+    })
+}
+
+/// The command of a number.
+fn command_of(number: u16) -> Command
+    ensures named { IsNamed result }
+    ensures number { command_number result ≡ number }
+{
+    match number {
+        0 => Command::Read,
+        1 => Command::Write,
+        2 => Command::Disconnect,
+        _ => Command::Other(number),
+    }
+}
+
+/// How many bytes of data follow the request: those of a WRITE, whatever is decided of it.
+pub fn body_len(request: Request) -> u32
+    ensures { result ≡ body_length request }
+{
+    match request.command {
+        Command::Write => request.length,
+        _ => 0,
+    }
+}

@@ -1,0 +1,4 @@
+pub mod Heard
+pub mod Negotiation
+pub mod Talk
+pub mod View

@@ -1,0 +1,216 @@
+//! What comes of the bytes that are held of an item of the client.
+ghost use Rattle.std.specs.Prelude.{◌≡◌, ℕ, List, [], length, IfOk};
+ghost use Rattle.fa_nego.specs.Negotiation.{GoComesTo, ComesTo};
+ghost use Rattle.fa_nego.specs.Talk.{Flags, Options};
+ghost use Rattle.fa_nego.specs.View.{stage_at, next_after};
+ghost use Rattle.fa_nego.specs.Heard.{IsHead, Judges, stage_after};
+
+use crate::asked::{asked_name, is_known};
+use crate::phase::{Ending, Phase};
+use crate::reply::{ACK, ERR_INVALID, ERR_UNKNOWN, ERR_UNSUP, GO, OPTION_MAGIC, info_reply, reply};
+use crate::step::CloseCause;
+use byteorder::{BigEndian, ByteOrder};
+use std::alloc::{AllocError, Allocator};
+
+/// How many bytes the client's flags have.
+pub const FLAGS_LEN: usize = 4;
+
+/// How many bytes stand before an option's data.
+pub const HEAD_LEN: usize = 16;
+
+/// The most bytes of data that an option may have.
+const LONGEST_DATA: u32 = 65_536;
+
+/// The option by which a client asks for transmission in the old way.
+const EXPORT_NAME: u32 = 1;
+
+/// The option by which a client ends the connection.
+const ABORT: u32 = 2;
+
+/// What an option comes to: what the server says to it, and how the negotiation ended, if it did.
+#[derive(Drop)]
+pub struct Come<A: Allocator> {
+    pub said: Vec<u8, A>,
+    pub ending: Option<Ending>,
+}
+
+/// What comes of the bytes of an item: what the server says to them, and the phase that follows,
+/// `None` where the item is not whole.
+#[derive(Drop)]
+pub struct Judged<A: Allocator> {
+    pub said: Vec<u8, A>,
+    pub next: Option<Phase>,
+}
+
+/// What stands before an option's data.
+#[derive(Clone, Copy, Debug, PartialEq, Eq)]
+enum Head {
+    /// Not the magic number of an option.
+    WrongMagic,
+    /// More data is announced than an option may have.
+    TooLong,
+    /// An option with so many bytes of data.
+    Good { option: u32, len: u32 },
+}
+
+/// Judges the bytes that are held of an item.
+pub fn judge<A: Allocator>(
+    alloc: A,
+    export: &str,
+    size: u64,
+    phase: Phase,
+    held: &[u8],
+) -> Result<Judged<A>, AllocError>
+    ensures { IfOk result (λ judged. Judges export.now size (stage_at phase held.now) judged.said.items
+        (stage_after phase held.now judged.next)) }
+{
+    match phase {
+        Phase::Flags => Ok(Judged {
+            said: Vec::new(alloc),
+            next: judge_flags(held),
+        }),
+        Phase::Options { flags } => judge_option(alloc, export.as_bytes(), size, flags, held),
+        Phase::Over(_) => Ok(waits(alloc)),
+    }
+}
+
+/// The phase that follows the client's flags.
+fn judge_flags(held: &[u8]) -> Option<Phase>
+    ensures { (export : List ℕ) (size : ℕ)
+        → Judges export size (Flags held.now) [] (stage_after Phase.Flags held.now result) }
+{
+    if held.len() < FLAGS_LEN {
+        return None;
+    }
+    let flags = BigEndian::read_u32(held);
+    // Only bits 0 and 1 are known: FIXED_NEWSTYLE and NO_ZEROES.
+    if flags < 4 {
+        Some(Phase::Options { flags })
+    } else {
+        Some(Phase::Over(Ending::Closes(CloseCause::UnknownFlag)))
+    }
+}
+
+/// Judges the bytes of an option: first its head, then, once its data is whole, all of it.
+fn judge_option<A: Allocator>(
+    alloc: A,
+    export: &[u8],
+    size: u64,
+    flags: u32,
+    held: &[u8],
+) -> Result<Judged<A>, AllocError>
+    ensures { IfOk result (λ judged. Judges export.now size (Options flags held.now) judged.said.items
+        (stage_after (Phase.Options flags) held.now judged.next)) }
+{
+    if held.len() < HEAD_LEN {
+        return Ok(waits(alloc));
+    }
+    let (head, given) = held.split_at(HEAD_LEN);
+    match head_of(head) {
+        Head::WrongMagic => Ok(closed(alloc, CloseCause::WrongMagic)),
+        Head::TooLong => Ok(closed(alloc, CloseCause::TooLong)),
+        Head::Good { option, len } => {
+            if given.len() < len as usize {
+                return Ok(waits(alloc));
+            }
+            let come = answer(alloc, export, size, option, given)?;
+            let next = match come.ending {
+                None => Phase::Options { flags },
+                Some(ending) => Phase::Over(ending),
+            };
+            Ok(Judged {
+                said: come.said,
+                next: Some(next),
+            })
+        }
+    }
+}
+
+/// An item that is not whole, of which the server says nothing.
+fn waits<A: Allocator>(alloc: A) -> Judged<A>
+    ensures said { result.said.items ≡ [] }
+    ensures next { result.next ≡ None }
+{
+    Judged {
+        said: Vec::new(alloc),
+        next: None,
+    }
+}
+
+/// The end of a negotiation that the server closes with no word.
+fn closed<A: Allocator>(alloc: A, cause: CloseCause) -> Judged<A>
+    ensures said { result.said.items ≡ [] }
+    ensures next { result.next ≡ Some (Phase.Over (Ending.Closes cause)) }
+{
+    Judged {
+        said: Vec::new(alloc),
+        next: Some(Phase::Over(Ending::Closes(cause))),
+    }
+}
+
+/// Judges the 16 bytes before an option's data.
+fn head_of(head: &[u8]) -> Head
+    requires { length head.now ≡ HEAD_LEN }
+    ensures { IsHead head.now result }
+{
+    if BigEndian::read_u64(head) != OPTION_MAGIC {
+        return Head::WrongMagic;
+    }
+    let len = BigEndian::read_u32(&head[12..]);
+    if len > LONGEST_DATA {
+        return Head::TooLong;
+    }
+    let option = BigEndian::read_u32(&head[8..]);
+    Head::Good { option, len }
+}
+
+/// What an option with this data comes to.
+fn answer<A: Allocator>(
+    alloc: A,
+    export: &[u8],
+    size: u64,
+    option: u32,
+    given: &[u8],
+) -> Result<Come<A>, AllocError>
+    ensures { IfOk result (λ come. ComesTo export.now size (record { option = option; given = given.now })
+        (record { said = come.said.items; next = next_after come.ending })) }
+{
+    match option {
+        EXPORT_NAME => Ok(Come {
+            said: Vec::new(alloc),
+            ending: Some(Ending::Closes(CloseCause::UnknownName)),
+        }),
+        ABORT => Ok(Come {
+            said: reply(alloc, ABORT, ACK)?,
+            ending: Some(Ending::Aborts),
+        }),
+        GO => go(alloc, export, size, given),
+        _ => Ok(Come {
+            said: reply(alloc, option, ERR_UNSUP)?,
+            ending: None,
+        }),
+    }
+}
+
+/// What a GO with this data comes to.
+fn go<A: Allocator>(alloc: A, export: &[u8], size: u64, given: &[u8]) -> Result<Come<A>, AllocError>
+    ensures { IfOk result (λ come. GoComesTo export.now size given.now
+        (record { said = come.said.items; next = next_after come.ending })) }
+{
+    let Some(name) = asked_name(given) else {
+        return Ok(Come {
+            said: reply(alloc, GO, ERR_INVALID)?,
+            ending: None,
+        });
+    };
+    if !is_known(export, name) {
+        return Ok(Come {
+            said: reply(alloc, GO, ERR_UNKNOWN)?,
+            ending: None,
+        });
+    }
+    Ok(Come {
+        said: info_reply(alloc, size)?,
+        ending: Some(Ending::Begins),
+    })
+}

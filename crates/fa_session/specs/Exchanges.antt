@@ -1,0 +1,118 @@
+-- Transmission: the requests of a client, the calls of the store that they ask for, and the replies.
+-- NBD protocol text, "Transmission phase".
+use Rattle.std.specs.Prelude.{◌≡◌, ◌≢◌, ℕ, ◌<◌, ◌≤◌, ◌⊎◌, List, [], ◌∷◌, ◌++◌, length, take, Option, None, Some}
+use Rattle.std.specs.List.{flat_map, AllByRecursion}
+use Rattle.std.specs.Io.KnownBytes.{Consumes, Appends, IsAtEnd}
+use Rattle.byteorder.specs.Endian.{big_bytes}
+use Rattle.fa_types.specs.Store.{Call, Reading, Writing, Answer, Gave, Done, Refused}
+use Rattle.fa_types.specs.declared.blocks.BlockFault.{BlockFault}
+use Rattle.fa_types.specs.declared.blocks.BlockFault.TheVariants.{Lost, NoRoom, NoMemory, Spent}
+use Rattle.fa_cmds.specs.declared.request.Request.{Request}
+use Rattle.fa_cmds.specs.declared.request.Command.{Command}
+use Rattle.fa_cmds.specs.declared.request.Command.TheVariants.{Read, Write, Disconnect, Other}
+use Rattle.fa_cmds.specs.declared.decision.Decision.TheVariants.{Disconnect as Leave, Do, Refuse}
+use Rattle.fa_cmds.specs.declared.reply.ReplyCode.{ReplyCode}
+use Rattle.fa_cmds.specs.declared.reply.ReplyCode.TheVariants.{Success, Io, NoMemory as OutOfMemory, NoSpace}
+use Rattle.fa_cmds.specs.Requests.{IsRequest, request_bytes, body_length, reply_bytes, decision, is_fua}
+use Rattle.fa_session.specs.declared.session_end.SessionEnd.{SessionEnd}
+use Rattle.fa_session.specs.declared.session_end.SessionEnd.TheVariants.{Disconnected, Aborted, Closed, InputEnded, ReadFailed, WriteFailed, NoMemory as NegotiationNoMemory}
+
+-- what a refusal of the store is answered with
+abbrev pub code_of : BlockFault → ReplyCode
+code_of Lost = Io
+code_of NoRoom = NoSpace
+code_of NoMemory = OutOfMemory
+code_of Spent = Io
+
+-- What came of a request: the store was asked, and answered; or it was not asked, and the reply has a
+-- code; or there was no memory for the data of a WRITE.
+pub data Outcome : Type 0 where
+  Asked : (call : Call) (answer : Answer) → Outcome
+  NotAsked : (code : ReplyCode) → Outcome
+  NoneForData : Outcome
+
+-- A request with the data that followed it, and what came of it.
+pub record Exchange : Type 0 where
+  pub request : Request
+  pub body : List ℕ
+  pub outcome : Outcome
+
+-- the call that a command asks for, with the range and the data of its request
+abbrev pub call_of : Command → Request → List ℕ → Option Call
+call_of Read r body = Some (Reading r.offset r.length)
+call_of Write r body = Some (Writing r.offset body (is_fua r.flags))
+call_of Disconnect r body = None
+call_of (Other number) r body = None
+
+-- what may come of a request to a store of this size
+abbrev pub MayCome : ℕ → Request → List ℕ → Outcome → Type 0
+MayCome size r body (Asked call answer) = (decision r size ≡ Do) × (call_of r.command r body ≡ Some call)
+MayCome size r body (NotAsked code) = decision r size ≡ Refuse code
+MayCome size r body NoneForData = (decision r size ≡ Do) × (r.command ≡ Write)
+
+-- a whole exchange, over a store of this size
+pub record IsExchange (size : ℕ) (e : Exchange) : Type 0 where
+  pub request_fits : IsRequest e.request
+  pub whole_body : length e.body ≡ body_length e.request
+  pub right : MayCome size e.request e.body e.outcome
+
+-- the bytes of it that the client sends
+abbrev pub heard_of : Exchange → List ℕ
+heard_of e = request_bytes e.request ++ e.body
+
+-- the reply
+abbrev pub reply_of : ℕ → Outcome → List ℕ
+reply_of cookie (Asked call (Gave bytes)) = reply_bytes Success cookie ++ bytes
+reply_of cookie (Asked call Done) = reply_bytes Success cookie
+reply_of cookie (Asked call (Refused fault)) = reply_bytes (code_of fault) cookie
+reply_of cookie (NotAsked code) = reply_bytes code cookie
+reply_of cookie NoneForData = reply_bytes OutOfMemory cookie
+
+abbrev pub reply_to : Exchange → List ℕ
+reply_to e = reply_of e.request.cookie e.outcome
+
+-- From a store to a store by the call of one exchange, if it has one.
+abbrev pub Makes : {S : Type 0} → (S → Call → Answer → S → Type 0) → S → Outcome → S → Type 0
+Makes made before (Asked call answer) after = made before call answer after
+Makes made before (NotAsked code) after = after ≡ before
+Makes made before NoneForData after = after ≡ before
+
+-- From a store to a store by the calls of the exchanges, these and no others, in this order.
+abbrev pub Chain : {S : Type 0} → (S → Call → Answer → S → Type 0) → S → List Exchange → S → Type 0
+Chain made before [] after = after ≡ before
+Chain {S = S} made before (e ∷ es) after = (middle : S) × Makes made before e.outcome middle × Chain made middle es after
+
+-- less than a whole request with its data
+abbrev pub IsPartOfRequest : List ℕ → Type 0
+IsPartOfRequest last =
+    (length last < 28)
+    ⊎ ((r : Request) × (more : List ℕ) × IsRequest r × (length more < body_length r) × (last ≡ request_bytes r ++ more))
+
+-- How transmission ends: what the client sent last, how much of the last reply is missing, and what the
+-- reader has left.
+abbrev pub EndsTransmission : ℕ → List Exchange → List ℕ → List ℕ → Option (List ℕ) → SessionEnd → Type 0
+EndsTransmission size es last missing left Disconnected =
+    (missing ≡ []) × ((r : Request) × IsRequest r × (last ≡ request_bytes r) × (decision r size ≡ Leave))
+EndsTransmission size es last missing left Aborted = ⊥
+EndsTransmission size es last missing left Closed =
+    (missing ≡ []) × (length last ≡ 28) × (take 4 last ≢ big_bytes 4 0x25609513)
+EndsTransmission size es last missing left InputEnded = (missing ≡ []) × IsPartOfRequest last × IsAtEnd left
+EndsTransmission size es last missing left ReadFailed = (missing ≡ []) × IsPartOfRequest last
+EndsTransmission size es last missing left WriteFailed =
+    (last ≡ []) × (missing ≢ [])
+    × ((front : List Exchange) × (e : Exchange) × (es ≡ front ++ e ∷ []) × (length missing ≤ length (reply_to e)))
+EndsTransmission size es last missing left NegotiationNoMemory = ⊥
+
+-- Transmission over a store of this size: what the reader had left before and after, what the writer held
+-- before and after, the store before and after, and the end.
+pub record Transmitted {S : Type 0} (made : S → Call → Answer → S → Type 0) (size : ℕ) (left_old left_new held_old held_new : Option (List ℕ)) (before after : S) (end : SessionEnd) : Type 0 where
+  pub exchanges : List Exchange
+  pub last : List ℕ
+  pub written : List ℕ
+  pub missing : List ℕ
+  pub consumed : Consumes left_old left_new (flat_map heard_of exchanges ++ last)
+  pub appended : Appends held_old held_new written
+  pub output : written ++ missing ≡ flat_map reply_to exchanges
+  pub right : AllByRecursion (IsExchange size) exchanges
+  pub asked : Chain made before exchanges after
+  pub ends : EndsTransmission size exchanges last missing left_new end

@@ -1,0 +1,10 @@
+pub mod Ends
+pub mod Exchanges
+pub mod Handshake
+pub mod Serving
+pub mod Session
+pub mod Streams
+pub use Rattle.fa_cmds.specs.Requests
+pub use Rattle.fa_nego.specs.Negotiation
+pub use Rattle.fa_nego.specs.Talk
+pub use Rattle.fa_types.specs.Store

@@ -1,0 +1,14 @@
+//! One NBD connection over a block store: the handshake, then the client's requests in turn.
+#![tactic(auto)]
+
+mod calls;
+mod exchange;
+mod handshake;
+mod replies;
+mod session;
+mod session_end;
+mod streams;
+mod transmission;
+
+pub use session::serve_stream;
+pub use session_end::SessionEnd;

@@ -1,0 +1,37 @@
+//! One connection.
+ghost use Rattle.std.specs.Prelude.{◌≤◌, length};
+ghost use Rattle.fa_session.specs.Session.{Session};
+
+use crate::calls::Calls;
+use crate::handshake::negotiate;
+use crate::session_end::SessionEnd;
+use crate::transmission::transmit;
+use fa_nego::LONGEST_NAME;
+use fa_types::Blocks;
+use std::alloc::Allocator;
+use std::io::{Read, Write};
+
+/// Serves one client from its first byte to the end of the connection: the handshake, in which the
+/// export has the name that is given, and then the requests in turn.
+///
+/// No byte is read beyond those that the session uses. After [`SessionEnd::WriteFailed`] what was
+/// written is a beginning of the whole output. The reader and the writer are called at most 2^62
+/// times each.
+pub fn serve_stream<R: Read, W: Write, B: Blocks, A: Allocator + Copy>(
+    alloc: A,
+    reader: &mut R,
+    writer: &mut W,
+    blocks: &mut B,
+    export: &str,
+) -> SessionEnd
+    requires { length export.now ≤ LONGEST_NAME }
+    ensures { Session B.made export.now (B.view blocks.old).size (R.remaining reader.old) (R.remaining reader.new)
+        (W.contents writer.old) (W.contents writer.new) blocks.old blocks.new result }
+{
+    let mut calls = Calls::new();
+    let size = blocks.size();
+    match negotiate(alloc, reader, writer, &mut calls, export, size) {
+        Ok(()) => transmit(alloc, reader, writer, &mut calls, blocks, size),
+        Err(end) => end,
+    }
+}

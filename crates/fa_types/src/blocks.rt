@@ -1,0 +1,73 @@
+//! The trait of a block store.
+ghost use Rattle.std.specs.Prelude.{◌≡◌, ◌+◌, ◌≤◌, length, IfOk, IfErr, OnOk};
+ghost use Rattle.fa_types.specs.Store.{Store, Call, Reading, Writing, Zeroing, Flushing, Answer, Gave, Done, Refused, Meets};
+
+use std::alloc::Allocator;
+use thiserror::Error;
+
+/// Why a block store refused a call.
+#[derive(Clone, Copy, Debug, PartialEq, Eq, Error)]
+pub enum BlockFault {
+    /// Fault 1: the range meets a page whose last copy is gone, or no die is live.
+    #[error("lost")]
+    Lost,
+    /// Fault 2: no room to write.
+    #[error("no room")]
+    NoRoom,
+    /// Fault 3: no memory for the call. It may be made again.
+    #[error("no memory")]
+    NoMemory,
+    /// Fault 4: a counter of the store is at its end.
+    #[error("a counter is at its end")]
+    Spent,
+}
+
+/// A store of bytes, written by pages. Offsets and lengths are in bytes, and a range has to lie
+/// within the store.
+///
+/// A write or zero takes its pages in rising order. One that is refused has written the pages
+/// before the refused one and no other; one that is refused in the flush that `fua` asks for has
+/// written all.
+pub trait Blocks {
+    /// What is seen of the store.
+    ghost view: { Self → Store };
+
+    /// One call, with its answer, that led from a store to a store. Only the calls below make it, so
+    /// who is handed such a link knows that the call was made.
+    ghost made: { Self → Call → Answer → Self → Type 0 };
+
+    /// How many bytes the store has.
+    fn size(&self) -> u64
+        ensures { result ≡ (view self.now).size };
+
+    /// The `len` bytes from the offset, in memory of the allocator.
+    fn read<A: Allocator>(
+        &mut self,
+        alloc: A,
+        offset: u64,
+        len: u64,
+    ) -> Result<Vec<u8, A>, BlockFault>
+        requires { offset + len ≤ (view self.old).size }
+        ensures gave { IfOk result (λ bytes. made self.old (Reading offset len) (Gave bytes.items) self.new) }
+        ensures refused { IfErr result (λ fault. made self.old (Reading offset len) (Refused fault) self.new) };
+
+    /// Writes the bytes at the offset. With `fua` they are on their images when the call is answered.
+    fn write(&mut self, offset: u64, bytes: &[u8], fua: bool) -> Result<(), BlockFault>
+        requires { offset + length bytes.now ≤ (view self.old).size }
+        ensures done { OnOk result (made self.old (Writing offset bytes.now fua) Done self.new) }
+        ensures refused { IfErr result (λ fault. made self.old (Writing offset bytes.now fua) (Refused fault) self.new) };
+
+    /// Writes `len` zeros at the offset, as `write` does.
+    fn zero(&mut self, offset: u64, len: u64, fua: bool) -> Result<(), BlockFault>
+        requires { offset + len ≤ (view self.old).size }
+        ensures done { OnOk result (made self.old (Zeroing offset len fua) Done self.new) }
+        ensures refused { IfErr result (λ fault. made self.old (Zeroing offset len fua) (Refused fault) self.new) };
+
+    /// Puts all that was written on its images.
+    fn flush(&mut self) -> Result<(), BlockFault>
+        ensures done { OnOk result (made self.old Flushing Done self.new) }
+        ensures refused { IfErr result (λ fault. made self.old Flushing (Refused fault) self.new) };
+
+    /// Each call is one of a block store.
+    ghost meets: { (before after : Self) (call : Call) (answer : Answer) → made before call answer after → Meets (view before) call answer (view after) };
+}

@@ -1,0 +1,16 @@
+//! The names that every layer shares: numbers of pages, dies, slots and rounds, the geometry of an
+//! array, the trait of a block store, and the plain store in memory.
+#![tactic(auto)]
+
+mod blocks;
+mod geometry;
+pub mod laws;
+mod mem_blocks;
+mod numbers;
+mod rounds;
+
+pub use blocks::{BlockFault, Blocks};
+pub use geometry::{Geometry, GeometryFault};
+pub use mem_blocks::MemBlocks;
+pub use numbers::{Die, Page, Round, Seq, Slot};
+pub use rounds::Rounds;
