@@ -1,0 +1,2 @@
+pub mod HexLines
+pub mod Talk

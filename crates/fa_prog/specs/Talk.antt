@@ -1,0 +1,38 @@
+-- The command `talk`: hexadecimal lines are the bytes of one client of a plain store.
+use Rattle.std.specs.Prelude.{◌≡◌, ◌⊎◌, ℕ, List, [], ◌∷◌, ◌++◌, replicate, codes, Some, Result, Ok, Err, Option}
+use Rattle.std.specs.Fmt.{decimal}
+use Rattle.std.specs.Io.KnownBytes.{Appends}
+use Rattle.hex.specs.Hex.{encode_lower}
+use Rattle.fa_types.specs.Memory.{MemoryMade}
+use Rattle.fa_session.specs.Ends.{end_number}
+use Rattle.fa_session.specs.Session.{Session}
+use Rattle.fa_session.specs.declared.session_end.SessionEnd.{SessionEnd}
+use Rattle.fa_prog.specs.HexLines.{bytes_of_text}
+
+-- what is printed of a connection: the server's bytes, and the number of the end
+unfoldable pub talk_text : List ℕ → SessionEnd → List ℕ
+talk_text written end = encode_lower written ++ 10 ∷ codes "end " ++ decimal (end_number end) ++ 10 ∷ []
+
+-- What is printed of a text of hexadecimal lines: there is a connection of their bytes to a plain store of
+-- so many zeros, and this is its text.
+pub record Talks (size : ℕ) (export text out : List ℕ) : Type 0 where
+  pub bytes : List ℕ
+  pub left : List ℕ
+  pub written : List ℕ
+  pub after : List ℕ
+  pub end : SessionEnd
+  pub spelled : bytes_of_text text ≡ Ok bytes
+  pub session : Session MemoryMade export size (Some bytes) (Some left) (Some []) (Some written) (replicate size 0) after end
+  pub printed : out ≡ talk_text written end
+
+-- what is printed of a faulty line
+unfoldable pub line_text : ℕ → List ℕ
+line_text line = codes "talk: line " ++ decimal line ++ 10 ∷ []
+
+-- What the command does with its whole input: it prints a connection, or the first faulty line and nothing
+-- else. With status 1 there was no memory, or reading or printing failed.
+abbrev pub RunsTalk : ℕ → List ℕ → List ℕ → Option (List ℕ) → Option (List ℕ) → ℕ → Type 0
+RunsTalk size export text old new status =
+    ((status ≡ 0) × ((out : List ℕ) × Talks size export text out × Appends old new out))
+    ⊎ (((status ≡ 2) × ((line : ℕ) × (bytes_of_text text ≡ Err line) × Appends old new (line_text line)))
+    ⊎ (status ≡ 1))

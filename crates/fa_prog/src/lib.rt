@@ -1,0 +1,8 @@
+//! The program `flasharr`, as one call.
+#![tactic(auto)]
+
+mod hex_lines;
+mod program;
+mod talk;
+
+pub use program::run;

@@ -1,0 +1,14 @@
+//! The program: its words, its input and its output go to the library.
+#![tactic(auto)]
+
+use std::env;
+use std::io;
+use std::process::ExitCode;
+
+fn main(rt: HostRuntime) -> io::Result<ExitCode> {
+    let words: Vec<String> = env::args(&rt)?.skip(1).collect(rt.alloc())?;
+    let mut input = rt.stdin();
+    let mut output = io::writer(&rt);
+    let status = fa_prog::run(rt.alloc(), &words, &mut input, &mut output);
+    Ok(ExitCode::from(status))
+}
