@@ -20,8 +20,17 @@ pub enum Decision {
     Refuse(ReplyCode),
 }
 
-/// What is to be done with a request to a store of this size, in bytes: the first rule that
-/// applies.
+/// What is to be done with a request to a store of this size, in bytes.
+///
+/// DISC disconnects, whatever its other fields. Of other requests the first that applies:
+/// - another command than READ and WRITE is refused as `Invalid`;
+/// - a flag other than FUA is refused as `Invalid`;
+/// - a request of no bytes is answered `Success`, wherever its range begins;
+/// - one of more than 33,554,432 bytes is refused as `Invalid`;
+/// - a range with bytes past the end is refused, a READ as `Invalid` and a WRITE as `NoSpace`;
+/// - else the store is to be asked.
+///
+/// NBD protocol text, "Request types", "Command flags" and "Error values".
 #[tactic(auto, unfolding(crate::specs::Requests::decision))]
 pub fn decide(request: Request, size: u64) -> Decision
     ensures rules { result ≡ decision request size }

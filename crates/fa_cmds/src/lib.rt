@@ -3,8 +3,11 @@
 #![tactic(auto)]
 
 mod decision;
+pub mod laws;
 mod reply;
 mod request;
+#[cfg(test)]
+mod tests;
 
 pub use decision::{Decision, decide};
 pub use reply::{REPLY_BYTES, ReplyCode, write_reply};

@@ -10,7 +10,7 @@ pub const REPLY_BYTES: usize = 16;
 /// The first four bytes of a reply.
 const REPLY_MAGIC: u32 = 0x6744_6698;
 
-/// What a reply says of its request.
+/// What a reply says of its request. NBD protocol text, "Error values".
 #[derive(Clone, Copy, Debug, PartialEq, Eq)]
 pub enum ReplyCode {
     /// 0: it was done.
@@ -40,7 +40,8 @@ impl ReplyCode {
     }
 }
 
-/// The reply to the request with this cookie.
+/// The 16 bytes of the reply to the request with this cookie. NBD protocol text, "Simple reply
+/// message"; the data that follows the reply to a READ is not among them.
 #[tactic(auto, unfolding(crate::specs::Requests::reply_bytes))]
 pub fn write_reply(code: ReplyCode, cookie: u64) -> [u8; 16]
     ensures { result ≡ reply_bytes code cookie }

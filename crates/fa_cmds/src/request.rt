@@ -12,7 +12,7 @@ pub const REQUEST_BYTES: usize = 28;
 /// The first four bytes of a request.
 const REQUEST_MAGIC: u32 = 0x2560_9513;
 
-/// What a request asks for.
+/// What a request asks for. NBD protocol text, "Request types".
 #[derive(Clone, Copy, Debug, PartialEq, Eq)]
 pub enum Command {
     /// Command 0: bytes of the disk.
@@ -25,10 +25,10 @@ pub enum Command {
     Other(u16),
 }
 
-/// The fields of a request.
+/// The fields of a request. NBD protocol text, "Request message".
 #[derive(Clone, Copy, Debug, PartialEq, Eq)]
 pub struct Request {
-    /// Bit 0 is FUA.
+    /// The command's flags. Bit 0 is FUA.
     pub flags: u16,
     /// What is asked for.
     pub command: Command,
@@ -45,7 +45,8 @@ pub struct Request {
 #[error("wrong magic")]
 pub struct WrongMagic;
 
-/// The request that the bytes spell.
+/// The request that the bytes spell. Only the magic is judged, and bytes with another one are a
+/// [`WrongMagic`]. NBD protocol text, "Request message".
 pub fn read_request(bytes: &[u8; 28]) -> Result<Request, WrongMagic>
     ensures fits { IfOk result IsRequest }
     ensures spelled { IfOk result (λ r. bytes.now ≡ request_bytes r) }

@@ -6,3 +6,6 @@ mod program;
 mod talk;
 
 pub use program::run;
+
+#[cfg(test)]
+mod tests;

@@ -1,10 +1,9 @@
 -- From the pieces of a handshake to the handshake.
-use Rattle.std.proofs.Common.{◌≡◌, ◌≢◌, ℕ, ◌<◌, ◌≤◌, List, [], ◌++◌, length, Option, Result, Ok, Err, refl, sym, ap, ◌∙◌, subst, arith, append-nil, append_assoc, inl, inr}
-use Rattle.std.specs.Io.KnownBytes.{Consumes, Appends, IsAtEnd}
+use Rattle.std.proofs.Common.{◌≡◌, ℕ, ◌<◌, List, [], ◌++◌, Option, Err, refl, sym, ap, ◌∙◌, subst, arith, append-nil, append_assoc, inl, inr}
+use Rattle.std.specs.Io.KnownBytes.{Consumes, Appends}
 use Rattle.std.proofs.KnownBytes.{Appends-trans, Consumes-trans, Consumes-nil}
 use Rattle.fa_nego.specs.Negotiation.{greeting_bytes, Next, GoesOn, Begins, Aborts, Closes, Negotiates}
-use Rattle.fa_nego.specs.Talk.{Talk, Stage, new_talk, IsAt, wanted, next_of, step_of}
-use Rattle.fa_nego.specs.declared.step.Step.{Step}
+use Rattle.fa_nego.specs.Talk.{Talk, new_talk, IsAt, wanted, next_of, step_of}
 use Rattle.fa_nego.specs.declared.step.Step.TheVariants.{More, Go, Aborted as StepAborted, Closed as StepClosed}
 use Rattle.fa_nego.specs.declared.step.CloseCause.{CloseCause}
 use Rattle.fa_nego.proofs.StageLaws.{starts, stage_negotiates, wants_until_over}
@@ -13,7 +12,7 @@ use Rattle.fa_session.specs.Streams.{IsCut}
 use Rattle.std.specs.List.{flat_map}
 use Rattle.fa_types.specs.Store.{Call, Answer}
 use Rattle.fa_session.specs.Exchanges.{heard_of, Transmitted}
-use Rattle.fa_session.specs.Session.{NeedsAtLeast, IsOfLatest, Moment, EndsHandshake, EndsEarly, Greets, Session}
+use Rattle.fa_session.specs.Session.{Moment, EndsEarly, Greets, Session}
 use Rattle.fa_session.specs.Serving.{Sends}
 use Rattle.fa_session.specs.Handshake.{HearsPiece, Hears}
 use Rattle.fa_session.specs.declared.session_end.SessionEnd.{SessionEnd}
@@ -33,8 +32,8 @@ pub record IsHeard (export : List ℕ) (size : ℕ) (left_old left_new held_old 
 pub wants-more : (talk : Talk) (heard said : List ℕ) → IsAt talk heard said → next_of talk.stage ≡ GoesOn → 0 < wanted talk.stage
 wants-more talk heard said at goes_on = Positive (wanted talk.stage) (λ none. (wants_until_over talk heard said at).0 none goes_on)
   where
-  Positive : (n : ℕ) → (n ≡ 0 → ⊥) → 0 < n
-  Positive n some = omega (arith, some)
+    Positive : (n : ℕ) → (n ≡ 0 → ⊥) → 0 < n
+    Positive n some = omega (arith, some)
 
 -- the step that is told of what comes next
 pub next-go : (next : Next) → step_of next ≡ Go → next ≡ Begins
@@ -65,7 +64,7 @@ module _ (export : List ℕ) (size : ℕ) where
   -- how the negotiation stands, for this export
   negotiates-at : (talk : Talk) (heard said : List ℕ) → talk.export ≡ export → talk.size ≡ size → IsAt talk heard said → Negotiates export size heard said (next_of talk.stage)
   negotiates-at talk heard said same_export same_size at =
-    subst (λ e. Negotiates e size heard said (next_of talk.stage)) same_export (subst (λ n. Negotiates talk.export n heard said (next_of talk.stage)) same_size (stage_negotiates talk heard said at))
+      subst (λ e. Negotiates e size heard said (next_of talk.stage)) same_export (subst (λ n. Negotiates talk.export n heard said (next_of talk.stage)) same_size (stage_negotiates talk heard said at))
 
   -- one more piece was heard and answered
   pub IsHeard-more : (a b c h k l : Option (List ℕ)) (old new : Talk) → IsHeard export size a b h k old → new.export ≡ old.export → new.size ≡ old.size → HearsPiece b c old new (Appends k l) → IsHeard export size a c h l new
@@ -117,9 +116,9 @@ module _ (export : List ℕ) (size : ℕ) where
     consumed = subst (Consumes a c) (sym (append-nil (far.heard ++ piece.piece))) (Consumes-trans a b c far.heard piece.piece far.consumed piece.consumed);
     appended = Appends-trans h k l (greeting_bytes ++ far.said) piece.replied.sent far.appended piece.replied.appended;
     output =
-      append_assoc (greeting_bytes ++ far.said) piece.replied.sent piece.replied.missing
-      ∙ ap (λ end. greeting_bytes ++ far.said ++ end) (sym piece.replied.all)
-      ∙ append_assoc greeting_bytes far.said piece.latest;
+        append_assoc (greeting_bytes ++ far.said) piece.replied.sent piece.replied.missing
+        ∙ ap (λ end. greeting_bytes ++ far.said ++ end) (sym piece.replied.all)
+        ∙ append_assoc greeting_bytes far.said piece.latest;
   }
 
   -- the bytes of nothing more
@@ -140,17 +139,22 @@ module _ (export : List ℕ) (size : ℕ) where
   -- hearing ends the connection
   pub EndsEarly-hears : (a b c h k l : Option (List ℕ)) (old new : Talk) (end : SessionEnd) → IsHeard export size a b h k old → next_of old.stage ≡ GoesOn → new.export ≡ old.export → new.size ≡ old.size → Hears b c k l old new (Err end) → EndsEarly export size a c h l end
   unfolding whole cut still
-  EndsEarly-hears a b c h k l old new WriteFailed far goes_on same_export same_size heard =
-    (cut a b c h k l old new far same_export same_size heard,
-      (refl, heard.replied.some_missing,
-      inr (far.heard, heard.piece, far.said, heard.latest, (old, far.same_export, far.same_size, far.at, heard.not_long), refl, refl, missing-le k l heard.latest heard.replied)))
+  EndsEarly-hears a b c h k l old new WriteFailed far goes_on same_export same_size heard = (
+    cut a b c h k l old new far same_export same_size heard,
+    (
+      refl,
+      heard.replied.some_missing,
+      inr (far.heard, heard.piece, far.said, heard.latest, (old, far.same_export, far.same_size, far.at, heard.not_long), refl, refl, missing-le k l heard.latest heard.replied),
+    ),
+  )
   EndsEarly-hears a b c h k l old new InputEnded far goes_on same_export same_size heard =
-    (whole a b h l old [] c (still a b h k l old new far heard.3 heard.2) heard.0, (refl, refl, goes_on, heard.1))
+      (whole a b h l old [] c (still a b h k l old new far heard.3 heard.2) heard.0, (refl, refl, goes_on, heard.1))
   EndsEarly-hears a b c h k l old new ReadFailed far goes_on same_export same_size heard =
-    (whole a b h l old [] c (still a b h k l old new far heard.2 heard.1) heard.0, (refl, refl, goes_on))
-  EndsEarly-hears a b c h k l old new NoMemory far goes_on same_export same_size heard =
-    (whole a b h l old heard.0.0 c (still a b h k l old new far heard.2 heard.1) heard.0.2,
-      (refl, goes_on, (old, far.same_export, far.same_size, far.at, heard.0.1)))
+      (whole a b h l old [] c (still a b h k l old new far heard.2 heard.1) heard.0, (refl, refl, goes_on))
+  EndsEarly-hears a b c h k l old new NoMemory far goes_on same_export same_size heard = (
+    whole a b h l old heard.0.0 c (still a b h k l old new far heard.2 heard.1) heard.0.2,
+    (refl, goes_on, (old, far.same_export, far.same_size, far.at, heard.0.1)),
+  )
   EndsEarly-hears a b c h k l old new Disconnected far goes_on same_export same_size heard = absurd heard
   EndsEarly-hears a b c h k l old new Aborted far goes_on same_export same_size heard = absurd heard
   EndsEarly-hears a b c h k l old new Closed far goes_on same_export same_size heard = absurd heard

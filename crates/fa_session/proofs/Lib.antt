@@ -1,3 +1,4 @@
 pub mod Cuts
 pub mod Greeted
+pub mod OneReading
 pub mod Served

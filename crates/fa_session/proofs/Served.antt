@@ -1,8 +1,8 @@
 -- From the parts of an exchange to the exchange, and from exchanges to transmission.
-use Rattle.std.proofs.Common.{◌≡◌, ◌≢◌, ℕ, ◌<◌, ◌≤◌, List, [], ◌∷◌, ◌++◌, length, take, Option, Some, Result, Ok, Err, if◌then◌else◌, refl, sym, ap, ◌∙◌, subst, arith, append-nil, append_assoc, inl, inr}
+use Rattle.std.proofs.Common.{◌≡◌, ℕ, ◌<◌, List, [], ◌∷◌, ◌++◌, length, take, Option, Some, Result, Ok, Err, if◌then◌else◌, refl, sym, ap, ◌∙◌, subst, arith, append-nil, append_assoc, inl, inr}
 use Rattle.std.specs.Result.{IsErr}
 use Rattle.std.specs.List.{flat_map, AllByRecursion}
-use Rattle.std.specs.Io.KnownBytes.{Consumes, Appends, IsAtEnd}
+use Rattle.std.specs.Io.KnownBytes.{Consumes, Appends}
 use Rattle.std.proofs.KnownBytes.{Appends-nil, Appends-trans, Consumes-trans, Consumes-nil}
 use Rattle.std.proofs.lemmas.List.{length-take-le}
 use Rattle.std.proofs.lemmas.List.Concat.{flat_map-append}
@@ -12,9 +12,9 @@ use Rattle.fa_cmds.specs.declared.request.Request.{Request}
 use Rattle.fa_cmds.specs.declared.reply.ReplyCode.{ReplyCode}
 use Rattle.fa_cmds.specs.Requests.{IsRequest, request_bytes, body_length, reply_bytes, is_fua, is_write}
 use Rattle.fa_cmds.specs.declared.request.Command.TheVariants.{Read, Write}
-use Rattle.fa_session.specs.Streams.{Fills, Skips, IsCut, end_of}
+use Rattle.fa_session.specs.Streams.{Fills, Skips, end_of}
 use Rattle.fa_session.specs.Exchanges.{Outcome, Exchange, call_of, MayCome, IsExchange, heard_of, reply_of, reply_to, Makes, Chain, EndsTransmission, Transmitted}
-use Rattle.fa_session.specs.Serving.{Sends, IsPartOfBody, IsWholeBody, Declines, Follows, Answers, IsServed, Serves}
+use Rattle.fa_session.specs.Serving.{Sends, IsWholeBody, Declines, Answers, IsServed, Serves}
 use Rattle.fa_session.specs.declared.streams.Filled.{Filled}
 use Rattle.fa_session.specs.declared.streams.Filled.TheVariants.{Whole, EndedAt, FailedAt}
 use Rattle.fa_session.specs.declared.session_end.SessionEnd.{SessionEnd}
@@ -88,14 +88,14 @@ module _ {S : Type 0} (made : S → Call → Answer → S → Type 0) (size : �
   pub Answers-stopped : (a b h : Option (List ℕ)) (s : S) (body : List ℕ) (filled : Filled) → length body ≡ body_length r → Fills a b body filled → IsErr (end_of filled) → Answers made size r a b h h s s (end_of filled)
   Answers-stopped a b h s body Whole whole fills err = cc
   Answers-stopped a b h s body (EndedAt n) whole fills err =
-    ((take n body, part body n whole fills.0, fills.2), fills.1, Appends-nil h, refl)
+      ((take n body, part body n whole fills.0, fills.2), fills.1, Appends-nil h, refl)
   Answers-stopped a b h s body (FailedAt n) whole fills err =
-    ((take n body, part body n whole fills.0, fills.1), Appends-nil h, refl)
+      ((take n body, part body n whole fills.0, fills.1), Appends-nil h, refl)
 
   -- the data, the call and the reply
   pub Answers-sent : (a b h k : Option (List ℕ)) (s t : S) (body : List ℕ) (outcome : Outcome) (res : Result (Unit {0}) SessionEnd) → IsWholeBody r a b body → MayCome size r body outcome → Makes made s outcome t → Sends h k (reply_of r.cookie outcome) res → Answers made size r a b h k s t res
-  Answers-sent a b h k s t body outcome (Ok done) whole right asked sends = record { body = body; outcome = outcome; whole = whole; right = right; asked = asked; replied = sends; }
-  Answers-sent a b h k s t body outcome (Err WriteFailed) whole right asked sends = record { body = body; outcome = outcome; whole = whole; right = right; asked = asked; replied = sends; }
+  Answers-sent a b h k s t body outcome (Ok done) whole right asked sends = record { body = body; outcome = outcome; whole = whole; right = right; asked = asked; replied = sends }
+  Answers-sent a b h k s t body outcome (Err WriteFailed) whole right asked sends = record { body = body; outcome = outcome; whole = whole; right = right; asked = asked; replied = sends }
   Answers-sent a b h k s t body outcome (Err Disconnected) whole right asked sends = absurd sends
   Answers-sent a b h k s t body outcome (Err Aborted) whole right asked sends = absurd sends
   Answers-sent a b h k s t body outcome (Err Closed) whole right asked sends = absurd sends
@@ -113,20 +113,20 @@ module _ {S : Type 0} (made : S → Call → Answer → S → Type 0) (size : �
     asked = follows.asked;
   }
   Serves-answered a b c h k head s t (Err WriteFailed) fits spelled consumed follows =
-    let e : Exchange = record { request = r; body = follows.body; outcome = follows.outcome } in
-    record {
-      exchanges = e ∷ [];
-      last = [];
-      written = follows.replied.sent;
-      missing = follows.replied.missing;
-      consumed = subst (Consumes a c) (ap (λ front. front ++ follows.body) spelled ∙ sym (append-nil (heard_of e)) ∙ sym (append-nil (heard_of e ++ [])))
-        (Consumes-trans a b c head follows.body consumed follows.whole.1);
-      appended = follows.replied.appended;
-      output = sym follows.replied.all ∙ sym (append-nil (reply_to e));
-      right = (record { request_fits = fits; whole_body = follows.whole.0; right = follows.right }, tt);
-      asked = (t, follows.asked, refl);
-      ends = (refl, follows.replied.some_missing, ([], e, refl, missing-le h k (reply_to e) follows.replied));
-    }
+      let e : Exchange = record { request = r; body = follows.body; outcome = follows.outcome } in
+      record {
+        exchanges = e ∷ [];
+        last = [];
+        written = follows.replied.sent;
+        missing = follows.replied.missing;
+        consumed = subst (Consumes a c) (ap (λ front. front ++ follows.body) spelled ∙ sym (append-nil (heard_of e)) ∙ sym (append-nil (heard_of e ++ [])))
+            (Consumes-trans a b c head follows.body consumed follows.whole.1);
+        appended = follows.replied.appended;
+        output = sym follows.replied.all ∙ sym (append-nil (reply_to e));
+        right = (record { request_fits = fits; whole_body = follows.whole.0; right = follows.right }, tt);
+        asked = (t, follows.asked, refl);
+        ends = (refl, follows.replied.some_missing, ([], e, refl, missing-le h k (reply_to e) follows.replied));
+      }
   Serves-answered a b c h k head s t (Err InputEnded) fits spelled consumed follows = record {
     exchanges = [];
     last = head ++ follows.0.0;
@@ -183,9 +183,9 @@ module _ {S : Type 0} (made : S → Call → Answer → S → Type 0) (size : �
   IsSoFar-more a b c h k l s t u far served = record {
     exchanges = far.exchanges ++ served.exchange ∷ [];
     consumed = subst (Consumes a c) (sym (flat_map-append heard_of far.exchanges (served.exchange ∷ []) ∙ ap (λ end. flat_map heard_of far.exchanges ++ end) (append-nil (heard_of served.exchange))))
-      (Consumes-trans a b c (flat_map heard_of far.exchanges) (heard_of served.exchange) far.consumed served.consumed);
+        (Consumes-trans a b c (flat_map heard_of far.exchanges) (heard_of served.exchange) far.consumed served.consumed);
     appended = subst (Appends h l) (sym (flat_map-append reply_to far.exchanges (served.exchange ∷ []) ∙ ap (λ end. flat_map reply_to far.exchanges ++ end) (append-nil (reply_to served.exchange))))
-      (Appends-trans h k l (flat_map reply_to far.exchanges) (reply_to served.exchange) far.appended served.appended);
+        (Appends-trans h k l (flat_map reply_to far.exchanges) (reply_to served.exchange) far.appended served.appended);
     right = right-append far.exchanges (served.exchange ∷ []) far.right (served.right, tt);
     asked = Chain-append s t u far.exchanges (served.exchange ∷ []) far.asked (u, served.asked, refl);
   }
@@ -198,7 +198,7 @@ module _ {S : Type 0} (made : S → Call → Answer → S → Type 0) (size : �
   EndsTransmission-behind es fs last missing left InputEnded ends = ends
   EndsTransmission-behind es fs last missing left ReadFailed ends = ends
   EndsTransmission-behind es fs last missing left WriteFailed ends =
-    (ends.0, ends.1, (es ++ ends.2.0, ends.2.1, ap (λ tail. es ++ tail) ends.2.2 ∙ sym (append_assoc es ends.2.0 (ends.2.1 ∷ [])), ends.2.3))
+      (ends.0, ends.1, (es ++ ends.2.0, ends.2.1, ap (λ tail. es ++ tail) ends.2.2 ∙ sym (append_assoc es ends.2.0 (ends.2.1 ∷ [])), ends.2.3))
   EndsTransmission-behind es fs last missing left NoMemory ends = ends
 
   -- the end of transmission, after the exchanges so far
@@ -209,8 +209,8 @@ module _ {S : Type 0} (made : S → Call → Answer → S → Type 0) (size : �
     written = flat_map reply_to far.exchanges ++ rest.written;
     missing = rest.missing;
     consumed = subst (Consumes a c)
-      (sym (append_assoc (flat_map heard_of far.exchanges) (flat_map heard_of rest.exchanges) rest.last) ∙ ap (λ front. front ++ rest.last) (sym (flat_map-append heard_of far.exchanges rest.exchanges)))
-      (Consumes-trans a b c (flat_map heard_of far.exchanges) (flat_map heard_of rest.exchanges ++ rest.last) far.consumed rest.consumed);
+        (sym (append_assoc (flat_map heard_of far.exchanges) (flat_map heard_of rest.exchanges) rest.last) ∙ ap (λ front. front ++ rest.last) (sym (flat_map-append heard_of far.exchanges rest.exchanges)))
+        (Consumes-trans a b c (flat_map heard_of far.exchanges) (flat_map heard_of rest.exchanges ++ rest.last) far.consumed rest.consumed);
     appended = Appends-trans h k l (flat_map reply_to far.exchanges) rest.written far.appended rest.appended;
     output = append_assoc (flat_map reply_to far.exchanges) rest.written rest.missing ∙ ap (λ end. flat_map reply_to far.exchanges ++ end) rest.output ∙ sym (flat_map-append reply_to far.exchanges rest.exchanges);
     right = right-append far.exchanges rest.exchanges far.right rest.right;
@@ -244,10 +244,10 @@ pub Serves-stopped : {S : Type 0} (made : S → Call → Answer → S → Type 0
 Serves-stopped made size a b h s head filled end whole fills ends =
     subst (λ r. IsErr r → Serves made size a b h h s s r) ends (Stopped filled fills) refl
   where
-  short : (n : ℕ) → n < length head → length (take n head) < 28
-  short n below = let e = length-take-le n head (omega arith) in omega (arith, e, whole)
+    short : (n : ℕ) → n < length head → length (take n head) < 28
+    short n below = let e = length-take-le n head (omega arith) in omega (arith, e, whole)
 
-  Stopped : (filled : Filled) → Fills a b head filled → IsErr (end_of filled) → Serves made size a b h h s s (end_of filled)
-  Stopped Whole fills err = cc
-  Stopped (EndedAt n) fills err = Transmitted-last made size a b h s (take n head) InputEnded fills.2 (refl, inl (short n fills.0), fills.1)
-  Stopped (FailedAt n) fills err = Transmitted-last made size a b h s (take n head) ReadFailed fills.1 (refl, inl (short n fills.0))
+    Stopped : (filled : Filled) → Fills a b head filled → IsErr (end_of filled) → Serves made size a b h h s s (end_of filled)
+    Stopped Whole fills err = cc
+    Stopped (EndedAt n) fills err = Transmitted-last made size a b h s (take n head) InputEnded fills.2 (refl, inl (short n fills.0), fills.1)
+    Stopped (FailedAt n) fills err = Transmitted-last made size a b h s (take n head) ReadFailed fills.1 (refl, inl (short n fills.0))

@@ -71,6 +71,10 @@ reply_of cookie NoneForData = reply_bytes OutOfMemory cookie
 abbrev pub reply_to : Exchange → List ℕ
 reply_to e = reply_of e.request.cookie e.outcome
 
+-- what the client asks for in it
+abbrev pub asked_of : Exchange → Request × List ℕ
+asked_of e = (e.request, e.body)
+
 -- From a store to a store by the call of one exchange, if it has one.
 abbrev pub Makes : {S : Type 0} → (S → Call → Answer → S → Type 0) → S → Outcome → S → Type 0
 Makes made before (Asked call answer) after = made before call answer after
@@ -88,14 +92,26 @@ IsPartOfRequest last =
     (length last < 28)
     ⊎ ((r : Request) × (more : List ℕ) × IsRequest r × (length more < body_length r) × (last ≡ request_bytes r ++ more))
 
+-- the 28 bytes of a request that ends the connection
+abbrev pub IsGoodbye : ℕ → List ℕ → Type 0
+IsGoodbye size last = (r : Request) × IsRequest r × (last ≡ request_bytes r) × (decision r size ≡ Leave)
+
+-- 28 bytes that don't begin as a request does
+abbrev pub IsWrongMagic : List ℕ → Type 0
+IsWrongMagic last = (length last ≡ 28) × (take 4 last ≢ big_bytes 4 0x25609513)
+
+-- what a client may have sent behind its last whole exchange
+abbrev pub IsRest : ℕ → List ℕ → Type 0
+IsRest size last = IsPartOfRequest last ⊎ (IsGoodbye size last ⊎ IsWrongMagic last)
+
 -- How transmission ends: what the client sent last, how much of the last reply is missing, and what the
 -- reader has left.
 abbrev pub EndsTransmission : ℕ → List Exchange → List ℕ → List ℕ → Option (List ℕ) → SessionEnd → Type 0
 EndsTransmission size es last missing left Disconnected =
-    (missing ≡ []) × ((r : Request) × IsRequest r × (last ≡ request_bytes r) × (decision r size ≡ Leave))
+    (missing ≡ []) × IsGoodbye size last
 EndsTransmission size es last missing left Aborted = ⊥
 EndsTransmission size es last missing left Closed =
-    (missing ≡ []) × (length last ≡ 28) × (take 4 last ≢ big_bytes 4 0x25609513)
+    (missing ≡ []) × IsWrongMagic last
 EndsTransmission size es last missing left InputEnded = (missing ≡ []) × IsPartOfRequest last × IsAtEnd left
 EndsTransmission size es last missing left ReadFailed = (missing ≡ []) × IsPartOfRequest last
 EndsTransmission size es last missing left WriteFailed =

@@ -6,7 +6,7 @@ use Rattle.fa_nego.specs.declared.step.Step.{Step}
 use Rattle.fa_session.specs.Streams.{IsCut}
 use Rattle.fa_session.specs.Session.{EndsEarly, Greets}
 use Rattle.fa_session.specs.declared.session_end.SessionEnd.{SessionEnd}
-use Rattle.fa_session.specs.declared.session_end.SessionEnd.TheVariants.{Disconnected, Aborted, Closed, InputEnded, ReadFailed, WriteFailed, NoMemory}
+use Rattle.fa_session.specs.declared.session_end.SessionEnd.TheVariants.{InputEnded, ReadFailed, WriteFailed, NoMemory}
 
 -- A piece of the client's bytes, no longer than was wanted, that was heard, and the answer to it.
 pub record HearsPiece (left_old left_new : Option (List ℕ)) (old new : Talk) (sent : List ℕ → Type 0) : Type 0 where

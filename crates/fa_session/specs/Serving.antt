@@ -1,6 +1,6 @@
 -- What the parts of one exchange come to: the bytes that the reader has left and those that the writer
 -- holds, before and after, and the store where it is asked.
-use Rattle.std.specs.Prelude.{◌≡◌, ℕ, ◌<◌, List, [], ◌++◌, length, Option, Result, Ok, Err}
+use Rattle.std.specs.Prelude.{◌≡◌, ℕ, ◌<◌, List, [], length, Option, Result, Ok, Err}
 use Rattle.std.specs.Io.KnownBytes.{Consumes, Appends, IsAtEnd}
 use Rattle.fa_types.specs.Store.{Call, Answer}
 use Rattle.fa_cmds.specs.declared.request.Request.{Request}
@@ -9,7 +9,7 @@ use Rattle.fa_cmds.specs.Requests.{body_length, reply_bytes}
 use Rattle.fa_session.specs.Streams.{IsCut}
 use Rattle.fa_session.specs.Exchanges.{Outcome, Exchange, MayCome, IsExchange, heard_of, reply_of, reply_to, Makes, Transmitted}
 use Rattle.fa_session.specs.declared.session_end.SessionEnd.{SessionEnd}
-use Rattle.fa_session.specs.declared.session_end.SessionEnd.TheVariants.{Disconnected, Aborted, Closed, InputEnded, ReadFailed, WriteFailed, NoMemory}
+use Rattle.fa_session.specs.declared.session_end.SessionEnd.TheVariants.{InputEnded, ReadFailed, WriteFailed}
 
 -- The bytes were written, or a write failed within them.
 abbrev pub Sends : Option (List ℕ) → Option (List ℕ) → List ℕ → Result (Unit {0}) SessionEnd → Type 0

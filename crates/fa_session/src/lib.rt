@@ -4,6 +4,7 @@
 mod calls;
 mod exchange;
 mod handshake;
+pub mod laws;
 mod replies;
 mod session;
 mod session_end;

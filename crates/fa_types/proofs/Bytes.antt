@@ -1,8 +1,9 @@
--- Numbers and the bytes that spell them, the highest first.
-use Rattle.std.proofs.Common.{◌/◌, ◌%◌, ◌≡◌, ℕ, zero, suc, ◌+◌, ◌*◌, ◌^◌, ◌<◌, ◌≤◌, List, [], ◌∷◌, length, take, drop, get_or, length-drop, get_or-drop, refl, sym, ap, ◌∙◌, arith}
+-- Numbers and the bytes that spell them, the highest first, and bytes in parts.
+use Rattle.std.proofs.Common.{◌/◌, ◌%◌, ◌≡◌, ℕ, zero, suc, ◌+◌, ◌*◌, ◌^◌, ◌<◌, ◌≤◌, List, [], ◌∷◌, length, take, drop, get_or, length-drop, get_or-drop, refl, sym, ap, ◌∙◌, arith, ◌++◌}
 use Rattle.std.proofs.Math.Nat.{add-mul-mod_self_right, add-mul-div_right, pow-suc, one-le-pow, div-one, add_comm}
 use Rattle.std.proofs.lemmas.Nat.{pow-add, div-mul-add}
 use Rattle.std.proofs.Math.Nat.{mod-eq_of_lt}
+use Rattle.std.proofs.Math.Seq.{take-append_seam, drop-append_seam}
 use Rattle.std.specs.Int.{byte_at, bytes_high_first}
 use Rattle.byteorder.specs.Endian.{big_bytes, big_from, big_number}
 use Rattle.byteorder.specs.Numbers.{big_from-cons, big_from-lt, big_from-take}
@@ -70,3 +71,10 @@ pub big_bytes-read : (a n x : ℕ) (xs : List ℕ) → AreBytes xs → a + n ≤
 big_bytes-read a n x xs bytes long read =
     ap (big_bytes n) (read ∙ big_from-take 0 n n (drop a xs) (omega arith))
     ∙ big_bytes-big_number n (drop a xs) (AreBytes-drop a xs bytes) (rw length-drop (omega arith))
+
+-- equal lists whose first parts are as long as one another have equal parts
+pub append-parts : (a b c d : List ℕ) → length a ≡ length c → a ++ b ≡ c ++ d → (a ≡ c) × (b ≡ d)
+append-parts a b c d long same = (
+  sym (take-append_seam a b) ∙ ap (λ n. take n (a ++ b)) long ∙ ap (take (length c)) same ∙ take-append_seam c d,
+  sym (drop-append_seam a b) ∙ ap (λ n. drop n (a ++ b)) long ∙ ap (drop (length c)) same ∙ drop-append_seam c d,
+)

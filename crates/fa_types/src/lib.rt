@@ -8,6 +8,8 @@ pub mod laws;
 mod mem_blocks;
 mod numbers;
 mod rounds;
+#[cfg(test)]
+mod tests;
 
 pub use blocks::{BlockFault, Blocks};
 pub use geometry::{Geometry, GeometryFault};

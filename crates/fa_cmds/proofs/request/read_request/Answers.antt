@@ -1,4 +1,4 @@
-use Rattle.std.proofs.Common.{◌≡◌, ◌++◌, take, drop, ℕ, ◌+◌, ◌≤◌, length, List, arith, sym, ap, ◌∙◌}
+use Rattle.std.proofs.Common.{◌≡◌, ◌++◌, take, drop, ℕ, length, List, arith, sym, ap, ◌∙◌}
 use Rattle.std.proofs.lemmas.List.{take_all}
 use Rattle.std.proofs.Math.Seq.{take-add}
 use Rattle.byteorder.specs.Endian.{big_bytes, big_number}
@@ -31,13 +31,13 @@ unfolding request_bytes
 spelled xs r long bytes magic flags command cookie offset len =
     parts xs long
     ∙ joined (take 4 xs) (take 2 (drop 4 xs)) (take 2 (drop 6 xs)) (take 8 (drop 8 xs)) (take 8 (drop 16 xs)) (take 4 (drop 24 xs))
-      (big_bytes 4 0x25609513) (big_bytes 2 r.flags) (big_bytes 2 (command_number r.command)) (big_bytes 8 r.cookie) (big_bytes 8 r.offset) (big_bytes 4 r.length)
-      (big_bytes-read 0 4 0x25609513 xs bytes (omega arith) magic)
-      (big_bytes-read 4 2 r.flags xs bytes (omega arith) flags)
-      (big_bytes-read 6 2 (command_number r.command) xs bytes (omega arith) command)
-      (big_bytes-read 8 8 r.cookie xs bytes (omega arith) cookie)
-      (big_bytes-read 16 8 r.offset xs bytes (omega arith) offset)
-      (big_bytes-read 24 4 r.length xs bytes (omega arith) len)
+    (big_bytes 4 0x25609513) (big_bytes 2 r.flags) (big_bytes 2 (command_number r.command)) (big_bytes 8 r.cookie) (big_bytes 8 r.offset) (big_bytes 4 r.length)
+    (big_bytes-read 0 4 0x25609513 xs bytes (omega arith) magic)
+    (big_bytes-read 4 2 r.flags xs bytes (omega arith) flags)
+    (big_bytes-read 6 2 (command_number r.command) xs bytes (omega arith) command)
+    (big_bytes-read 8 8 r.cookie xs bytes (omega arith) cookie)
+    (big_bytes-read 16 8 r.offset xs bytes (omega arith) offset)
+    (big_bytes-read 24 4 r.length xs bytes (omega arith) len)
 
 pub returns-clause-spelled : goal.returns-clause-spelled
 returns-clause-spelled c =

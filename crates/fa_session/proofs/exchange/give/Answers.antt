@@ -1,4 +1,4 @@
-use Rattle.std.proofs.Common.{◌≡◌, [], subst, sym, ap}
+use Rattle.std.proofs.Common.{[]}
 use Rattle.fa_types.specs.Store.{Reading, Gave, Refused}
 use Rattle.fa_session.specs.Exchanges.{Asked}
 use Rattle.fa_session.proofs.Served.{call_of-read}

@@ -1,8 +1,6 @@
-use Rattle.std.proofs.Common.{◌≡◌, subst, sym, ap}
 use Rattle.fa_types.specs.Store.{Writing, Done, Refused}
-use Rattle.fa_cmds.specs.Requests.{reply_bytes, is_fua}
+use Rattle.fa_cmds.specs.Requests.{is_fua}
 use Rattle.fa_session.specs.Exchanges.{Asked}
-use Rattle.fa_session.specs.Serving.{Sends}
 use Rattle.fa_session.proofs.Served.{call_of-write}
 use Rattle.fa_session.proofs.exchange.take.Goals as goal
 

@@ -1,4 +1,4 @@
-use Rattle.std.proofs.Common.{◌≡◌, refl, sym, ap, ◌∙◌, subst, Err}
+use Rattle.std.proofs.Common.{sym, ◌∙◌}
 use Rattle.std.proofs.lemmas.Result.{err_from_is_err_and}
 use Rattle.fa_session.proofs.Greeted.{wants-more, next-go, next-more, next-aborted, next-closed, IsHeard-more, Greets-at, EndsEarly-hears, EndsEarly-aborted, EndsEarly-closed, EndsEarly-greeting}
 use Rattle.fa_session.proofs.handshake.negotiate.Goals as goal

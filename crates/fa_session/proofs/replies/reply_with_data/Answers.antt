@@ -1,4 +1,3 @@
-use Rattle.std.proofs.Common.{◌≡◌, ◌++◌, Err}
 use Rattle.std.proofs.lemmas.Result.{err_from_is_err_and}
 use Rattle.fa_session.proofs.Cuts.{Sends-front, Sends-behind}
 use Rattle.fa_session.proofs.replies.reply_with_data.Goals as goal

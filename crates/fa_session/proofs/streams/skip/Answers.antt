@@ -1,4 +1,4 @@
-use Rattle.std.proofs.Common.{◌≡◌, ℕ, ◌+◌, ◌≤◌, List, ◌++◌, arith, length, take, drop, refl, length-append, length-take-le, length-drop}
+use Rattle.std.proofs.Common.{◌≡◌, ◌++◌, arith, length, take, refl, length-append, length-take-le, length-drop}
 use Rattle.std.proofs.KnownBytes.{Consumes-trans}
 use Rattle.std.proofs.lemmas.Grind.{common_steps}
 use Rattle.fa_session.proofs.streams.skip.Goals as goal

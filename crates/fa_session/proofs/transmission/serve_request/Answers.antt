@@ -1,5 +1,5 @@
-use Rattle.std.proofs.Common.{◌≡◌, arith, List, length, refl, sym, ◌∙◌}
-use Rattle.std.proofs.lemmas.Result.{err_from_is_err_and, IfErr-at_err}
+use Rattle.std.proofs.Common.{◌≡◌, arith, length, refl, sym, ◌∙◌}
+use Rattle.std.proofs.lemmas.Result.{err_from_is_err_and}
 use Rattle.fa_session.specs.Exchanges.{NotAsked}
 use Rattle.fa_session.proofs.Served.{Fills-whole, Serves-stopped, Serves-answered, Answers-declined, Transmitted-last}
 use Rattle.fa_session.proofs.transmission.serve_request.Goals as goal
@@ -14,7 +14,7 @@ pub returns-in_default-clause-served : goal.returns-in_default-clause-served
 returns-in_default-clause-served g c =
     let head = Fills-whole _ _ c.fill.new.into c.fill.result (sym c.received.ensures ∙ c.in_ok-received.was) c.fill.ensures.filled in
     let whole : length c.fill.new.into ≡ 28 = omega arith in
-    Transmitted-last _ _ _ _ _ _ _ _ head (refl, whole, c.in_default.ensures.magic)
+    Transmitted-last _ _ _ _ _ _ _ _ head (refl, (whole, c.in_default.ensures.magic))
 
 pub returns-in-Disconnect-clause-served : goal.returns-in-Disconnect-clause-served
 returns-in-Disconnect-clause-served g c =

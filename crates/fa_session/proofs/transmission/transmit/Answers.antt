@@ -1,4 +1,4 @@
-use Rattle.std.proofs.Common.{◌≡◌, sym, ◌∙◌, arith}
+use Rattle.std.proofs.Common.{sym, ◌∙◌, arith}
 use Rattle.fa_session.proofs.Served.{IsSoFar-more, Transmitted-behind}
 use Rattle.fa_session.proofs.transmission.transmit.Goals as goal
 
