@@ -2,6 +2,7 @@
 #![tactic(auto)]
 
 mod hex_lines;
+mod output;
 mod program;
 mod talk;
 

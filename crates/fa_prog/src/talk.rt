@@ -1,21 +1,49 @@
 //! The command `talk`.
-ghost use Rattle.std.specs.Prelude.{IfOk, IfErr, codes, string_bytes, ◌≡◌};
+ghost use Rattle.std.specs.Prelude.{◌≡◌, IfOk, IfErr, IfSome, codes, string_bytes};
 ghost use Rattle.fa_session.specs.Ends.{end_number};
 ghost use Rattle.fa_prog.specs.HexLines.{bytes_of_text, IsFault};
-ghost use Rattle.fa_prog.specs.Talk.{Talks, talk_text as text_of};
+ghost use Rattle.fa_prog.specs.Talk.{Talks, RunsTalk, talk_text as text_of, line_text as text_of_line};
 
 use crate::hex_lines::{TextFault, read_hex_lines};
+use crate::output::{DONE, FAULTY, NO_MEMORY, print, refuse, refuse_input};
 use fa_session::{SessionEnd, serve_stream};
 use fa_types::MemBlocks;
 use std::alloc::{AllocError, Allocator};
+use std::io::{Read, Write};
+
+/// The bytes of the store that the client of `talk` finds: 64 pages of 512.
+pub(crate) const TALK_SIZE: u64 = 64 * 512;
 
 /// The name of the export that the client of `talk` finds.
 const EXPORT: &str = "disk";
 
+/// The command `talk`.
+pub(crate) fn run_talk<R: Read, W: Write, A: Allocator + Copy>(
+    alloc: A,
+    input: &mut R,
+    output: &mut W,
+) -> u8
+    ensures { IfSome (R.remaining input.old) (λ text. RunsTalk TALK_SIZE (codes "disk") text
+        (W.contents output.old) (W.contents output.new) result) }
+{
+    let mut text = Vec::new(alloc);
+    if let Err(error) = input.read_to_end(&mut text) {
+        return refuse_input(output, error.kind(), b"talk: cannot read\n");
+    }
+    match talk(alloc, TALK_SIZE, &text) {
+        Ok(out) => print(output, DONE, out.as_bytes()),
+        Err(TextFault::Line(line)) => match line_text(alloc, line) {
+            Ok(told) => print(output, FAULTY, told.as_bytes()),
+            Err(AllocError) => refuse(output, NO_MEMORY),
+        },
+        Err(TextFault::NoMemory) => refuse(output, NO_MEMORY),
+    }
+}
+
 /// Serves one client, whose bytes are given by lines of hexadecimal digits, over a plain store of so
 /// many zero bytes. Gives what the server says, in hexadecimal on one line, and on the next how the
 /// connection ended.
-pub(crate) fn talk<A: Allocator + Copy>(
+fn talk<A: Allocator + Copy>(
     alloc: A,
     size: u64,
     text: &[u8],
@@ -48,6 +76,18 @@ fn talk_text<A: Allocator + Copy>(
     let mut out = hex::encode(alloc, written)?;
     let number = end.number().to_string(alloc)?;
     out.push_str("\nend ")?;
+    out.push_str(number.as_str())?;
+    out.push('\n')?;
+    Ok(out)
+}
+
+/// What is printed of a faulty line.
+#[tactic(auto, unfolding(crate::specs::Talk::line_text))]
+fn line_text<A: Allocator + Copy>(alloc: A, line: u64) -> Result<String<A>, AllocError>
+    ensures { IfOk result (λ out. string_bytes out ≡ text_of_line line) }
+{
+    let number = line.to_string(alloc)?;
+    let mut out = String::from_str(alloc, "talk: line ")?;
     out.push_str(number.as_str())?;
     out.push('\n')?;
     Ok(out)

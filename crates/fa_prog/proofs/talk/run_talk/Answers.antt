@@ -1,5 +1,5 @@
 use Rattle.fa_prog.proofs.TalkLemmas.{RunsTalk-printed}
-use Rattle.fa_prog.proofs.program.run_talk.Goals as goal
+use Rattle.fa_prog.proofs.talk.run_talk.Goals as goal
 
 pub returns-in-Ok : goal.returns-in-Ok
 returns-in-Ok g c =
