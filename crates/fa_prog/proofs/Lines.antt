@@ -1,5 +1,5 @@
 -- Reading a text line by line.
-use Rattle.std.proofs.Common.{◌≡◌, ℕ, suc, ◌+◌, ◌<◌, ◌≤◌, Bool, true, false, cond, not, ltb, ◌==◌, List, [], ◌∷◌, ◌++◌, Option, None, Some, Result, Ok, Err, length, take, drop, length-drop, refl, sym, ap, ◌∙◌, subst, arith, append_assoc, append-nil, add-one, inl, inr, ◌⊎◌}
+use Rattle.std.proofs.Common.{◌≡◌, ℕ, suc, ◌+◌, ◌<◌, ◌≤◌, Bool, true, false, cond, not, ltb, ◌==◌, List, [], ◌∷◌, ◌++◌, None, Some, Result, Ok, Err, length, take, drop, length-drop, refl, sym, ap, ◌∙◌, subst, arith, append_assoc, append-nil, add-one, inl, inr, ◌⊎◌}
 use Rattle.std.specs.Result.{IsErr}
 use Rattle.std.proofs.lemmas.Option.{cond_some}
 use borrow.Author.Tests.{ltb-true, ltb-false}
@@ -7,7 +7,7 @@ use Rattle.hex.specs.declared.error.FromHexError.{FromHexError}
 use Rattle.std.specs.List.{slice_split, position, position_or_len, onto_first}
 use Rattle.std.proofs.lemmas.List.Splits.{slice_split_first, slice_split-cons_no}
 use Rattle.hex.specs.Hex.{decode_of}
-use Rattle.fa_prog.specs.HexLines.{lines_of, without_spaces, line_and, bytes_from, bytes_of_text, IsFault}
+use Rattle.fa_prog.specs.HexLines.{lines_of, without_spaces, line_and, bytes_from, IsFault}
 use Rattle.fa_prog.specs.declared.hex_lines.TextFault.{TextFault}
 use Rattle.fa_prog.specs.declared.hex_lines.TextFault.TheVariants.{Line, NoMemory}
 
@@ -31,19 +31,19 @@ unsplit : (p : ℕ → Bool) (ys : List ℕ) → length ys ≤ position_or_len p
 unsplit p [] past = refl
 unsplit p (y ∷ ys) past = Step (unsplit p ys) (p y) refl
   where
-  Step : (length ys ≤ position_or_len p ys → slice_split p ys ≡ ys ∷ []) → (b : Bool) → b ≡ p y → slice_split p (y ∷ ys) ≡ (y ∷ ys) ∷ []
-  Step rest true passes = let e = at-first p y ys true passes in absurd (omega (arith, e, past))
-  Step rest false passes =
-    let e = at-first p y ys false passes in
-    slice_split-cons_no p y ys (sym passes) ∙ ap (onto_first y) (rest (omega (arith, e, past)))
+    Step : (length ys ≤ position_or_len p ys → slice_split p ys ≡ ys ∷ []) → (b : Bool) → b ≡ p y → slice_split p (y ∷ ys) ≡ (y ∷ ys) ∷ []
+    Step rest true passes = let e = at-first p y ys true passes in absurd (omega (arith, e, past))
+    Step rest false passes =
+        let e = at-first p y ys false passes in
+        slice_split-cons_no p y ys (sym passes) ∙ ap (onto_first y) (rest (omega (arith, e, past)))
 
 -- where there is no first place, the list is one part
 pub position-none : (p : ℕ → Bool) (xs : List ℕ) → position p xs ≡ None → slice_split p xs ≡ xs ∷ []
 position-none p xs h = unsplit p xs (Past (ltb (position_or_len p xs) (length xs)) refl h)
   where
-  Past : (b : Bool) → b ≡ ltb (position_or_len p xs) (length xs) → cond b (Some (position_or_len p xs)) None ≡ None → length xs ≤ position_or_len p xs
-  Past true is none = cc
-  Past false is none = ltb-false _ _ (sym is)
+    Past : (b : Bool) → b ≡ ltb (position_or_len p xs) (length xs) → cond b (Some (position_or_len p xs)) None ≡ None → length xs ≤ position_or_len p xs
+    Past true is none = cc
+    Past false is none = ltb-false _ _ (sym is)
 
 -- the lines of a text with a line feed: the first, and those behind it
 pub lines_of-some : (text : List ℕ) (end : ℕ) → position (λ b. b == 10) text ≡ Some end → lines_of text ≡ take end text ∷ lines_of (drop (end + 1) text)
@@ -67,18 +67,18 @@ pub bytes_from-good : (number : ℕ) (line bytes : List ℕ) (lines : List (List
 unfolding bytes_from
 bytes_from-good number line bytes lines good = ap (λ r. line_and r number (bytes_from (suc number) lines)) good ∙ Joined (bytes_from (suc number) lines)
   where
-  Joined : (more : Result (List ℕ) ℕ) → line_and (Ok bytes) number more ≡ onto bytes more
-  Joined (Ok more) = refl
-  Joined (Err line) = refl
+    Joined : (more : Result (List ℕ) ℕ) → line_and (Ok bytes) number more ≡ onto bytes more
+    Joined (Ok more) = refl
+    Joined (Err line) = refl
 
 -- a line that spells none
 pub bytes_from-faulty : (number : ℕ) (line : List ℕ) (lines : List (List ℕ)) → IsErr (decode_of (without_spaces line)) → bytes_from number (line ∷ lines) ≡ Err number
 unfolding bytes_from
 bytes_from-faulty number line lines faulty = Faulty (decode_of (without_spaces line)) faulty
   where
-  Faulty : (r : Result (List ℕ) FromHexError) → IsErr r → line_and r number (bytes_from (suc number) lines) ≡ Err number
-  Faulty (Ok bytes) faulty = cc
-  Faulty (Err fault) faulty = refl
+    Faulty : (r : Result (List ℕ) FromHexError) → IsErr r → line_and r number (bytes_from (suc number) lines) ≡ Err number
+    Faulty (Ok bytes) faulty = cc
+    Faulty (Err fault) faulty = refl
 
 -- one more line is read
 pub onto-line : (number : ℕ) (front rest bytes : List ℕ) (end : ℕ) → position (λ b. b == 10) rest ≡ Some end → decode_of (without_spaces (take end rest)) ≡ Ok bytes
@@ -87,9 +87,9 @@ onto-line number front rest bytes end found good =
     let next = bytes_from (number + 1) (lines_of (drop (end + 1) rest)) in
     onto-onto front bytes next
     ∙ ap (onto front) (sym (
-      ap (bytes_from number) (lines_of-some rest end found)
-      ∙ bytes_from-good number (take end rest) bytes (lines_of (drop (end + 1) rest)) good
-      ∙ ap (λ n. onto bytes (bytes_from n (lines_of (drop (end + 1) rest)))) (sym (add-one number))))
+    ap (bytes_from number) (lines_of-some rest end found)
+    ∙ bytes_from-good number (take end rest) bytes (lines_of (drop (end + 1) rest)) good
+    ∙ ap (λ n. onto bytes (bytes_from n (lines_of (drop (end + 1) rest)))) (sym (add-one number))))
 
 -- the last line is read
 pub onto-last : (number : ℕ) (front rest bytes : List ℕ) → position (λ b. b == 10) rest ≡ None → decode_of (without_spaces rest) ≡ Ok bytes
@@ -130,18 +130,18 @@ pub fault-in_front : (number end : ℕ) (front rest : List ℕ) (text : Result (
     → (fault ≡ NoMemory) ⊎ ((fault ≡ Line number) × IsErr (decode_of (without_spaces (take end rest)))) → IsFault text fault
 fault-in_front number end front rest text fault found so_far refused =
     fault-of_line text number (take end rest) fault refused (λ faulty.
-      sym so_far
-      ∙ ap (λ lines. onto front (bytes_from number lines)) (lines_of-some rest end found)
-      ∙ onto-faulty number front (take end rest) (lines_of (drop (end + 1) rest)) faulty)
+    sym so_far
+    ∙ ap (λ lines. onto front (bytes_from number lines)) (lines_of-some rest end found)
+    ∙ onto-faulty number front (take end rest) (lines_of (drop (end + 1) rest)) faulty)
 
 -- a faulty last line
 pub fault-at_last : (number : ℕ) (front rest : List ℕ) (text : Result (List ℕ) ℕ) (fault : TextFault) → position (λ b. b == 10) rest ≡ None → onto front (bytes_from number (lines_of rest)) ≡ text
     → (fault ≡ NoMemory) ⊎ ((fault ≡ Line number) × IsErr (decode_of (without_spaces rest))) → IsFault text fault
 fault-at_last number front rest text fault none so_far refused =
     fault-of_line text number rest fault refused (λ faulty.
-      sym so_far
-      ∙ ap (λ lines. onto front (bytes_from number lines)) (position-none (λ b. b == 10) rest none)
-      ∙ onto-faulty number front rest [] faulty)
+    sym so_far
+    ∙ ap (λ lines. onto front (bytes_from number lines)) (position-none (λ b. b == 10) rest none)
+    ∙ onto-faulty number front rest [] faulty)
 
 -- the last line ends the text
 pub lines-end : (number : ℕ) (front new rest bytes : List ℕ) (text : Result (List ℕ) ℕ) → new ≡ front ++ bytes → position (λ b. b == 10) rest ≡ None → decode_of (without_spaces rest) ≡ Ok bytes

@@ -1,5 +1,5 @@
 -- From the parts of `talk` to what it prints.
-use Rattle.std.proofs.Common.{◌≡◌, ◌⊎◌, ℕ, List, [], ◌++◌, length, replicate, None, Some, IfSome, Option, Ok, refl, sym, ap, ◌∙◌, subst, inl, inr}
+use Rattle.std.proofs.Common.{◌≡◌, ◌⊎◌, ℕ, List, [], ◌++◌, length, replicate, None, Some, IfSome, Option, Ok, ap, ◌∙◌, subst, inl, inr}
 use Rattle.std.specs.Io.KnownBytes.{Appends}
 use Rattle.std.proofs.lemmas.List.{length-replicate}
 use Rattle.fa_types.specs.Memory.{MemoryMade}
@@ -22,10 +22,10 @@ Talks-of size export text out bytes read left held written shown store after end
       end = end;
       spelled = spelled;
       session =
-        subst (λ s. Session MemoryMade export size (Some bytes) (Some left) (Some []) (Some written) s after end) zeros
-        (subst (λ h. Session MemoryMade export size (Some bytes) (Some left) (Some h) (Some written) store after end) none
-        (subst (λ r. Session MemoryMade export size (Some r) (Some left) (Some held) (Some written) store after end) same
-        (subst (λ n. Session MemoryMade export n (Some read) (Some left) (Some held) (Some written) store after end) long session)));
+          subst (λ s. Session MemoryMade export size (Some bytes) (Some left) (Some []) (Some written) s after end) zeros
+          (subst (λ h. Session MemoryMade export size (Some bytes) (Some left) (Some h) (Some written) store after end) none
+          (subst (λ r. Session MemoryMade export size (Some r) (Some left) (Some held) (Some written) store after end) same
+          (subst (λ n. Session MemoryMade export n (Some read) (Some left) (Some held) (Some written) store after end) long session)));
       printed = printed ∙ ap (λ w. talk_text w end) whole;
     }
 

@@ -1,5 +1,5 @@
 -- Lines of hexadecimal digits, and the bytes that they spell.
-use Rattle.std.specs.Prelude.{◌≡◌, ℕ, suc, Bool, not, ◌==◌, List, [], ◌∷◌, ◌++◌, Result, Ok, Err}
+use Rattle.std.specs.Prelude.{◌≡◌, ℕ, suc, not, ◌==◌, List, [], ◌∷◌, ◌++◌, Result, Ok, Err}
 use Rattle.std.specs.List.{filter, slice_split}
 use Rattle.hex.specs.Hex.{decode_of}
 use Rattle.fa_prog.specs.declared.hex_lines.TextFault.{TextFault}

@@ -19,7 +19,10 @@ pub(crate) enum TextFault {
 
 /// The bytes that the lines of a text spell, joined. Spaces mean nothing, and digits are of either
 /// case.
-pub(crate) fn read_hex_lines<A: Allocator + Copy>(alloc: A, text: &[u8]) -> Result<Vec<u8, A>, TextFault>
+pub(crate) fn read_hex_lines<A: Allocator + Copy>(
+    alloc: A,
+    text: &[u8],
+) -> Result<Vec<u8, A>, TextFault>
     ensures bytes { IfOk result (λ bytes. bytes_of_text text.now ≡ Ok bytes.items) }
     ensures line { IfErr result (IsFault (bytes_of_text text.now)) }
 {

@@ -14,12 +14,7 @@ use std::io::{Read, Write};
 /// The one command is `talk`. It reads lines of hexadecimal digits as the bytes of one NBD client,
 /// serves them over a plain store of 64 pages of 512 zero bytes under the name `disk`, and prints the
 /// server's bytes, in hexadecimal on one line, and then how the connection ended.
-pub fn run<R: Read, W: Write>(
-    alloc: Global,
-    words: &[String],
-    input: &mut R,
-    output: &mut W,
-) -> u8
+pub fn run<R: Read, W: Write>(alloc: Global, words: &[String], input: &mut R, output: &mut W) -> u8
     ensures talk { map string_bytes words.now ≡ codes "talk" ∷ [] → IfSome (R.remaining input.old)
         (λ text. RunsTalk TALK_SIZE (codes "disk") text (W.contents output.old) (W.contents output.new) result) }
     ensures other { map string_bytes words.now ≢ codes "talk" ∷ [] → result ≡ 2 }

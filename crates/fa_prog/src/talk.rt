@@ -43,11 +43,7 @@ pub(crate) fn run_talk<R: Read, W: Write, A: Allocator + Copy>(
 /// Serves one client, whose bytes are given by lines of hexadecimal digits, over a plain store of so
 /// many zero bytes. Gives what the server says, in hexadecimal on one line, and on the next how the
 /// connection ended.
-fn talk<A: Allocator + Copy>(
-    alloc: A,
-    size: u64,
-    text: &[u8],
-) -> Result<String<A>, TextFault>
+fn talk<A: Allocator + Copy>(alloc: A, size: u64, text: &[u8]) -> Result<String<A>, TextFault>
     ensures talks { IfOk result (λ out. Talks size (codes "disk") text.now (string_bytes out)) }
     ensures fault { IfErr result (IsFault (bytes_of_text text.now)) }
 {

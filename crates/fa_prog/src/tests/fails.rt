@@ -39,7 +39,10 @@ fn each_read_fails(rt: HostRuntime) -> Result<(), Fail> {
             break;
         }
         assert!(rt; ended == SessionEnd::ReadFailed, "at read {calls}");
-        assert!(rt; answer.starts_with(writer.taken.as_slice()), "at read {calls}");
+        assert!(rt;
+            answer.starts_with(writer.taken.as_slice()),
+            "at read {calls}"
+        );
         assert_eq!(rt; reader.calls, calls);
         failed = calls;
     }
@@ -61,7 +64,10 @@ fn each_write_fails(rt: HostRuntime) -> Result<(), Fail> {
             break;
         }
         assert!(rt; ended == SessionEnd::WriteFailed, "at write {calls}");
-        assert!(rt; answer.starts_with(writer.taken.as_slice()), "at write {calls}");
+        assert!(rt;
+            answer.starts_with(writer.taken.as_slice()),
+            "at write {calls}"
+        );
         assert_eq!(rt; writer.calls, calls);
         failed = calls;
     }
@@ -87,12 +93,21 @@ fn a_writer_that_takes_nothing(rt: HostRuntime) -> Result<(), Fail> {
 fn each_allocation_fails(rt: HostRuntime) -> Result<(), Fail> {
     let said = client(rt.alloc())?;
     let answer = server(rt.alloc())?;
-    let write_refused = spelled(rt.alloc(), "67446698 0000000c 0000000000000001
-        67446698 00000000 0000000000000002 00x1024")?;
-    let read_refused = spelled(rt.alloc(), "67446698 00000000 0000000000000001
-        67446698 0000000c 0000000000000002")?;
-    let both_refused = spelled(rt.alloc(), "67446698 0000000c 0000000000000001
-        67446698 0000000c 0000000000000002")?;
+    let write_refused = spelled(
+        rt.alloc(),
+        "67446698 0000000c 0000000000000001
+        67446698 00000000 0000000000000002 00x1024",
+    )?;
+    let read_refused = spelled(
+        rt.alloc(),
+        "67446698 00000000 0000000000000001
+        67446698 0000000c 0000000000000002",
+    )?;
+    let both_refused = spelled(
+        rt.alloc(),
+        "67446698 0000000c 0000000000000001
+        67446698 0000000c 0000000000000002",
+    )?;
     let begun = joined(rt.alloc(), &[GREETING, GONE])?;
     let mut in_negotiation = 0u32;
     let mut of_requests = 0u32;

@@ -69,9 +69,15 @@ fn converses(
         let mut reader = Pieces::new(&said[..cut], 4096);
         let mut writer = Taker::new(alloc, 4096);
         let ended = served(alloc, &mut reader, &mut writer)?;
-        assert!(rt; answer.starts_with(writer.taken.as_slice()), "cut after {cut}");
+        assert!(rt;
+            answer.starts_with(writer.taken.as_slice()),
+            "cut after {cut}"
+        );
         assert!(rt; before <= writer.taken.len(), "cut after {cut}");
-        assert!(rt; ended == SessionEnd::InputEnded || ended.number() == end, "cut after {cut}");
+        assert!(rt;
+            ended == SessionEnd::InputEnded || ended.number() == end,
+            "cut after {cut}"
+        );
         before = writer.taken.len();
     }
     Ok(())
@@ -88,7 +94,13 @@ fn read_at_the_end(rt: HostRuntime) -> Result<(), Fail> {
         25609513 0000 0000 0000000000000002 0000000000007e01 00000200";
     let replies = "67446698 00000000 0000000000000001 00x512
         67446698 00000016 0000000000000002";
-    converses(&rt, rt.alloc(), &[FLAGS, GO, reads], &[GREETING, GONE, replies], 4)
+    converses(
+        &rt,
+        rt.alloc(),
+        &[FLAGS, GO, reads],
+        &[GREETING, GONE, replies],
+        4,
+    )
 }
 
 #[test]
@@ -96,7 +108,13 @@ fn write_past_the_end(rt: HostRuntime) -> Result<(), Fail> {
     let requests = "25609513 0000 0001 0000000000000003 0000000000007e01 00000200 11x512
         25609513 0000 0002 0000000000000004 0000000000000000 00000000";
     let replies = "67446698 0000001c 0000000000000003";
-    converses(&rt, rt.alloc(), &[FLAGS, GO, requests], &[GREETING, GONE, replies], 1)
+    converses(
+        &rt,
+        rt.alloc(),
+        &[FLAGS, GO, requests],
+        &[GREETING, GONE, replies],
+        1,
+    )
 }
 
 #[test]
@@ -105,7 +123,13 @@ fn unaligned_write(rt: HostRuntime) -> Result<(), Fail> {
         25609513 0000 0000 0000000000000002 0000000000000000 00000400";
     let replies = "67446698 00000000 0000000000000001
         67446698 00000000 0000000000000002 00x511 aabbcc 00x510";
-    converses(&rt, rt.alloc(), &[FLAGS, GO, requests], &[GREETING, GONE, replies], 4)
+    converses(
+        &rt,
+        rt.alloc(),
+        &[FLAGS, GO, requests],
+        &[GREETING, GONE, replies],
+        4,
+    )
 }
 
 #[test]
@@ -113,7 +137,13 @@ fn unknown_options(rt: HostRuntime) -> Result<(), Fail> {
     let options = "49484156454f5054 00000008 00000000 49484156454f5054 00000005 00000000";
     let replies = "0003e889045565a9 00000008 80000001 00000000
         0003e889045565a9 00000005 80000001 00000000";
-    converses(&rt, rt.alloc(), &[FLAGS, options, GO], &[GREETING, replies, GONE], 4)
+    converses(
+        &rt,
+        rt.alloc(),
+        &[FLAGS, options, GO],
+        &[GREETING, replies, GONE],
+        4,
+    )
 }
 
 #[test]
@@ -151,7 +181,13 @@ fn option_with_too_much_data(rt: HostRuntime) -> Result<(), Fail> {
 fn abort_and_wrong_magic(rt: HostRuntime) -> Result<(), Fail> {
     let abort = "49484156454f5054 00000002 00000000";
     let acknowledged = "0003e889045565a9 00000002 00000001 00000000";
-    converses(&rt, rt.alloc(), &[FLAGS, abort], &[GREETING, acknowledged], 2)?;
+    converses(
+        &rt,
+        rt.alloc(),
+        &[FLAGS, abort],
+        &[GREETING, acknowledged],
+        2,
+    )?;
     let wrong = "25609514 0000 0000 0000000000000001 0000000000007e00 00000200";
     converses(&rt, rt.alloc(), &[FLAGS, GO, wrong], &[GREETING, GONE], 3)
 }

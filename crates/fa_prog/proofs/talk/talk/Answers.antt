@@ -1,4 +1,3 @@
-use Rattle.std.proofs.Common.{◌≡◌, refl}
 use Rattle.fa_prog.proofs.TalkLemmas.{Talks-of}
 use Rattle.fa_prog.proofs.talk.talk.Goals as goal
 
