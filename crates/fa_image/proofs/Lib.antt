@@ -1,0 +1,4 @@
+mod Cuts
+mod Files
+pub mod Slots
+mod Untouched

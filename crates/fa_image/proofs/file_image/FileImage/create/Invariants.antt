@@ -1,0 +1,6 @@
+-- What the file holds is not said.
+use Rattle.std.proofs.Common.{[]}
+use Rattle.fa_image.proofs.file_image.FileImage.create.Given as goal
+
+abbrev pub ghost-over : goal.ghost-over
+ghost-over g a = record { bytes = []; lefts = [] }

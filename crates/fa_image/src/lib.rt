@@ -1,0 +1,22 @@
+//! Images of dies: a list of slots and a header, in a file or in memory, and an image that fails on
+//! demand, all under one contract. Only what makes an image takes memory.
+#![tactic(auto)]
+
+mod bytes;
+mod fault;
+mod file_image;
+mod fuse_image;
+mod held;
+mod image;
+pub mod laws;
+mod mem_image;
+mod shape;
+#[cfg(test)]
+mod tests;
+
+pub use fault::ImageFault;
+pub use file_image::FileImage;
+pub use fuse_image::FuseImage;
+pub use image::Image;
+pub use mem_image::MemImage;
+pub use shape::{HEADER_BYTES, TAG_BYTES};

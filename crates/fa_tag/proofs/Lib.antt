@@ -1,0 +1,3 @@
+mod Cuts
+pub mod Headers
+pub mod Slots

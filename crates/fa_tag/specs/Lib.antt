@@ -1,0 +1,2 @@
+pub mod HeaderGrammar
+pub mod SlotGrammar
