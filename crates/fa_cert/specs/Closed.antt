@@ -1,0 +1,10 @@
+-- What contracts see of closed rounds: the current round, and whether a die is closed in a round.
+use Rattle.std.specs.Prelude.{ℕ, Bool}
+use Rattle.fa_cert.specs.declared.closed.Closed.{Closed}
+use Rattle.fa_cert.specs.Runs.{closed_by}
+
+abbrev pub current_of : Closed → ℕ
+current_of rounds = rounds.current
+
+abbrev pub is_closed : Closed → ℕ → ℕ → Bool
+is_closed rounds die round = closed_by rounds.dies.items die round

@@ -1,0 +1,9 @@
+pub mod Batch
+pub mod Certificate
+pub mod Closed
+pub mod Index
+pub mod Marks
+pub mod Plan
+pub mod Runs
+pub mod Text
+pub mod Verdict

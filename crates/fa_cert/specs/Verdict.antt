@@ -1,0 +1,44 @@
+-- The verdict on a plan with pages that are to show it least: a certificate, or the first thing that is wrong.
+use Rattle.std.specs.Prelude.{◌≡◌, ℕ, Bool, List}
+use Rattle.fa_types.specs.declared.numbers.Page.{Page}
+use Rattle.fa_cert.specs.declared.plan.Place.{Place}
+use Rattle.fa_cert.specs.declared.verdict.Refusal.{Refusal}
+use Rattle.fa_cert.specs.declared.verdict.Refusal.TheVariants.{PageMissing, PageTwice, NotAHolder, RoundClosed, PlaceTwice, LastRound, ShortagePage, NotShort}
+use Rattle.fa_cert.specs.declared.verdict.Verdict.{Verdict}
+use Rattle.fa_cert.specs.declared.verdict.Verdict.TheVariants.{Least, Refused}
+use Rattle.fa_cert.specs.Batch.{Entry}
+use Rattle.fa_cert.specs.Plan.{IsPlan, ArePlaced, ArePlacedOnce, AreHeld, AreOpen, AreApart, rounds_of}
+use Rattle.fa_cert.specs.Certificate.{IsCertificate, AreNamed, ShowsNoFewer}
+
+module _ (batch : List Entry) (current : ℕ) (closed : ℕ → ℕ → Bool) (rounds : ℕ) (places : List Place) (pages : List Page) where
+  -- which fact of a certificate fails; all that come before it hold
+  abbrev pub IsRefused : Refusal → Type 0
+  IsRefused PageMissing = ¬ (ArePlaced batch places)
+  IsRefused PageTwice = ArePlaced batch places × (¬ (ArePlacedOnce places))
+  IsRefused NotAHolder = ArePlaced batch places × ArePlacedOnce places × (¬ (AreHeld batch places))
+  IsRefused RoundClosed =
+      ArePlaced batch places × ArePlacedOnce places × AreHeld batch places × (¬ (AreOpen current closed places))
+  IsRefused PlaceTwice =
+      ArePlaced batch places × ArePlacedOnce places × AreHeld batch places × AreOpen current closed places × (¬ (AreApart places))
+  IsRefused LastRound = IsPlan batch current closed places × (¬ (rounds_of current places ≡ rounds))
+  IsRefused ShortagePage =
+      IsPlan batch current closed places × (rounds_of current places ≡ rounds) × (¬ (AreNamed batch pages))
+  IsRefused NotShort =
+      IsPlan batch current closed places × (rounds_of current places ≡ rounds) × AreNamed batch pages
+      × (¬ (ShowsNoFewer batch current closed rounds pages))
+
+  -- so many rounds are least as claimed, or the claim is refused
+  abbrev pub IsVerdict : Verdict → Type 0
+  IsVerdict (Least least) = (least ≡ rounds) × IsCertificate batch current closed rounds places pages
+  IsVerdict (Refused refusal) = IsRefused refusal
+
+-- the refusals are numbered in that order
+abbrev pub number_of : Refusal → ℕ
+number_of PageMissing = 1
+number_of PageTwice = 2
+number_of NotAHolder = 3
+number_of RoundClosed = 4
+number_of PlaceTwice = 5
+number_of LastRound = 6
+number_of ShortagePage = 7
+number_of NotShort = 8

@@ -1,0 +1,175 @@
+//! A batch of reads: the pages that are to be read together, each with the dies that hold it.
+ghost use Rattle.std.specs.Prelude.{◌≡◌, ℕ, ◌<◌, ◌≤◌, ◌↔◌, ◌==◌, [], ◌∷◌, ◌++◌, length, IsTrue, OnOk, OnErr, IfSome, MatchOption, false, nat_lt, slice_get};
+ghost use Rattle.std.specs.Option.{option_copied, option_map, option_map_or};
+ghost use Rattle.std.specs.List.{find};
+ghost use Rattle.std.specs.Ordering.{nat_cmp};
+ghost use Rattle.std.specs.BTreeMap.{get};
+ghost use Rattle.fa_cert.specs.Batch.{AreFine, IsFirstWrong, is_among};
+ghost use Rattle.fa_cert.specs.Index.{entries_of, IsIndexOf};
+
+use fa_types::{Die, Page};
+use std::alloc::{AllocError, Global};
+use std::collections::BTreeMap;
+use std::marker::Model;
+
+/// The most pages of a batch.
+pub const MOST_PAGES: usize = 1024;
+
+/// A page of a batch, and the dies that hold it.
+#[derive(Debug, Drop)]
+struct Held {
+    page: Page,
+    holders: Vec<Die>,
+}
+
+/// The pages of a batch in the order in which they were given, each with its holders. Contracts see
+/// the list of these. A page is found without a look at the others.
+#[derive(Debug, Drop)]
+pub struct Batch {
+    entries: Vec<Held>,
+    // The place of a page's first entry.
+    first: BTreeMap<u64, usize>,
+}
+
+/// Why a batch is not sound.
+#[derive(Clone, Copy, Debug, PartialEq, Eq)]
+pub enum Unsound {
+    /// No die holds the page.
+    NoHolder(Page),
+    /// The page was named before.
+    Twice(Page),
+}
+
+impl Model for Batch {
+    ghost use Rattle.std.specs.Prelude.{List};
+    ghost use Rattle.fa_cert.specs.Batch.{Entry};
+
+    ghost Value = { List Entry };
+
+    ghost use Rattle.fa_cert.specs.Index.{entries_of, IsIndexOf};
+
+    ghost view = { λ b. entries_of b.entries.items };
+
+    ghost invariant = { λ b. IsIndexOf (entries_of b.entries.items) b.first };
+}
+
+impl Batch {
+    ghost use Rattle.fa_cert.specs.Batch.{IsSound, holds, times_named};
+
+    /// The batch of no pages.
+    pub fn new(alloc: Global) -> Batch
+        ensures { result ≡ [] }
+    {
+        Batch {
+            entries: Vec::new(alloc),
+            first: BTreeMap::new(alloc),
+        }
+    }
+
+    /// Adds a page with its holders at the end. Without memory the batch stays as it was.
+    pub fn push(&mut self, page: Page, holders: Vec<Die>) -> Result<(), AllocError>
+        ensures ok { OnOk result (self.new ≡ self.old ++ record { page = page; holders = holders.items } ∷ []) }
+        ensures err { OnErr result (self.new ≡ self.old) }
+    {
+        let place = self.entries.len();
+        self.entries.push(Held { page, holders })?;
+        if !self.first.contains_key(&page.0) {
+            if let Err(_) = self.first.insert(page.0, place) {
+                self.entries.truncate(place);
+                return Err(AllocError);
+            }
+        }
+        Ok(())
+    }
+
+    /// The number of entries.
+    pub fn len(&self) -> usize
+        ensures { result ≡ length self.now }
+    {
+        self.entries.len()
+    }
+
+    /// The page of the entry at a place, from 0.
+    pub fn page(&self, place: usize) -> Page
+        requires { place < length self.now }
+        ensures { IfSome (slice_get self.now place) (λ e. e.page ≡ result) }
+    {
+        self.entries[place].page
+    }
+
+    /// The holders of the first entry of a page, where there is one.
+    pub fn holders(&self, page: Page) -> Option<&[Die]>
+        ensures { option_copied result ≡ option_map (λ e. e.holders) (find (λ e. e.page.0 == page.0) self.now) }
+    {
+        match self.first.get(&page.0) {
+            Some(place) => Some(self.entries[*place].holders.as_slice()),
+            None => None,
+        }
+    }
+
+    /// Whether the batch names the page.
+    pub fn names(&self, page: Page) -> bool
+        ensures { IsTrue result ↔ (1 ≤ times_named self.now page.0) }
+    {
+        self.holders(page).is_some()
+    }
+
+    /// Whether the die is a holder of the page.
+    pub fn holds(&self, page: Page, die: Die) -> bool
+        requires { times_named self.now page.0 ≤ 1 }
+        ensures { result ≡ holds self.now page.0 die.0 }
+    {
+        match self.holders(page) {
+            Some(holders) => is_one_of(holders, die),
+            None => false,
+        }
+    }
+
+    /// The first page, in their order, that has no holder or was named before; nothing where all is
+    /// well. Takes no memory.
+    pub fn unsound(&self) -> Option<Unsound>
+        ensures { MatchOption result (AreFine self.now) (λ unsound. IsFirstWrong self.now unsound) }
+    {
+        first_wrong(self.entries.as_slice(), &self.first)
+    }
+
+    /// Whether there are at most 1,024 pages, each with a holder and none named twice. Takes no memory.
+    pub fn is_sound(&self) -> bool
+        ensures { IsTrue result ↔ IsSound self.now }
+    {
+        self.len() <= MOST_PAGES && self.unsound().is_none()
+    }
+}
+
+/// The first entry that is wrong, given the place of each page's first entry.
+fn first_wrong(entries: &[Held], first: &BTreeMap<u64, usize>) -> Option<Unsound>
+    requires { IsIndexOf (entries_of entries.now) first.now }
+    ensures { MatchOption result (AreFine (entries_of entries.now)) (λ unsound. IsFirstWrong (entries_of entries.now) unsound) }
+{
+    for (place, held) in entries.iter().enumerate() {
+        if held.holders.is_empty() {
+            return Some(Unsound::NoHolder(held.page));
+        }
+        if is_earlier(first, held.page, place) {
+            return Some(Unsound::Twice(held.page));
+        }
+    }
+    None
+}
+
+/// Whether the first entry of the page stands before the place.
+fn is_earlier(first: &BTreeMap<u64, usize>, page: Page, place: usize) -> bool
+    ensures { result ≡ option_map_or (λ earliest. nat_lt earliest place) (get nat_cmp first.now page.0) false }
+{
+    match first.get(&page.0) {
+        Some(earliest) => *earliest < place,
+        None => false,
+    }
+}
+
+/// Whether the die is one of these.
+fn is_one_of(dies: &[Die], die: Die) -> bool
+    ensures { result ≡ is_among dies.now die.0 }
+{
+    dies.iter().any(|d| d.0 == die.0)
+}

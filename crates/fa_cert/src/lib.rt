@@ -1,0 +1,24 @@
+//! Certificates that a batch of reads takes the least number of rounds, and the check that trusts
+//! nobody: neither the planner that made a plan nor the text that it came in.
+#![tactic(auto)]
+
+mod batch;
+mod checker;
+mod closed;
+pub mod laws;
+mod plan;
+mod shortage;
+mod spans;
+mod text;
+mod verdict;
+
+pub use batch::{Batch, Unsound};
+pub use checker::check;
+pub use closed::{Closed, Run, end_soon};
+pub use plan::{Place, Places, Plan};
+pub use shortage::Shortage;
+pub use text::{BatchText, Certificate, TextError, print, read_batch, read_certificate};
+pub use verdict::{Refusal, Verdict};
+
+#[cfg(test)]
+mod tests;

@@ -1,0 +1,155 @@
+//! The closed rounds of one die, as spans that rise and do not touch.
+ghost use Rattle.std.specs.Prelude.{◌≡◌, ℕ, ◌+◌, ◌-◌, ◌^◌, ◌<◌, ◌≤◌, ◌||◌, ◌&&◌, nat_le, not, false, max, min, [], OnOk, OnErr};
+ghost use Rattle.std.specs.List.{AllByRecursion};
+ghost use Rattle.fa_types.specs.Open.{rounds_that, most_closed};
+ghost use Rattle.fa_cert.specs.Runs.{is_covered, AreRising};
+
+use std::alloc::{AllocError, Global};
+use std::marker::Model;
+
+/// The rounds from a first to a last one.
+#[derive(Clone, Copy, Debug, PartialEq, Eq)]
+pub struct Span {
+    pub first: u64,
+    pub last: u64,
+}
+
+/// Spans of rounds in rising order, no two of which touch. Contracts see their list.
+#[derive(Debug, Drop)]
+pub struct Spans {
+    spans: Vec<Span>,
+}
+
+impl Model for Spans {
+    ghost use Rattle.std.specs.Prelude.{List};
+    ghost use Rattle.fa_cert.specs.declared.spans.Span.{Span};
+
+    ghost Value = { List Span };
+
+    ghost use Rattle.fa_cert.specs.Runs.{AreRising};
+
+    ghost view = { λ s. s.spans.items };
+
+    ghost invariant = { λ s. AreRising s.spans.items };
+}
+
+impl Spans {
+    /// No rounds.
+    pub fn new(alloc: Global) -> Spans
+        ensures { result ≡ [] }
+    {
+        Spans {
+            spans: Vec::new(alloc),
+        }
+    }
+
+    /// Adds the rounds from a first to a last one, which begin no earlier than those that are there.
+    /// Without memory the spans stay as they were.
+    pub fn add(&mut self, first: u64, last: u64) -> Result<(), AllocError>
+        requires proper { first ≤ last }
+        requires later { AllByRecursion (λ s. s.first ≤ first) self.old }
+        ensures covered { OnOk result ((round : ℕ) → is_covered self.new round ≡ (is_covered self.old round || (nat_le first round && nat_le round last))) }
+        ensures begins { OnOk result (AllByRecursion (λ s. s.first ≤ first) self.new) }
+        ensures err { OnErr result (self.new ≡ self.old) }
+    {
+        add_span(&mut self.spans, first, last)
+    }
+
+    /// Whether the round lies in one of the spans.
+    pub fn covers(&self, round: u64) -> bool
+        ensures { result ≡ is_covered self.now round }
+    {
+        self.spans
+            .iter()
+            .any(|s| s.first <= round && round <= s.last)
+    }
+
+    /// How many of so many rounds from a first one lie in the spans.
+    pub fn count(&self, from: u64, rounds: u64) -> u64
+        requires { from + rounds < 2 ^ 64 }
+        ensures { result ≡ rounds_that (is_covered self.now) from rounds }
+    {
+        count_covered(self.spans.as_slice(), from, rounds)
+    }
+
+    /// The n-th round from a first one, n from 1, that lies in none of the spans.
+    pub fn nth_free(&self, from: u64, n: u64) -> u64
+        requires first { 1 ≤ n }
+        requires small { n ≤ 2 ^ 32 }
+        requires early { from ≤ 2 ^ 56 }
+        requires few { (m : ℕ) → rounds_that (is_covered self.now) from m ≤ most_closed }
+        ensures free { (from ≤ result) × (is_covered self.now result ≡ false) }
+        ensures before { (m : ℕ) → from + m ≡ result → rounds_that (λ round. not (is_covered self.now round)) from m + 1 ≡ n }
+    {
+        nth_uncovered(self.spans.as_slice(), from, n)
+    }
+}
+
+/// Adds a span that begins no earlier than the others: it is a longer last one, or one more.
+fn add_span(spans: &mut Vec<Span>, first: u64, last: u64) -> Result<(), AllocError>
+    requires proper { first ≤ last }
+    requires later { AllByRecursion (λ s. s.first ≤ first) spans.old.items }
+    requires rising { AreRising spans.old.items }
+    ensures covered { OnOk result ((round : ℕ) → is_covered spans.new.items round ≡ (is_covered spans.old.items round || (nat_le first round && nat_le round last))) }
+    ensures begins { OnOk result (AllByRecursion (λ s. s.first ≤ first) spans.new.items) }
+    ensures rising { AreRising spans.new.items }
+    ensures err { OnErr result (spans.new.items ≡ spans.old.items) }
+{
+    let len = spans.len();
+    if len > 0 && first <= spans[len - 1].last.saturating_add(1) {
+        let old = spans[len - 1];
+        spans[len - 1] = Span {
+            first: old.first,
+            last: old.last.max(last),
+        };
+    } else {
+        spans.push(Span { first, last })?;
+    }
+    Ok(())
+}
+
+/// How many of so many rounds from a first one lie in the span.
+fn overlap(span: Span, from: u64, rounds: u64) -> u64
+    requires { from + rounds < 2 ^ 64 }
+    ensures { result ≡ min (span.last + 1) (from + rounds) - max span.first from }
+{
+    let end = from + rounds;
+    let past = if span.last < end { span.last + 1 } else { end };
+    past.saturating_sub(span.first.max(from))
+}
+
+/// How many of so many rounds from a first one lie in the spans.
+fn count_covered(spans: &[Span], from: u64, rounds: u64) -> u64
+    requires rising { AreRising spans.now }
+    requires fits { from + rounds < 2 ^ 64 }
+    ensures { result ≡ rounds_that (is_covered spans.now) from rounds }
+{
+    let mut count = 0;
+    for span in spans {
+        count += overlap(*span, from, rounds);
+    }
+    count
+}
+
+/// The n-th round from a first one, n from 1, that lies in none of the spans. A span that begins
+/// before it puts it off by the rounds that it has from the first one on.
+fn nth_uncovered(spans: &[Span], from: u64, n: u64) -> u64
+    requires rising { AreRising spans.now }
+    requires first { 1 ≤ n }
+    requires small { n ≤ 2 ^ 32 }
+    requires early { from ≤ 2 ^ 56 }
+    requires few { (m : ℕ) → rounds_that (is_covered spans.now) from m ≤ most_closed }
+    ensures free { (from ≤ result) × (is_covered spans.now result ≡ false) }
+    ensures before { (m : ℕ) → from + m ≡ result → rounds_that (λ round. not (is_covered spans.now round)) from m + 1 ≡ n }
+{
+    let mut round = from + (n - 1);
+    for span in spans {
+        if round < span.first {
+            break;
+        }
+        if from <= span.last {
+            round += span.last - span.first.max(from) + 1;
+        }
+    }
+    round
+}

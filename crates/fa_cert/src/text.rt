@@ -1,0 +1,47 @@
+//! The texts of batches and certificates: what is read of them, and the first line that is wrong.
+//!
+//! Lines end in a line feed, which the last one may lack. Words are separated by one space. Numbers are
+//! decimal without leading zeros.
+
+mod batch_text;
+mod certificate_text;
+mod words;
+
+pub use batch_text::{BatchText, read_batch};
+pub use certificate_text::{Certificate, print, read_certificate};
+use std::alloc::{AllocError, AllocFailed};
+use thiserror::Error;
+
+/// Why a text was not read.
+#[derive(Clone, Copy, Debug, PartialEq, Eq, Error)]
+pub enum TextError {
+    /// This line is the first that is wrong, counted from 1 at the beginning of the input. Where the
+    /// input ends too soon it is the line after its last.
+    #[error("line {0}")]
+    Line(u64),
+    /// There was no memory for what is read.
+    #[error("no memory")]
+    NoMemory,
+}
+
+impl From<AllocError> for TextError {
+    ghost use Rattle.std.specs.Prelude.{◌≡◌};
+    ghost use Rattle.fa_cert.specs.declared.text.TextError.TheVariants.{NoMemory};
+
+    ghost from_gives = { λ _ e. e ≡ NoMemory };
+
+    fn from(_error: AllocError) -> TextError {
+        TextError::NoMemory
+    }
+}
+
+impl<T: Drop> From<AllocFailed<T>> for TextError {
+    ghost use Rattle.std.specs.Prelude.{◌≡◌};
+    ghost use Rattle.fa_cert.specs.declared.text.TextError.TheVariants.{NoMemory};
+
+    ghost from_gives = { λ _ e. e ≡ NoMemory };
+
+    fn from(_error: AllocFailed<T>) -> TextError {
+        TextError::NoMemory
+    }
+}

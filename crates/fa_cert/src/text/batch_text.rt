@@ -1,0 +1,149 @@
+//! The text of a batch: its pages with their holders, and the rounds in which dies are closed.
+ghost use Rattle.std.specs.Prelude.{◌≡◌, ℕ, ◌+◌, ◌-◌, ◌^◌, ◌<◌, ◌≤◌, length, All, IfSome, IfOk};
+ghost use Rattle.fa_cert.specs.Text.{EndsSoon, IsRestFrom};
+
+use crate::batch::{Batch, MOST_PAGES};
+use crate::closed::{Closed, Run};
+use crate::text::TextError;
+use crate::text::words::{MOST_DIE, MOST_PAGE, cut_line, cut_word, next_number, rising_numbers};
+use fa_types::{Die, Page, Round};
+use std::alloc::{AllocError, Global};
+
+const MOST_RUNS: usize = 4096;
+
+const LAST_ROUND: u64 = 1_000_000;
+
+/// What a batch text says, and where it ends.
+#[derive(Debug, Drop)]
+pub struct BatchText<'a> {
+    /// The pages in the order of their lines. They need not be sound.
+    pub batch: Batch,
+    /// The closed rounds, the current one being 1.
+    pub closed: Closed,
+    /// The input behind the text.
+    pub rest: &'a [u8],
+    /// The number of the line at which the rest begins.
+    pub line: u64,
+}
+
+/// What a line of a batch text says, behind the first.
+#[derive(Debug, Drop)]
+enum BatchLine {
+    Page(Page, Vec<Die>),
+    Closed(Run),
+    End,
+    Other,
+}
+
+/// Reads the batch text with which an input begins: `batch`, then at most 1,024 lines `page P on D D ..`,
+/// then at most 4,096 lines `closed D FIRST LAST`, then `end`. Pages are 0 to 1,048,575 and dies 0 to 63,
+/// rising; rounds are 1 to 1,000,000, the first not above the last. Else the first line that is wrong.
+#[tactic(auto, using(crate::proofs::Cuts::rest_more, crate::proofs::Cuts::rest_second))]
+pub fn read_batch(alloc: Global, input: &[u8]) -> Result<BatchText<'_>, TextError>
+    ensures rest { IfOk result (λ text. IsRestFrom input.now text.rest.now text.line) }
+    ensures early { IfOk result (λ text. text.line + length text.rest.now ≤ 3 + length input.now) }
+    ensures few { IfOk result (λ text. length text.batch ≤ 1024) }
+{
+    let Some((first, behind)) = cut_line(input) else {
+        return Err(TextError::Line(1));
+    };
+    match first {
+        b"batch" => {}
+        _ => return Err(TextError::Line(1)),
+    }
+    let mut batch = Batch::new(alloc);
+    let mut runs: Vec<Run> = Vec::new(alloc);
+    let mut rest = behind;
+    let mut line = 2u64;
+    while let Some((text, after)) = cut_line(rest) {
+        match line_of(alloc, text)? {
+            BatchLine::Page(page, holders) if runs.is_empty() && batch.len() < MOST_PAGES => {
+                batch.push(page, holders)?;
+            }
+            BatchLine::Closed(run) if runs.len() < MOST_RUNS => {
+                runs.push(run)?;
+            }
+            BatchLine::End => {
+                let closed = Closed::new(alloc, Round(1), runs)?;
+                return Ok(BatchText {
+                    batch,
+                    closed,
+                    rest: after,
+                    line: line + 1,
+                });
+            }
+            _ => return Err(TextError::Line(line)),
+        }
+        rest = after;
+        line += 1;
+    }
+    Err(TextError::Line(line))
+}
+
+/// What a line says.
+fn line_of(alloc: Global, line: &[u8]) -> Result<BatchLine, AllocError>
+    ensures { IfOk result EndsSoon }
+{
+    let (word, rest) = cut_word(line);
+    match word {
+        b"page" => page_line(alloc, rest),
+        b"closed" => Ok(match closed_run(rest) {
+            Some(run) => BatchLine::Closed(run),
+            None => BatchLine::Other,
+        }),
+        b"end" if rest.is_none() => Ok(BatchLine::End),
+        _ => Ok(BatchLine::Other),
+    }
+}
+
+/// What stands behind `page`: the number of the page, `on`, and its holders, rising.
+fn page_line(alloc: Global, rest: Option<&[u8]>) -> Result<BatchLine, AllocError>
+    ensures { IfOk result EndsSoon }
+{
+    let Some((page, rest)) = next_number(rest, MOST_PAGE) else {
+        return Ok(BatchLine::Other);
+    };
+    let Some(text) = rest else {
+        return Ok(BatchLine::Other);
+    };
+    let (word, rest) = cut_word(text);
+    match word {
+        b"on" => {}
+        _ => return Ok(BatchLine::Other),
+    }
+    match rising_numbers(alloc, rest, MOST_DIE)? {
+        Some(numbers) => {
+            let holders = dies_of(alloc, numbers.as_slice())?;
+            Ok(BatchLine::Page(Page(page), holders))
+        }
+        None => Ok(BatchLine::Other),
+    }
+}
+
+/// The dies of these numbers.
+fn dies_of(alloc: Global, numbers: &[u64]) -> Result<Vec<Die>, AllocError>
+    requires { All (λ n. n ≤ 63) numbers.now }
+{
+    let mut dies = Vec::new(alloc);
+    for n in numbers {
+        dies.push(Die(*n as u8))?;
+    }
+    Ok(dies)
+}
+
+/// What stands behind `closed`: a die, and its first and last closed round.
+fn closed_run(rest: Option<&[u8]>) -> Option<Run>
+    ensures { IfSome result (λ run. run.last.0 ≤ 1000000) }
+{
+    let (die, rest) = next_number(rest, MOST_DIE)?;
+    let (first, rest) = next_number(rest, LAST_ROUND)?;
+    let (last, rest) = next_number(rest, LAST_ROUND)?;
+    if rest.is_some() || first == 0 || last < first {
+        return None;
+    }
+    Some(Run {
+        die: Die(die as u8),
+        first: Round(first),
+        last: Round(last),
+    })
+}
