@@ -1,0 +1,137 @@
+//! How long it takes to seal slots and to open them again.
+ghost use Rattle.std.specs.Prelude.{◌≡◌, ◌+◌, ◌<◌, ◌≤◌, ◌^◌, ◌↔◌, length, All, IfOk, IsTrue};
+ghost use Rattle.fa_tag.specs.SlotGrammar.{IsTag};
+ghost use Rattle.flasharr_bench.specs.Good.{IsGood};
+
+use fa_tag::{Opened, TAG_BYTES, Tag, open, seal};
+use fa_types::{Die, Page, Seq, Slot};
+use std::io;
+use std::rt::Clock;
+use std::time::{Duration, Instant};
+
+/// How many bytes a page has.
+const PAGE_BYTES: usize = 4096;
+
+/// How many bytes a slot has.
+const SLOT_BYTES: usize = PAGE_BYTES + TAG_BYTES;
+
+/// How many bytes a digest has (SHA-256, FIPS 180-4).
+const DIGEST_BYTES: usize = 32;
+
+/// How many bytes of a slot its digest is of: all but its own.
+const HASHED_BYTES: usize = SLOT_BYTES - DIGEST_BYTES;
+
+/// How many slots are sealed, and then opened, in a round. They are all in memory at once.
+const ROUND_SLOTS: u32 = 100;
+
+/// How many rounds there are.
+const ROUNDS: u32 = 1000;
+
+/// How many slots are sealed and opened in all.
+const SLOTS: u32 = ROUNDS * ROUND_SLOTS;
+
+/// What each page holds.
+static PAYLOAD: [u8; PAGE_BYTES] = [0x5a; PAGE_BYTES];
+
+/// What was measured.
+#[derive(Clone, Copy, Debug)]
+struct Times {
+    sealing: Duration,
+    opening: Duration,
+    /// How many slots were opened and found good.
+    good: u32,
+}
+
+/// Seals slots and opens them again, and prints five lines, each a name and a number: how many slots
+/// there were, of how many bytes in all the digests were, the nanoseconds that sealing took and those
+/// that opening took, and how many of the slots were found good.
+pub fn measure(rt: &(impl Clock + Print + AllocGlobal)) -> io::Result<()> {
+    let mut slots = vec![in rt.alloc(); [0u8; SLOT_BYTES]; ROUND_SLOTS as usize]?;
+    let times = times_of(rt, &mut slots)?;
+    let bytes = SLOTS as usize * HASHED_BYTES;
+    let sealing = times.sealing.as_nanos();
+    let opening = times.opening.as_nanos();
+    let good = times.good;
+    println!(rt; "slots {SLOTS}")?;
+    println!(rt; "bytes {bytes}")?;
+    println!(rt; "seal_nanoseconds {sealing}")?;
+    println!(rt; "open_nanoseconds {opening}")?;
+    println!(rt; "good {good}")
+}
+
+/// Seals and opens all slots, a round at a time in the memory of one.
+fn times_of(rt: &impl Clock, slots: &mut [[u8; SLOT_BYTES]]) -> io::Result<Times>
+    requires { length slots.old ≡ ROUND_SLOTS }
+    ensures { IfOk result (λ times. times.good ≡ SLOTS) }
+{
+    let mut times = Times {
+        sealing: Duration::ZERO,
+        opening: Duration::ZERO,
+        good: 0,
+    };
+    for round in 0..ROUNDS {
+        let start = Instant::now(rt)?;
+        seal_all(round * ROUND_SLOTS, &PAYLOAD, slots);
+        let sealed = Instant::now(rt)?;
+        times.good += count_good(slots);
+        let opened = Instant::now(rt)?;
+        times.sealing = times.sealing.saturating_add(sealed.duration_since(start));
+        times.opening = times.opening.saturating_add(opened.duration_since(sealed));
+    }
+    Ok(times)
+}
+
+/// Seals the page into each slot. The slots are numbered from `first` on.
+fn seal_all(first: u32, payload: &[u8; PAGE_BYTES], slots: &mut [[u8; SLOT_BYTES]])
+    requires { first + length slots.old ≤ 1048576 }
+    ensures { All IsGood slots.new }
+{
+    let mut number = first;
+    for slot in slots.iter_mut() {
+        seal_numbered(number, payload, slot);
+        number += 1;
+    }
+}
+
+/// Seals the page with a tag of this number's own.
+fn seal_numbered(number: u32, payload: &[u8; PAGE_BYTES], slot: &mut [u8; SLOT_BYTES])
+    requires { number < 1048576 }
+    ensures { IsGood slot.new }
+{
+    seal(tag_of(number), payload, slot);
+}
+
+/// The tag of a number, and of no other.
+fn tag_of(number: u32) -> Tag
+    requires { number < 1048576 }
+    ensures tag { IsTag result }
+    ensures own { result.page.0 ≡ number }
+{
+    Tag {
+        page: Page(u64::from(number)),
+        seq: Seq(u64::from(number) + 1),
+        die: Die((number % 64) as u8),
+        slot: Slot(number),
+    }
+}
+
+/// How many of these slots are good.
+fn count_good(slots: &[[u8; SLOT_BYTES]]) -> u32
+    requires { length slots.now < 2 ^ 32 }
+    ensures { All IsGood slots.now → result ≡ length slots.now }
+{
+    let mut good = 0;
+    for slot in slots {
+        if is_good(slot) {
+            good += 1;
+        }
+    }
+    good
+}
+
+/// Whether a slot is good.
+fn is_good(slot: &[u8; SLOT_BYTES]) -> bool
+    ensures { IsTrue result ↔ IsGood slot.now }
+{
+    matches!(open(slot), Opened::Good(_))
+}
