@@ -1,2 +1,3 @@
 pub mod HexLines
 pub mod Talk
+pub mod Words

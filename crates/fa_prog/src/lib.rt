@@ -5,6 +5,7 @@ mod hex_lines;
 mod output;
 mod program;
 mod talk;
+mod verify;
 
 pub use program::run;
 

@@ -1,37 +1,69 @@
 //! What the program does with its words.
-ghost use Rattle.std.specs.Prelude.{◌≡◌, ◌≢◌, ◌↔◌, [], ◌∷◌, map, codes, string_bytes, IsTrue, IfSome};
+ghost use Rattle.std.specs.Prelude.{◌≡◌, ◌≢◌, [], ◌∷◌, map, codes, string_bytes, IfSome};
 ghost use Rattle.fa_prog.specs.Talk.{RunsTalk};
+ghost use Rattle.fa_prog.specs.Words.{command_in};
 
 use crate::output::FAULTY;
 use crate::talk::{TALK_SIZE, run_talk};
+use crate::verify::run_verify;
 use std::alloc::Global;
 use std::io::{Read, Write};
+
+/// What the program can do.
+#[derive(Clone, Copy, Debug, PartialEq, Eq)]
+enum Command {
+    /// Serves one client, whose bytes are given as text.
+    Talk,
+    /// Checks a certificate.
+    Verify,
+}
+
+/// What is printed where the words are no command.
+const USAGE: &[u8] = b"usage: flasharr talk | verify\n";
 
 /// Runs the program with these words, those behind its name, on an input and an output. Answers the
 /// status with which it ends: 0 where the work was done, 1 where it was refused or memory, input or
 /// output failed, 2 at a fault of the words or of the input's text.
 ///
-/// The one command is `talk`. It reads lines of hexadecimal digits as the bytes of one NBD client,
-/// serves them over a plain store of 64 pages of 512 zero bytes under the name `disk`, and prints the
-/// server's bytes, in hexadecimal on one line, and then how the connection ended.
+/// `talk` reads lines of hexadecimal digits as the bytes of one NBD client, serves them over a plain
+/// store of 64 pages of 512 zero bytes under the name `disk`, and prints the server's bytes, in
+/// hexadecimal on one line, and then how the connection ended.
+///
+/// `verify` reads a batch text and a certificate text, and prints `least R` or the first refusal.
+///
+/// Other words print a line of usage.
 pub fn run<R: Read, W: Write>(alloc: Global, words: &[String], input: &mut R, output: &mut W) -> u8
     ensures talk { map string_bytes words.now ≡ codes "talk" ∷ [] → IfSome (R.remaining input.old)
         (λ text. RunsTalk TALK_SIZE (codes "disk") text (W.contents output.old) (W.contents output.new) result) }
-    ensures other { map string_bytes words.now ≢ codes "talk" ∷ [] → result ≡ 2 }
+    ensures other { map string_bytes words.now ≢ codes "talk" ∷ [] → map string_bytes words.now ≢ codes "verify" ∷ [] → result ≡ 2 }
 {
-    if is_talk(words) {
-        return run_talk(alloc, input, output);
+    match command_of(words) {
+        Some(Command::Talk) => run_talk(alloc, input, output),
+        Some(Command::Verify) => run_verify(alloc, input, output),
+        None => {
+            let _ = output.write_all(USAGE);
+            FAULTY
+        }
     }
-    let _ = output.write_all(b"usage: flasharr talk\n");
-    FAULTY
 }
 
-/// Whether the words are the command `talk`.
-fn is_talk(words: &[String]) -> bool
-    ensures { IsTrue result ↔ (map string_bytes words.now ≡ codes "talk" ∷ []) }
+/// The command that the words are.
+fn command_of(words: &[String]) -> Option<Command>
+    ensures { result ≡ command_in (map string_bytes words.now) }
 {
     match words {
-        [word] => word.as_str() == "talk",
-        _ => false,
+        [word] => named(word.as_str()),
+        _ => None,
+    }
+}
+
+/// The command of this name.
+fn named(word: &str) -> Option<Command>
+    ensures { result ≡ command_in (word.now ∷ []) }
+{
+    match word {
+        "talk" => Some(Command::Talk),
+        "verify" => Some(Command::Verify),
+        _ => None,
     }
 }

@@ -4,4 +4,5 @@ mod fails;
 mod rows;
 mod spelling;
 mod streams;
+mod verdicts;
 mod words;

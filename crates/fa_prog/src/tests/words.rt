@@ -4,7 +4,7 @@ use std::alloc::Global;
 use std::test::Fail;
 
 /// What the program prints of an input, and its status.
-fn printed(alloc: Global, words: &[&str], text: &str) -> Result<(u8, Vec<u8>), Fail> {
+pub fn printed(alloc: Global, words: &[&str], text: &str) -> Result<(u8, Vec<u8>), Fail> {
     let mut given = Vec::new(alloc);
     for word in words {
         given.push(String::from_str(alloc, word)?)?;
@@ -54,7 +54,7 @@ fn lines_are_joined(rt: HostRuntime) -> Result<(), Fail> {
 
 #[test]
 fn other_words(rt: HostRuntime) -> Result<(), Fail> {
-    let cases: [&[&str]; 4] = [&[], &["serve"], &["talk", "talk"], &["Talk"]];
+    let cases: [&[&str]; 5] = [&[], &["serve"], &["talk", "talk"], &["Talk"], &["verif"]];
     for words in cases {
         let (status, _) = printed(rt.alloc(), words, "")?;
         assert_eq!(rt; status, 2);

@@ -1,0 +1,107 @@
+//! Certificates that are checked alone.
+use super::words::printed;
+use std::alloc::Global;
+use std::process::Abort;
+use std::test::Fail;
+
+/// Two pages on one die, and their certificate but for its shortage.
+const TWO_ON_ONE_DIE: &str = "batch\npage 1 on 0\npage 2 on 0\nend\nrounds 2\n";
+
+/// Three pages on two dies, of which one is closed in two rounds, and a plan without its last place.
+const CLOSED_WINDOW: &str = "batch\npage 1 on 0 1\npage 2 on 0 1\npage 3 on 0 1\nclosed 1 1 2\nend
+rounds 3\nplace 1 0 1\nplace 2 0 2\n";
+
+/// Tries `verify` on a text.
+fn verifies(
+    rt: &impl Abort,
+    alloc: Global,
+    text: &[&str],
+    status: u8,
+    told: &str,
+) -> Result<(), Fail> {
+    let mut input = String::new(alloc);
+    for part in text {
+        input.push_str(part)?;
+    }
+    let (ended, output) = printed(alloc, &["verify"], input.as_str())?;
+    assert_eq!(rt; ended, status, "at {told:?}");
+    assert!(rt; output.as_slice() == told.as_bytes(), "at {told:?}");
+    Ok(())
+}
+
+#[test]
+fn not_short(rt: HostRuntime) -> Result<(), Fail> {
+    let claim = "place 1 0 1\nplace 2 0 2\nshort 1\nend\n";
+    verifies(
+        &rt,
+        rt.alloc(),
+        &[TWO_ON_ONE_DIE, claim],
+        1,
+        "refused 8 not short\n",
+    )?;
+    let claim = "place 1 0 1\nplace 2 0 2\nshort 1 2\nend";
+    verifies(&rt, rt.alloc(), &[TWO_ON_ONE_DIE, claim], 0, "least 2\n")
+}
+
+#[test]
+fn place_taken_twice(rt: HostRuntime) -> Result<(), Fail> {
+    let claim = "place 1 0 1\nplace 2 0 1\nshort 1 2\nend\n";
+    verifies(
+        &rt,
+        rt.alloc(),
+        &[TWO_ON_ONE_DIE, claim],
+        1,
+        "refused 5 place taken twice\n",
+    )
+}
+
+#[test]
+fn closed_rounds(rt: HostRuntime) -> Result<(), Fail> {
+    let claim = "place 3 0 3\nshort 1 2 3\nend\n";
+    verifies(&rt, rt.alloc(), &[CLOSED_WINDOW, claim], 0, "least 3\n")?;
+    let claim = "place 3 1 2\nshort 1 2 3\nend\n";
+    verifies(
+        &rt,
+        rt.alloc(),
+        &[CLOSED_WINDOW, claim],
+        1,
+        "refused 4 round closed\n",
+    )?;
+    verifies(
+        &rt,
+        rt.alloc(),
+        &["batch\nend\nrounds 0\nend\n"],
+        0,
+        "least 0\n",
+    )
+}
+
+// The faults of the texts come before those of the batch.
+#[test]
+fn unsound_batches(rt: HostRuntime) -> Result<(), Fail> {
+    let cases = [
+        (
+            "batch\npage 7 on\nend\nrounds 0\nend\n",
+            "unsound: page 7 has no holder\n",
+        ),
+        (
+            "batch\npage 7 on 0\npage 7 on 0\nend\nrounds 0\nend\n",
+            "unsound: page 7 stands twice\n",
+        ),
+        (
+            "batch\npage 7 on 0\npage 7 on\nend\nrounds 0\nend\n",
+            "unsound: page 7 has no holder\n",
+        ),
+        (
+            "batch\npage 7 on\npage 6 on 0\npage 6 on 0\nend\nrounds 0\nend",
+            "unsound: page 7 has no holder\n",
+        ),
+        ("batch\npage 7 on\nend\nrounds 0\n", "text: line 5\n"),
+        ("batch\npage 7 on\nend\nrounds 0\nend\n\n", "text: line 6\n"),
+        ("", "text: line 1\n"),
+    ];
+    for (text, told) in cases {
+        verifies(&rt, rt.alloc(), &[text], 2, told)?;
+    }
+    Ok(())
+}
