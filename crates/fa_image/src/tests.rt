@@ -194,9 +194,14 @@ fn what_is_no_image_file_is_refused(rt: HostRuntime) -> Result<(), Fail> {
     assert_eq!(rt; folder.kind(), io::ErrorKind::IsADirectory);
     assert!(rt; create(&rt, path.as_str()).is_err());
     fs::remove_dir(&rt, path.as_str())?;
-    // No user may write the file of a running program.
+    // No user may write the file of a running program, and most may not write this one anyway.
     let running = open(&rt, "/proc/self/exe").err().ok_or("opened")?;
-    assert_eq!(rt; running.kind(), io::ErrorKind::ExecutableFileBusy);
+    assert!(rt;
+        matches!(
+            running.kind(),
+            io::ErrorKind::ExecutableFileBusy | io::ErrorKind::PermissionDenied
+        )
+    );
     drop(create(&rt, path.as_str())?);
     fs::set_permissions(&rt, path.as_str(), Permissions::from_mode(0o444))?;
     // A user who may write all files opens this one too.
