@@ -1,20 +1,21 @@
 -- Where lines and words are cut, and what digits write.
-use Rattle.std.proofs.Common.{◌≡◌, ℕ, zero, suc, ◌+◌, ◌-◌, ◌<◌, ◌≤◌, ◌^◌, inl, inr, Bool, true, false, cond, not, Option, Some, None, List, [], ◌∷◌, ◌++◌, length, take, drop, get_or, map, ◌==◌, refl, sym, ap, ◌∙◌, subst, arith, length-drop, length-append, append_assoc}
-use Rattle.std.specs.List.{position, position_or_len, onto_first}
+use Rattle.std.proofs.Common.{◌≡◌, ◌≢◌, ℕ, zero, suc, ◌+◌, ◌-◌, ◌<◌, ◌≤◌, ◌^◌, inl, inr, Bool, true, false, cond, not, Option, Some, None, List, [], ◌∷◌, length, take, drop, get_or, map, ◌==◌, refl, sym, ap, ◌∙◌, subst, arith, length-drop}
+use Rattle.std.specs.List.{position, position_or_len, onto_first, join_with_byte}
 use Rattle.std.specs.Borrow.{Bor}
+use Rattle.std.specs.Option.{is_some}
 use Rattle.std.specs.Char.{digit_value}
 use Rattle.std.specs.Fmt.{decimal}
 use Rattle.std.specs.Str.Parse.{AllDigits, digits_value}
-use Rattle.std.proofs.lemmas.Bool.{cases_lt}
+use Rattle.std.proofs.lemmas.Bool.{cases_lt, false≢true}
 use Rattle.std.proofs.lemmas.Fmt.{decimal_digit, first_decimal, decimal-digits_value, decimal_is_IsNumeral}
 use Rattle.std.proofs.lemmas.Int.Digits.{digits_value_is, number_after_append, number_after_ge}
 use Rattle.std.proofs.lemmas.List.{take-append-drop, map-append}
 use Rattle.std.proofs.lemmas.List.Sums.{fails_before_first}
-use Rattle.std.proofs.lemmas.List.Splits.{slice_split_first, slice_split_none}
+use Rattle.std.proofs.lemmas.List.Splits.{join_with_byte-slice_split, length-slice_split, slice_split_first, slice_split_none}
 use Rattle.std.proofs.lemmas.Str.Parse.{IsNumeralModel}
 use Rattle.std.proofs.Math.Seq.{take-length}
 use Rattle.std.specs.Int.Digits.{number_from_digits}
-use Rattle.fa_cert.specs.Text.{lines_of, words_of, IsRestFrom}
+use Rattle.fa_cert.specs.Text.{lines_of, words_of, words_left}
 use Rattle.fa_cert.proofs.Indexed.{position-at, position-past}
 
 module _ {X : Type 0} (p : X → Bool) where
@@ -86,6 +87,10 @@ word_whole bs none =
     let past = no_place (λ b. b == 32) bs none in
     slice_split_none (λ b. b == 32) bs (λ k d below. fails_before_first (λ b. b == 32) bs k d (omega arith))
 
+-- a line has a word, if only an empty one
+pub words_some : (bs : List ℕ) → words_of bs ≢ []
+words_some bs is = let size = length-slice_split (λ b. b == 32) bs in let none = ap (λ l. length l) is in omega (arith, size, none)
+
 -- What digits write.
 own : IsNumeralModel (AllDigits 10) (digits_value 10)
 own = record { to = λ ds h. h; from = λ ds h. h; same = λ ds h. refl }
@@ -125,16 +130,27 @@ abbrev pub left_len : Option (Bor (List ℕ)) → ℕ
 left_len None = 0
 left_len (Some line) = suc (length line.now)
 
--- behind the first line, and behind one line more
-pub rest_second : (input first rest : List ℕ) → lines_of input ≡ first ∷ lines_of rest → IsRestFrom input rest 2
-rest_second input first rest is = record { before = first ∷ []; parts = is; number = refl }
+-- nothing is left of a line where it has no word more
+pub nothing_left : (left : Option (Bor (List ℕ))) → is_some left ≡ false → words_left left ≡ []
+nothing_left None is = refl
+nothing_left (Some line) is = absurd (false≢true (sym is))
 
-pub rest_more : (input rest text after : List ℕ) (line : ℕ) → IsRestFrom input rest line → lines_of rest ≡ text ∷ lines_of after → IsRestFrom input after (line + 1)
-rest_more input rest text after line so_far is =
-    let size = length-append so_far.before (text ∷ []) in
-    let number = so_far.number in
-    record {
-      before = so_far.before ++ text ∷ [];
-      parts = so_far.parts ∙ ap (λ v. so_far.before ++ v) is ∙ sym (append_assoc so_far.before (text ∷ []) (lines_of after));
-      number = omega (arith, size, number);
-    }
+pub something_left : (left : Option (Bor (List ℕ))) → is_some left ≡ true → words_left left ≢ []
+something_left None is = absurd (false≢true is)
+something_left (Some line) is = words_some line.now
+
+-- a line with one word is this word
+pub one_word : (line word : List ℕ) → words_of line ≡ word ∷ [] → line ≡ word
+one_word line word is = sym (join_with_byte-slice_split 32 line) ∙ ap (λ v. join_with_byte 32 v) is
+
+-- bytes have a line
+pub some_line : (bs : List ℕ) → length bs ≢ 0 → (first : List ℕ) × (rest : List (List ℕ)) × (lines_of bs ≡ first ∷ rest)
+some_line [] some = absurd (some refl)
+some_line (b ∷ bs) some = elim (b == 10) as (λ v. (first : List ℕ) × (rest : List (List ℕ)) × (cond v ([] ∷ lines_of bs) (onto_first b (lines_of bs)) ≡ first ∷ rest)) [
+  | true ↦ ([], lines_of bs, refl)
+  | false ↦ first_of (lines_of bs)
+]
+  where
+    first_of : (lines : List (List ℕ)) → (first : List ℕ) × (rest : List (List ℕ)) × (onto_first b lines ≡ first ∷ rest)
+    first_of [] = (b ∷ [], [], refl)
+    first_of (line ∷ lines) = (b ∷ line, lines, refl)

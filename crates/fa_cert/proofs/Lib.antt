@@ -1,8 +1,14 @@
+pub mod BatchTexts
 pub mod Batches
+pub mod CertificateTexts
 pub mod Counting
 pub mod Covered
 pub mod Cuts
 pub mod Indexed
+pub mod LinesRead
 pub mod Marked
+pub mod Numbers
+pub mod Parts
 pub mod Placed
+pub mod Printed
 pub mod Windows

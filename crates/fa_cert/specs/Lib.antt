@@ -1,5 +1,7 @@
 pub mod Batch
+pub mod BatchText
 pub mod Certificate
+pub mod CertificateText
 pub mod Closed
 pub mod Index
 pub mod Marks

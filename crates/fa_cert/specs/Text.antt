@@ -1,16 +1,16 @@
--- The texts of batches and certificates: the lines of an input, and the words of a line.
-use Rattle.std.specs.Prelude.{◌≡◌, ℕ, ◌+◌, ◌≤◌, ◌==◌, if◌then◌else◌, List, [], ◌∷◌, ◌++◌, length, Option, Some, None}
+-- Texts by their lines and words, and the first line that is wrong.
+use Rattle.std.specs.Prelude.{◌≡◌, ℕ, ◌+◌, ◌==◌, if◌then◌else◌, List, [], ◌∷◌, ◌++◌, length, map, Option, Some, None}
 use Rattle.std.specs.List.{slice_split, onto_first}
 use Rattle.std.specs.Borrow.{Bor}
-use Rattle.fa_cert.specs.declared.text.batch_text.BatchLine.{BatchLine}
-use Rattle.fa_cert.specs.declared.text.batch_text.BatchLine.TheVariants.{Page, Closed, End, Other}
+use Rattle.fa_cert.specs.declared.text.TextError.{TextError}
+use Rattle.fa_cert.specs.declared.text.TextError.TheVariants.{Line, NoMemory}
 
 -- the lines of an input, each ended by a line feed, which the last one may lack
 abbrev pub lines_of : List ℕ → List (List ℕ)
 lines_of [] = []
 lines_of (b ∷ bytes) = if b == 10 then [] ∷ lines_of bytes else onto_first b (lines_of bytes)
 
--- the words of a line, with a space between each and the next
+-- the words of a line, with one space between each and the next
 abbrev pub words_of : List ℕ → List (List ℕ)
 words_of line = slice_split (λ b. b == 32) line
 
@@ -19,15 +19,30 @@ abbrev pub words_left : Option (Bor (List ℕ)) → List (List ℕ)
 words_left None = []
 words_left (Some line) = words_of line.now
 
--- a run of closed rounds in a text ends by round 1,000,000
-abbrev pub EndsSoon : BatchLine → Type 0
-EndsSoon (Page page holders) = Unit {0}
-EndsSoon (Closed run) = run.last.0 ≤ 1000000
-EndsSoon End = Unit {0}
-EndsSoon Other = Unit {0}
+-- the words of each line of an input
+abbrev pub words_by_line : List ℕ → List (List (List ℕ))
+words_by_line input = map words_of (lines_of input)
 
--- a rest of an input: its lines are the last ones, and the first of them has this number, counted from 1
-pub record IsRestFrom (input rest : List ℕ) (line : ℕ) : Type 0 where
-  pub before : List (List ℕ)
-  pub parts : lines_of input ≡ before ++ lines_of rest
-  pub number : line ≡ length before + 1
+-- some text begins with these lines
+abbrev pub Begins : (List (List (List ℕ)) → Type 0) → List (List (List ℕ)) → Type 0
+Begins IsText lines = (more : List (List (List ℕ))) × IsText (lines ++ more)
+
+-- no text has these lines and goes on as the input does: with no line more, or with such a line
+abbrev pub GoesWrong : (List (List (List ℕ)) → Type 0) → List (List (List ℕ)) → List (List (List ℕ)) → Type 0
+GoesWrong IsText before [] = ¬ (IsText before)
+GoesWrong IsText before (line ∷ after) = ¬ (Begins IsText (before ++ line ∷ []))
+
+-- The first wrong line of an input, of which the first line has a given number. Where the input ends too
+-- soon it is the line after its last.
+pub record IsFirstWrongLine (IsText : List (List (List ℕ)) → Type 0) (first : ℕ) (lines : List (List (List ℕ))) (number : ℕ) : Type 0 where
+  pub before : List (List (List ℕ))
+  pub after : List (List (List ℕ))
+  pub whole : lines ≡ before ++ after
+  pub begins : Begins IsText before
+  pub wrong : GoesWrong IsText before after
+  pub number_is : number ≡ first + length before
+
+-- why a text is not read: its first wrong line, or want of memory
+abbrev pub IsTextError : (List (List (List ℕ)) → Type 0) → ℕ → List (List (List ℕ)) → TextError → Type 0
+IsTextError IsText first lines (Line number) = IsFirstWrongLine IsText first lines number
+IsTextError IsText first lines NoMemory = Unit {0}

@@ -1,5 +1,6 @@
 -- The verdict on a plan with pages that are to show it least: a certificate, or the first thing that is wrong.
-use Rattle.std.specs.Prelude.{◌≡◌, ℕ, Bool, List}
+use Rattle.std.specs.Prelude.{◌≡◌, ℕ, Bool, List, ◌++◌, codes}
+use Rattle.std.specs.Fmt.{decimal}
 use Rattle.fa_types.specs.declared.numbers.Page.{Page}
 use Rattle.fa_cert.specs.declared.plan.Place.{Place}
 use Rattle.fa_cert.specs.declared.verdict.Refusal.{Refusal}
@@ -42,3 +43,19 @@ number_of PlaceTwice = 5
 number_of LastRound = 6
 number_of ShortagePage = 7
 number_of NotShort = 8
+
+-- the words of each refusal
+abbrev pub refusal_words : Refusal → List ℕ
+refusal_words PageMissing = codes "page missing"
+refusal_words PageTwice = codes "page twice"
+refusal_words NotAHolder = codes "not a holder"
+refusal_words RoundClosed = codes "round closed"
+refusal_words PlaceTwice = codes "place taken twice"
+refusal_words LastRound = codes "last round differs"
+refusal_words ShortagePage = codes "shortage page unknown"
+refusal_words NotShort = codes "not short"
+
+-- what is printed of a verdict: the number of rounds, or the number of the refusal with its words
+abbrev pub verdict_text : Verdict → List ℕ
+verdict_text (Least rounds) = codes "least " ++ decimal rounds
+verdict_text (Refused refusal) = codes "refused " ++ decimal (number_of refusal) ++ codes " " ++ refusal_words refusal

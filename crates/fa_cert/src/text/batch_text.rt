@@ -1,11 +1,16 @@
 //! The text of a batch: its pages with their holders, and the rounds in which dies are closed.
-ghost use Rattle.std.specs.Prelude.{◌≡◌, ℕ, ◌+◌, ◌-◌, ◌^◌, ◌<◌, ◌≤◌, length, All, IfSome, IfOk};
-ghost use Rattle.fa_cert.specs.Text.{EndsSoon, IsRestFrom};
+ghost use Rattle.std.specs.Prelude.{◌≡◌, ◌≢◌, ℕ, ◌+◌, ◌^◌, ◌<◌, ◌≤◌, ◌∷◌, List, length, map, codes, All, IfOk, IfErr, MatchOption};
+ghost use Rattle.std.specs.List.Sorted.{IsStrictlyIncreasing};
+ghost use Rattle.fa_cert.specs.Batch.{Entry};
+ghost use Rattle.fa_cert.specs.BatchText.{HasClosedLine, HasPageLine, IsRead, SaysOfBatch, StartsWithBatch, closed_line as words_of_run, page_line as words_of_page};
+ghost use Rattle.fa_cert.specs.Text.{IsTextError, words_by_line, words_left, words_of};
 
 use crate::batch::{Batch, MOST_PAGES};
 use crate::closed::{Closed, Run};
 use crate::text::TextError;
-use crate::text::words::{MOST_DIE, MOST_PAGE, cut_line, cut_word, next_number, rising_numbers};
+use crate::text::words::{
+    MOST_DIE, MOST_PAGE, cut_line, cut_word, is_word, next_number, rising_numbers, three_numbers,
+};
 use fa_types::{Die, Page, Round};
 use std::alloc::{AllocError, Global};
 
@@ -38,18 +43,16 @@ enum BatchLine {
 /// Reads the batch text with which an input begins: `batch`, then at most 1,024 lines `page P on D D ..`,
 /// then at most 4,096 lines `closed D FIRST LAST`, then `end`. Pages are 0 to 1,048,575 and dies 0 to 63,
 /// rising; rounds are 1 to 1,000,000, the first not above the last. Else the first line that is wrong.
-#[tactic(auto, using(crate::proofs::Cuts::rest_more, crate::proofs::Cuts::rest_second))]
 pub fn read_batch(alloc: Global, input: &[u8]) -> Result<BatchText<'_>, TextError>
-    ensures rest { IfOk result (λ text. IsRestFrom input.now text.rest.now text.line) }
+    ensures read { IfOk result (IsRead input.now) }
     ensures early { IfOk result (λ text. text.line + length text.rest.now ≤ 3 + length input.now) }
-    ensures few { IfOk result (λ text. length text.batch ≤ 1024) }
+    ensures fault { IfErr result (IsTextError StartsWithBatch 1 (words_by_line input.now)) }
 {
     let Some((first, behind)) = cut_line(input) else {
         return Err(TextError::Line(1));
     };
-    match first {
-        b"batch" => {}
-        _ => return Err(TextError::Line(1)),
+    if !is_word(first, b"batch") {
+        return Err(TextError::Line(1));
     }
     let mut batch = Batch::new(alloc);
     let mut runs: Vec<Run> = Vec::new(alloc);
@@ -57,10 +60,16 @@ pub fn read_batch(alloc: Global, input: &[u8]) -> Result<BatchText<'_>, TextErro
     let mut line = 2u64;
     while let Some((text, after)) = cut_line(rest) {
         match line_of(alloc, text)? {
-            BatchLine::Page(page, holders) if runs.is_empty() && batch.len() < MOST_PAGES => {
+            BatchLine::Page(page, holders) => {
+                if !runs.is_empty() || batch.len() >= MOST_PAGES {
+                    return Err(TextError::Line(line));
+                }
                 batch.push(page, holders)?;
             }
-            BatchLine::Closed(run) if runs.len() < MOST_RUNS => {
+            BatchLine::Closed(run) => {
+                if runs.len() >= MOST_RUNS {
+                    return Err(TextError::Line(line));
+                }
                 runs.push(run)?;
             }
             BatchLine::End => {
@@ -72,7 +81,7 @@ pub fn read_batch(alloc: Global, input: &[u8]) -> Result<BatchText<'_>, TextErro
                     line: line + 1,
                 });
             }
-            _ => return Err(TextError::Line(line)),
+            BatchLine::Other => return Err(TextError::Line(line)),
         }
         rest = after;
         line += 1;
@@ -82,23 +91,27 @@ pub fn read_batch(alloc: Global, input: &[u8]) -> Result<BatchText<'_>, TextErro
 
 /// What a line says.
 fn line_of(alloc: Global, line: &[u8]) -> Result<BatchLine, AllocError>
-    ensures { IfOk result EndsSoon }
+    ensures { IfOk result (SaysOfBatch (words_of line.now)) }
 {
     let (word, rest) = cut_word(line);
-    match word {
-        b"page" => page_line(alloc, rest),
-        b"closed" => Ok(match closed_run(rest) {
+    if is_word(word, b"page") {
+        return page_line(alloc, rest);
+    }
+    if is_word(word, b"closed") {
+        return Ok(match closed_run(rest) {
             Some(run) => BatchLine::Closed(run),
             None => BatchLine::Other,
-        }),
-        b"end" if rest.is_none() => Ok(BatchLine::End),
-        _ => Ok(BatchLine::Other),
+        });
     }
+    if rest.is_none() && is_word(word, b"end") {
+        return Ok(BatchLine::End);
+    }
+    Ok(BatchLine::Other)
 }
 
 /// What stands behind `page`: the number of the page, `on`, and its holders, rising.
 fn page_line(alloc: Global, rest: Option<&[u8]>) -> Result<BatchLine, AllocError>
-    ensures { IfOk result EndsSoon }
+    ensures { IfOk result (SaysOfBatch (codes "page" ∷ words_left rest.entry)) }
 {
     let Some((page, rest)) = next_number(rest, MOST_PAGE) else {
         return Ok(BatchLine::Other);
@@ -107,9 +120,8 @@ fn page_line(alloc: Global, rest: Option<&[u8]>) -> Result<BatchLine, AllocError
         return Ok(BatchLine::Other);
     };
     let (word, rest) = cut_word(text);
-    match word {
-        b"on" => {}
-        _ => return Ok(BatchLine::Other),
+    if !is_word(word, b"on") {
+        return Ok(BatchLine::Other);
     }
     match rising_numbers(alloc, rest, MOST_DIE)? {
         Some(numbers) => {
@@ -123,6 +135,7 @@ fn page_line(alloc: Global, rest: Option<&[u8]>) -> Result<BatchLine, AllocError
 /// The dies of these numbers.
 fn dies_of(alloc: Global, numbers: &[u64]) -> Result<Vec<Die>, AllocError>
     requires { All (λ n. n ≤ 63) numbers.now }
+    ensures { IfOk result (λ dies. map (λ d. d.0) dies.items ≡ numbers.now) }
 {
     let mut dies = Vec::new(alloc);
     for n in numbers {
@@ -133,12 +146,11 @@ fn dies_of(alloc: Global, numbers: &[u64]) -> Result<Vec<Die>, AllocError>
 
 /// What stands behind `closed`: a die, and its first and last closed round.
 fn closed_run(rest: Option<&[u8]>) -> Option<Run>
-    ensures { IfSome result (λ run. run.last.0 ≤ 1000000) }
+    ensures { MatchOption result ((run : Run) → HasClosedLine run → codes "closed" ∷ words_left rest.entry ≢ words_of_run run)
+        (λ run. (codes "closed" ∷ words_left rest.entry ≡ words_of_run run) × HasClosedLine run) }
 {
-    let (die, rest) = next_number(rest, MOST_DIE)?;
-    let (first, rest) = next_number(rest, LAST_ROUND)?;
-    let (last, rest) = next_number(rest, LAST_ROUND)?;
-    if rest.is_some() || first == 0 || last < first {
+    let (die, first, last) = three_numbers(rest, (MOST_DIE, LAST_ROUND, LAST_ROUND))?;
+    if first == 0 || last < first {
         return None;
     }
     Some(Run {

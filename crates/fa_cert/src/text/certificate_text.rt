@@ -1,15 +1,20 @@
 //! The text of a certificate: a plan, and the pages that show that no plan has fewer rounds.
-ghost use Rattle.std.specs.Prelude.{◌^◌, ◌<◌, ◌+◌, length};
+ghost use Rattle.std.specs.Prelude.{◌≡◌, ◌≢◌, ℕ, ◌+◌, ◌^◌, ◌<◌, ◌≤◌, ◌∷◌, ◌++◌, List, length, map, codes, All, IfOk, IfErr, OnOk, MatchOption, string_bytes};
+ghost use Rattle.std.specs.List.Sorted.{IsNonDecreasing, IsPermutation};
+ghost use Rattle.fa_cert.specs.CertificateText.{HasPlaceLine, IsCertificateText, IsPrinted, IsSomeCertificate, SaysOfCertificate, place_line, rounds_line, short_lines};
+ghost use Rattle.fa_cert.specs.Text.{IsTextError, words_by_line, words_left, words_of};
 
 use crate::plan::{Place, Places, Plan};
 use crate::shortage::Shortage;
 use crate::text::TextError;
-use crate::text::words::{MOST_DIE, MOST_PAGE, cut_line, cut_word, next_number, rising_numbers};
+use crate::text::words::{
+    MOST_DIE, MOST_PAGE, cut_line, cut_word, is_word, next_number, rising_numbers, three_numbers,
+};
 use fa_types::{Die, Page, Round};
 use std::alloc::{AllocError, Global};
 use std::fmt::Write;
 
-/// The highest round, and number of rounds, in a certificate text.
+/// The highest round, and number of rounds, of a certificate text.
 const LAST_ROUND: u64 = 2_000_000;
 
 /// What a certificate text says.
@@ -35,6 +40,8 @@ enum CertificateLine {
 /// and nothing behind it. Rounds are at most 2,000,000. Else the first line that is wrong.
 pub fn read_certificate(alloc: Global, input: &[u8], line: u64) -> Result<Certificate, TextError>
     requires { line + length input.now + 1 < 2 ^ 64 }
+    ensures read { IfOk result (λ found. IsCertificateText (words_by_line input.now) found.plan.rounds found.plan.places found.shortage) }
+    ensures fault { IfErr result (IsTextError IsSomeCertificate line (words_by_line input.now)) }
 {
     let Some((first, behind)) = cut_line(input) else {
         return Err(TextError::Line(line));
@@ -48,14 +55,26 @@ pub fn read_certificate(alloc: Global, input: &[u8], line: u64) -> Result<Certif
     let mut line = line + 1;
     while let Some((text, after)) = cut_line(rest) {
         match line_of(alloc, text)? {
-            CertificateLine::Place(place) if shortage.as_slice().is_empty() => places.push(place)?,
-            CertificateLine::Short(pages) if shortage.as_slice().is_empty() => shortage = pages,
-            CertificateLine::End if after.is_empty() => {
+            CertificateLine::Place(place) => {
+                if !shortage.as_slice().is_empty() {
+                    return Err(TextError::Line(line));
+                }
+                places.push(place)?;
+            }
+            CertificateLine::Short(pages) => {
+                if !shortage.as_slice().is_empty() {
+                    return Err(TextError::Line(line));
+                }
+                shortage = pages;
+            }
+            CertificateLine::End => {
+                if !after.is_empty() {
+                    return Err(TextError::Line(line + 1));
+                }
                 let plan = Plan { rounds, places };
                 return Ok(Certificate { plan, shortage });
             }
-            CertificateLine::End => return Err(TextError::Line(line + 1)),
-            _ => return Err(TextError::Line(line)),
+            CertificateLine::Other => return Err(TextError::Line(line)),
         }
         rest = after;
         line += 1;
@@ -64,43 +83,60 @@ pub fn read_certificate(alloc: Global, input: &[u8], line: u64) -> Result<Certif
 }
 
 /// The number of rounds in the first line.
-fn rounds_of(line: &[u8]) -> Option<u64> {
+fn rounds_of(line: &[u8]) -> Option<u64>
+    ensures { MatchOption result ((rounds : ℕ) → rounds ≤ 2000000 → words_of line.now ≢ rounds_line rounds)
+        (λ rounds. (rounds ≤ 2000000) × (words_of line.now ≡ rounds_line rounds)) }
+{
     let (word, rest) = cut_word(line);
-    match word {
-        b"rounds" => {}
-        _ => return None,
+    if !is_word(word, b"rounds") {
+        return None;
     }
-    match next_number(rest, LAST_ROUND)? {
-        (rounds, None) => Some(rounds),
-        _ => None,
+    let (rounds, rest) = next_number(rest, LAST_ROUND)?;
+    match rest {
+        Some(_) => None,
+        None => Some(rounds),
     }
 }
 
 /// What a line says.
-fn line_of(alloc: Global, line: &[u8]) -> Result<CertificateLine, AllocError> {
+fn line_of(alloc: Global, line: &[u8]) -> Result<CertificateLine, AllocError>
+    ensures { IfOk result (SaysOfCertificate (words_of line.now)) }
+{
     let (word, rest) = cut_word(line);
-    match word {
-        b"place" => Ok(match place_of(rest) {
+    if is_word(word, b"place") {
+        return Ok(match place_of(rest) {
             Some(place) => CertificateLine::Place(place),
             None => CertificateLine::Other,
-        }),
-        b"short" if rest.is_some() => match rising_numbers(alloc, rest, MOST_PAGE)? {
-            Some(numbers) => Ok(CertificateLine::Short(shortage_of(alloc, numbers.as_slice())?)),
-            None => Ok(CertificateLine::Other),
-        },
-        b"end" if rest.is_none() => Ok(CertificateLine::End),
-        _ => Ok(CertificateLine::Other),
+        });
+    }
+    if is_word(word, b"short") {
+        return short_line(alloc, rest);
+    }
+    if rest.is_none() && is_word(word, b"end") {
+        return Ok(CertificateLine::End);
+    }
+    Ok(CertificateLine::Other)
+}
+
+/// What stands behind `short`: the numbers of the pages, rising.
+fn short_line(alloc: Global, rest: Option<&[u8]>) -> Result<CertificateLine, AllocError>
+    ensures { IfOk result (SaysOfCertificate (codes "short" ∷ words_left rest.entry)) }
+{
+    if rest.is_none() {
+        return Ok(CertificateLine::Other);
+    }
+    match rising_numbers(alloc, rest, MOST_PAGE)? {
+        Some(numbers) => Ok(CertificateLine::Short(shortage_of(alloc, numbers.as_slice())?)),
+        None => Ok(CertificateLine::Other),
     }
 }
 
 /// What stands behind `place`: a page, a die and a round.
-fn place_of(rest: Option<&[u8]>) -> Option<Place> {
-    let (page, rest) = next_number(rest, MOST_PAGE)?;
-    let (die, rest) = next_number(rest, MOST_DIE)?;
-    let (round, rest) = next_number(rest, LAST_ROUND)?;
-    if rest.is_some() {
-        return None;
-    }
+fn place_of(rest: Option<&[u8]>) -> Option<Place>
+    ensures { MatchOption result ((x : Place) → HasPlaceLine x → codes "place" ∷ words_left rest.entry ≢ place_line x)
+        (λ x. (codes "place" ∷ words_left rest.entry ≡ place_line x) × HasPlaceLine x) }
+{
+    let (page, die, round) = three_numbers(rest, (MOST_PAGE, MOST_DIE, LAST_ROUND))?;
     Some(Place {
         page: Page(page),
         die: Die(die as u8),
@@ -108,7 +144,10 @@ fn place_of(rest: Option<&[u8]>) -> Option<Place> {
     })
 }
 
-fn shortage_of(alloc: Global, numbers: &[u64]) -> Result<Shortage, AllocError> {
+/// The pages of these numbers.
+fn shortage_of(alloc: Global, numbers: &[u64]) -> Result<Shortage, AllocError>
+    ensures { IfOk result (λ pages. map (λ p. p.0) pages ≡ numbers.now) }
+{
     let mut shortage = Shortage::new(alloc);
     for n in numbers {
         shortage.push(Page(*n))?;
@@ -118,28 +157,67 @@ fn shortage_of(alloc: Global, numbers: &[u64]) -> Result<Shortage, AllocError> {
 
 /// The text of a plan and a shortage, its places and its pages by rising page. What has a text is read
 /// back from it.
-pub fn print(alloc: Global, plan: &Plan, shortage: &Shortage) -> Result<String, AllocError> {
+pub fn print(alloc: Global, plan: &Plan, shortage: &Shortage) -> Result<String, AllocError>
+    ensures { IfOk result (λ out. IsPrinted plan.now.rounds plan.now.places shortage.now (string_bytes out)) }
+{
+    let places = places_by_page(alloc, plan.places.as_slice())?;
+    let pages = rising_pages(alloc, shortage.as_slice())?;
     let mut out = String::new(alloc);
     let rounds = plan.rounds;
     write!(out, "rounds {rounds}\n")?;
-    let mut places = Vec::from_slice(alloc, plan.places.as_slice())?;
-    places.sort_unstable_by_key(|x| x.page.0);
     for place in places.iter() {
-        let page = place.page.0;
-        let die = place.die.0;
-        let round = place.round.0;
-        write!(out, "place {page} {die} {round}\n")?;
+        print_place(&mut out, place)?;
     }
-    let mut pages = Vec::from_slice(alloc, shortage.as_slice())?;
-    pages.sort_unstable_by_key(|p| p.0);
-    if !pages.is_empty() {
-        out.push_str("short")?;
-        for page in pages.iter() {
-            let page = page.0;
-            write!(out, " {page}")?;
-        }
-        out.push_str("\n")?;
-    }
+    print_short(&mut out, &pages)?;
     out.push_str("end\n")?;
     Ok(out)
+}
+
+/// Copies of these places, by rising page.
+fn places_by_page(alloc: Global, places: &[Place]) -> Result<Vec<Place>, AllocError>
+    ensures same { IfOk result (λ copies. IsPermutation places.now copies.items) }
+    ensures rising { IfOk result (λ copies. IsNonDecreasing (map (λ x. x.page.0) copies.items)) }
+{
+    let mut copies = Vec::from_slice(alloc, places)?;
+    copies.sort_unstable_by_key(|x| x.page.0);
+    Ok(copies)
+}
+
+/// Copies of these pages, rising.
+fn rising_pages(alloc: Global, pages: &[Page]) -> Result<Vec<Page>, AllocError>
+    ensures same { IfOk result (λ copies. IsPermutation pages.now copies.items) }
+    ensures rising { IfOk result (λ copies. IsNonDecreasing (map (λ p. p.0) copies.items)) }
+{
+    let mut copies = Vec::from_slice(alloc, pages)?;
+    copies.sort_unstable_by_key(|p| p.0);
+    Ok(copies)
+}
+
+/// Prints the line of a place.
+fn print_place(out: &mut String, place: &Place) -> Result<(), AllocError>
+    ensures { OnOk result ((line : List ℕ) × (string_bytes out.new ≡ string_bytes out.old ++ line)
+        × ((more : List ℕ) → words_by_line (line ++ more) ≡ place_line place.now ∷ words_by_line more)) }
+{
+    let page = place.page.0;
+    let die = place.die.0;
+    let round = place.round.0;
+    write!(out, "place {page} {die} {round}\n")?;
+    Ok(())
+}
+
+/// Prints the line of a shortage of these pages, if there are any.
+fn print_short(out: &mut String, pages: &[Page]) -> Result<(), AllocError>
+    ensures { OnOk result ((lines : List ℕ) × (string_bytes out.new ≡ string_bytes out.old ++ lines)
+        × ((more : List ℕ) → words_by_line (lines ++ more) ≡ short_lines pages.now ++ words_by_line more)) }
+{
+    if pages.is_empty() {
+        return Ok(());
+    }
+    out.push_str("short")?;
+    for page in pages {
+        let page = page.0;
+        write!(out, " {page}")?;
+    }
+    out.push_str("\n")?;
+    Ok(())
 }

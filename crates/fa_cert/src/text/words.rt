@@ -1,6 +1,7 @@
 //! The words of a line, and the lines of an input.
-ghost use Rattle.std.specs.Prelude.{◌≡◌, ℕ, ◌<◌, ◌≤◌, ◌^◌, [], ◌∷◌, List, length, All, IfSome, IfOk, IfNone, MatchOption, ◌==◌, position};
+ghost use Rattle.std.specs.Prelude.{◌≡◌, ◌≢◌, ◌↔◌, ℕ, ◌-◌, ◌<◌, ◌≤◌, ◌^◌, [], ◌∷◌, List, length, map, All, IfSome, IfOk, IsTrue, MatchOption, slice_index, ◌==◌, position};
 ghost use Rattle.std.specs.Fmt.{decimal};
+ghost use Rattle.std.specs.List.Sorted.{IsStrictlyIncreasing};
 ghost use Rattle.fa_cert.specs.Text.{lines_of, words_of, words_left};
 
 use std::alloc::{AllocError, Global};
@@ -36,6 +37,13 @@ pub(crate) fn cut_word(line: &[u8]) -> (&[u8], Option<&[u8]>)
     }
 }
 
+/// Whether a word is this one.
+pub(crate) fn is_word(word: &[u8], name: &[u8]) -> bool
+    ensures { IsTrue result ↔ (word.now ≡ name.now) }
+{
+    word == name
+}
+
 /// The number that a word writes, where it is at most so large.
 pub(crate) fn number(word: &[u8], most: u64) -> Option<u64>
     requires { most < 2 ^ 32 }
@@ -63,10 +71,28 @@ pub(crate) fn number(word: &[u8], most: u64) -> Option<u64>
 /// The number that is the next word of what is left of a line, at most so large, and what is left then.
 pub(crate) fn next_number(line: Option<&[u8]>, most: u64) -> Option<(u64, Option<&[u8]>)>
     requires { most < 2 ^ 32 }
-    ensures { IfSome result (λ r. r.0 ≤ most) }
+    ensures { MatchOption result ((n : ℕ) (more : List (List ℕ)) → n ≤ most → words_left line.entry ≢ decimal n ∷ more)
+        (λ r. (r.0 ≤ most) × (words_left line.entry ≡ decimal r.0 ∷ words_left r.1)) }
 {
     let (word, rest) = cut_word(line?);
     Some((number(word, most)?, rest))
+}
+
+/// The three numbers, each at most so large, that are all the words of what is left of a line.
+pub(crate) fn three_numbers(line: Option<&[u8]>, most: (u64, u64, u64)) -> Option<(u64, u64, u64)>
+    requires first { most.0 < 2 ^ 32 }
+    requires second { most.1 < 2 ^ 32 }
+    requires third { most.2 < 2 ^ 32 }
+    ensures { MatchOption result ((a b c : ℕ) → a ≤ most.0 → b ≤ most.1 → c ≤ most.2 → words_left line.entry ≢ decimal a ∷ decimal b ∷ decimal c ∷ [])
+        (λ r. (r.0 ≤ most.0) × (r.1 ≤ most.1) × (r.2 ≤ most.2) × (words_left line.entry ≡ decimal r.0 ∷ decimal r.1 ∷ decimal r.2 ∷ [])) }
+{
+    let (first, rest) = next_number(line, most.0)?;
+    let (second, rest) = next_number(rest, most.1)?;
+    let (third, rest) = next_number(rest, most.2)?;
+    match rest {
+        Some(_) => None,
+        None => Some((first, second, third)),
+    }
 }
 
 /// The rising numbers, each at most so large, that are all the words of what is left of a line.
@@ -76,7 +102,8 @@ pub(crate) fn rising_numbers(
     most: u64,
 ) -> Result<Option<Vec<u64>>, AllocError>
     requires { most < 2 ^ 32 }
-    ensures { IfOk result (λ r. IfSome r (λ ns. All (λ n. n ≤ most) ns.items)) }
+    ensures { IfOk result (λ r. MatchOption r ((ns : List ℕ) → All (λ n. n ≤ most) ns → IsStrictlyIncreasing ns → words_left line.entry ≢ map decimal ns)
+        (λ ns. All (λ n. n ≤ most) ns.items × IsStrictlyIncreasing ns.items × (words_left line.entry ≡ map decimal ns.items))) }
 {
     let mut numbers = Vec::new(alloc);
     let mut rest = line;
@@ -85,15 +112,23 @@ pub(crate) fn rising_numbers(
         let Some(n) = number(word, most) else {
             return Ok(None);
         };
-        if let Some(last) = numbers.last()
-            && n <= *last
-        {
+        if !is_above(n, numbers.as_slice()) {
             return Ok(None);
         }
         numbers.push(n)?;
         rest = after;
     }
     Ok(Some(numbers))
+}
+
+/// Whether a number is above the last of these.
+fn is_above(n: u64, numbers: &[u64]) -> bool
+    ensures { IsTrue result ↔ (0 < length numbers.now → slice_index numbers.now (length numbers.now - 1) < n) }
+{
+    match numbers.last() {
+        Some(last) => *last < n,
+        None => true,
+    }
 }
 
 /// The first place of a byte.
