@@ -2,10 +2,11 @@
 ghost use Rattle.std.specs.Prelude.{◌≡◌, ℕ, Bool, List};
 ghost use Rattle.std.specs.List.Sorted.{IsPermutation};
 ghost use Rattle.fa_types.specs.declared.numbers.Page.{Page};
+ghost use Rattle.fa_cert.specs.declared.closed.Run.{Run};
 ghost use Rattle.fa_cert.specs.declared.plan.Place.{Place};
 ghost use Rattle.fa_cert.specs.Batch.{Entry};
 ghost use Rattle.fa_cert.specs.Certificate.{IsCertificate, IsLeast};
-ghost use Rattle.fa_cert.specs.BatchText.{StartsWithBatch};
+ghost use Rattle.fa_cert.specs.BatchText.{IsBatchText, StartsWithBatch};
 ghost use Rattle.fa_cert.specs.CertificateText.{HasCertificateText, IsCertificateText, IsPrinted, IsSomeCertificate};
 ghost use Rattle.fa_cert.specs.Text.{IsFirstWrongLine, words_by_line};
 
@@ -27,7 +28,9 @@ pub fn printed_is_a_text()
 
 /// A text says one thing.
 pub fn text_says_one_thing()
-    ensures { (lines : List (List (List ℕ))) (rounds rounds' : ℕ) (places places' : List Place) (pages pages' : List Page)
+    ensures batch { (lines : List (List (List ℕ))) (entries entries' : List Entry) (runs runs' : List Run)
+        → IsBatchText lines entries runs → IsBatchText lines entries' runs' → (entries ≡ entries') × (runs ≡ runs') }
+    ensures certificate { (lines : List (List (List ℕ))) (rounds rounds' : ℕ) (places places' : List Place) (pages pages' : List Page)
         → IsCertificateText lines rounds places pages → IsCertificateText lines rounds' places' pages'
         → (rounds ≡ rounds') × (places ≡ places') × (pages ≡ pages') }
 {}
