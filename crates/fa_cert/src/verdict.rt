@@ -1,37 +1,29 @@
 //! What a check says of a certificate.
-ghost use Rattle.std.specs.Prelude.{◌≡◌};
-ghost use Rattle.fa_cert.specs.Verdict.{number_of};
+ghost use Rattle.std.specs.Prelude.{◌≡◌, Some};
+ghost use Rattle.fa_cert.specs.Verdict.{number_of, refusal_words, verdict_text};
 
+use std::error::Error;
 use std::fmt;
-use thiserror::Error;
 
 /// What is wrong with a plan, or with the pages that are to show that no plan has fewer rounds. The
 /// check names the lowest number that applies.
-#[derive(Clone, Copy, Debug, PartialEq, Eq, Error)]
+#[derive(Clone, Copy, Debug, PartialEq, Eq)]
 pub enum Refusal {
     /// Refusal 1: a page of the batch has no place.
-    #[error("page missing")]
     PageMissing,
     /// Refusal 2: a page has two places, whether the batch names it or not.
-    #[error("page twice")]
     PageTwice,
     /// Refusal 3: a page is read from a die that does not hold it, or is not in the batch.
-    #[error("not a holder")]
     NotAHolder,
     /// Refusal 4: a page is read in a round before the current one, or in one that is closed.
-    #[error("round closed")]
     RoundClosed,
     /// Refusal 5: two pages are read from one die in one round.
-    #[error("place taken twice")]
     PlaceTwice,
     /// Refusal 6: the plan ends in another round than it claims.
-    #[error("last round differs")]
     LastRound,
     /// Refusal 7: the shortage has a page that is not in the batch, or one page twice.
-    #[error("shortage page unknown")]
     ShortagePage,
     /// Refusal 8: the pages of the shortage fit into one round less.
-    #[error("not short")]
     NotShort,
 }
 
@@ -62,7 +54,28 @@ impl Refusal {
     }
 }
 
+impl fmt::Display for Refusal {
+    ghost output = { λ r. Some (refusal_words r) };
+
+    fn fmt<W: fmt::Write>(&self, f: &mut fmt::Formatter<W>) -> fmt::Result {
+        f.write_str(match self {
+            Refusal::PageMissing => "page missing",
+            Refusal::PageTwice => "page twice",
+            Refusal::NotAHolder => "not a holder",
+            Refusal::RoundClosed => "round closed",
+            Refusal::PlaceTwice => "place taken twice",
+            Refusal::LastRound => "last round differs",
+            Refusal::ShortagePage => "shortage page unknown",
+            Refusal::NotShort => "not short",
+        })
+    }
+}
+
+impl Error for Refusal {}
+
 impl fmt::Display for Verdict {
+    ghost output = { λ v. Some (verdict_text v) };
+
     fn fmt<W: fmt::Write>(&self, f: &mut fmt::Formatter<W>) -> fmt::Result {
         match self {
             Verdict::Least(rounds) => write!(f, "least {rounds}"),

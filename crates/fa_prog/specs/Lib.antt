@@ -1,3 +1,4 @@
 pub mod HexLines
 pub mod Talk
+pub mod Verify
 pub mod Words

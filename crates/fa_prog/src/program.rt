@@ -1,6 +1,7 @@
 //! What the program does with its words.
 ghost use Rattle.std.specs.Prelude.{◌≡◌, ◌≢◌, [], ◌∷◌, map, codes, string_bytes, IfSome};
 ghost use Rattle.fa_prog.specs.Talk.{RunsTalk};
+ghost use Rattle.fa_prog.specs.Verify.{RunsVerify};
 ghost use Rattle.fa_prog.specs.Words.{command_in};
 
 use crate::output::FAULTY;
@@ -35,6 +36,8 @@ const USAGE: &[u8] = b"usage: flasharr talk | verify\n";
 pub fn run<R: Read, W: Write>(alloc: Global, words: &[String], input: &mut R, output: &mut W) -> u8
     ensures talk { map string_bytes words.now ≡ codes "talk" ∷ [] → IfSome (R.remaining input.old)
         (λ text. RunsTalk TALK_SIZE (codes "disk") text (W.contents output.old) (W.contents output.new) result) }
+    ensures verify { map string_bytes words.now ≡ codes "verify" ∷ [] → IfSome (R.remaining input.old)
+        (λ text. RunsVerify text (W.contents output.old) (W.contents output.new) result) }
     ensures other { map string_bytes words.now ≢ codes "talk" ∷ [] → map string_bytes words.now ≢ codes "verify" ∷ [] → result ≡ 2 }
 {
     match command_of(words) {

@@ -1,5 +1,7 @@
 //! The command `verify`.
-ghost use Rattle.std.specs.Prelude.{◌≡◌, ◌⊎◌, ◌<◌, ◌^◌, length};
+ghost use Rattle.std.specs.Prelude.{◌≡◌, IfOk, IfErr, IfSome, string_bytes};
+ghost use Rattle.fa_cert.specs.Text.{IsTextError, words_by_line};
+ghost use Rattle.fa_prog.specs.Verify.{AreSomeTexts, IsJudged, RunsVerify, judged_status, judged_text};
 
 use crate::output::{DONE, FAULTY, NO_MEMORY, REFUSED, print, refuse, refuse_input};
 use fa_cert::{TextError, Unsound, Verdict, check, read_batch, read_certificate};
@@ -19,7 +21,9 @@ enum Judged {
 
 /// The command `verify`: reads a batch text and a certificate text, and prints the verdict, or else
 /// the first line that is wrong, or what makes the batch unsound.
-pub(crate) fn run_verify<R: Read, W: Write>(alloc: Global, input: &mut R, output: &mut W) -> u8 {
+pub(crate) fn run_verify<R: Read, W: Write>(alloc: Global, input: &mut R, output: &mut W) -> u8
+    ensures { IfSome (R.remaining input.old) (λ text. RunsVerify text (W.contents output.old) (W.contents output.new) result) }
+{
     let mut text = Vec::new(alloc);
     if let Err(error) = input.read_to_end(&mut text) {
         return refuse_input(output, error.kind(), b"verify: cannot read\n");
@@ -33,20 +37,28 @@ pub(crate) fn run_verify<R: Read, W: Write>(alloc: Global, input: &mut R, output
     }
 }
 
+/// Judges a batch text with a certificate text behind it. A fault of the texts is what they come to.
+fn judge(alloc: Global, text: &[u8]) -> Result<Judged, AllocError>
+    ensures { IfOk result (IsJudged text.now) }
+{
+    match judge_texts(alloc, text) {
+        Ok(judged) => Ok(judged),
+        Err(TextError::Line(line)) => Ok(Judged::Line(line)),
+        Err(TextError::NoMemory) => Err(AllocError),
+    }
+}
+
 /// Reads both texts, and judges what they say. The faults of the texts come before those of the
 /// batch, and these before the check.
-fn judge(alloc: Global, text: &[u8]) -> Result<Judged, AllocError> {
+fn judge_texts(alloc: Global, text: &[u8]) -> Result<Judged, TextError>
+    ensures judged { IfOk result (IsJudged text.now) }
+    ensures fault { IfErr result (IsTextError AreSomeTexts 1 (words_by_line text.now)) }
+{
     if text.len() >= 1 << 62 {
-        return Err(AllocError);
+        return Err(TextError::NoMemory);
     }
-    let found = match read_batch(alloc, text) {
-        Ok(found) => found,
-        Err(fault) => return line_of(fault),
-    };
-    let claimed = match read_certificate(alloc, found.rest, found.line) {
-        Ok(claimed) => claimed,
-        Err(fault) => return line_of(fault),
-    };
+    let found = read_batch(alloc, text)?;
+    let claimed = read_certificate(alloc, found.rest, found.line)?;
     if let Some(unsound) = found.batch.unsound() {
         return Ok(Judged::Unsound(unsound));
     }
@@ -60,32 +72,39 @@ fn judge(alloc: Global, text: &[u8]) -> Result<Judged, AllocError> {
     Ok(Judged::Verdict(verdict))
 }
 
-/// A fault of a text, of which want of memory is none of the text's.
-fn line_of(fault: TextError) -> Result<Judged, AllocError> {
-    match fault {
-        TextError::Line(line) => Ok(Judged::Line(line)),
-        TextError::NoMemory => Err(AllocError),
-    }
-}
-
 /// The line that is printed.
-fn told(alloc: Global, judged: &Judged) -> Result<String, AllocError> {
+#[tactic(auto, unfolding(crate::specs::Verify::judged_text))]
+fn told(alloc: Global, judged: &Judged) -> Result<String, AllocError>
+    ensures { IfOk result (λ line. string_bytes line ≡ judged_text judged.now) }
+{
     match judged {
         Judged::Line(line) => format!(in alloc; "text: line {line}\n"),
-        Judged::Unsound(Unsound::NoHolder(page)) => {
-            let number = page.0;
-            format!(in alloc; "unsound: page {number} has no holder\n")
-        }
-        Judged::Unsound(Unsound::Twice(page)) => {
-            let number = page.0;
-            format!(in alloc; "unsound: page {number} stands twice\n")
-        }
+        Judged::Unsound(unsound) => unsound_told(alloc, *unsound),
         Judged::Verdict(verdict) => format!(in alloc; "{verdict}\n"),
     }
 }
 
+/// The line that is printed of a batch that is not sound.
+#[tactic(auto, unfolding(crate::specs::Verify::judged_text))]
+fn unsound_told(alloc: Global, unsound: Unsound) -> Result<String, AllocError>
+    ensures { IfOk result (λ line. string_bytes line ≡ judged_text (Judged.Unsound unsound)) }
+{
+    match unsound {
+        Unsound::NoHolder(page) => {
+            let number = page.0;
+            format!(in alloc; "unsound: page {number} has no holder\n")
+        }
+        Unsound::Twice(page) => {
+            let number = page.0;
+            format!(in alloc; "unsound: page {number} stands twice\n")
+        }
+    }
+}
+
 /// The status with which a run ends that prints this.
-fn status_of(judged: &Judged) -> u8 {
+fn status_of(judged: &Judged) -> u8
+    ensures { result ≡ judged_status judged.now }
+{
     match judged {
         Judged::Verdict(Verdict::Least(_)) => DONE,
         Judged::Verdict(Verdict::Refused(_)) => REFUSED,
