@@ -6,6 +6,7 @@ use Rattle.fa_types.specs.Memory.{MemoryMade}
 use Rattle.fa_session.specs.Session.{Session}
 use Rattle.fa_session.specs.declared.session_end.SessionEnd.{SessionEnd}
 use Rattle.fa_prog.specs.HexLines.{bytes_of_text}
+use Rattle.fa_prog.specs.Output.{Prints}
 use Rattle.fa_prog.specs.Talk.{talk_text, Talks, RunsTalk}
 
 pub Talks-of : (size : ℕ) (export text out bytes read left held written shown store after : List ℕ) (end : SessionEnd) → bytes_of_text text ≡ Ok bytes
@@ -31,8 +32,7 @@ Talks-of size export text out bytes read left held written shown store after end
 
 -- the whole input is the text, and what it comes to is printed
 pub RunsTalk-printed : (remaining : Option (List ℕ)) (size : ℕ) (export text used shown out held : List ℕ) (old new : Option (List ℕ)) (status : ℕ) → IfSome remaining (λ xs. text ≡ held ++ xs) → held ≡ [] → used ≡ text
-    → Talks size export used out → shown ≡ out → (status ≡ 1) ⊎ ((status ≡ 0) × Appends old new shown) → IfSome remaining (λ xs. RunsTalk size export xs old new status)
+    → Talks size export used out → shown ≡ out → Prints shown 0 old new status → IfSome remaining (λ xs. RunsTalk size export xs old new status)
 RunsTalk-printed None size export text used shown out held old new status whole none all talks same prints = tt
-RunsTalk-printed (Some xs) size export text used shown out held old new status whole none all talks same (inl refused) = inr (inr refused)
-RunsTalk-printed (Some xs) size export text used shown out held old new status whole none all talks same (inr (done, appends)) =
-    inl (done, (out, subst (λ t. Talks size export t out) (all ∙ whole ∙ ap (λ h. h ++ xs) none) talks, subst (Appends old new) same appends))
+RunsTalk-printed (Some xs) size export text used shown out held old new status whole none all talks same prints =
+    inl (out, subst (λ t. Talks size export t out) (all ∙ whole ∙ ap (λ h. h ++ xs) none) talks, subst (λ t. Prints t 0 old new status) same prints)

@@ -18,6 +18,7 @@ use Rattle.fa_cert.specs.Verdict.{IsVerdict}
 use Rattle.fa_cert.specs.BatchText.{IsBatchText, IsRead, StartsWithBatch, closed_line, end_line, page_line}
 use Rattle.fa_cert.specs.CertificateText.{HasPlaceLine, IsCertificateText, IsSomeCertificate, certificate_lines}
 use Rattle.fa_cert.specs.Text.{Begins, GoesWrong, IsFirstWrongLine, IsTextError, lines_of, words_by_line, words_of}
+use Rattle.fa_prog.specs.Output.{Prints}
 use Rattle.fa_prog.specs.Verify.{AreTexts, AreSomeTexts, IsJudged, RunsVerify, judged_status, judged_text}
 use Rattle.fa_prog.specs.declared.verify.Judged.{Judged}
 use Rattle.fa_prog.specs.declared.verify.Judged.TheVariants.{Verdict}
@@ -217,9 +218,12 @@ comes_to_verdict input found rounds places pages verdict read is fine checked =
     )
 
 -- The whole input is the text, and what it comes to is printed.
-pub RunsVerify-printed : (remaining : Option (List ℕ)) (text used held shown : List ℕ) (judged : Judged) (old new : Option (List ℕ)) (meant status : ℕ) → IfSome remaining (λ xs. text ≡ held ++ xs) → held ≡ [] → used ≡ text
-    → IsJudged used judged → shown ≡ judged_text judged → meant ≡ judged_status judged → (status ≡ 1) ⊎ ((status ≡ meant) × Appends old new shown) → IfSome remaining (λ xs. RunsVerify xs old new status)
+pub RunsVerify-printed : (remaining : Option (List ℕ)) (text used held shown : List ℕ) (judged : Judged) (old new : Option (List ℕ)) (meant status : ℕ) → IfSome remaining (λ xs. text ≡ held ++ xs)
+    → held ≡ [] → used ≡ text → IsJudged used judged → shown ≡ judged_text judged → meant ≡ judged_status judged → Prints shown meant old new status → IfSome remaining (λ xs. RunsVerify xs old new status)
 RunsVerify-printed None text used held shown judged old new meant status whole none all is same means prints = tt
-RunsVerify-printed (Some xs) text used held shown judged old new meant status whole none all is same means (inl refused) = inr refused
-RunsVerify-printed (Some xs) text used held shown judged old new meant status whole none all is same means (inr (done, appends)) =
-    inl (judged, subst (λ input. IsJudged input judged) (all ∙ whole ∙ ap (λ h. h ++ xs) none) is, done ∙ means, subst (Appends old new) same appends)
+RunsVerify-printed (Some xs) text used held shown judged old new meant status whole none all is same means prints =
+    inl (
+      judged,
+      subst (λ input. IsJudged input judged) (all ∙ whole ∙ ap (λ h. h ++ xs) none) is,
+      subst (λ t. Prints t (judged_status judged) old new status) same (subst (λ n. Prints shown n old new status) means prints),
+    )

@@ -1,4 +1,5 @@
 pub mod HexLines
+pub mod Output
 pub mod Talk
 pub mod Verify
 pub mod Words

@@ -1,13 +1,13 @@
 -- The command `talk`: hexadecimal lines are the bytes of one client of a plain store.
 use Rattle.std.specs.Prelude.{◌≡◌, ◌⊎◌, ℕ, List, [], ◌∷◌, ◌++◌, replicate, codes, Some, Ok, Err, Option}
 use Rattle.std.specs.Fmt.{decimal}
-use Rattle.std.specs.Io.KnownBytes.{Appends}
 use Rattle.hex.specs.Hex.{encode_lower}
 use Rattle.fa_types.specs.Memory.{MemoryMade}
 use Rattle.fa_session.specs.Ends.{end_number}
 use Rattle.fa_session.specs.Session.{Session}
 use Rattle.fa_session.specs.declared.session_end.SessionEnd.{SessionEnd}
 use Rattle.fa_prog.specs.HexLines.{bytes_of_text}
+use Rattle.fa_prog.specs.Output.{GivesUp, Prints}
 
 -- what is printed of a connection: the server's bytes, and the number of the end
 unfoldable pub talk_text : List ℕ → SessionEnd → List ℕ
@@ -29,10 +29,10 @@ pub record Talks (size : ℕ) (export text out : List ℕ) : Type 0 where
 unfoldable pub line_text : ℕ → List ℕ
 line_text line = codes "talk: line " ++ decimal line ++ 10 ∷ []
 
--- What the command does with its whole input: it prints a connection, or the first faulty line and nothing
--- else. With status 1 there was no memory, or reading or printing failed.
+-- What the command does with its whole input: it prints a connection, or the first faulty line and nothing else.
+-- Else there was no memory, or the input could not be read.
 abbrev pub RunsTalk : ℕ → List ℕ → List ℕ → Option (List ℕ) → Option (List ℕ) → ℕ → Type 0
 RunsTalk size export text old new status =
-    ((status ≡ 0) × ((out : List ℕ) × Talks size export text out × Appends old new out))
-    ⊎ (((status ≡ 2) × ((line : ℕ) × (bytes_of_text text ≡ Err line) × Appends old new (line_text line)))
-    ⊎ (status ≡ 1))
+    ((out : List ℕ) × Talks size export text out × Prints out 0 old new status)
+    ⊎ (((line : ℕ) × (bytes_of_text text ≡ Err line) × Prints (line_text line) 2 old new status)
+    ⊎ GivesUp (codes "talk: cannot read" ++ 10 ∷ []) old new status)

@@ -1,7 +1,6 @@
 -- The command `verify`: a batch text with a certificate text behind it, and what is printed of them.
 use Rattle.std.specs.Prelude.{◌≡◌, ◌⊎◌, ℕ, List, [], ◌∷◌, ◌++◌, codes, Option}
 use Rattle.std.specs.Fmt.{decimal}
-use Rattle.std.specs.Io.KnownBytes.{Appends}
 use Rattle.fa_types.specs.declared.numbers.Page.{Page}
 use Rattle.fa_cert.specs.declared.batch.Unsound.TheVariants.{NoHolder, Twice}
 use Rattle.fa_cert.specs.declared.closed.Run.{Run}
@@ -13,6 +12,7 @@ use Rattle.fa_cert.specs.CertificateText.{IsCertificateText}
 use Rattle.fa_cert.specs.Runs.{any_closes}
 use Rattle.fa_cert.specs.Text.{words_by_line, IsFirstWrongLine}
 use Rattle.fa_cert.specs.Verdict.{IsVerdict, verdict_text}
+use Rattle.fa_prog.specs.Output.{GivesUp, Prints}
 use Rattle.fa_prog.specs.declared.verify.Judged.{Judged}
 use Rattle.fa_prog.specs.declared.verify.Judged.TheVariants.{Line, Unsound, Verdict}
 
@@ -56,9 +56,9 @@ judged_status (Unsound unsound) = 2
 judged_status (Verdict (Least rounds)) = 0
 judged_status (Verdict (Refused refusal)) = 1
 
--- What the command does with its whole input: it prints what the input comes to, and nothing else. With status
--- 1 it may be that there was no memory, or that reading or printing failed.
+-- What the command does with its whole input: it prints what the input comes to, and nothing else. Else there was
+-- no memory, or the input could not be read.
 abbrev pub RunsVerify : List ℕ → Option (List ℕ) → Option (List ℕ) → ℕ → Type 0
 RunsVerify text old new status =
-    ((judged : Judged) × IsJudged text judged × (status ≡ judged_status judged) × Appends old new (judged_text judged))
-    ⊎ (status ≡ 1)
+    ((judged : Judged) × IsJudged text judged × Prints (judged_text judged) (judged_status judged) old new status)
+    ⊎ GivesUp (codes "verify: cannot read" ++ 10 ∷ []) old new status

@@ -1,7 +1,7 @@
 //! What the commands print, and the statuses with which they end.
-ghost use Rattle.std.specs.Prelude.{◌≡◌, ◌⊎◌};
-ghost use Rattle.std.specs.Io.KnownBytes.{Appends};
+ghost use Rattle.fa_prog.specs.Output.{GivesUp, Prints};
 
+use fa_session::{SendFailed, send_all};
 use std::io::{ErrorKind, Write};
 
 /// The status of a run that did its work.
@@ -16,27 +16,26 @@ pub(crate) const FAULTY: u8 = 2;
 /// What is printed where a call found no memory.
 pub(crate) const NO_MEMORY: &[u8] = b"no memory\n";
 
-/// Prints a text, and answers the status, or the status of a refusal where printing fails.
+/// Prints a text, and answers the status, or the status of a refusal where a write fails.
 pub(crate) fn print<W: Write>(output: &mut W, status: u8, text: &[u8]) -> u8
-    ensures { (result ≡ 1) ⊎ ((result ≡ status) × Appends (W.contents output.old) (W.contents output.new) text.now) }
+    ensures { Prints text.now status (W.contents output.old) (W.contents output.new) result }
 {
-    match output.write_all(text) {
+    match send_all(output, text) {
         Ok(()) => status,
-        Err(_) => REFUSED,
+        Err(SendFailed) => REFUSED,
     }
 }
 
 /// Prints why the work was refused.
 pub(crate) fn refuse<W: Write>(output: &mut W, text: &[u8]) -> u8
-    ensures { result ≡ 1 }
+    ensures { Prints text.now 1 (W.contents output.old) (W.contents output.new) result }
 {
-    let _ = output.write_all(text);
-    REFUSED
+    print(output, REFUSED, text)
 }
 
 /// Prints that the input could not be read, or that there was no memory for it.
 pub(crate) fn refuse_input<W: Write>(output: &mut W, kind: ErrorKind, told: &[u8]) -> u8
-    ensures { result ≡ 1 }
+    ensures { GivesUp told.now (W.contents output.old) (W.contents output.new) result }
 {
     match kind {
         ErrorKind::OutOfMemory => refuse(output, NO_MEMORY),

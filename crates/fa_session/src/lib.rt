@@ -13,3 +13,4 @@ mod transmission;
 
 pub use session::serve_stream;
 pub use session_end::SessionEnd;
+pub use streams::{SendFailed, send_all};

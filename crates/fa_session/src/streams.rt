@@ -7,6 +7,7 @@ ghost use Rattle.fa_session.specs.Streams.{Gets, Fills, Skips, IsCut, end_of};
 use crate::calls::Calls;
 use crate::session_end::SessionEnd;
 use std::io::{ErrorKind, Read, Write};
+use thiserror::Error;
 
 /// What one read came to.
 #[derive(Drop)]
@@ -31,8 +32,9 @@ pub(crate) enum Filled {
 }
 
 /// A write failed, or took no byte.
-#[derive(Drop)]
-pub(crate) struct SendFailed;
+#[derive(Clone, Copy, Debug, PartialEq, Eq, Error)]
+#[error("a write failed")]
+pub struct SendFailed;
 
 /// Reads at least one byte, and as many more as come with it. A read that was interrupted is made
 /// again.
@@ -117,6 +119,15 @@ pub(crate) fn send<W: Write>(
         }
     }
     Ok(())
+}
+
+/// Writes all of the bytes. Where a write fails a beginning of them was written, of which `write_all`
+/// says nothing. A write that was interrupted is made again; at most 2^62 writes are made.
+pub fn send_all<W: Write>(writer: &mut W, bytes: &[u8]) -> Result<(), SendFailed>
+    ensures whole { OnOk result (Appends (W.contents writer.old) (W.contents writer.new) bytes.now) }
+    ensures cut { OnErr result (IsCut (W.contents writer.old) (W.contents writer.new) bytes.now) }
+{
+    send(writer, &mut Calls::new(), bytes)
 }
 
 /// Whether all bytes came, and else how the connection ends.
