@@ -1,18 +1,24 @@
 //! The program's words and faulty texts.
+use super::streams::{Pieces, Taker};
 use crate::run;
-use std::alloc::Global;
+use std::alloc::{AllocError, Global};
 use std::test::Fail;
 
 /// What the program prints of an input, and its status.
 pub fn printed(alloc: Global, words: &[&str], text: &str) -> Result<(u8, Vec<u8>), Fail> {
-    let mut given = Vec::new(alloc);
-    for word in words {
-        given.push(String::from_str(alloc, word)?)?;
-    }
+    let given = given(alloc, words)?;
     let mut input = text.as_bytes();
     let mut output = Vec::new(alloc);
     let status = run(alloc, &given, &mut input, &mut output);
     Ok((status, output))
+}
+
+fn given(alloc: Global, words: &[&str]) -> Result<Vec<String>, AllocError> {
+    let mut given = Vec::new(alloc);
+    for word in words {
+        given.push(String::from_str(alloc, word)?)?;
+    }
+    Ok(given)
 }
 
 #[test]
@@ -58,6 +64,51 @@ fn other_words(rt: HostRuntime) -> Result<(), Fail> {
     for words in cases {
         let (status, _) = printed(rt.alloc(), words, "")?;
         assert_eq!(rt; status, 2);
+    }
+    Ok(())
+}
+
+// Five bytes are taken before the second write fails.
+#[test]
+fn output_that_fails(rt: HostRuntime) -> Result<(), Fail> {
+    let cases = [
+        ("talk", "", "4e42444d4147494349484156454f50540003\nend 4\n"),
+        (
+            "verify",
+            "batch\nend\nrounds 1\nend",
+            "refused 6 last round differs\n",
+        ),
+        ("verify", "batch", "text: line 2\n"),
+    ];
+    for (word, text, told) in cases {
+        let words = given(rt.alloc(), &[word])?;
+        for (fails_at, taken) in [(1, 0), (2, 5)] {
+            let mut input = text.as_bytes();
+            let mut output = Taker::failing(rt.alloc(), fails_at);
+            assert_eq!(rt; run(rt.alloc(), &words, &mut input, &mut output), 1);
+            assert!(rt;
+                output.taken.as_slice() == &told.as_bytes()[..taken],
+                "at {told:?}"
+            );
+            assert_eq!(rt; output.calls, fails_at);
+        }
+    }
+    Ok(())
+}
+
+#[test]
+fn input_that_fails(rt: HostRuntime) -> Result<(), Fail> {
+    for (word, told) in [
+        ("talk", "talk: cannot read\n"),
+        ("verify", "verify: cannot read\n"),
+    ] {
+        let words = given(rt.alloc(), &[word])?;
+        for fails_at in 1..3u64 {
+            let mut input = Pieces::failing(b"batch\nend\nrounds 0\nend", fails_at);
+            let mut output = Taker::new(rt.alloc(), 4096);
+            assert_eq!(rt; run(rt.alloc(), &words, &mut input, &mut output), 1);
+            assert!(rt; output.taken.as_slice() == told.as_bytes(), "at {told:?}");
+        }
     }
     Ok(())
 }
