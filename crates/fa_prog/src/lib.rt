@@ -7,7 +7,7 @@ mod program;
 mod talk;
 mod verify;
 
-pub use program::run;
+pub use program::{refuse_words, run};
 
 #[cfg(test)]
 mod tests;

@@ -1,14 +1,15 @@
 //! What the program does with its words.
-ghost use Rattle.std.specs.Prelude.{◌≡◌, ◌≢◌, [], ◌∷◌, map, codes, string_bytes, IfSome};
+ghost use Rattle.std.specs.Prelude.{◌≡◌, ◌≢◌, [], ◌∷◌, ◌++◌, map, codes, string_bytes, IfSome};
+ghost use Rattle.fa_prog.specs.Output.{Prints};
 ghost use Rattle.fa_prog.specs.Talk.{RunsTalk};
 ghost use Rattle.fa_prog.specs.Verify.{RunsVerify};
 ghost use Rattle.fa_prog.specs.Words.{command_in};
 
-use crate::output::FAULTY;
+use crate::output::{FAULTY, NO_MEMORY, refuse};
 use crate::talk::{TALK_SIZE, run_talk};
 use crate::verify::run_verify;
 use std::alloc::Global;
-use std::io::{Read, Write};
+use std::io::{ErrorKind, Read, Write};
 
 /// What the program can do.
 #[derive(Clone, Copy, Debug, PartialEq, Eq)]
@@ -43,11 +44,28 @@ pub fn run<R: Read, W: Write>(alloc: Global, words: &[String], input: &mut R, ou
     match command_of(words) {
         Some(Command::Talk) => run_talk(alloc, input, output),
         Some(Command::Verify) => run_verify(alloc, input, output),
-        None => {
-            let _ = output.write_all(USAGE);
-            FAULTY
-        }
+        None => show_usage(output),
     }
+}
+
+/// What the program does where its words cannot be had, for the kind of the error: prints that there
+/// was no memory, status 1, or else, as where a word is not text, a line of usage, status 2.
+pub fn refuse_words<W: Write>(kind: ErrorKind, output: &mut W) -> u8
+    ensures memory { kind ≡ ErrorKind.OutOfMemory → Prints (codes "no memory" ++ 10 ∷ []) 1 (W.contents output.old) (W.contents output.new) result }
+    ensures other { kind ≢ ErrorKind.OutOfMemory → result ≡ 2 }
+{
+    match kind {
+        ErrorKind::OutOfMemory => refuse(output, NO_MEMORY),
+        _ => show_usage(output),
+    }
+}
+
+/// Prints a line of usage.
+fn show_usage<W: Write>(output: &mut W) -> u8
+    ensures { result ≡ 2 }
+{
+    let _ = output.write_all(USAGE);
+    FAULTY
 }
 
 /// The command that the words are.

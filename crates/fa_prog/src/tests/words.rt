@@ -1,7 +1,8 @@
 //! The program's words and faulty texts.
 use super::streams::{Pieces, Taker};
-use crate::run;
+use crate::{refuse_words, run};
 use std::alloc::{AllocError, Global};
+use std::io::ErrorKind;
 use std::test::Fail;
 
 /// What the program prints of an input, and its status.
@@ -109,6 +110,20 @@ fn input_that_fails(rt: HostRuntime) -> Result<(), Fail> {
             assert_eq!(rt; run(rt.alloc(), &words, &mut input, &mut output), 1);
             assert!(rt; output.taken.as_slice() == told.as_bytes(), "at {told:?}");
         }
+    }
+    Ok(())
+}
+
+#[test]
+fn words_that_cannot_be_had(rt: HostRuntime) -> Result<(), Fail> {
+    let cases = [
+        (ErrorKind::OutOfMemory, 1, "no memory\n"),
+        (ErrorKind::InvalidData, 2, "usage: flasharr talk | verify\n"),
+    ];
+    for (kind, status, told) in cases {
+        let mut output = Vec::new(rt.alloc());
+        assert_eq!(rt; refuse_words(kind, &mut output), status);
+        assert!(rt; output.as_slice() == told.as_bytes(), "at {told:?}");
     }
     Ok(())
 }
