@@ -1,6 +1,6 @@
 //! What the program does with its words.
 ghost use Rattle.std.specs.Prelude.{◌≡◌, ◌≢◌, [], ◌∷◌, ◌++◌, map, codes, string_bytes, IfSome};
-ghost use Rattle.fa_prog.specs.Output.{Prints};
+ghost use Rattle.fa_prog.specs.Output.{Prints, ShowsUsage};
 ghost use Rattle.fa_prog.specs.Talk.{RunsTalk};
 ghost use Rattle.fa_prog.specs.Verify.{RunsVerify};
 ghost use Rattle.fa_prog.specs.Words.{command_in};
@@ -8,6 +8,7 @@ ghost use Rattle.fa_prog.specs.Words.{command_in};
 use crate::output::{FAULTY, NO_MEMORY, refuse};
 use crate::talk::{TALK_SIZE, run_talk};
 use crate::verify::run_verify;
+use fa_session::send_all;
 use std::alloc::Global;
 use std::io::{ErrorKind, Read, Write};
 
@@ -39,7 +40,8 @@ pub fn run<R: Read, W: Write>(alloc: Global, words: &[String], input: &mut R, ou
         (λ text. RunsTalk TALK_SIZE (codes "disk") text (W.contents output.old) (W.contents output.new) result) }
     ensures verify { map string_bytes words.now ≡ codes "verify" ∷ [] → IfSome (R.remaining input.old)
         (λ text. RunsVerify text (W.contents output.old) (W.contents output.new) result) }
-    ensures other { map string_bytes words.now ≢ codes "talk" ∷ [] → map string_bytes words.now ≢ codes "verify" ∷ [] → result ≡ 2 }
+    ensures other { map string_bytes words.now ≢ codes "talk" ∷ [] → map string_bytes words.now ≢ codes "verify" ∷ []
+        → (result ≡ 2) × ShowsUsage (W.contents output.old) (W.contents output.new) }
 {
     match command_of(words) {
         Some(Command::Talk) => run_talk(alloc, input, output),
@@ -52,7 +54,7 @@ pub fn run<R: Read, W: Write>(alloc: Global, words: &[String], input: &mut R, ou
 /// was no memory, status 1, or else, as where a word is not text, a line of usage, status 2.
 pub fn refuse_words<W: Write>(kind: ErrorKind, output: &mut W) -> u8
     ensures memory { kind ≡ ErrorKind.OutOfMemory → Prints (codes "no memory" ++ 10 ∷ []) 1 (W.contents output.old) (W.contents output.new) result }
-    ensures other { kind ≢ ErrorKind.OutOfMemory → result ≡ 2 }
+    ensures other { kind ≢ ErrorKind.OutOfMemory → (result ≡ 2) × ShowsUsage (W.contents output.old) (W.contents output.new) }
 {
     match kind {
         ErrorKind::OutOfMemory => refuse(output, NO_MEMORY),
@@ -62,9 +64,9 @@ pub fn refuse_words<W: Write>(kind: ErrorKind, output: &mut W) -> u8
 
 /// Prints a line of usage.
 fn show_usage<W: Write>(output: &mut W) -> u8
-    ensures { result ≡ 2 }
+    ensures { (result ≡ 2) × ShowsUsage (W.contents output.old) (W.contents output.new) }
 {
-    let _ = output.write_all(USAGE);
+    let _ = send_all(output, USAGE);
     FAULTY
 }
 

@@ -63,8 +63,9 @@ fn lines_are_joined(rt: HostRuntime) -> Result<(), Fail> {
 fn other_words(rt: HostRuntime) -> Result<(), Fail> {
     let cases: [&[&str]; 5] = [&[], &["serve"], &["talk", "talk"], &["Talk"], &["verif"]];
     for words in cases {
-        let (status, _) = printed(rt.alloc(), words, "")?;
+        let (status, output) = printed(rt.alloc(), words, "")?;
         assert_eq!(rt; status, 2);
+        assert!(rt; output.as_slice() == b"usage: flasharr talk | verify\n".as_slice());
     }
     Ok(())
 }
