@@ -1,12 +1,12 @@
 -- How far lines are a batch text, and what line may come next.
-use Rattle.std.proofs.Common.{◌≡◌, ◌≢◌, ◌⊎◌, ℕ, ◌+◌, ◌-◌, ◌<◌, ◌≤◌, inl, inr, List, [], ◌∷◌, ◌++◌, length, map, codes, All, refl, sym, ap, ◌∙◌, subst, arith, append_assoc, length-append}
-use Rattle.std.proofs.lemmas.List.{append-nil, map-append, length-map}
+use Rattle.std.proofs.Common.{◌≡◌, ◌≢◌, ◌⊎◌, ℕ, ◌-◌, ◌<◌, ◌≤◌, inl, inr, List, [], ◌∷◌, ◌++◌, length, map, codes, All, refl, sym, ap, ◌∙◌, subst, arith, append_assoc, length-append}
+use Rattle.std.proofs.lemmas.List.{append-nil, map-append}
 use Rattle.std.proofs.lemmas.List.Elements.{All-nil, All-push, All-head, All-tail, All-weaker}
-use Rattle.fa_types.specs.Open.{most_closed}
+use Rattle.fa_types.specs.Open.{max_closed}
 use Rattle.fa_cert.specs.declared.closed.Run.{Run}
 use Rattle.fa_cert.specs.Batch.{Entry}
 use Rattle.fa_cert.specs.BatchText.{page_line, closed_line, end_line, batch_lines, HasPageLine, HasClosedLine, IsBatchText, StartsWithBatch}
-use Rattle.fa_cert.specs.Text.{lines_of, words_of, words_by_line, Begins, GoesWrong, IsFirstWrongLine}
+use Rattle.fa_cert.specs.Text.{Begins}
 use Rattle.fa_cert.proofs.LinesRead.{other_word}
 use Rattle.fa_cert.proofs.Parts.{first_same, rest_same, some_left}
 
@@ -27,46 +27,48 @@ text_front entries runs rest =
     append_assoc ((codes "batch" ∷ []) ∷ (map page_line entries ++ map closed_line runs)) (end_line ∷ []) rest
     ∙ ap (λ v. (codes "batch" ∷ []) ∷ v) (append_assoc (map page_line entries) (map closed_line runs) (end_line ∷ rest))
 
-pub starts : IsSoFar [] [] ((codes "batch" ∷ []) ∷ [])
-starts = record {
-  spelled = λ tail. refl;
-  few = omega arith;
-  few_runs = omega arith;
-  pages = All-nil HasPageLine;
-  closed = All-nil HasClosedLine;
-}
+module _ {entries' : List Entry} {runs' : List Run} {words : List (List ℕ)} where
+  pub starts : entries' ≡ [] → runs' ≡ [] → words ≡ codes "batch" ∷ [] → IsSoFar entries' runs' (words ∷ [])
+  starts no_entries no_runs is = subst (λ v. IsSoFar v runs' (words ∷ [])) (sym no_entries) (subst (λ v. IsSoFar [] v (words ∷ [])) (sym no_runs) (record {
+    spelled = λ tail. ap (λ v. v ∷ tail) is;
+    few = omega arith;
+    few_runs = omega arith;
+    pages = All-nil HasPageLine;
+    closed = All-nil HasClosedLine;
+  }))
 
-pub page_more : (entries : List Entry) (lines : List (List (List ℕ))) (words : List (List ℕ)) (e : Entry) → IsSoFar entries [] lines → length entries < 1024
-    → words ≡ page_line e → HasPageLine e → IsSoFar (entries ++ e ∷ []) [] (lines ++ words ∷ [])
-page_more entries lines words e so_far room is fine =
-    let size = length-append entries (e ∷ []) in
-    record {
-      spelled = λ tail.
-          append_assoc lines (words ∷ []) tail ∙ so_far.spelled (words ∷ tail) ∙ ap (λ w. front entries [] (w ∷ tail)) is
-          ∙ ap (λ v. (codes "batch" ∷ []) ∷ v) (sym (ap (λ v. v ++ tail) (map-append page_line entries (e ∷ [])) ∙ append_assoc (map page_line entries) (page_line e ∷ []) tail));
-      few = omega (arith, size, room);
-      few_runs = so_far.few_runs;
-      pages = All-push HasPageLine entries e so_far.pages fine;
-      closed = so_far.closed;
-    }
+  pub page_more : {entries : List Entry} {runs : List Run} {lines : List (List (List ℕ))} {e : Entry} → IsSoFar entries runs lines → runs ≡ [] → length entries < 1024
+      → words ≡ page_line e → HasPageLine e → entries' ≡ entries ++ e ∷ [] → runs' ≡ runs → IsSoFar entries' runs' (lines ++ words ∷ [])
+  page_more {entries} {runs} {lines} {e} so_far none room is fine entries_are runs_are =
+      let size = length-append entries (e ∷ []) in
+      let front_is = subst (λ v. IsSoFar entries v lines) none so_far in
+      subst (λ v. IsSoFar v runs' (lines ++ words ∷ [])) (sym entries_are) (subst (λ v. IsSoFar (entries ++ e ∷ []) v (lines ++ words ∷ [])) (sym (runs_are ∙ none)) (record {
+        spelled = λ tail.
+            append_assoc lines (words ∷ []) tail ∙ front_is.spelled (words ∷ tail) ∙ ap (λ w. front entries [] (w ∷ tail)) is
+            ∙ ap (λ v. (codes "batch" ∷ []) ∷ v) (sym (ap (λ v. v ++ tail) (map-append page_line entries (e ∷ [])) ∙ append_assoc (map page_line entries) (page_line e ∷ []) tail));
+        few = omega (arith, size, room);
+        few_runs = front_is.few_runs;
+        pages = All-push HasPageLine entries e so_far.pages fine;
+        closed = front_is.closed;
+      }))
 
-pub closed_more : (entries : List Entry) (runs : List Run) (lines : List (List (List ℕ))) (words : List (List ℕ)) (run : Run) → IsSoFar entries runs lines → length runs < 4096
-    → words ≡ closed_line run → HasClosedLine run → IsSoFar entries (runs ++ run ∷ []) (lines ++ words ∷ [])
-closed_more entries runs lines words run so_far room is fine =
-    let size = length-append runs (run ∷ []) in
-    record {
-      spelled = λ tail.
-          append_assoc lines (words ∷ []) tail ∙ so_far.spelled (words ∷ tail) ∙ ap (λ w. front entries runs (w ∷ tail)) is
-          ∙ ap (λ v. (codes "batch" ∷ []) ∷ (map page_line entries ++ v)) (sym (ap (λ v. v ++ tail) (map-append closed_line runs (run ∷ [])) ∙ append_assoc (map closed_line runs) (closed_line run ∷ []) tail));
-      few = so_far.few;
-      few_runs = omega (arith, size, room);
-      pages = so_far.pages;
-      closed = All-push HasClosedLine runs run so_far.closed fine;
-    }
+  pub closed_more : {entries : List Entry} {runs : List Run} {lines : List (List (List ℕ))} {run : Run} → IsSoFar entries runs lines → length runs < 4096
+      → words ≡ closed_line run → HasClosedLine run → entries' ≡ entries → runs' ≡ runs ++ run ∷ [] → IsSoFar entries' runs' (lines ++ words ∷ [])
+  closed_more {entries} {runs} {lines} {run} so_far room is fine entries_are runs_are =
+      let size = length-append runs (run ∷ []) in
+      subst (λ v. IsSoFar v runs' (lines ++ words ∷ [])) (sym entries_are) (subst (λ v. IsSoFar entries v (lines ++ words ∷ [])) (sym runs_are) (record {
+        spelled = λ tail.
+            append_assoc lines (words ∷ []) tail ∙ so_far.spelled (words ∷ tail) ∙ ap (λ w. front entries runs (w ∷ tail)) is
+            ∙ ap (λ v. (codes "batch" ∷ []) ∷ (map page_line entries ++ v)) (sym (ap (λ v. v ++ tail) (map-append closed_line runs (run ∷ [])) ∙ append_assoc (map closed_line runs) (closed_line run ∷ []) tail));
+        few = so_far.few;
+        few_runs = omega (arith, size, room);
+        pages = so_far.pages;
+        closed = All-push HasClosedLine runs run so_far.closed fine;
+      }))
 
 -- with the last line it is whole
-pub ends : (entries : List Entry) (runs : List Run) (lines : List (List (List ℕ))) (words : List (List ℕ)) → IsSoFar entries runs lines → words ≡ end_line → IsBatchText (lines ++ words ∷ []) entries runs
-ends entries runs lines words so_far is = record {
+pub ends : {entries : List Entry} {runs : List Run} {lines : List (List (List ℕ))} {words : List (List ℕ)} → IsSoFar entries runs lines → words ≡ end_line → IsBatchText (lines ++ words ∷ []) entries runs
+ends {entries} {runs} {lines} so_far is = record {
   spelled = ap (λ w. lines ++ w ∷ []) is ∙ so_far.spelled (end_line ∷ []) ∙ sym (text_front entries runs []) ∙ append-nil (batch_lines entries runs);
   few = so_far.few;
   few_runs = so_far.few_runs;
@@ -75,8 +77,8 @@ ends entries runs lines words so_far is = record {
 }
 
 -- and a text begins so
-pub begins : (entries : List Entry) (runs : List Run) (lines : List (List (List ℕ))) → IsSoFar entries runs lines → Begins StartsWithBatch lines
-begins entries runs lines so_far = (end_line ∷ [], (lines ++ end_line ∷ [], [], entries, runs, sym (append-nil (lines ++ end_line ∷ [])), ends entries runs lines end_line so_far refl))
+pub begins : {entries : List Entry} {runs : List Run} {lines : List (List (List ℕ))} → IsSoFar entries runs lines → Begins StartsWithBatch lines
+begins {entries} {runs} {lines} so_far = (end_line ∷ [], (lines ++ end_line ∷ [], [], entries, runs, sym (append-nil (lines ++ end_line ∷ [])), ends so_far refl))
 
 -- What a batch text has behind these runs.
 closed_next : (runs runs' : List Run) (tail rest : List (List (List ℕ))) → All HasClosedLine runs' → map closed_line runs ++ tail ≡ map closed_line runs' ++ end_line ∷ rest
@@ -150,69 +152,46 @@ next_of entries runs lines tail so_far (text, rest, entries', runs', parts, batc
     ]
 
 -- The lines so far are no text, and with a line that may not come next none begins.
-pub goes_wrong : (entries : List Entry) (runs : List Run) (lines tail : List (List (List ℕ))) → IsSoFar entries runs lines
-    → ((words : List (List ℕ)) (more : List (List (List ℕ))) → tail ≡ words ∷ more → IsNoNext entries runs words) → GoesWrong StartsWithBatch lines tail
-goes_wrong entries runs lines [] so_far wrong = λ starts.
+pub not_whole : {entries : List Entry} {runs : List Run} {lines : List (List (List ℕ))} → IsSoFar entries runs lines → ¬ (StartsWithBatch lines)
+not_whole {entries} {runs} {lines} so_far starts =
     let next = next_of entries runs lines [] so_far (subst (λ v. StartsWithBatch v) (sym (append-nil lines)) starts) in
     some_left (sym next.2)
-goes_wrong entries runs lines (words ∷ tail) so_far wrong = λ (more, starts).
+
+pub not_next : {entries : List Entry} {runs : List Run} {lines : List (List (List ℕ))} {words : List (List ℕ)} → IsSoFar entries runs lines → IsNoNext entries runs words
+    → ¬ (Begins StartsWithBatch (lines ++ words ∷ []))
+not_next {entries} {runs} {lines} {words} so_far wrong (more, starts) =
     let next = next_of entries runs lines (words ∷ more) so_far (subst (λ v. StartsWithBatch v) (append_assoc lines (words ∷ []) more) starts) in
-    next.3 (subst (λ v. IsNoNext entries runs v) (first_same next.2) (wrong words tail refl))
+    next.3 (subst (λ v. IsNoNext entries runs v) (first_same next.2) wrong)
 
 -- A page where none may stand, and a run where none may.
-pub page_no_next : (entries : List Entry) (runs : List Run) (words : List (List ℕ)) (e : Entry) → words ≡ page_line e → (runs ≡ [] → length entries < 1024 → ⊥) → IsNoNext entries runs words
-page_no_next entries runs words e is full = record {
+pub page_no_next : (entries : List Entry) (runs : List Run) {words : List (List ℕ)} (e : Entry) → words ≡ page_line e → (runs ≡ [] → length entries < 1024 → ⊥) → IsNoNext entries runs words
+page_no_next entries runs e is full = record {
   no_page = λ e' fine same. full;
   no_run = λ run fine same room. other_word _ _ _ _ refl (sym is ∙ same);
   no_end = λ same. other_word _ _ _ _ refl (sym is ∙ same);
 }
 
-pub run_no_next : (entries : List Entry) (runs : List Run) (words : List (List ℕ)) (run : Run) → words ≡ closed_line run → (length runs < 4096 → ⊥) → IsNoNext entries runs words
-run_no_next entries runs words run is full = record {
+pub run_no_next : (entries : List Entry) (runs : List Run) {words : List (List ℕ)} (run : Run) → words ≡ closed_line run → (length runs < 4096 → ⊥) → IsNoNext entries runs words
+run_no_next entries runs run is full = record {
   no_page = λ e fine same none room. other_word _ _ _ _ refl (sym same ∙ is);
   no_run = λ run' fine same. full;
   no_end = λ same. other_word _ _ _ _ refl (sym is ∙ same);
 }
 
--- The first wrong line of an input, behind lines that are a batch text so far.
-module _ (input rest : List ℕ) (before : List (List ℕ)) (entries : List Entry) (runs : List Run) (line : ℕ) (parts : lines_of input ≡ before ++ lines_of rest) (so_far : IsSoFar entries runs (map words_of before)) (number : line ≡ 1 + length before) where
-  wrong : GoesWrong StartsWithBatch (map words_of before) (words_by_line rest) → IsFirstWrongLine StartsWithBatch 1 (words_by_line input) line
-  wrong is = let size = length-map before words_of in record {
-    before = map words_of before;
-    after = words_by_line rest;
-    whole = ap (λ v. map words_of v) parts ∙ map-append words_of before (lines_of rest);
-    begins = begins entries runs (map words_of before) so_far;
-    wrong = is;
-    number_is = omega (arith, number, size);
-  }
-
-  pub wrong_end : lines_of rest ≡ [] → IsFirstWrongLine StartsWithBatch 1 (words_by_line input) line
-  wrong_end none = wrong (subst (λ v. GoesWrong StartsWithBatch (map words_of before) (map words_of v)) (sym none)
-      (goes_wrong entries runs (map words_of before) [] so_far (λ words more is. absurd (some_left (sym is)))))
-
-  pub wrong_next : (text : List ℕ) (after : List (List ℕ)) → lines_of rest ≡ text ∷ after → IsNoNext entries runs (words_of text) → IsFirstWrongLine StartsWithBatch 1 (words_by_line input) line
-  wrong_next text after next no_next = wrong (subst (λ v. GoesWrong StartsWithBatch (map words_of before) (map words_of v)) (sym next)
-      (goes_wrong entries runs (map words_of before) (words_of text ∷ map words_of after) so_far (λ words more is. subst (λ v. IsNoNext entries runs v) (first_same is) no_next)))
-
--- The first line of a batch text.
-first_of : (lines : List (List (List ℕ))) → StartsWithBatch lines → (more : List (List (List ℕ))) × (lines ≡ (codes "batch" ∷ []) ∷ more)
-first_of lines (text, rest, entries, runs, parts, batch) =
+-- A batch text begins with its first line.
+first_line : (lines : List (List (List ℕ))) → StartsWithBatch lines → (more : List (List (List ℕ))) × (lines ≡ (codes "batch" ∷ []) ∷ more)
+first_line lines (text, rest, entries, runs, parts, batch) =
     (map page_line entries ++ (map closed_line runs ++ end_line ∷ rest), parts ∙ ap (λ v. v ++ rest) batch.spelled ∙ text_front entries runs rest)
 
-pub wrong_first : (lines : List (List (List ℕ))) → ((words : List (List ℕ)) (more : List (List (List ℕ))) → lines ≡ words ∷ more → words ≢ codes "batch" ∷ []) → IsFirstWrongLine StartsWithBatch 1 lines 1
-wrong_first lines other = record {
-  before = [];
-  after = lines;
-  whole = refl;
-  begins = (batch_lines [] [], (batch_lines [] [], [], [], [], sym (append-nil (batch_lines [] [])), ends [] [] ((codes "batch" ∷ []) ∷ []) end_line starts refl));
-  wrong = by lines other;
-  number_is = refl;
-}
-  where
-    by : (lines : List (List (List ℕ))) → ((words : List (List ℕ)) (more : List (List (List ℕ))) → lines ≡ words ∷ more → words ≢ codes "batch" ∷ []) → GoesWrong StartsWithBatch [] lines
-    by [] other = λ text. some_left (sym (first_of [] text).1)
-    by (words ∷ after) other = λ (more, text). other words after refl (first_same (first_of (words ∷ more) text).1)
+pub none_begins : Begins StartsWithBatch []
+none_begins = (batch_lines [] [], (batch_lines [] [], [], [], [], sym (append-nil (batch_lines [] [])), ends (starts refl refl refl) refl))
+
+pub not_none : ¬ (StartsWithBatch [])
+not_none text = some_left (sym (first_line [] text).1)
+
+pub not_first : {words : List (List ℕ)} → words ≢ codes "batch" ∷ [] → ¬ (Begins StartsWithBatch (words ∷ []))
+not_first {words} other (more, text) = other (first_same (first_line (words ∷ more) text).1)
 
 -- A run that has a line ends soon.
-pub runs_end_soon : (runs : List Run) → All HasClosedLine runs → All (λ run. run.last.0 - 1 < most_closed) runs
-runs_end_soon runs fine = All-weaker HasClosedLine (λ run. run.last.0 - 1 < most_closed) (λ run has. let early = has.ends in omega (arith, early)) runs fine
+pub runs_end_soon : (runs : List Run) → All HasClosedLine runs → All (λ run. run.last.0 - 1 < max_closed) runs
+runs_end_soon runs fine = All-weaker HasClosedLine (λ run. run.last.0 - 1 < max_closed) (λ run has. let early = has.ends in omega (arith, early)) runs fine

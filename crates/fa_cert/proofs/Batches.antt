@@ -10,20 +10,17 @@ use Rattle.std.proofs.lemmas.List.Elements.{All-push}
 use Rattle.std.proofs.lemmas.List.Folds.{list_any_at}
 use Rattle.std.proofs.lemmas.List.Quantifiers.{position-Some}
 use Rattle.std.proofs.lemmas.List.Sums.{sum_by-append}
+use Rattle.std.proofs.Math.Bool.{or-false}
 use Rattle.std.proofs.Math.Seq.{split_at, get_or-append_seam}
 use Rattle.fa_types.specs.declared.numbers.Die.{Die}
 use Rattle.fa_types.specs.declared.numbers.Page.{Page}
-use Rattle.fa_cert.specs.declared.batch.Held.{Held}
+use Rattle.fa_cert.specs.declared.batch.HeldPage.{HeldPage}
 use Rattle.fa_cert.specs.declared.batch.Unsound.{Unsound}
 use Rattle.fa_cert.specs.declared.batch.Unsound.TheVariants.{NoHolder, Twice}
 use Rattle.fa_cert.specs.Batch.{Entry, AreFine, IsFirstWrong, holds, is_among, times_named}
-use Rattle.fa_cert.specs.Index.{entry_of, entries_of, first_of}
+use Rattle.fa_cert.specs.Index.{entry_of, entries_of, entry_index}
 use Rattle.fa_cert.proofs.Counting.{count_by-cons, count-from-any, count-before, once-push}
 use Rattle.fa_cert.proofs.Indexed.{position-at}
-
-or-false : (b : Bool) → (b || false) ≡ b
-or-false true = refl
-or-false false = refl
 
 nonempty : {X : Type 0} (xs : List X) → xs ≢ [] → 0 < length xs
 nonempty [] h = absurd (h refl)
@@ -93,8 +90,8 @@ found_holders batch page die hs once is =
     ] in
     at (find (λ e. e.page.0 == page) batch) refl is
 
--- the place that passes first does pass
-position_is : (batch : List Entry) (page k : ℕ) → first_of batch page ≡ Some k → (d : Entry) → nat_eq (get_or batch k d).page.0 page ≡ true
+-- what stands at the first index does pass
+position_is : (batch : List Entry) (page k : ℕ) → entry_index batch page ≡ Some k → (d : Entry) → nat_eq (get_or batch k d).page.0 page ≡ true
 position_is batch page k at d = (position-Some (λ e. e.page.0 == page) batch k d at).1
 
 -- Entries so far that are fine, and the next one.
@@ -108,7 +105,7 @@ module _ (batch : List Entry) (i : ℕ) (e : Entry) (below : i < length batch) (
   pub no_holder : e.holders ≡ [] → IsFirstWrong batch (NoHolder e.page)
   no_holder none = record { before = take i batch; entry = e; after = drop (suc i) batch; whole = whole_is; fine = fine; wrong = (refl, none) }
 
-  pub named_before : e.holders ≢ [] → (k : ℕ) → first_of batch e.page.0 ≡ Some k → k < i → IsFirstWrong batch (Twice e.page)
+  pub named_before : e.holders ≢ [] → (k : ℕ) → entry_index batch e.page.0 ≡ Some k → k < i → IsFirstWrong batch (Twice e.page)
   named_before some k at earlier =
       let test : Entry → Bool = λ v. v.page.0 == e.page.0 in
       let place = position_is batch e.page.0 k at in
@@ -117,7 +114,7 @@ module _ (batch : List Entry) (i : ℕ) (e : Entry) (below : i < length batch) (
       let any = list_any_at test (take i batch) k e (omega (arith, bound)) there in
       record { before = take i batch; entry = e; after = drop (suc i) batch; whole = whole_is; fine = fine; wrong = (refl, some, count-from-any test (take i batch) any) }
 
-  pub fine_more : e.holders ≢ [] → ((k : ℕ) → first_of batch e.page.0 ≡ Some k → i ≤ k) → AreFine (take (i + 1) batch)
+  pub fine_more : e.holders ≢ [] → ((k : ℕ) → entry_index batch e.page.0 ≡ Some k → i ≤ k) → AreFine (take (i + 1) batch)
   fine_more some first =
       let test : Entry → Bool = λ v. v.page.0 == e.page.0 in
       let start : i ≤ position_or_len test batch =
@@ -151,17 +148,12 @@ not_fine batch (Twice page) first fine =
     omega (arith, split, head, this, most, before)
 
 -- the entry of what was read
-pub entry_at : (held : List Held) (i : ℕ) (h : Held) → i < length held → h ≡ get_or held i h → (i < length (entries_of held)) × (get_or (entries_of held) i (entry_of h) ≡ entry_of h)
+pub entry_at : {A : Type 0} (held : List (HeldPage A)) (i : ℕ) (h : HeldPage A) → i < length held → h ≡ get_or held i h → (i < length (entries_of held)) × (get_or (entries_of held) i (entry_of h) ≡ entry_of h)
 entry_at held i h below read =
     let size = length-map held entry_of in
     (omega (arith, below, size), get_or-map entry_of held i h (entry_of h) below ∙ ap entry_of (sym read))
 
--- a list of no length
-pub empty_from : {X : Type 0} (xs : List X) → length xs ≡ 0 → xs ≡ []
-empty_from [] h = refl
-empty_from (x ∷ xs) h = absurd (omega arith)
-
--- what the answer says of whether a place is earlier
+-- what the answer says of whether an index is earlier
 pub earlier_at : (o : Option ℕ) (i : ℕ) → option_map_or (λ k. nat_lt k i) o false ≡ true → (k : ℕ) × (o ≡ Some k) × (k < i)
 earlier_at None i h = cc
 earlier_at (Some k) i h = (k, refl, ltb-true k i h)

@@ -5,21 +5,14 @@ use Rattle.std.proofs.lemmas.Bool.{cases_lt, and_left, and_right, and_from, and_
 use Rattle.std.proofs.lemmas.List.{take_more, take_more_set, length-set}
 use Rattle.std.proofs.lemmas.List.Folds.{list_any-append}
 use Rattle.std.proofs.lemmas.List.Sums.{sum_by-cons}
+use Rattle.std.proofs.Math.Bool.{or-false, or_assoc}
 use Rattle.std.proofs.Math.Seq.{take-length}
 use Rattle.fa_types.specs.Open.{rounds_that}
 use Rattle.fa_cert.specs.declared.spans.Span.{Span}
 use Rattle.fa_cert.specs.declared.closed.Run.{Run}
-use Rattle.fa_cert.specs.Runs.{any_closes, is_covered, AreRising}
+use Rattle.fa_cert.specs.Runs.{any_closes, is_covered, is_from, AreRising, FewCovered, IsNthFree}
 use Rattle.fa_cert.proofs.Counting.{AllByRecursion-weaker}
-use Rattle.fa_cert.proofs.Windows.{is_from, rounds_that-same, rounds_that-add, rounds_that-none, rounds_that-not, rounds_that-join, rounds_that-from}
-
-or-false : (b : Bool) → (b || false) ≡ b
-or-false true = refl
-or-false false = refl
-
-or-assoc : (a b c : Bool) → ((a || b) || c) ≡ (a || (b || c))
-or-assoc true b c = refl
-or-assoc false b c = refl
+use Rattle.fa_cert.proofs.Windows.{rounds_that-same, rounds_that-add, rounds_that-none, rounds_that-not, rounds_that-join, rounds_that-from}
 
 bit-or : (a b : Bool) → (a ≡ true → b ≡ true → ⊥) → cond {A = ℕ} (a || b) 1 0 ≡ cond a 1 0 + cond b 1 0
 bit-or true true h = absurd (h refl refl)
@@ -176,7 +169,7 @@ module _ (spans : List Span) (n : ℕ) (old : Span) (first last most : ℕ) (som
       let low = (all_front (λ s. s.first ≤ first) (take n spans) old (subst (λ v. AllByRecursion (λ s. s.first ≤ first) v) is_whole later)).1 in
       let join = ap (λ m. is_from old.first m r) is_most ∙ join_is old.first old.last first last r low touch in
       ap (λ v. is_covered v r) is_changed ∙ pushed (take n spans) old.first most r ∙ ap (λ b. is_covered (take n spans) r || b) join
-      ∙ sym (or-assoc (is_covered (take n spans) r) (is_from old.first old.last r) (is_from first last r))
+      ∙ sym (or_assoc (is_covered (take n spans) r) (is_from old.first old.last r) (is_from first last r))
       ∙ ap (λ b. b || is_from first last r) (sym (ap (λ v. is_covered v r) is_whole ∙ pushed (take n spans) old.first old.last r))
 
 -- How far the spans put off a round.
@@ -258,18 +251,18 @@ nth_is from n (s ∷ spans) rising front round over other is =
           step in
           subst (λ k. IsNth from n (λ r. front r || is_covered (s ∷ spans) r) k) (sym goes)
           (is_nth-same from n (λ r. (front r || is_from s.first s.last r) || is_covered spans r) (λ r. front r || is_covered (s ∷ spans) r) (nth_from from next spans)
-          (λ r h. or-assoc (front r) (is_from s.first s.last r) (is_covered spans r)) all))
+          (λ r h. or_assoc (front r) (is_from s.first s.last r) (is_covered spans r)) all))
     ]
 
 -- the round that is found is the n-th
-pub nth_found : (from n : ℕ) (spans : List Span) → AreRising spans → 1 ≤ n → IsNth from n (is_covered spans) (nth_from from (from + (n - 1)) spans)
+nth_found : (from n : ℕ) (spans : List Span) → AreRising spans → 1 ≤ n → IsNth from n (is_covered spans) (nth_from from (from + (n - 1)) spans)
 nth_found from n spans rising some =
     let none = rounds_that-none (λ _. false) from (from + (n - 1) + 1 - from) (λ r a b. refl) in
     nth_is from n spans rising (λ _. false) (from + (n - 1)) (λ r h. refl) (λ r a b. cc)
     (record { late = omega arith; free = refl; count = omega (arith, none, some) })
 
 -- so many before it are free
-pub nth_before : (from n : ℕ) (test : ℕ → Bool) (round : ℕ) → IsNth from n test round → (m : ℕ) → from + m ≡ round → rounds_that (λ r. not (test r)) from m + 1 ≡ n
+nth_before : (from n : ℕ) (test : ℕ → Bool) (round : ℕ) → IsNth from n test round → (m : ℕ) → from + m ≡ round → rounds_that (λ r. not (test r)) from m + 1 ≡ n
 nth_before from n test round is m at =
     let size : round + 1 - from ≡ m + 1 = omega (arith, at) in
     let count = is.count in
@@ -278,13 +271,18 @@ nth_before from n test round is m at =
     let others = rounds_that-not test from m in
     omega (arith, size, count, whole, last, others, at)
 
+pub nth_is_free : (from n : ℕ) (spans : List Span) → AreRising spans → 1 ≤ n → (round : ℕ) → round ≡ nth_from from (from + (n - 1)) spans → IsNthFree spans from n round
+nth_is_free from n spans rising some round at =
+    let is = subst (λ r. IsNth from n (is_covered spans) r) (sym at) (nth_found from n spans rising some) in
+    record { late = is.late; free = is.free; before = nth_before from n (is_covered spans) round is }
+
 -- a span ends no earlier than it begins
 pub rising_at : (spans : List Span) (i : ℕ) (d : Span) → AreRising spans → i < length spans → (get_or spans i d).first ≤ (get_or spans i d).last
 rising_at [] i d rising below = absurd (omega arith)
 rising_at (s ∷ spans) zero d rising below = rising.0
 rising_at (s ∷ spans) (suc i) d rising below = rising_at spans i d rising.2 (omega arith)
 
-module _ (from n : ℕ) (spans : List Span) (rising : AreRising spans) (some : 1 ≤ n) (few : (m : ℕ) → rounds_that (is_covered spans) from m ≤ 1048576) where
+module _ (from n : ℕ) (spans : List Span) (rising : AreRising spans) (some : 1 ≤ n) (few : FewCovered spans from) where
   -- the round that is found is not far
   pub found_near : nth_from from (from + (n - 1)) spans < 1048576 + from + n
   found_near =

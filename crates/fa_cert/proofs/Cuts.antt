@@ -1,90 +1,33 @@
--- Where lines and words are cut, and what digits write.
-use Rattle.std.proofs.Common.{◌≡◌, ◌≢◌, ℕ, zero, suc, ◌+◌, ◌-◌, ◌<◌, ◌≤◌, ◌^◌, inl, inr, Bool, true, false, cond, not, Option, Some, None, List, [], ◌∷◌, length, take, drop, get_or, map, ◌==◌, refl, sym, ap, ◌∙◌, subst, arith, length-drop}
-use Rattle.std.specs.List.{position, position_or_len, onto_first, join_with_byte}
+-- Where words are cut, and what digits write.
+use Rattle.std.proofs.Common.{◌≡◌, ◌≢◌, ℕ, zero, suc, ◌+◌, ◌-◌, ◌<◌, ◌≤◌, ◌^◌, true, false, Option, Some, None, List, [], ◌∷◌, length, take, drop, get_or, map, ◌==◌, refl, sym, ap, ◌∙◌, subst, arith}
+use Rattle.std.specs.List.{position, join_with_byte}
 use Rattle.std.specs.Borrow.{Bor}
 use Rattle.std.specs.Option.{is_some}
 use Rattle.std.specs.Char.{digit_value}
 use Rattle.std.specs.Fmt.{decimal}
 use Rattle.std.specs.Str.Parse.{AllDigits, digits_value}
-use Rattle.std.proofs.lemmas.Bool.{cases_lt, false≢true}
+use Rattle.std.proofs.lemmas.Bool.{false≢true}
 use Rattle.std.proofs.lemmas.Fmt.{decimal_digit, first_decimal, decimal-digits_value, decimal_is_IsNumeral}
 use Rattle.std.proofs.lemmas.Int.Digits.{digits_value_is, number_after_append, number_after_ge}
 use Rattle.std.proofs.lemmas.List.{take-append-drop, map-append}
 use Rattle.std.proofs.lemmas.List.Sums.{fails_before_first}
 use Rattle.std.proofs.lemmas.List.Splits.{join_with_byte-slice_split, length-slice_split, slice_split_first, slice_split_none}
 use Rattle.std.proofs.lemmas.Str.Parse.{IsNumeralModel}
-use Rattle.std.proofs.Math.Seq.{take-length}
 use Rattle.std.specs.Int.Digits.{number_from_digits}
-use Rattle.fa_cert.specs.Text.{lines_of, words_of, words_left}
-use Rattle.fa_cert.proofs.Indexed.{position-at, position-past}
-
-module _ {X : Type 0} (p : X → Bool) where
-  -- what an answer of position says of the first place that passes
-  pub place_of : (xs : List X) (k : ℕ) → position p xs ≡ Some k → (position_or_len p xs ≡ k) × (k < length xs)
-  place_of xs k at =
-      elim (cases_lt (position_or_len p xs) (length xs)) [
-        | inl found ↦ (let some = position-at p xs found in let same : position_or_len p xs ≡ k = cc in (same, omega arith))
-        | inr past ↦ (let none = position-past p xs past in let no : ⊥ = cc in absurd no)
-      ]
-
-  pub no_place : (xs : List X) → position p xs ≡ None → length xs ≤ position_or_len p xs
-  no_place xs at =
-      elim (cases_lt (position_or_len p xs) (length xs)) [
-        | inl found ↦ (let some = position-at p xs found in let no : ⊥ = cc in absurd no)
-        | inr past ↦ past
-      ]
-
--- what stands behind a place, as a range gives it
-rest_is : (bs : List ℕ) (k : ℕ) → take (length bs - k) (drop k bs) ≡ drop k bs
-rest_is bs k = ap (λ n. take n (drop k bs)) (sym (length-drop k bs)) ∙ take-length (drop k bs)
-
--- The first line of an input.
-first_line : (bs : List ℕ) → position_or_len (λ b. b == 10) bs < length bs
-    → lines_of bs ≡ take (position_or_len (λ b. b == 10) bs) bs ∷ lines_of (drop (position_or_len (λ b. b == 10) bs + 1) bs)
-first_line [] h = absurd (omega arith)
-first_line (b ∷ bs) h =
-    let pl : ℕ = position_or_len (λ x. x == 10) bs in
-    elim (b == 10) as (λ v. cond (not v) (1 + pl) 0 < suc (length bs)
-    → cond v ([] ∷ lines_of bs) (onto_first b (lines_of bs)) ≡ take (cond (not v) (1 + pl) 0) (b ∷ bs) ∷ lines_of (drop (cond (not v) (1 + pl) 0 + 1) (b ∷ bs))) [
-      | true ↦ λ _. refl
-      | false ↦ λ below.
-          (let rest = first_line bs (omega arith) in
-          let one : 1 + pl ≡ suc pl = omega arith in
-          let two : 1 + pl + 1 ≡ suc (pl + 1) = omega arith in
-          ap (λ v. onto_first b v) rest ∙ sym (ap (λ n. take n (b ∷ bs) ∷ lines_of (drop (1 + pl + 1) (b ∷ bs))) one ∙ ap (λ n. (b ∷ take pl bs) ∷ lines_of (drop n (b ∷ bs))) two))
-    ] h
-
-only_line : (b : ℕ) (bs : List ℕ) → length (b ∷ bs) ≤ position_or_len (λ x. x == 10) (b ∷ bs) → lines_of (b ∷ bs) ≡ (b ∷ bs) ∷ []
-only_line b [] h =
-    elim (b == 10) as (λ v. 1 ≤ cond (not v) (1 + 0) 0 → cond v ([] ∷ []) (onto_first b []) ≡ (b ∷ []) ∷ []) [ true ↦ λ no. absurd (omega arith) | false ↦ λ _. refl ] h
-only_line b (c ∷ bs) h =
-    let pl : ℕ = position_or_len (λ x. x == 10) (c ∷ bs) in
-    elim (b == 10) as (λ v. suc (length (c ∷ bs)) ≤ cond (not v) (1 + pl) 0 → cond v ([] ∷ lines_of (c ∷ bs)) (onto_first b (lines_of (c ∷ bs))) ≡ (b ∷ c ∷ bs) ∷ []) [
-      | true ↦ λ no. absurd (omega arith)
-      | false ↦ λ past. ap (λ v. onto_first b v) (only_line c bs (omega arith))
-    ] h
-
-pub line_cut : (bs : List ℕ) (k : ℕ) → position (λ b. b == 10) bs ≡ Some k → lines_of bs ≡ take k bs ∷ lines_of (take (length bs - (k + 1)) (drop (k + 1) bs))
-line_cut bs k at =
-    let place = place_of (λ b. b == 10) bs k at in
-    subst (λ n. lines_of bs ≡ take n bs ∷ lines_of (drop (n + 1) bs)) place.0 (first_line bs (omega (arith, place.0, place.1)))
-    ∙ ap (λ v. take k bs ∷ lines_of v) (sym (rest_is bs (k + 1)))
-
-pub line_whole : (bs : List ℕ) → 0 < length bs → position (λ b. b == 10) bs ≡ None → lines_of bs ≡ bs ∷ []
-line_whole [] some none = absurd (omega arith)
-line_whole (b ∷ bs) some none = only_line b bs (no_place (λ x. x == 10) (b ∷ bs) none)
+use Rattle.fa_io.proofs.LineLemmas.{found_index, no_index, rest_is}
+use Rattle.fa_cert.specs.Text.{words_of, words_left}
 
 -- The first word of a line.
 pub word_cut : (bs : List ℕ) (k : ℕ) → position (λ b. b == 32) bs ≡ Some k → words_of bs ≡ take k bs ∷ words_of (take (length bs - (k + 1)) (drop (k + 1) bs))
 word_cut bs k at =
-    let place = place_of (λ b. b == 32) bs k at in
+    let place = found_index (λ b. b == 32) bs k at in
     slice_split_first (λ b. b == 32) bs 0 (omega (arith, place.0, place.1))
     ∙ ap (λ n. take n bs ∷ words_of (drop (n + 1) bs)) place.0
     ∙ ap (λ v. take k bs ∷ words_of v) (sym (rest_is bs (k + 1)))
 
 pub word_whole : (bs : List ℕ) → position (λ b. b == 32) bs ≡ None → words_of bs ≡ bs ∷ []
 word_whole bs none =
-    let past = no_place (λ b. b == 32) bs none in
+    let past = no_index (λ b. b == 32) bs none in
     slice_split_none (λ b. b == 32) bs (λ k d below. fails_before_first (λ b. b == 32) bs k d (omega arith))
 
 -- a line has a word, if only an empty one
@@ -115,9 +58,9 @@ no_leading_zero ds (suc n) small is zero_first long =
     let same = ap (λ v. get_or v 0 0) is in
     omega (arith, first, same, zero_first)
 
--- a front of the digits writes no more than all
-pub front_value : (ds : List ℕ) (i : ℕ) → digits_value 10 (take i ds) ≤ digits_value 10 ds
-front_value ds i =
+-- a prefix of the digits writes no more than all
+pub prefix_value : (ds : List ℕ) (i : ℕ) → digits_value 10 (take i ds) ≤ digits_value 10 ds
+prefix_value ds i =
     let whole = digits_value_is 10 ds in
     let front = digits_value_is 10 (take i ds) in
     let cut = ap (λ v. number_from_digits 10 (map digit_value v)) (sym (take-append-drop i ds)) in
@@ -142,15 +85,3 @@ something_left (Some line) is = words_some line.now
 -- a line with one word is this word
 pub one_word : (line word : List ℕ) → words_of line ≡ word ∷ [] → line ≡ word
 one_word line word is = sym (join_with_byte-slice_split 32 line) ∙ ap (λ v. join_with_byte 32 v) is
-
--- bytes have a line
-pub some_line : (bs : List ℕ) → length bs ≢ 0 → (first : List ℕ) × (rest : List (List ℕ)) × (lines_of bs ≡ first ∷ rest)
-some_line [] some = absurd (some refl)
-some_line (b ∷ bs) some = elim (b == 10) as (λ v. (first : List ℕ) × (rest : List (List ℕ)) × (cond v ([] ∷ lines_of bs) (onto_first b (lines_of bs)) ≡ first ∷ rest)) [
-  | true ↦ ([], lines_of bs, refl)
-  | false ↦ first_of (lines_of bs)
-]
-  where
-    first_of : (lines : List (List ℕ)) → (first : List ℕ) × (rest : List (List ℕ)) × (onto_first b lines ≡ first ∷ rest)
-    first_of [] = (b ∷ [], [], refl)
-    first_of (line ∷ lines) = (b ∷ line, lines, refl)

@@ -9,12 +9,12 @@ use Rattle.std.proofs.lemmas.Option.{slice_get_past, slice_get-get_or}
 use Rattle.std.proofs.lemmas.List.Folds.{position_or_len_push, find_at}
 use Rattle.std.proofs.lemmas.List.Sums.{prefix_len-le-length}
 use Rattle.std.proofs.lemmas.Bool.Decides.{nat_tests}
-use Rattle.fa_cert.specs.declared.batch.Held.{Held}
+use Rattle.fa_cert.specs.declared.batch.HeldPage.{HeldPage}
 use Rattle.fa_cert.specs.Batch.{Entry}
-use Rattle.fa_cert.specs.Index.{entry_of, entries_of, first_of, IsIndexOf}
+use Rattle.fa_cert.specs.Index.{entry_of, entries_of, entry_index, IsIndexOf}
 
 module _ {X : Type 0} (p : X → Bool) where
-  -- the place that passes first, and none past the end
+  -- the first index that passes, and none past the end
   pub position-at : (xs : List X) → position_or_len p xs < length xs → position p xs ≡ Some (position_or_len p xs)
   position-at xs h = cond-true (nat_lt (position_or_len p xs) (length xs)) (Some (position_or_len p xs)) None (lt-ltb (position_or_len p xs) (length xs) h)
 
@@ -45,7 +45,7 @@ module _ {X : Type 0} (p : X → Bool) where
             at (p y) refl ∙ sym (ap (λ o. option_or o (cond (p y) (Some (length xs)) None)) (position-past xs past)))
       ]
 
-  -- the first element that passes stands at that place
+  -- the first element that passes stands at that index
   pub find-at : (xs : List X) (k : ℕ) → position p xs ≡ Some k → (k < length xs) × (find p xs ≡ slice_get xs k)
   find-at xs k at =
       elim (cases_lt (position_or_len p xs) (length xs)) [
@@ -71,7 +71,7 @@ nothing None h = refl
 nothing (Some x) h = cc
 
 -- the holders of the entry to which the map leads
-pub holders_at : (held : List Held) (index : BTreeMap ℕ ℕ) → IsIndexOf (entries_of held) index → (page k : ℕ) (h : Held)
+pub holders_at : {A : Type 0} (held : List (HeldPage A)) (index : BTreeMap ℕ ℕ) → IsIndexOf (entries_of held) index → (page k : ℕ) (h : HeldPage A)
     → get nat_cmp index page ≡ Some k → h ≡ get_or held k h → Some h.holders.items ≡ option_map (λ e. e.holders) (find (λ e. e.page.0 == page) (entries_of held))
 holders_at held index is page k h found read =
     let at = find-at (λ (e : Entry). e.page.0 == page) (entries_of held) k (sym (is page) ∙ found) in
@@ -81,22 +81,22 @@ holders_at held index is page k h found read =
     slice_get-get_or (entries_of held) k (entry_of h) at.0 ∙ ap (λ e. Some e) (get_or-map entry_of held k h (entry_of h) below ∙ ap entry_of (sym read)) in
     sym (ap (λ o. option_map (λ e. e.holders) o) (at.1 ∙ there))
 
-pub holders_nowhere : (held : List Held) (index : BTreeMap ℕ ℕ) → IsIndexOf (entries_of held) index → (page : ℕ)
+pub holders_nowhere : {A : Type 0} (held : List (HeldPage A)) (index : BTreeMap ℕ ℕ) → IsIndexOf (entries_of held) index → (page : ℕ)
     → get nat_cmp index page ≡ None → None ≡ option_map (λ e. e.holders) (find (λ e. e.page.0 == page) (entries_of held))
 holders_nowhere held index is page none =
     sym (ap (λ o. option_map (λ (e : Entry). e.holders) o) (find-nowhere (λ (e : Entry). e.page.0 == page) (entries_of held) (sym (is page) ∙ none)))
 
 -- a map with the first entry of a page put in, where there was none
-pub index-push : (held : List Held) (h : Held) (index index' : BTreeMap ℕ ℕ) → IsIndexOf (entries_of held) index → get nat_cmp index h.page.0 ≡ None
+pub index-push : {A : Type 0} (held : List (HeldPage A)) (h : HeldPage A) (index index' : BTreeMap ℕ ℕ) → IsIndexOf (entries_of held) index → get nat_cmp index h.page.0 ≡ None
     → ((page : ℕ) → get nat_cmp index' page ≡ cond (is_at (nat_cmp h.page.0) page) (Some (length held)) (get nat_cmp index page))
     → IsIndexOf (entries_of (held ++ h ∷ [])) index'
 index-push held h index index' is new put page =
     let whole : entries_of (held ++ h ∷ []) ≡ entries_of held ++ entry_of h ∷ [] = map-append entry_of held (h ∷ []) in
     let size : length (entries_of held) ≡ length held = length-map held entry_of in
-    let after = ap (λ b. first_of b page) whole ∙ position-push (λ e. nat_eq e.page.0 page) (entries_of held) (entry_of h) in
+    let after = ap (λ b. entry_index b page) whole ∙ position-push (λ e. nat_eq e.page.0 page) (entries_of held) (entry_of h) in
     elim (cases_eq h.page.0 page) [
       | inl same ↦
-          (let none : first_of (entries_of held) page ≡ None = sym (is page) ∙ ap (λ n. get nat_cmp index n) (sym same) ∙ new in
+          (let none : entry_index (entries_of held) page ≡ None = sym (is page) ∙ ap (λ n. get nat_cmp index n) (sym same) ∙ new in
           let at : is_at (nat_cmp h.page.0) page ≡ true = subst (λ n. is_at (nat_cmp h.page.0) n ≡ true) same (grind (arith, nat_tests)) in
           put page ∙ cond-true (is_at (nat_cmp h.page.0) page) (Some (length held)) (get nat_cmp index page) at
           ∙ sym (after ∙ ap (λ o. option_or o (cond (nat_eq h.page.0 page) (Some (length (entries_of held))) None)) none
@@ -105,5 +105,5 @@ index-push held h index index' is new put page =
           (let no : is_at (nat_cmp h.page.0) page ≡ false = grind (arith, nat_tests) in
           let fails = ne_eqb h.page.0 page other in
           put page ∙ cond-false (is_at (nat_cmp h.page.0) page) (Some (length held)) (get nat_cmp index page) no ∙ is page
-          ∙ sym (after ∙ ap (λ b. option_or (first_of (entries_of held) page) (cond b (Some (length (entries_of held))) None)) fails ∙ or-nothing (first_of (entries_of held) page)))
+          ∙ sym (after ∙ ap (λ b. option_or (entry_index (entries_of held) page) (cond b (Some (length (entries_of held))) None)) fails ∙ or-nothing (entry_index (entries_of held) page)))
     ]

@@ -11,4 +11,5 @@ pub mod Numbers
 pub mod Parts
 pub mod Placed
 pub mod Printed
+pub mod Reading
 pub mod Windows

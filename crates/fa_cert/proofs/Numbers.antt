@@ -37,24 +37,24 @@ rises_past xs z zs rise some =
     omega (arith, up, low, high)
 
 -- What stands behind the words of these numbers, where all are the words of some numbers.
-pub numbers_behind : (most : ℕ) (xs ys : List ℕ) (rest : List (List ℕ)) → most < 2 ^ 32 → All (λ n. n ≤ most) xs → All (λ n. n ≤ most) ys
-    → map decimal xs ++ rest ≡ map decimal ys → (zs : List ℕ) × (ys ≡ xs ++ zs) × (rest ≡ map decimal zs) × All (λ n. n ≤ most) zs
-numbers_behind most [] ys rest small few few' is = (ys, refl, is, few')
-numbers_behind most (x ∷ xs) [] rest small few few' is = absurd (let no = ap (λ l. length l) is in omega (arith, no))
-numbers_behind most (x ∷ xs) (y ∷ ys) rest small few few' is =
+pub numbers_behind : (max : ℕ) (xs ys : List ℕ) (rest : List (List ℕ)) → max < 2 ^ 32 → All (λ n. n ≤ max) xs → All (λ n. n ≤ max) ys
+    → map decimal xs ++ rest ≡ map decimal ys → (zs : List ℕ) × (ys ≡ xs ++ zs) × (rest ≡ map decimal zs) × All (λ n. n ≤ max) zs
+numbers_behind max [] ys rest small few few' is = (ys, refl, is, few')
+numbers_behind max (x ∷ xs) [] rest small few few' is = absurd (let no = ap (λ l. length l) is in omega (arith, no))
+numbers_behind max (x ∷ xs) (y ∷ ys) rest small few few' is =
     let head : decimal x ≡ decimal y = cc in
     let tail : map decimal xs ++ rest ≡ map decimal ys = cc in
-    let low = All-head (λ n. n ≤ most) x xs few in
-    let low' = All-head (λ n. n ≤ most) y ys few' in
+    let low = All-head (λ n. n ≤ max) x xs few in
+    let low' = All-head (λ n. n ≤ max) y ys few' in
     let same = decimal_injective x y (omega (arith, low, small)) (omega (arith, low', small)) head in
-    let more = numbers_behind most xs ys rest small (All-tail (λ n. n ≤ most) x xs few) (All-tail (λ n. n ≤ most) y ys few') tail in
+    let more = numbers_behind max xs ys rest small (All-tail (λ n. n ≤ max) x xs few) (All-tail (λ n. n ≤ max) y ys few') tail in
     (more.0, ap (λ v. v ∷ ys) (sym same) ∙ ap (λ v. x ∷ v) more.1, more.2, more.3)
 
 -- The number that the next word writes.
-pub number_next : (most : ℕ) (xs ys : List ℕ) (word : List ℕ) (rest : List (List ℕ)) → most < 2 ^ 32 → All (λ n. n ≤ most) xs → All (λ n. n ≤ most) ys
-    → map decimal xs ++ word ∷ rest ≡ map decimal ys → (z : ℕ) × (zs : List ℕ) × (ys ≡ xs ++ z ∷ zs) × (word ≡ decimal z) × (z ≤ most)
-number_next most xs ys word rest small few few' is = by (numbers_behind most xs ys (word ∷ rest) small few few' is)
+pub number_next : (max : ℕ) (xs ys : List ℕ) (word : List ℕ) (rest : List (List ℕ)) → max < 2 ^ 32 → All (λ n. n ≤ max) xs → All (λ n. n ≤ max) ys
+    → map decimal xs ++ word ∷ rest ≡ map decimal ys → (z : ℕ) × (zs : List ℕ) × (ys ≡ xs ++ z ∷ zs) × (word ≡ decimal z) × (z ≤ max)
+number_next max xs ys word rest small few few' is = by (numbers_behind max xs ys (word ∷ rest) small few few' is)
   where
-    by : (zs : List ℕ) × (ys ≡ xs ++ zs) × (word ∷ rest ≡ map decimal zs) × All (λ n. n ≤ most) zs → (z : ℕ) × (zs : List ℕ) × (ys ≡ xs ++ z ∷ zs) × (word ≡ decimal z) × (z ≤ most)
+    by : (zs : List ℕ) × (ys ≡ xs ++ zs) × (word ∷ rest ≡ map decimal zs) × All (λ n. n ≤ max) zs → (z : ℕ) × (zs : List ℕ) × (ys ≡ xs ++ z ∷ zs) × (word ≡ decimal z) × (z ≤ max)
     by ([], front, back, low) = absurd (let no = ap (λ l. length l) back in omega (arith, no))
-    by (z ∷ zs, front, back, low) = (z, zs, front, cc, All-head (λ n. n ≤ most) z zs low)
+    by (z ∷ zs, front, back, low) = (z, zs, front, cc, All-head (λ n. n ≤ max) z zs low)

@@ -1,5 +1,5 @@
 -- Equations of lists, taken apart.
-use Rattle.std.proofs.Common.{◌≡◌, ◌≢◌, Option, Some, None, List, [], ◌∷◌, length, refl, ap, subst, arith}
+use Rattle.std.proofs.Common.{◌≡◌, ◌≢◌, Option, Some, None, List, [], ◌∷◌, length, ap, subst, arith}
 use Rattle.std.specs.Option.{MatchOption}
 
 pub first_same : {X : Type 0} {x y : X} {xs ys : List X} → x ∷ xs ≡ y ∷ ys → x ≡ y
@@ -17,7 +17,3 @@ where_none P Q is h = subst (λ v. MatchOption v P Q) is h
 
 pub where_some : {X : Type 0} {r : Option X} (P : Type 0) (Q : X → Type 0) (x : X) → r ≡ Some x → MatchOption r P Q → Q x
 where_some P Q x is h = subst (λ v. MatchOption v P Q) is h
-
-pub no_length : {X : Type 0} (xs : List X) → length xs ≡ 0 → xs ≡ []
-no_length [] is = refl
-no_length (x ∷ xs) is = absurd (omega (arith, is))

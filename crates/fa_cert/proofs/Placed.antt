@@ -5,8 +5,9 @@ use Rattle.std.proofs.Common.{Ordering, Less, Equal, Greater}
 use Rattle.std.specs.Ordering.{is_eq, ordering_then}
 use Rattle.std.specs.BTreeMap.{is_at}
 use Rattle.std.specs.BTreeSet.{BTreeSet, contains}
-use Rattle.std.proofs.lemmas.Bool.{cases_eq, cases_order, and_from, and_parts, ne_eqb, cond-true, cond-false}
+use Rattle.std.proofs.lemmas.Bool.{not-true, not-false, cases_eq, cases_order, and_from, and_parts, ne_eqb, cond-true, cond-false}
 use Rattle.std.proofs.lemmas.Bool.Decides.{nat_tests}
+use Rattle.std.proofs.Math.Bool.{or-false, or-true}
 use Rattle.std.proofs.lemmas.List.{take_more}
 use Rattle.std.proofs.lemmas.List.Elements.{All-more, All-weaker}
 use Rattle.std.proofs.lemmas.List.Folds.{list_any_more}
@@ -16,14 +17,6 @@ use Rattle.fa_cert.specs.Batch.{Entry, times_named}
 use Rattle.fa_cert.specs.Certificate.{AreNamed}
 use Rattle.fa_cert.specs.Plan.{ArePlaced, ArePlacedOnce, AreApart, rounds_of, times_placed}
 use Rattle.fa_cert.proofs.Counting.{any-from-count, count-from-any, once-push, twice-push, once-front, once-whole}
-
-not-true-from : (b : Bool) → not b ≡ true → b ≡ false
-not-true-from true h = cc
-not-true-from false h = refl
-
-not-false-from : (b : Bool) → not b ≡ false → b ≡ true
-not-false-from true h = refl
-not-false-from false h = cc
 
 cond-or : (b c : Bool) → cond b true c ≡ (c || b)
 cond-or true true = refl
@@ -42,14 +35,6 @@ met-more a b page key is =
           (let no : is_at (nat_cmp key) page ≡ false = grind (arith, nat_tests) in
           cond-false (is_at (nat_cmp key) page) true a no ∙ sym (ap (λ v. a || v) (is ∙ ne_eqb key page other) ∙ or-false a))
     ]
-  where
-    or-true : (v : Bool) → (v || true) ≡ true
-    or-true true = refl
-    or-true false = refl
-
-    or-false : (v : Bool) → (v || false) ≡ v
-    or-false true = refl
-    or-false false = refl
 
 -- the page of a place as its key
 abbrev has_page : ℕ → Place → Bool
@@ -72,10 +57,10 @@ module _ (places : List Place) (i : ℕ) (d : Place) (below : i < length places)
       → (once ≡ true → ArePlacedOnce (take i places)) → (once ≡ false → ArePlacedOnce (take i places) → ⊥)
       → ((once && fresh) ≡ true → ArePlacedOnce (take (i + 1) places)) × ((once && fresh) ≡ false → ArePlacedOnce (take (i + 1) places) → ⊥)
   page_once_more set true true is new so not_so =
-      let unmet : list_any (has_page (get_or places i d).page.0) (take i places) ≡ false = sym (is (get_or places i d).page.0) ∙ not-true-from (contains nat_cmp set (get_or places i d).page.0) (sym new) in
+      let unmet : list_any (has_page (get_or places i d).page.0) (take i places) ≡ false = sym (is (get_or places i d).page.0) ∙ not-true (contains nat_cmp set (get_or places i d).page.0) (sym new) in
       (λ _. subst ArePlacedOnce (sym next_is) (once-push has_page (λ x. x.page.0) (λ x. eq-eqb x.page.0 x.page.0 refl) (λ k x e. sym (eqb-true x.page.0 k e)) (take i places) (get_or places i d) unmet (so refl)), λ no. cc)
   page_once_more set true false is new so not_so =
-      let met : list_any (has_page (get_or places i d).page.0) (take i places) ≡ true = sym (is (get_or places i d).page.0) ∙ not-false-from (contains nat_cmp set (get_or places i d).page.0) (sym new) in
+      let met : list_any (has_page (get_or places i d).page.0) (take i places) ≡ true = sym (is (get_or places i d).page.0) ∙ not-false (contains nat_cmp set (get_or places i d).page.0) (sym new) in
       (λ no. cc, λ _ all. twice-push has_page (λ x. x.page.0) (λ x. eq-eqb x.page.0 x.page.0 refl) (λ k x e. sym (eqb-true x.page.0 k e)) (take i places) (get_or places i d) met (subst ArePlacedOnce next_is all))
   page_once_more set false fresh is new so not_so =
       (λ no. cc, λ _ all. not_so refl (once-front has_page (λ x. x.page.0) (λ x. eq-eqb x.page.0 x.page.0 refl) (λ k x e. sym (eqb-true x.page.0 k e)) (take i places) (get_or places i d) (subst ArePlacedOnce next_is all)))
@@ -171,7 +156,7 @@ module _ (places : List Place) (i : ℕ) (d : Place) (below : i < length places)
       → AreApart (take i places) → AreApart (take (i + 1) places)
   apart_more set fresh is new free so =
       let x = get_or places i d in
-      let unmet = sym (is x.die.0 x.round.0) ∙ not-true-from (contains place_cmp set (x.die.0, x.round.0)) (sym new ∙ free) in
+      let unmet = sym (is x.die.0 x.round.0) ∙ not-true (contains place_cmp set (x.die.0, x.round.0)) (sym new ∙ free) in
       λ die round. subst AreApart (sym (take_more places i d below)) (λ e q. once-push is_at_key (λ x. (x.die.0, x.round.0)) key_has key_only (take i places) x unmet (λ k. so k.0 k.1) (e, q)) die round
 
   pub not_apart : (set : BTreeSet (ℕ × ℕ)) (fresh : Bool) → ((die round : ℕ) → contains place_cmp set (die, round) ≡ list_any (is_at_key (die, round)) (take i places))
@@ -179,7 +164,7 @@ module _ (places : List Place) (i : ℕ) (d : Place) (below : i < length places)
       → AreApart places → ⊥
   not_apart set fresh is new taken all =
       let x = get_or places i d in
-      let met = sym (is x.die.0 x.round.0) ∙ not-false-from (contains place_cmp set (x.die.0, x.round.0)) (sym new ∙ taken) in
+      let met = sym (is x.die.0 x.round.0) ∙ not-false (contains place_cmp set (x.die.0, x.round.0)) (sym new ∙ taken) in
       twice-push is_at_key (λ x. (x.die.0, x.round.0)) key_has key_only (take i places) x met
       (subst (λ xs. (k : ℕ × ℕ) → count_by (is_at_key k) xs ≤ 1) (take_more places i d below)
       (once-whole is_at_key (λ x. (x.die.0, x.round.0)) key_has key_only places (i + 1) (λ k. all k.0 k.1)))

@@ -12,7 +12,8 @@ use Rattle.std.proofs.lemmas.List.Sums.{AllPass-from_list_all}
 use Rattle.std.proofs.lemmas.List.Splits.{slice_split_at, slice_split_none}
 use Rattle.fa_types.specs.declared.numbers.Page.{Page}
 use Rattle.fa_cert.specs.CertificateText.{short_lines}
-use Rattle.fa_cert.specs.Text.{lines_of, words_of, words_by_line}
+use Rattle.fa_io.specs.Lines.{lines_of}
+use Rattle.fa_cert.specs.Text.{words_of, words_by_line}
 
 -- keys that rise are a list that rises
 pub rises_by : {X : Type 0} (key : X → ℕ) (xs : List X) → IsNonDecreasingBy key xs → IsNonDecreasing (map key xs)

@@ -1,7 +1,8 @@
 -- How many rounds of a window pass a test.
-use Rattle.std.proofs.Common.{◌≡◌, ℕ, zero, suc, ◌+◌, ◌-◌, ◌<◌, ◌≤◌, inl, inr, Bool, true, false, cond, not, ◌&&◌, nat_le, min, max, refl, ap, arith}
+use Rattle.std.proofs.Common.{◌≡◌, ℕ, zero, suc, ◌+◌, ◌-◌, ◌<◌, ◌≤◌, inl, inr, Bool, true, false, cond, not, nat_le, min, max, refl, ap, arith}
 use Rattle.std.proofs.lemmas.Bool.{cases_lt, and_left, and_right, and_from, le-leb, lt-leb}
 use Rattle.fa_types.specs.Open.{rounds_that}
+use Rattle.fa_cert.specs.Runs.{is_from}
 
 -- tests that agree on the window
 pub rounds_that-same : (p q : ℕ → Bool) (first n : ℕ) → ((r : ℕ) → first ≤ r → r < first + n → p r ≡ q r) → rounds_that p first n ≡ rounds_that q first n
@@ -44,10 +45,6 @@ rounds_that-join p first (suc a) b =
     let x = ap (λ n. rounds_that p first n) e in
     let y = ap (λ k. rounds_that p k b) f in
     omega (arith, rest, x, y)
-
--- whether a round lies from one to another
-abbrev pub is_from : ℕ → ℕ → ℕ → Bool
-is_from low high round = nat_le low round && nat_le round high
 
 -- the rounds from one to another
 pub rounds_that-from : (low high first n : ℕ) → rounds_that (is_from low high) first n ≡ min (high + 1) (first + n) - max low first

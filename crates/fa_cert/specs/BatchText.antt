@@ -9,7 +9,8 @@ use Rattle.fa_cert.specs.declared.text.batch_text.BatchText.{BatchText}
 use Rattle.fa_cert.specs.Batch.{Entry}
 use Rattle.fa_cert.specs.Closed.{current_of, is_closed}
 use Rattle.fa_cert.specs.Runs.{any_closes}
-use Rattle.fa_cert.specs.Text.{lines_of, words_of}
+use Rattle.fa_io.specs.Lines.{lines_of}
+use Rattle.fa_cert.specs.Text.{words_of}
 
 -- the words of a page's line, `page P on D D ..`
 abbrev pub page_line : Entry → List (List ℕ)
@@ -56,7 +57,7 @@ StartsWithBatch lines =
 
 -- What is read of an input that begins with a batch text: the batch, the closed rounds from round 1 on, and
 -- what is left with the number of its first line.
-pub record IsRead (input : List ℕ) (found : BatchText) : Type 0 where
+pub record IsRead {A : Type 0} (input : List ℕ) (found : BatchText A) : Type 0 where
   pub text : List (List ℕ)
   pub runs : List Run
   pub parts : lines_of input ≡ text ++ lines_of found.rest.now
@@ -66,10 +67,12 @@ pub record IsRead (input : List ℕ) (found : BatchText) : Type 0 where
   pub number : found.line ≡ 1 + length text
 
 -- What a line behind the first says by its words, if it may stand in a batch text at all.
-abbrev pub SaysOfBatch : List (List ℕ) → BatchLine → Type 0
-SaysOfBatch words (PageLine page holders) =
-    (words ≡ page_line (record { page = page; holders = holders.items })) × HasPageLine (record { page = page; holders = holders.items })
-SaysOfBatch words (ClosedLine run) = (words ≡ closed_line run) × HasClosedLine run
-SaysOfBatch words End = words ≡ end_line
-SaysOfBatch words Other =
-    ((e : Entry) → HasPageLine e → words ≢ page_line e) × ((run : Run) → HasClosedLine run → words ≢ closed_line run) × (words ≢ end_line)
+module _ {A : Type 0} where
+  abbrev pub SaysOfBatch : List (List ℕ) → BatchLine A → Type 0
+  SaysOfBatch words (PageLine page holders) =
+      (words ≡ page_line (record { page = page; holders = holders.items })) × HasPageLine (record { page = page; holders = holders.items })
+  SaysOfBatch words (ClosedLine run) = (words ≡ closed_line run) × HasClosedLine run
+  SaysOfBatch words End = words ≡ end_line
+  SaysOfBatch words Other =
+      ((e : Entry) → HasPageLine e → words ≢ page_line e)
+      × ((run : Run) → HasClosedLine run → words ≢ closed_line run) × (words ≢ end_line)

@@ -45,7 +45,8 @@ ShowsNoFewer batch current closed zero pages = pages ≡ []
 ShowsNoFewer batch current closed (suc rounds) pages = IsShortage batch current closed rounds pages
 
 -- a plan of so many rounds, and what shows that no plan has fewer
-pub record IsCertificate (batch : List Entry) (current : ℕ) (closed : ℕ → ℕ → Bool) (rounds : ℕ) (places : List Place) (pages : List Page) : Type 0 where
+pub record IsCertificate (batch : List Entry) (current : ℕ) (closed : ℕ → ℕ → Bool) (rounds : ℕ) (places : List Place)
+    (pages : List Page) : Type 0 where
   pub plan : IsPlan batch current closed places
   pub length_is : rounds_of current places ≡ rounds
   pub least : ShowsNoFewer batch current closed rounds pages

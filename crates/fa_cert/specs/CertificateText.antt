@@ -71,10 +71,11 @@ pub record IsPrinted (rounds : ℕ) (places : List Place) (pages : List Page) (o
   pub spelled : (more : List ℕ) → words_by_line (out ++ more) ≡ certificate_lines rounds placed short ++ words_by_line more
 
 -- What a line behind the first says by its words, if it may stand in a certificate text at all.
-abbrev pub SaysOfCertificate : List (List ℕ) → CertificateLine → Type 0
-SaysOfCertificate words (PlaceLine x) = (words ≡ place_line x) × HasPlaceLine x
-SaysOfCertificate words (Short pages) = (words ≡ short_line pages) × HaveShortLine pages × (pages ≢ [])
-SaysOfCertificate words End = words ≡ end_line
-SaysOfCertificate words Other =
-    ((x : Place) → HasPlaceLine x → words ≢ place_line x)
-    × ((pages : List Page) → HaveShortLine pages → pages ≢ [] → words ≢ short_line pages) × (words ≢ end_line)
+module _ {A : Type 0} where
+  abbrev pub SaysOfCertificate : List (List ℕ) → CertificateLine A → Type 0
+  SaysOfCertificate words (PlaceLine x) = (words ≡ place_line x) × HasPlaceLine x
+  SaysOfCertificate words (Short pages) = (words ≡ short_line pages) × HaveShortLine pages × (pages ≢ [])
+  SaysOfCertificate words End = words ≡ end_line
+  SaysOfCertificate words Other =
+      ((x : Place) → HasPlaceLine x → words ≢ place_line x)
+      × ((pages : List Page) → HaveShortLine pages → pages ≢ [] → words ≢ short_line pages) × (words ≢ end_line)

@@ -3,8 +3,9 @@ use Rattle.std.specs.Prelude.{ℕ, Bool}
 use Rattle.fa_cert.specs.declared.closed.Closed.{Closed}
 use Rattle.fa_cert.specs.Runs.{closed_by}
 
-abbrev pub current_of : Closed → ℕ
-current_of rounds = rounds.current
+module _ {A : Type 0} where
+  abbrev pub current_of : Closed A → ℕ
+  current_of rounds = rounds.current
 
-abbrev pub is_closed : Closed → ℕ → ℕ → Bool
-is_closed rounds die round = closed_by rounds.dies.items die round
+  abbrev pub is_closed : Closed A → ℕ → ℕ → Bool
+  is_closed rounds die round = closed_by rounds.dies.items die round

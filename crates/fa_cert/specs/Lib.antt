@@ -5,6 +5,7 @@ pub mod CertificateText
 pub mod Closed
 pub mod Index
 pub mod Marks
+pub mod Numbers
 pub mod Plan
 pub mod Runs
 pub mod Text

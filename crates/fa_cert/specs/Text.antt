@@ -1,14 +1,10 @@
 -- Texts by their lines and words, and the first line that is wrong.
-use Rattle.std.specs.Prelude.{◌≡◌, ℕ, ◌+◌, ◌==◌, if◌then◌else◌, List, [], ◌∷◌, ◌++◌, length, map, Option, Some, None}
-use Rattle.std.specs.List.{slice_split, onto_first}
+use Rattle.std.specs.Prelude.{◌≡◌, ℕ, ◌+◌, ◌==◌, List, [], ◌∷◌, ◌++◌, length, map, Option, Some, None}
+use Rattle.std.specs.List.{slice_split}
 use Rattle.std.specs.Borrow.{Bor}
+use Rattle.fa_io.specs.Lines.{lines_of}
 use Rattle.fa_cert.specs.declared.text.TextError.{TextError}
 use Rattle.fa_cert.specs.declared.text.TextError.TheVariants.{Line, NoMemory}
-
--- the lines of an input, each ended by a line feed, which the last one may lack
-abbrev pub lines_of : List ℕ → List (List ℕ)
-lines_of [] = []
-lines_of (b ∷ bytes) = if b == 10 then [] ∷ lines_of bytes else onto_first b (lines_of bytes)
 
 -- the words of a line, with one space between each and the next
 abbrev pub words_of : List ℕ → List (List ℕ)
@@ -42,7 +38,7 @@ pub record IsFirstWrongLine (IsText : List (List (List ℕ)) → Type 0) (first 
   pub wrong : GoesWrong IsText before after
   pub number_is : number ≡ first + length before
 
--- why a text is not read: its first wrong line, or want of memory
+-- why a text is not read: its first wrong line, or out of memory
 abbrev pub IsTextError : (List (List (List ℕ)) → Type 0) → ℕ → List (List (List ℕ)) → TextError → Type 0
 IsTextError IsText first lines (Line number) = IsFirstWrongLine IsText first lines number
 IsTextError IsText first lines NoMemory = Unit {0}

@@ -4,7 +4,8 @@ use Rattle.std.specs.Fmt.{decimal}
 use Rattle.fa_types.specs.declared.numbers.Page.{Page}
 use Rattle.fa_cert.specs.declared.plan.Place.{Place}
 use Rattle.fa_cert.specs.declared.verdict.Refusal.{Refusal}
-use Rattle.fa_cert.specs.declared.verdict.Refusal.TheVariants.{PageMissing, PageTwice, NotAHolder, RoundClosed, PlaceTwice, LastRound, ShortagePage, NotShort}
+use Rattle.fa_cert.specs.declared.verdict.Refusal.TheVariants.{PageMissing, PageTwice, NotAHolder, RoundClosed, PlaceTwice}
+use Rattle.fa_cert.specs.declared.verdict.Refusal.TheVariants.{LastRound, ShortagePage, NotShort}
 use Rattle.fa_cert.specs.declared.verdict.Verdict.{Verdict}
 use Rattle.fa_cert.specs.declared.verdict.Verdict.TheVariants.{Least, Refused}
 use Rattle.fa_cert.specs.Batch.{Entry}
@@ -34,15 +35,15 @@ module _ (batch : List Entry) (current : ℕ) (closed : ℕ → ℕ → Bool) (r
   IsVerdict (Refused refusal) = IsRefused refusal
 
 -- the refusals are numbered in that order
-abbrev pub number_of : Refusal → ℕ
-number_of PageMissing = 1
-number_of PageTwice = 2
-number_of NotAHolder = 3
-number_of RoundClosed = 4
-number_of PlaceTwice = 5
-number_of LastRound = 6
-number_of ShortagePage = 7
-number_of NotShort = 8
+abbrev pub refusal_number : Refusal → ℕ
+refusal_number PageMissing = 1
+refusal_number PageTwice = 2
+refusal_number NotAHolder = 3
+refusal_number RoundClosed = 4
+refusal_number PlaceTwice = 5
+refusal_number LastRound = 6
+refusal_number ShortagePage = 7
+refusal_number NotShort = 8
 
 -- the words of each refusal
 abbrev pub refusal_words : Refusal → List ℕ
@@ -58,4 +59,4 @@ refusal_words NotShort = codes "not short"
 -- what is printed of a verdict: the number of rounds, or the number of the refusal with its words
 abbrev pub verdict_text : Verdict → List ℕ
 verdict_text (Least rounds) = codes "least " ++ decimal rounds
-verdict_text (Refused refusal) = codes "refused " ++ decimal (number_of refusal) ++ codes " " ++ refusal_words refusal
+verdict_text (Refused refusal) = codes "refused " ++ decimal (refusal_number refusal) ++ codes " " ++ refusal_words refusal

@@ -1,5 +1,6 @@
 //! A batch of reads: the pages that are to be read together, each with the dies that hold it.
-ghost use Rattle.std.specs.Prelude.{◌≡◌, ℕ, ◌<◌, ◌≤◌, ◌↔◌, ◌==◌, [], ◌∷◌, ◌++◌, length, IsTrue, OnOk, OnErr, IfSome, MatchOption, false, nat_lt, slice_get};
+ghost use Rattle.std.specs.Prelude.{◌≡◌, ℕ, ◌<◌, ◌≤◌, ◌↔◌, ◌==◌, [], ◌∷◌, ◌++◌, length, IsTrue, OnOk, OnErr, IfSome};
+ghost use Rattle.std.specs.Prelude.{MatchOption, false, nat_lt, slice_get};
 ghost use Rattle.std.specs.Option.{option_copied, option_map, option_map_or};
 ghost use Rattle.std.specs.List.{find};
 ghost use Rattle.std.specs.Ordering.{nat_cmp};
@@ -8,27 +9,27 @@ ghost use Rattle.fa_cert.specs.Batch.{AreFine, IsFirstWrong, is_among};
 ghost use Rattle.fa_cert.specs.Index.{entries_of, IsIndexOf};
 
 use fa_types::{Die, Page};
-use std::alloc::{AllocError, Global};
+use std::alloc::{AllocError, Allocator, Global};
 use std::collections::BTreeMap;
 use std::marker::Model;
 
 /// The most pages of a batch.
-pub const MOST_PAGES: usize = 1024;
+pub const MAX_PAGES: usize = 1024;
 
 /// A page of a batch, and the dies that hold it.
 #[derive(Debug, Drop)]
-struct Held {
+struct HeldPage<A: Allocator> {
     page: Page,
-    holders: Vec<Die>,
+    holders: Vec<Die, A>,
 }
 
 /// The pages of a batch in the order in which they were given, each with its holders. Contracts see
 /// the list of these. A page is found without a look at the others.
 #[derive(Debug, Drop)]
-pub struct Batch {
-    entries: Vec<Held>,
-    // The place of a page's first entry.
-    first: BTreeMap<u64, usize>,
+pub struct Batch<A: Allocator = Global> {
+    entries: Vec<HeldPage<A>, A>,
+    // The index of a page's first entry.
+    first: BTreeMap<u64, usize, A>,
 }
 
 /// Why a batch is not sound.
@@ -40,7 +41,7 @@ pub enum Unsound {
     Twice(Page),
 }
 
-impl Model for Batch {
+impl<A: Allocator> Model for Batch<A> {
     ghost use Rattle.std.specs.Prelude.{List};
     ghost use Rattle.fa_cert.specs.Batch.{Entry};
 
@@ -53,11 +54,9 @@ impl Model for Batch {
     ghost invariant = { λ b. IsIndexOf (entries_of b.entries.items) b.first };
 }
 
-impl Batch {
-    ghost use Rattle.fa_cert.specs.Batch.{IsSound, holds, times_named};
-
+impl<A: Allocator + Copy> Batch<A> {
     /// The batch of no pages.
-    pub fn new(alloc: Global) -> Batch
+    pub fn new(alloc: A) -> Batch<A>
         ensures { result ≡ [] }
     {
         Batch {
@@ -66,21 +65,25 @@ impl Batch {
         }
     }
 
-    /// Adds a page with its holders at the end. Without memory the batch stays as it was.
-    pub fn push(&mut self, page: Page, holders: Vec<Die>) -> Result<(), AllocError>
+    /// Adds a page with its holders at the end. Out of memory, the batch stays as it was.
+    pub fn push(&mut self, page: Page, holders: Vec<Die, A>) -> Result<(), AllocError>
         ensures ok { OnOk result (self.new ≡ self.old ++ record { page = page; holders = holders.items } ∷ []) }
         ensures err { OnErr result (self.new ≡ self.old) }
     {
-        let place = self.entries.len();
-        self.entries.push(Held { page, holders })?;
+        let index = self.entries.len();
+        self.entries.push(HeldPage { page, holders })?;
         if !self.first.contains_key(&page.0) {
-            if let Err(_) = self.first.insert(page.0, place) {
-                self.entries.truncate(place);
+            if let Err(_) = self.first.insert(page.0, index) {
+                self.entries.truncate(index);
                 return Err(AllocError);
             }
         }
         Ok(())
     }
+}
+
+impl<A: Allocator> Batch<A> {
+    ghost use Rattle.fa_cert.specs.Batch.{IsSound, holds, times_named};
 
     /// The number of entries.
     pub fn len(&self) -> usize
@@ -89,12 +92,12 @@ impl Batch {
         self.entries.len()
     }
 
-    /// The page of the entry at a place, from 0.
-    pub fn page(&self, place: usize) -> Page
-        requires { place < length self.now }
-        ensures { IfSome (slice_get self.now place) (λ e. e.page ≡ result) }
+    /// The page of the entry at an index.
+    pub fn page(&self, index: usize) -> Page
+        requires { index < length self.now }
+        ensures { IfSome (slice_get self.now index) (λ e. e.page ≡ result) }
     {
-        self.entries[place].page
+        self.entries[index].page
     }
 
     /// The holders of the first entry of a page, where there is one.
@@ -102,7 +105,7 @@ impl Batch {
         ensures { option_copied result ≡ option_map (λ e. e.holders) (find (λ e. e.page.0 == page.0) self.now) }
     {
         match self.first.get(&page.0) {
-            Some(place) => Some(self.entries[*place].holders.as_slice()),
+            Some(index) => Some(self.entries[*index].holders.as_slice()),
             None => None,
         }
     }
@@ -137,32 +140,35 @@ impl Batch {
     pub fn is_sound(&self) -> bool
         ensures { IsTrue result ↔ IsSound self.now }
     {
-        self.len() <= MOST_PAGES && self.unsound().is_none()
+        self.len() <= MAX_PAGES && self.unsound().is_none()
     }
 }
 
-/// The first entry that is wrong, given the place of each page's first entry.
-fn first_wrong(entries: &[Held], first: &BTreeMap<u64, usize>) -> Option<Unsound>
+/// The first entry that is wrong, given the index of each page's first entry.
+fn first_wrong<A: Allocator>(
+    entries: &[HeldPage<A>],
+    first: &BTreeMap<u64, usize, A>,
+) -> Option<Unsound>
     requires { IsIndexOf (entries_of entries.now) first.now }
     ensures { MatchOption result (AreFine (entries_of entries.now)) (λ unsound. IsFirstWrong (entries_of entries.now) unsound) }
 {
-    for (place, held) in entries.iter().enumerate() {
+    for (index, held) in entries.iter().enumerate() {
         if held.holders.is_empty() {
             return Some(Unsound::NoHolder(held.page));
         }
-        if is_earlier(first, held.page, place) {
+        if is_earlier(first, held.page, index) {
             return Some(Unsound::Twice(held.page));
         }
     }
     None
 }
 
-/// Whether the first entry of the page stands before the place.
-fn is_earlier(first: &BTreeMap<u64, usize>, page: Page, place: usize) -> bool
-    ensures { result ≡ option_map_or (λ earliest. nat_lt earliest place) (get nat_cmp first.now page.0) false }
+/// Whether the first entry of the page stands before the index.
+fn is_earlier<A: Allocator>(first: &BTreeMap<u64, usize, A>, page: Page, index: usize) -> bool
+    ensures { result ≡ option_map_or (λ earliest. nat_lt earliest index) (get nat_cmp first.now page.0) false }
 {
     match first.get(&page.0) {
-        Some(earliest) => *earliest < place,
+        Some(earliest) => *earliest < index,
         None => false,
     }
 }

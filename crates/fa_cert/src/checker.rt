@@ -1,5 +1,6 @@
 //! The check of a certificate.
-ghost use Rattle.std.specs.Prelude.{◌≡◌, ℕ, ◌+◌, ◌<◌, ◌≤◌, ◌↔◌, ◌==◌, ◌||◌, ◌^◌, Bool, false, List, IsNone, length, All, IsTrue, IfOk, MatchOption, max, slice_index_or};
+ghost use Rattle.std.specs.Prelude.{◌≡◌, ℕ, ◌+◌, ◌<◌, ◌≤◌, ◌↔◌, ◌==◌, ◌||◌, ◌^◌, Bool, false, List, IsNone, length, All};
+ghost use Rattle.std.specs.Prelude.{IsTrue, IfOk, MatchOption, max, slice_index_or};
 ghost use Rattle.std.specs.List.{fold, list_any};
 ghost use Rattle.std.specs.Ordering.{nat_cmp};
 ghost use Rattle.std.specs.BTreeSet.{contains};
@@ -11,22 +12,21 @@ ghost use Rattle.fa_cert.specs.Plan.{IsPlan, ArePlaced, ArePlacedOnce, AreHeld, 
 ghost use Rattle.fa_cert.specs.Verdict.{IsVerdict, IsRefused};
 
 use crate::batch::Batch;
-use crate::plan::{Place, Plan};
-use crate::shortage::Shortage;
+use crate::plan::{Place, Plan, Shortage};
 use crate::verdict::{Refusal, Verdict};
 use fa_types::{Die, Page, Round, Rounds};
-use std::alloc::{AllocError, Global};
+use std::alloc::{AllocError, Allocator};
 use std::collections::BTreeSet;
 
 /// Whether the plan is one for the batch, of the rounds that it claims, and the pages of the shortage
 /// show that no plan has fewer. Else the first refusal that applies. It trusts nothing but the batch
 /// and the rounds. Memory is taken for one set of the plan's places at a time.
-pub fn check<R: Rounds>(
-    alloc: Global,
-    batch: &Batch,
+pub fn check<R: Rounds, A: Allocator + Copy>(
+    alloc: A,
+    batch: &Batch<A>,
     rounds: &R,
-    plan: &Plan,
-    shortage: &Shortage,
+    plan: &Plan<A>,
+    shortage: &Shortage<A>,
 ) -> Result<Verdict, AllocError>
     requires { IsSound batch.now }
     ensures verdict { IfOk result (λ verdict. IsVerdict batch.now (R.current rounds.now) (R.closed rounds.now)
@@ -49,27 +49,23 @@ pub fn check<R: Rounds>(
 }
 
 /// The first thing that is wrong with the places of a plan and the rounds that it claims.
-fn refusal_of<R: Rounds>(
-    alloc: Global,
-    batch: &Batch,
+fn refusal_of<R: Rounds, A: Allocator + Copy>(
+    alloc: A,
+    batch: &Batch<A>,
     rounds: &R,
     number: u64,
     places: &[Place],
 ) -> Result<Option<Refusal>, AllocError>
     requires { (page : ℕ) → times_named batch.now page ≤ 1 }
     ensures found { IfOk result (λ refusal. MatchOption refusal
-        (IsPlan batch.now (R.current rounds.now) (R.closed rounds.now) places.now × (rounds_of (R.current rounds.now) places.now ≡ number))
+        (IsPlan batch.now (R.current rounds.now) (R.closed rounds.now) places.now
+        × (rounds_of (R.current rounds.now) places.now ≡ number))
         (λ r. (pages : List Page) → IsRefused batch.now (R.current rounds.now) (R.closed rounds.now) number places.now pages r)) }
     ensures fits { IfOk result (λ refusal. IsNone refusal → 0 < number → R.current rounds.now + number ≤ 2 ^ 64) }
 {
-    let (pages, once) = pages_of(alloc, places)?;
-    if !have_all(&pages, batch) {
-        return Ok(Some(Refusal::PageMissing));
+    if let Some(refusal) = refusal_of_pages(alloc, batch, places)? {
+        return Ok(Some(refusal));
     }
-    if !once {
-        return Ok(Some(Refusal::PageTwice));
-    }
-    drop(pages);
     if !are_held(batch, places) {
         return Ok(Some(Refusal::NotAHolder));
     }
@@ -85,8 +81,31 @@ fn refusal_of<R: Rounds>(
     Ok(None)
 }
 
+/// What is wrong with the pages that have places: one of the batch has none, or one has two.
+fn refusal_of_pages<A: Allocator + Copy>(
+    alloc: A,
+    batch: &Batch<A>,
+    places: &[Place],
+) -> Result<Option<Refusal>, AllocError>
+    ensures { IfOk result (λ refusal. MatchOption refusal (ArePlaced batch.now places.now × ArePlacedOnce places.now)
+        (λ r. (current rounds : ℕ) (closed : ℕ → ℕ → Bool) (pages : List Page)
+        → IsRefused batch.now current closed rounds places.now pages r)) }
+{
+    let (pages, once) = pages_of(alloc, places)?;
+    if !have_all(&pages, batch) {
+        return Ok(Some(Refusal::PageMissing));
+    }
+    if !once {
+        return Ok(Some(Refusal::PageTwice));
+    }
+    Ok(None)
+}
+
 /// The pages of the places, and whether each comes once.
-fn pages_of(alloc: Global, places: &[Place]) -> Result<(BTreeSet<u64>, bool), AllocError>
+fn pages_of<A: Allocator + Copy>(
+    alloc: A,
+    places: &[Place],
+) -> Result<(BTreeSet<u64, A>, bool), AllocError>
     ensures pages { IfOk result (λ r. (page : ℕ) → contains nat_cmp r.0 page ≡ list_any (λ x. x.page.0 == page) places.now) }
     ensures once { IfOk result (λ r. IsTrue r.1 ↔ ArePlacedOnce places.now) }
 {
@@ -99,11 +118,11 @@ fn pages_of(alloc: Global, places: &[Place]) -> Result<(BTreeSet<u64>, bool), Al
 }
 
 /// Whether each page of the batch is among these.
-fn have_all(pages: &BTreeSet<u64>, batch: &Batch) -> bool
+fn have_all<A: Allocator>(pages: &BTreeSet<u64, A>, batch: &Batch<A>) -> bool
     ensures { IsTrue result ↔ All (λ e. IsTrue (contains nat_cmp pages.now e.page.0)) batch.now }
 {
-    for place in 0..batch.len() {
-        if !pages.contains(&batch.page(place).0) {
+    for index in 0..batch.len() {
+        if !pages.contains(&batch.page(index).0) {
             return false;
         }
     }
@@ -111,7 +130,7 @@ fn have_all(pages: &BTreeSet<u64>, batch: &Batch) -> bool
 }
 
 /// Whether each die holds the page that is read from it.
-fn are_held(batch: &Batch, places: &[Place]) -> bool
+fn are_held<A: Allocator>(batch: &Batch<A>, places: &[Place]) -> bool
     requires { (page : ℕ) → times_named batch.now page ≤ 1 }
     ensures { IsTrue result ↔ AreHeld batch.now places.now }
 {
@@ -126,7 +145,7 @@ fn are_open<R: Rounds>(rounds: &R, places: &[Place]) -> bool
 }
 
 /// Whether no two of the places are at one die in one round.
-fn are_apart(alloc: Global, places: &[Place]) -> Result<bool, AllocError>
+fn are_apart<A: Allocator + Copy>(alloc: A, places: &[Place]) -> Result<bool, AllocError>
     ensures { IfOk result (λ apart. IsTrue apart ↔ AreApart places.now) }
 {
     let mut taken = BTreeSet::new(alloc);
@@ -163,12 +182,12 @@ fn last_round(places: &[Place]) -> u64
 }
 
 /// Whether the pages are in the batch, each named once.
-fn are_named(batch: &Batch, pages: &[Page]) -> bool
+fn are_named<A: Allocator>(batch: &Batch<A>, pages: &[Page]) -> bool
     ensures { IsTrue result ↔ AreNamed batch.now pages.now }
 {
-    for (place, page) in pages.iter().enumerate() {
+    for (index, page) in pages.iter().enumerate() {
         // No more pages than the batch has come this far, so the search is short.
-        if !batch.names(*page) || has_page(&pages[..place], *page) {
+        if !batch.names(*page) || has_page(&pages[..index], *page) {
             return false;
         }
     }
@@ -182,7 +201,12 @@ fn has_page(pages: &[Page], page: Page) -> bool
 }
 
 /// Whether the pages show that no plan has fewer than so many rounds.
-fn show_no_fewer<R: Rounds>(batch: &Batch, rounds: &R, number: u64, pages: &[Page]) -> bool
+fn show_no_fewer<R: Rounds, A: Allocator>(
+    batch: &Batch<A>,
+    rounds: &R,
+    number: u64,
+    pages: &[Page],
+) -> bool
     requires once { (page : ℕ) → times_named batch.now page ≤ 1 }
     requires named { AreNamed batch.now pages.now }
     requires fits { 0 < number → R.current rounds.now + number ≤ 2 ^ 64 }
@@ -196,7 +220,7 @@ fn show_no_fewer<R: Rounds>(batch: &Batch, rounds: &R, number: u64, pages: &[Pag
 }
 
 /// Which dies hold any of the pages, by their numbers.
-fn holders_of(batch: &Batch, pages: &[Page]) -> [bool; 256]
+fn holders_of<A: Allocator>(batch: &Batch<A>, pages: &[Page]) -> [bool; 256]
     requires { (page : ℕ) → times_named batch.now page ≤ 1 }
     ensures long { length result ≡ 256 }
     ensures marks { (die : ℕ) → slice_index_or result die false ≡ holds_any batch.now pages.now die }
@@ -209,7 +233,7 @@ fn holders_of(batch: &Batch, pages: &[Page]) -> [bool; 256]
 }
 
 /// Marks the holders of a page, beside those that are marked.
-fn mark_holders(marks: &mut [bool; 256], batch: &Batch, page: Page)
+fn mark_holders<A: Allocator>(marks: &mut [bool; 256], batch: &Batch<A>, page: Page)
     requires { times_named batch.now page.0 ≤ 1 }
     ensures { (die : ℕ) → slice_index_or marks.new die false ≡ (slice_index_or marks.old die false || holds batch.now page.0 die) }
 {

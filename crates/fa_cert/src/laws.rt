@@ -44,5 +44,6 @@ pub fn one_first_wrong_line()
     ensures certificate { (first number : ℕ) (lines : List (List (List ℕ)))
         → IsSomeCertificate lines → ¬ (IsFirstWrongLine IsSomeCertificate first lines number) }
     ensures one_of_certificate { (first number number' : ℕ) (lines : List (List (List ℕ)))
-        → IsFirstWrongLine IsSomeCertificate first lines number → IsFirstWrongLine IsSomeCertificate first lines number' → number ≡ number' }
+        → IsFirstWrongLine IsSomeCertificate first lines number → IsFirstWrongLine IsSomeCertificate first lines number'
+        → number ≡ number' }
 {}

@@ -1,10 +1,10 @@
 //! The closed rounds of one die, as spans that rise and do not touch.
-ghost use Rattle.std.specs.Prelude.{◌≡◌, ℕ, ◌+◌, ◌-◌, ◌^◌, ◌<◌, ◌≤◌, ◌||◌, ◌&&◌, nat_le, not, false, max, min, [], OnOk, OnErr};
+ghost use Rattle.std.specs.Prelude.{◌≡◌, ℕ, ◌+◌, ◌-◌, ◌^◌, ◌<◌, ◌≤◌, ◌||◌, max, min, [], OnOk, OnErr};
 ghost use Rattle.std.specs.List.{AllByRecursion};
-ghost use Rattle.fa_types.specs.Open.{rounds_that, most_closed};
-ghost use Rattle.fa_cert.specs.Runs.{is_covered, AreRising};
+ghost use Rattle.fa_types.specs.Open.{rounds_that};
+ghost use Rattle.fa_cert.specs.Runs.{is_covered, is_from, AreRising, FewCovered, IsNthFree};
 
-use std::alloc::{AllocError, Global};
+use std::alloc::{AllocError, Allocator, Global};
 use std::marker::Model;
 
 /// The rounds from a first to a last one.
@@ -16,11 +16,11 @@ pub struct Span {
 
 /// Spans of rounds in rising order, no two of which touch. Contracts see their list.
 #[derive(Debug, Drop)]
-pub struct Spans {
-    spans: Vec<Span>,
+pub struct Spans<A: Allocator = Global> {
+    spans: Vec<Span, A>,
 }
 
-impl Model for Spans {
+impl<A: Allocator> Model for Spans<A> {
     ghost use Rattle.std.specs.Prelude.{List};
     ghost use Rattle.fa_cert.specs.declared.spans.Span.{Span};
 
@@ -33,9 +33,9 @@ impl Model for Spans {
     ghost invariant = { λ s. AreRising s.spans.items };
 }
 
-impl Spans {
+impl<A: Allocator> Spans<A> {
     /// No rounds.
-    pub fn new(alloc: Global) -> Spans
+    pub fn new(alloc: A) -> Spans<A>
         ensures { result ≡ [] }
     {
         Spans {
@@ -44,11 +44,11 @@ impl Spans {
     }
 
     /// Adds the rounds from a first to a last one, which begin no earlier than those that are there.
-    /// Without memory the spans stay as they were.
+    /// Out of memory, the spans stay as they were.
     pub fn add(&mut self, first: u64, last: u64) -> Result<(), AllocError>
         requires proper { first ≤ last }
         requires later { AllByRecursion (λ s. s.first ≤ first) self.old }
-        ensures covered { OnOk result ((round : ℕ) → is_covered self.new round ≡ (is_covered self.old round || (nat_le first round && nat_le round last))) }
+        ensures covered { OnOk result ((round : ℕ) → is_covered self.new round ≡ (is_covered self.old round || is_from first last round)) }
         ensures begins { OnOk result (AllByRecursion (λ s. s.first ≤ first) self.new) }
         ensures err { OnErr result (self.new ≡ self.old) }
     {
@@ -77,34 +77,36 @@ impl Spans {
         requires first { 1 ≤ n }
         requires small { n ≤ 2 ^ 32 }
         requires early { from ≤ 2 ^ 56 }
-        requires few { (m : ℕ) → rounds_that (is_covered self.now) from m ≤ most_closed }
-        ensures free { (from ≤ result) × (is_covered self.now result ≡ false) }
-        ensures before { (m : ℕ) → from + m ≡ result → rounds_that (λ round. not (is_covered self.now round)) from m + 1 ≡ n }
+        requires few { FewCovered self.now from }
+        ensures { IsNthFree self.now from n result }
     {
         nth_uncovered(self.spans.as_slice(), from, n)
     }
 }
 
 /// Adds a span that begins no earlier than the others: it is a longer last one, or one more.
-fn add_span(spans: &mut Vec<Span>, first: u64, last: u64) -> Result<(), AllocError>
+fn add_span<A: Allocator>(spans: &mut Vec<Span, A>, first: u64, last: u64) -> Result<(), AllocError>
     requires proper { first ≤ last }
     requires later { AllByRecursion (λ s. s.first ≤ first) spans.old.items }
     requires rising { AreRising spans.old.items }
-    ensures covered { OnOk result ((round : ℕ) → is_covered spans.new.items round ≡ (is_covered spans.old.items round || (nat_le first round && nat_le round last))) }
+    ensures covered { OnOk result ((round : ℕ) → is_covered spans.new.items round
+        ≡ (is_covered spans.old.items round || is_from first last round)) }
     ensures begins { OnOk result (AllByRecursion (λ s. s.first ≤ first) spans.new.items) }
     ensures rising { AreRising spans.new.items }
     ensures err { OnErr result (spans.new.items ≡ spans.old.items) }
 {
     let len = spans.len();
-    if len > 0 && first <= spans[len - 1].last.saturating_add(1) {
+    if len > 0 {
         let old = spans[len - 1];
-        spans[len - 1] = Span {
-            first: old.first,
-            last: old.last.max(last),
-        };
-    } else {
-        spans.push(Span { first, last })?;
+        if first <= old.last.saturating_add(1) {
+            spans[len - 1] = Span {
+                first: old.first,
+                last: old.last.max(last),
+            };
+            return Ok(());
+        }
     }
+    spans.push(Span { first, last })?;
     Ok(())
 }
 
@@ -138,9 +140,8 @@ fn nth_uncovered(spans: &[Span], from: u64, n: u64) -> u64
     requires first { 1 ≤ n }
     requires small { n ≤ 2 ^ 32 }
     requires early { from ≤ 2 ^ 56 }
-    requires few { (m : ℕ) → rounds_that (is_covered spans.now) from m ≤ most_closed }
-    ensures free { (from ≤ result) × (is_covered spans.now result ≡ false) }
-    ensures before { (m : ℕ) → from + m ≡ result → rounds_that (λ round. not (is_covered spans.now round)) from m + 1 ≡ n }
+    requires few { FewCovered spans.now from }
+    ensures { IsNthFree spans.now from n result }
 {
     let mut round = from + (n - 1);
     for span in spans {

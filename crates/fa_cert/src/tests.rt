@@ -421,7 +421,7 @@ fn first_wrong_lines(rt: HostRuntime) -> Result<(), Fail> {
 }
 
 #[test]
-fn most_lines(rt: HostRuntime) -> Result<(), Fail> {
+fn lines_at_their_limits(rt: HostRuntime) -> Result<(), Fail> {
     for (pages, runs, line) in [(1024, 4096, 0), (1025, 0, 1026), (0, 4097, 4098)] {
         let mut text = String::from_str(rt.alloc(), "batch\n")?;
         for page in 0..pages {

@@ -15,11 +15,11 @@ use thiserror::Error;
 /// Why a text was not read.
 #[derive(Clone, Copy, Debug, PartialEq, Eq, Error)]
 pub enum TextError {
-    /// This line is the first that is wrong, counted from 1 at the beginning of the input. Where the
+    /// This line is the first that is wrong, counted from 1 at the start of the input. Where the
     /// input ends too soon it is the line after its last.
     #[error("line {0}")]
     Line(u64),
-    /// There was no memory for what is read.
+    /// Out of memory for what is read.
     #[error("no memory")]
     NoMemory,
 }

@@ -1,6 +1,6 @@
 //! What a check says of a certificate.
 ghost use Rattle.std.specs.Prelude.{◌≡◌, Some};
-ghost use Rattle.fa_cert.specs.Verdict.{number_of, refusal_words, verdict_text};
+ghost use Rattle.fa_cert.specs.Verdict.{refusal_number, refusal_words, verdict_text};
 
 use std::error::Error;
 use std::fmt;
@@ -39,7 +39,7 @@ pub enum Verdict {
 impl Refusal {
     /// The refusal's number, 1 to 8.
     pub fn number(self) -> u8
-        ensures { result ≡ number_of self }
+        ensures { result ≡ refusal_number self }
     {
         match self {
             Refusal::PageMissing => 1,

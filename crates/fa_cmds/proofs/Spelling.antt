@@ -3,7 +3,7 @@
 use Rattle.std.proofs.Common.{◌≡◌, ℕ, ◌^◌, ◌<◌, List, [], ◌++◌, length, take, refl, sym, ap, ◌∙◌, arith}
 use Rattle.byteorder.specs.Endian.{big_bytes, big_number}
 use Rattle.byteorder.specs.Numbers.{big_number-reads_back}
-use Rattle.fa_types.proofs.Bytes.{append-parts}
+use Rattle.fa_types.proofs.BigEndian.{append-parts}
 use Rattle.fa_cmds.specs.Requests.{request_bytes, reply_bytes, command_number, code_number, IsNamed, IsRequest}
 use Rattle.fa_cmds.specs.declared.request.Request.{Request}
 use Rattle.fa_cmds.specs.declared.request.Command.{Command}

@@ -77,8 +77,8 @@ abbrev pub has_unknown_flag : ℕ → Bool
 has_unknown_flag flags = nat_lt 1 flags
 
 -- 32 MiB, the longest READ or WRITE
-abbrev pub longest : ℕ
-longest = 33554432
+abbrev pub max_length : ℕ
+max_length = 33554432
 
 -- the range has bytes past the end of a store of this size
 abbrev pub is_past_end : Request → ℕ → Bool
@@ -100,7 +100,7 @@ rules_for r size =
     ∷ (not (is_served r.command), Refuse Invalid)
     ∷ (has_unknown_flag r.flags, Refuse Invalid)
     ∷ (r.length == 0, Refuse Success)
-    ∷ (nat_lt longest r.length, Refuse Invalid)
+    ∷ (nat_lt max_length r.length, Refuse Invalid)
     ∷ (is_read r.command && is_past_end r size, Refuse Invalid)
     ∷ (is_past_end r size, Refuse NoSpace)
     ∷ []
@@ -114,5 +114,5 @@ pub record IsToDo (r : Request) (size : ℕ) : Type 0 where
   pub command : (r.command ≡ Read) ⊎ (r.command ≡ Write)
   pub known_flags : r.flags < 2
   pub some : 0 < r.length
-  pub not_long : r.length ≤ longest
+  pub not_long : r.length ≤ max_length
   pub within : r.offset + r.length ≤ size

@@ -6,7 +6,7 @@ use crate::reply::ReplyCode;
 use crate::request::{Command, Request};
 
 /// The longest READ or WRITE: 32 MiB.
-const LONGEST: u32 = 33_554_432;
+const MAX_LENGTH: u32 = 33_554_432;
 
 /// What is decided of a request before the store is asked.
 #[derive(Clone, Copy, Debug, PartialEq, Eq)]
@@ -45,7 +45,7 @@ pub fn decide(request: Request, size: u64) -> Decision
     if request.length == 0 {
         return Decision::Refuse(ReplyCode::Success);
     }
-    if request.length > LONGEST {
+    if request.length > MAX_LENGTH {
         return Decision::Refuse(ReplyCode::Invalid);
     }
     if is_past_end(request, size) {

@@ -6,8 +6,6 @@ mod decision;
 pub mod laws;
 mod reply;
 mod request;
-#[cfg(test)]
-mod tests;
 
 pub use decision::{Decision, decide};
 pub use reply::{REPLY_BYTES, ReplyCode, write_reply};

@@ -1,4 +1,1 @@
-mod Cuts
-mod Files
-pub mod Slots
-mod Untouched
+mod PutBack

@@ -1,5 +1,6 @@
 -- Bytes as slots of one size, one behind the other.
-use Rattle.std.proofs.Common.{◌≡◌, ℕ, zero, suc, ◌+◌, ◌*◌, List, [], ◌∷◌, length, take, drop, refl, ap, ◌∙◌, arith, length-take, length-drop}
+use Rattle.std.proofs.Common.{◌≡◌, ℕ, zero, suc, ◌+◌, ◌*◌, List, [], ◌∷◌, length, take, drop, refl, ap, ◌∙◌, arith}
+use Rattle.std.proofs.Common.{length-take, length-drop}
 use Rattle.std.specs.List.{AllByRecursion}
 use Rattle.fa_image.specs.Image.{AreSlots}
 
@@ -13,7 +14,8 @@ unfolding cut
 length-cut zero size bytes = refl
 length-cut (suc count) size bytes = ap suc (length-cut count size (drop size bytes))
 
-all_of_one_size : (count size : ℕ) (bytes : List ℕ) → length bytes ≡ count * size → AllByRecursion (λ slot. length slot ≡ size) (cut count size bytes)
+all_of_one_size : (count size : ℕ) (bytes : List ℕ) → length bytes ≡ count * size
+    → AllByRecursion (λ slot. length slot ≡ size) (cut count size bytes)
 unfolding cut
 all_of_one_size zero size bytes is = tt
 all_of_one_size (suc count) size bytes is =

@@ -1,73 +1,100 @@
--- What a file holds, led from call to call by what its calls did. A file that answers otherwise is not honest.
-use Rattle.std.specs.Prelude.{ℕ, ◌+◌, ◌*◌, Bool, true, ◌&&◌, ◌==◌, if◌then◌else◌, List, [], ◌++◌, take, drop, replicate, slice_index, slice_index_or, bytes_eq}
-use Rattle.fa_image.specs.Cut.{cut}
+-- The bytes of an image file, led from call to call by what its calls did. A file that answers otherwise is not honest.
+use Rattle.std.specs.Prelude.{ℕ, ◌+◌, ◌-◌, ◌*◌, Bool, true, ◌&&◌, List, [], ◌++◌, length, take, drop, replicate, slice_index_or, bytes_eq}
+use Rattle.std.specs.List.{concat}
+use Rattle.fa_types.specs.Store.{with_bytes, bytes_at}
 use Rattle.fa_types.specs.declared.geometry.Geometry.{Geometry}
-use Rattle.fa_image.specs.Image.{slot_bytes, slot_count, with_slots}
+use Rattle.fa_image.specs.Cut.{cut}
+use Rattle.fa_image.specs.Image.{ImageState, slot_bytes, slot_count}
+use Rattle.fa_image.specs.Image.{ImageCall, ReadingSlot, Programming, Erasing, ReadingHeader, WritingHeader}
+use Rattle.fa_image.specs.Image.{ImageAnswer, Gave, Done, Refused}
+use Rattle.fa_image.specs.declared.deed.Deed.{Deed}
+use Rattle.fa_image.specs.declared.deed.Deed.TheVariants.{Read, Wrote, Failed}
 
--- the bytes of a file: 4,096, and then the slots
+-- the bytes of a file: 4,096, of which the first 112 are the header, and then the slots
 abbrev pub file_bytes : Geometry → ℕ
 file_bytes g = 4096 + slot_count g * slot_bytes g
 
+-- where a slot begins
+abbrev pub slot_offset : Geometry → ℕ → ℕ
+slot_offset g slot = 4096 + slot * slot_bytes g
+
+-- the slots that stand in a file's bytes
+abbrev pub slots_in : Geometry → List ℕ → List (List ℕ)
+slots_in g bytes = cut (slot_count g) (slot_bytes g) (bytes_at 4096 (slot_count g * slot_bytes g) bytes)
+
+-- what is seen of an image in a file of these bytes
+abbrev pub state_in : Geometry → List ℕ → ℕ → ℕ → ImageState
+state_in g bytes syncs faults =
+    record { geometry = g; slots = slots_in g bytes; header = take 112 bytes; syncs = syncs; faults = faults }
+
+-- A file's bytes with this header and these slots: the rest of the first 4,096 bytes, and what is behind the
+-- last slot, may be anything.
+abbrev pub file_of : ImageState → List ℕ → List ℕ → List ℕ
+file_of image rest behind = image.header ++ rest ++ concat image.slots ++ behind
+
+-- A file as it is opened: its bytes, and what the writes that will be refused leave, the next one first. No
+-- code can know them: what is proved of an open file is proved for all.
+pub record Start : Type 0 where
+  pub bytes : List ℕ
+  pub lefts : List (List ℕ)
+
 -- what a file holds
 pub record Contents : Type 0 where
-  pub slots : List (List ℕ)
-  pub header : List ℕ
+  pub bytes : List ℕ
   -- what the refused writes that are still to come will leave, the next one first
   pub lefts : List (List ℕ)
   -- each read so far gave what stands there
   pub honest : Bool
 
+-- the bytes with zeros behind them, up to so many
+abbrev pub filled_up : ℕ → List ℕ → List ℕ
+filled_up n bytes = bytes ++ replicate (n - length bytes) 0
+
+-- What a file holds when it is opened. One that is too short counts as one with zeros behind its end: no read
+-- is given them, and a write behind the end puts them there.
+abbrev pub held_at : Geometry → Start → Contents
+held_at g start = record { bytes = filled_up (file_bytes g) start.bytes; lefts = start.lefts; honest = true }
+
+-- what is seen of an image in a file that was opened
+abbrev pub opened : Geometry → Start → ImageState
+opened g start = state_in g (filled_up (file_bytes g) start.bytes) 0 0
+
 -- so many bytes of a list, with zeros where it has no more
 abbrev pub fitted : ℕ → List ℕ → List ℕ
 fitted n bytes = take n (bytes ++ replicate n 0)
-
--- A file as it is opened: its bytes, and what the writes that will be refused leave. No code can know
--- them: what is proved of an open file is proved for all.
-pub record Start : Type 0 where
-  pub bytes : List ℕ
-  pub lefts : List (List ℕ)
-
--- the header, and from byte 4,096 on so many slots of this size
-abbrev pub opened : ℕ → ℕ → Start → Contents
-opened count size start = record {
-  slots = cut count size (fitted (count * size) (drop 4096 start.bytes));
-  header = fitted 112 start.bytes;
-  lefts = start.lefts;
-  honest = true;
-}
 
 -- what the next refused write leaves
 abbrev pub next_left : Contents → List ℕ
 next_left file = slice_index_or file.lefts 0 []
 
--- what a call of the file did
-pub data Deed : Type 0 where
-  GaveSlot : (slot : ℕ) (bytes : List ℕ) → Deed
-  WroteSlots : (at count size : ℕ) (bytes : List ℕ) → Deed
-  FailedSlots : (at count size : ℕ) → Deed
-  GaveHeader : (bytes : List ℕ) → Deed
-  WroteHeader : (bytes : List ℕ) → Deed
-  FailedHeader : Deed
+-- the file after a read that gave these bytes from an offset
+abbrev pub after_read : ℕ → List ℕ → Contents → Contents
+after_read offset bytes file = record file { honest = file.honest && bytes_eq bytes (bytes_at offset (length bytes) file.bytes) }
 
--- the file after it
+-- the file after a write
+abbrev pub after_write : ℕ → List ℕ → Contents → Contents
+after_write offset bytes file = record file { bytes = with_bytes offset bytes file.bytes }
+
+-- the file after a write of so many bytes that was refused
+abbrev pub after_failure : ℕ → ℕ → Contents → Contents
+after_failure offset len file =
+    record file { bytes = with_bytes offset (fitted len (next_left file)) file.bytes; lefts = drop 1 file.lefts }
+
+-- the file after what a call of it did
 abbrev pub after_deed : Deed → Contents → Contents
-after_deed (GaveSlot slot bytes) file = record file { honest = file.honest && bytes_eq bytes (slice_index_or file.slots slot []) }
-after_deed (WroteSlots at count size bytes) file = record file { slots = with_slots at (cut count size bytes) file.slots }
-after_deed (FailedSlots at count size) file =
-    record file { slots = with_slots at (cut count size (fitted (count * size) (next_left file))) file.slots; lefts = drop 1 file.lefts }
-after_deed (GaveHeader bytes) file = record file { honest = file.honest && bytes_eq bytes file.header }
-after_deed (WroteHeader bytes) file = record file { header = bytes }
-after_deed FailedHeader file = record file { header = fitted 112 (next_left file); lefts = drop 1 file.lefts }
+after_deed (Read offset bytes) file = after_read offset bytes.now file
+after_deed (Wrote offset bytes) file = after_write offset bytes.now file
+after_deed (Failed offset len) file = after_failure offset len file
 
--- Such a call, told by numbers: which kind, the first slot, how many slots, the bytes of one.
-abbrev pub deed_of : List ℕ → List ℕ → Deed
-deed_of numbers bytes =
-    let at = slice_index numbers 1 in
-    let count = slice_index numbers 2 in
-    let size = slice_index numbers 3 in
-    if slice_index numbers 0 == 1 then GaveSlot at bytes
-    else if slice_index numbers 0 == 2 then WroteSlots at count size bytes
-    else if slice_index numbers 0 == 3 then FailedSlots at count size
-    else if slice_index numbers 0 == 4 then GaveHeader bytes
-    else if slice_index numbers 0 == 5 then WroteHeader bytes
-    else FailedHeader
+-- The file after a call of its image with its answer: each is one read or one write, and a sync changes nothing.
+abbrev pub after_call : Geometry → ImageCall → ImageAnswer → Contents → Contents
+after_call g (ReadingSlot slot) (Gave bytes) file = after_read (slot_offset g slot) bytes file
+after_call g (Programming slot bytes) Done file = after_write (slot_offset g slot) bytes file
+after_call g (Programming slot bytes) (Refused fault) file = after_failure (slot_offset g slot) (slot_bytes g) file
+after_call g (Erasing block) Done file =
+    after_write (slot_offset g (block * g.slots)) (replicate (g.slots * slot_bytes g) 0xff) file
+after_call g (Erasing block) (Refused fault) file = after_failure (slot_offset g (block * g.slots)) (g.slots * slot_bytes g) file
+after_call g ReadingHeader (Gave bytes) file = after_read 0 bytes file
+after_call g (WritingHeader bytes) Done file = after_write 0 bytes file
+after_call g (WritingHeader bytes) (Refused fault) file = after_failure 0 112 file
+after_call g call answer file = file

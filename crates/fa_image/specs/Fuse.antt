@@ -1,7 +1,6 @@
 -- An image with a fuse: one call of it, counted from when it was armed, fails and never reaches the image.
-use Rattle.std.specs.Prelude.{◌≡◌, ◌≢◌, ℕ, ◌-◌, Result, IsErrOf}
-use Rattle.fa_image.specs.Image.{ImageState, Call, fault_of, Answers}
-use Rattle.fa_image.specs.declared.fault.ImageFault.{ImageFault}
+use Rattle.std.specs.Prelude.{◌≡◌, ◌≢◌, ℕ, ◌-◌}
+use Rattle.fa_image.specs.Image.{ImageState, ImageCall, ImageAnswer, Refused, fault_of, IsCallOf, faults_after}
 use Rattle.fa_image.specs.declared.fuse_image.FuseImage.{FuseImage}
 
 module _ {I : Type 0} where
@@ -17,9 +16,12 @@ module _ {I : Type 0} where
   abbrev pub fused_view : (I → ImageState) → FuseImage I → ImageState
   fused_view view image = record (view image.inner) { faults = image.faults }
 
-  -- The armed call fails and leaves the image behind the fuse alone. Any other is passed on and answered
-  -- as that image answers it.
-  pub record Fuses {T : Type 0} (view : I → ImageState) (call : Call) (result : Result T ImageFault) (before after : FuseImage I) : Type 0 where
+  -- One call of an image with a fuse, over the view and the calls of the image behind it. The armed call
+  -- fails and makes no call of that image. Any other is one call of it, and has its answer.
+  pub record FuseMade (view : I → ImageState) (made : I → ImageCall → ImageAnswer → I → Type 0)
+      (before : FuseImage I) (call : ImageCall) (answer : ImageAnswer) (after : FuseImage I) : Type 0 where
+    pub allowed : IsCallOf (view (inner_of before)).geometry call
     pub counts : calls_left after ≡ calls_left before - 1
-    pub blown : calls_left before ≡ 1 → IsErrOf result (fault_of call) × (inner_of after ≡ inner_of before)
-    pub passed : calls_left before ≢ 1 → Answers call result (view (inner_of before)) (view (inner_of after))
+    pub blown : calls_left before ≡ 1 → (answer ≡ Refused (fault_of call)) × (inner_of after ≡ inner_of before)
+    pub passed : calls_left before ≢ 1 → made (inner_of before) call answer (inner_of after)
+    pub faults : after.faults ≡ faults_after answer before.faults

@@ -1,7 +1,15 @@
+pub mod Counted
 pub mod Cut
+pub mod Cuts
 pub mod File
+pub mod FileMade
 pub mod FileMeets
 pub mod Fuse
 pub mod FuseMeets
 pub mod Image
 pub mod Memory
+pub mod MemoryMeets
+pub mod Opened
+pub mod ReadBack
+pub mod Slots
+pub mod Untouched

@@ -1,6 +1,6 @@
 //! Why an image refused a call.
 ghost use Rattle.std.specs.Prelude.{◌≡◌, Err};
-ghost use Rattle.fa_image.specs.Image.{fault_number, next};
+ghost use Rattle.fa_image.specs.Image.{fault_number, one_more};
 
 use thiserror::Error;
 
@@ -19,7 +19,7 @@ pub enum ImageFault {
     /// Fault 4: the header was not read.
     #[error("the header could not be read")]
     ReadHeader,
-    /// Fault 5: the header was not written, or not in full.
+    /// Fault 5: the header was not written in full, or may not be on its medium.
     #[error("the header could not be written")]
     WriteHeader,
     /// Fault 6: what was written may not be on its medium yet.
@@ -46,7 +46,7 @@ impl ImageFault {
 /// Answers a fault and counts it.
 pub(crate) fn refuse(fault: ImageFault, faults: &mut u64) -> Result<(), ImageFault>
     ensures fault { result ≡ Err fault }
-    ensures counts { faults.new ≡ next faults.old }
+    ensures counts { faults.new ≡ one_more faults.old }
 {
     *faults = faults.wrapping_add(1);
     Err(fault)

@@ -1,11 +1,10 @@
 //! An image that fails on demand.
-ghost use Rattle.std.specs.Prelude.{◌≡◌, ◌-◌, ◌<◌, ◌==◌, length, is_ok, IsTrue, OnOk, if◌then◌else◌};
-ghost use Rattle.fa_image.specs.Image.{ReadingSlot, Programming, Erasing, ReadingHeader, WritingHeader, Syncing, Answers, slot_bytes, slot_count, slot_at, next};
+ghost use Rattle.std.specs.Prelude.{◌≡◌, ◌-◌, ◌==◌, is_ok, if◌then◌else◌};
+ghost use Rattle.fa_image.specs.Image.{one_more};
 
 use crate::fault::{ImageFault, refuse};
 use crate::image::Image;
-use crate::shape::HEADER_BYTES;
-use fa_types::{Geometry, Slot};
+use fa_types::{Geometry, HEADER_BYTES, Slot};
 
 /// An image over another one, of which one call can be made to fail.
 #[derive(Drop)]
@@ -64,82 +63,55 @@ impl<I: Image> FuseImage<I> {
 }
 
 impl<I: Image> Image for FuseImage<I> {
-    ghost use Rattle.fa_image.specs.Fuse.{inner_of, fused_view, Fuses};
-    ghost use Rattle.fa_image.specs.FuseMeets.{fused_whole};
+    ghost use Rattle.fa_image.specs.Fuse.{inner_of, fused_view, FuseMade};
+    ghost use Rattle.fa_image.specs.FuseMeets.{fused_whole, fused_meets};
 
     ghost view = { fused_view I.view };
 
     ghost honest = { λ image. I.honest (inner_of image) };
 
+    ghost made = { FuseMade I.view I.made };
+
     ghost whole = { fused_whole I.view I.whole };
 
-    fn read_slot(&mut self, slot: Slot, into: &mut [u8]) -> Result<(), ImageFault>
-        requires slot { slot.0 < slot_count (fused_view I.view self.old).geometry }
-        requires length { length into.old ≡ slot_bytes (fused_view I.view self.old).geometry }
-        ensures answered { Answers (ReadingSlot slot.0) result (fused_view I.view self.old) (fused_view I.view self.new) }
-        ensures given { OnOk result (IsTrue (I.honest (inner_of self.new)) → into.new ≡ slot_at slot.0 (fused_view I.view self.old)) }
-        ensures honest { IsTrue (I.honest (inner_of self.new)) → IsTrue (I.honest (inner_of self.old)) }
-        ensures fuse { Fuses I.view (ReadingSlot slot.0) result self.old self.new }
-    {
+    ghost meets = { fused_meets I.view I.honest I.made I.whole I.meets };
+
+    fn read_slot(&mut self, slot: Slot, into: &mut [u8]) -> Result<(), ImageFault> {
         if burns(&mut self.calls_left) {
             return refuse(ImageFault::ReadSlot, &mut self.faults);
         }
         count(self.inner.read_slot(slot, into), &mut self.faults)
     }
 
-    fn program(&mut self, slot: Slot, bytes: &[u8]) -> Result<(), ImageFault>
-        requires slot { slot.0 < slot_count (fused_view I.view self.old).geometry }
-        requires length { length bytes.now ≡ slot_bytes (fused_view I.view self.old).geometry }
-        ensures answered { Answers (Programming slot.0 bytes.now) result (fused_view I.view self.old) (fused_view I.view self.new) }
-        ensures honest { I.honest (inner_of self.new) ≡ I.honest (inner_of self.old) }
-        ensures fuse { Fuses I.view (Programming slot.0 bytes.now) result self.old self.new }
-    {
+    fn program(&mut self, slot: Slot, bytes: &[u8]) -> Result<(), ImageFault> {
         if burns(&mut self.calls_left) {
             return refuse(ImageFault::Program, &mut self.faults);
         }
         count(self.inner.program(slot, bytes), &mut self.faults)
     }
 
-    fn erase_block(&mut self, block: u32) -> Result<(), ImageFault>
-        requires { block < (fused_view I.view self.old).geometry.blocks }
-        ensures answered { Answers (Erasing block) result (fused_view I.view self.old) (fused_view I.view self.new) }
-        ensures honest { I.honest (inner_of self.new) ≡ I.honest (inner_of self.old) }
-        ensures fuse { Fuses I.view (Erasing block) result self.old self.new }
-    {
+    fn erase_block(&mut self, block: u32) -> Result<(), ImageFault> {
         if burns(&mut self.calls_left) {
             return refuse(ImageFault::EraseBlock, &mut self.faults);
         }
         count(self.inner.erase_block(block), &mut self.faults)
     }
 
-    fn read_header(&mut self, into: &mut [u8; HEADER_BYTES]) -> Result<(), ImageFault>
-        ensures answered { Answers ReadingHeader result (fused_view I.view self.old) (fused_view I.view self.new) }
-        ensures given { OnOk result (IsTrue (I.honest (inner_of self.new)) → into.new ≡ (fused_view I.view self.old).header) }
-        ensures honest { IsTrue (I.honest (inner_of self.new)) → IsTrue (I.honest (inner_of self.old)) }
-        ensures fuse { Fuses I.view ReadingHeader result self.old self.new }
-    {
+    fn read_header(&mut self, into: &mut [u8; HEADER_BYTES]) -> Result<(), ImageFault> {
         if burns(&mut self.calls_left) {
             return refuse(ImageFault::ReadHeader, &mut self.faults);
         }
         count(self.inner.read_header(into), &mut self.faults)
     }
 
-    fn write_header(&mut self, bytes: &[u8; HEADER_BYTES]) -> Result<(), ImageFault>
-        ensures answered { Answers (WritingHeader bytes.now) result (fused_view I.view self.old) (fused_view I.view self.new) }
-        ensures honest { I.honest (inner_of self.new) ≡ I.honest (inner_of self.old) }
-        ensures fuse { Fuses I.view (WritingHeader bytes.now) result self.old self.new }
-    {
+    fn write_header(&mut self, bytes: &[u8; HEADER_BYTES]) -> Result<(), ImageFault> {
         if burns(&mut self.calls_left) {
             return refuse(ImageFault::WriteHeader, &mut self.faults);
         }
         count(self.inner.write_header(bytes), &mut self.faults)
     }
 
-    fn sync(&mut self) -> Result<(), ImageFault>
-        ensures answered { Answers Syncing result (fused_view I.view self.old) (fused_view I.view self.new) }
-        ensures honest { I.honest (inner_of self.new) ≡ I.honest (inner_of self.old) }
-        ensures fuse { Fuses I.view Syncing result self.old self.new }
-    {
+    fn sync(&mut self) -> Result<(), ImageFault> {
         if burns(&mut self.calls_left) {
             return refuse(ImageFault::Sync, &mut self.faults);
         }
@@ -172,7 +144,7 @@ fn burns(calls_left: &mut u64) -> bool
 /// Hands an answer on. A fault is counted.
 fn count(answer: Result<(), ImageFault>, faults: &mut u64) -> Result<(), ImageFault>
     ensures same { result ≡ answer }
-    ensures counts { faults.new ≡ (if is_ok answer then faults.old else next faults.old) }
+    ensures counts { faults.new ≡ (if is_ok answer then faults.old else one_more faults.old) }
 {
     if answer.is_err() {
         *faults = faults.wrapping_add(1);

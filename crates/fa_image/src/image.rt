@@ -1,10 +1,11 @@
 //! The trait of an image.
-ghost use Rattle.std.specs.Prelude.{◌≡◌, ◌<◌, Bool, length, IsTrue, OnOk};
-ghost use Rattle.fa_image.specs.Image.{ImageState, IsImage, Call, ReadingSlot, Programming, Erasing, ReadingHeader, WritingHeader, Syncing, Answers, slot_bytes, slot_count, slot_at};
+ghost use Rattle.std.specs.Prelude.{◌≡◌, ◌<◌, Bool, length, IfErr, OnOk};
+ghost use Rattle.fa_image.specs.Image.{ImageState, IsImage, ImageMeets, slot_bytes, slot_count};
+ghost use Rattle.fa_image.specs.Image.{ImageCall, ReadingSlot, Programming, Erasing, ReadingHeader, WritingHeader, Syncing};
+ghost use Rattle.fa_image.specs.Image.{ImageAnswer, Gave, Done, Refused};
 
 use crate::fault::ImageFault;
-use crate::shape::HEADER_BYTES;
-use fa_types::{Geometry, Slot};
+use fa_types::{Geometry, HEADER_BYTES, Slot};
 
 /// The image of one die: slots of a page's bytes and 64 more, in blocks, and a header.
 ///
@@ -19,42 +20,50 @@ pub trait Image: Drop {
     /// not after it lied.
     ghost honest: { Self → Bool };
 
+    /// One call, with its answer, that led from an image to an image. Only the calls below make it, so
+    /// who is handed such a link knows that the call was made, once.
+    ghost made: { Self → ImageCall → ImageAnswer → Self → Type 0 };
+
     /// Reads the slot into `into`. After a fault `into` may hold any bytes.
     fn read_slot(&mut self, slot: Slot, into: &mut [u8]) -> Result<(), ImageFault>
         requires slot { slot.0 < slot_count (view self.old).geometry }
         requires length { length into.old ≡ slot_bytes (view self.old).geometry }
-        ensures answered { Answers (ReadingSlot slot.0) result (view self.old) (view self.new) }
-        ensures given { OnOk result (IsTrue (honest self.new) → into.new ≡ slot_at slot.0 (view self.old)) }
-        ensures honest { IsTrue (honest self.new) → IsTrue (honest self.old) };
+        ensures gave { OnOk result (made self.old (ReadingSlot slot.0) (Gave into.new) self.new) }
+        ensures refused { IfErr result (λ fault. made self.old (ReadingSlot slot.0) (Refused fault) self.new) }
+        ensures geometry { (view self.new).geometry ≡ (view self.old).geometry };
 
     /// Writes the slot, which is to be an erased one.
     fn program(&mut self, slot: Slot, bytes: &[u8]) -> Result<(), ImageFault>
         requires slot { slot.0 < slot_count (view self.old).geometry }
         requires length { length bytes.now ≡ slot_bytes (view self.old).geometry }
-        ensures answered { Answers (Programming slot.0 bytes.now) result (view self.old) (view self.new) }
-        ensures honest { honest self.new ≡ honest self.old };
+        ensures done { OnOk result (made self.old (Programming slot.0 bytes.now) Done self.new) }
+        ensures refused { IfErr result (λ fault. made self.old (Programming slot.0 bytes.now) (Refused fault) self.new) }
+        ensures geometry { (view self.new).geometry ≡ (view self.old).geometry };
 
     /// Makes each byte of the block `ff`.
     fn erase_block(&mut self, block: u32) -> Result<(), ImageFault>
         requires { block < (view self.old).geometry.blocks }
-        ensures answered { Answers (Erasing block) result (view self.old) (view self.new) }
-        ensures honest { honest self.new ≡ honest self.old };
+        ensures done { OnOk result (made self.old (Erasing block) Done self.new) }
+        ensures refused { IfErr result (λ fault. made self.old (Erasing block) (Refused fault) self.new) }
+        ensures geometry { (view self.new).geometry ≡ (view self.old).geometry };
 
     /// Reads the header into `into`. After a fault `into` may hold any bytes.
     fn read_header(&mut self, into: &mut [u8; HEADER_BYTES]) -> Result<(), ImageFault>
-        ensures answered { Answers ReadingHeader result (view self.old) (view self.new) }
-        ensures given { OnOk result (IsTrue (honest self.new) → into.new ≡ (view self.old).header) }
-        ensures honest { IsTrue (honest self.new) → IsTrue (honest self.old) };
+        ensures gave { OnOk result (made self.old ReadingHeader (Gave into.new) self.new) }
+        ensures refused { IfErr result (λ fault. made self.old ReadingHeader (Refused fault) self.new) }
+        ensures geometry { (view self.new).geometry ≡ (view self.old).geometry };
 
-    /// Writes the header.
+    /// Writes the header, and answers once it is on its medium. That counts as no sync.
     fn write_header(&mut self, bytes: &[u8; HEADER_BYTES]) -> Result<(), ImageFault>
-        ensures answered { Answers (WritingHeader bytes.now) result (view self.old) (view self.new) }
-        ensures honest { honest self.new ≡ honest self.old };
+        ensures done { OnOk result (made self.old (WritingHeader bytes.now) Done self.new) }
+        ensures refused { IfErr result (λ fault. made self.old (WritingHeader bytes.now) (Refused fault) self.new) }
+        ensures geometry { (view self.new).geometry ≡ (view self.old).geometry };
 
     /// Puts all that was written on its medium.
     fn sync(&mut self) -> Result<(), ImageFault>
-        ensures answered { Answers Syncing result (view self.old) (view self.new) }
-        ensures honest { honest self.new ≡ honest self.old };
+        ensures done { OnOk result (made self.old Syncing Done self.new) }
+        ensures refused { IfErr result (λ fault. made self.old Syncing (Refused fault) self.new) }
+        ensures geometry { (view self.new).geometry ≡ (view self.old).geometry };
 
     /// How many calls were refused. After 2^64 - 1 comes 0.
     fn faults(&self) -> u64
@@ -70,4 +79,8 @@ pub trait Image: Drop {
 
     /// An image has the slots of its geometry.
     ghost whole: { (image : Self) → IsImage (view image) };
+
+    /// Each call is one of an image.
+    ghost meets: { (before after : Self) (call : ImageCall) (answer : ImageAnswer) → made before call answer after
+        → ImageMeets (view before) (honest before) call answer (view after) (honest after) };
 }

@@ -2,7 +2,7 @@
 //! demand, all under one contract. Only what makes an image takes memory.
 #![tactic(auto)]
 
-mod bytes;
+mod deed;
 mod fault;
 mod file_image;
 mod fuse_image;
@@ -11,12 +11,9 @@ mod image;
 pub mod laws;
 mod mem_image;
 mod shape;
-#[cfg(test)]
-mod tests;
 
 pub use fault::ImageFault;
 pub use file_image::FileImage;
 pub use fuse_image::FuseImage;
 pub use image::Image;
 pub use mem_image::MemImage;
-pub use shape::{HEADER_BYTES, TAG_BYTES};

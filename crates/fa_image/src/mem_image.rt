@@ -1,13 +1,12 @@
 //! An image in memory.
-ghost use Rattle.std.specs.Prelude.{◌≡◌, ◌*◌, ◌+◌, ◌==◌, length, replicate, IfOk, if◌then◌else◌};
-ghost use Rattle.std.specs.List.{list_all};
-ghost use Rattle.fa_image.specs.Image.{next};
+ghost use Rattle.std.specs.Prelude.{◌≡◌, ◌*◌, ◌+◌, length, replicate, IfOk, if◌then◌else◌};
+ghost use Rattle.fa_image.specs.Image.{one_more};
 
-use crate::bytes::{erase, is_erased, part, put};
 use crate::fault::ImageFault;
 use crate::image::Image;
-use crate::shape::{HEADER_BYTES, slot_bytes, slot_count};
-use fa_types::{Geometry, Slot};
+use crate::shape::{slot_bytes, slot_count};
+use fa_types::bytes::{fill, is_erased, part, put};
+use fa_types::{Geometry, HEADER_BYTES, Slot};
 use std::alloc::{AllocError, Allocator, Global};
 
 /// An image whose slots lie in memory. It refuses no call.
@@ -25,18 +24,18 @@ pub struct MemImage<A: Allocator = Global> {
 
 impl<A: Allocator> MemImage<A> {
     ghost use Rattle.fa_image.specs.Image.{slot_bytes as bytes_of_slot, slot_count as slots_of_die, erased_slot};
-    ghost use Rattle.fa_image.specs.Memory.{memory_view, memory_overwrites};
+    ghost use Rattle.fa_image.specs.Memory.{mem_image_view, mem_image_overwrites};
 
     /// An image whose slots are all erased, and whose header is zeros.
     pub fn new(alloc: A, geometry: Geometry) -> Result<MemImage<A>, AllocError>
-        ensures view { IfOk result (λ image. memory_view image ≡ record {
+        ensures view { IfOk result (λ image. mem_image_view image ≡ record {
           geometry = geometry;
           slots = replicate (slots_of_die geometry) (erased_slot (bytes_of_slot geometry));
           header = replicate 112 0;
           syncs = 0;
           faults = 0;
         }) }
-        ensures overwrites { IfOk result (λ image. memory_overwrites image ≡ 0) }
+        ensures overwrites { IfOk result (λ image. mem_image_overwrites image ≡ 0) }
     {
         let slots = vec![in alloc; 0xffu8; slot_count(geometry) * slot_bytes(geometry)]?;
         Ok(MemImage {
@@ -50,22 +49,26 @@ impl<A: Allocator> MemImage<A> {
 
     /// How many programs met a slot that was not erased. After 2^64 - 1 comes 0.
     pub fn overwrites(&self) -> u64
-        ensures { result ≡ memory_overwrites self.now }
+        ensures { result ≡ mem_image_overwrites self.now }
     {
         self.overwrites
     }
 }
 
 impl<A: Allocator> Image for MemImage<A> {
-    ghost use Rattle.std.specs.Prelude.{true, OnOk, IsTrue, ◌<◌};
-    ghost use Rattle.fa_image.specs.Image.{Answers, Programming, slot_bytes as bytes_of_slot, slot_count as slots_of_die, slot_at};
-    ghost use Rattle.fa_image.specs.Memory.{memory_view, memory_overwrites, memory_whole};
+    ghost use Rattle.std.specs.Prelude.{true};
+    ghost use Rattle.fa_image.specs.Memory.{mem_image_view, mem_image_whole, MemImageMade};
+    ghost use Rattle.fa_image.specs.MemoryMeets.{mem_image_meets};
 
-    ghost view = { memory_view };
+    ghost view = { mem_image_view };
 
     ghost honest = { λ _. true };
 
-    ghost whole = { memory_whole };
+    ghost made = { MemImageMade };
+
+    ghost whole = { mem_image_whole };
+
+    ghost meets = { mem_image_meets };
 
     fn read_slot(&mut self, slot: Slot, into: &mut [u8]) -> Result<(), ImageFault> {
         let size = slot_bytes(self.geometry);
@@ -73,25 +76,24 @@ impl<A: Allocator> Image for MemImage<A> {
         Ok(())
     }
 
-    fn program(&mut self, slot: Slot, bytes: &[u8]) -> Result<(), ImageFault>
-        requires slot { slot.0 < slots_of_die (memory_view self.old).geometry }
-        requires length { length bytes.now ≡ bytes_of_slot (memory_view self.old).geometry }
-        ensures answered { Answers (Programming slot.0 bytes.now) result (memory_view self.old) (memory_view self.new) }
-        ensures overwrites { memory_overwrites self.new ≡ (if list_all (λ byte. byte == 0xff) (slot_at slot.0 (memory_view self.old))
-            then memory_overwrites self.old else next (memory_overwrites self.old)) }
-    {
+    fn program(&mut self, slot: Slot, bytes: &[u8]) -> Result<(), ImageFault> {
         let size = slot_bytes(self.geometry);
-        let at = slot.0 as usize * size;
-        let erased = is_erased(part(&self.slots, at, size));
+        let offset = slot.0 as usize * size;
+        let erased = is_erased(part(&self.slots, offset, size));
         self.overwrites = count_unless(erased, self.overwrites);
-        put(&mut self.slots, at, bytes);
+        put(&mut self.slots, offset, bytes);
         Ok(())
     }
 
     fn erase_block(&mut self, block: u32) -> Result<(), ImageFault> {
         let size = slot_bytes(self.geometry);
         let slots = self.geometry.slots as usize;
-        erase(&mut self.slots, block as usize * slots * size, slots * size);
+        fill(
+            &mut self.slots,
+            block as usize * slots * size,
+            slots * size,
+            0xff,
+        );
         Ok(())
     }
 
@@ -125,7 +127,7 @@ impl<A: Allocator> Image for MemImage<A> {
 
 /// The count, one more where the fact is false.
 fn count_unless(fact: bool, count: u64) -> u64
-    ensures { result ≡ (if fact then count else next count) }
+    ensures { result ≡ (if fact then count else one_more count) }
 {
     if fact { count } else { count.wrapping_add(1) }
 }

@@ -1,15 +1,9 @@
 //! Where things lie in an image.
 ghost use Rattle.std.specs.Prelude.{◌≡◌, ◌+◌, ◌*◌, ◌<◌, ◌≤◌, ◌^◌};
-ghost use Rattle.fa_image.specs.File.{file_bytes as bytes_of_file};
+ghost use Rattle.fa_image.specs.File.{file_bytes as bytes_of_file, slot_offset as offset_of_slot};
 ghost use Rattle.fa_image.specs.Image.{slot_bytes as bytes_of_slot, slot_count as slots_of_die};
 
-use fa_types::Geometry;
-
-/// How many bytes a header has.
-pub const HEADER_BYTES: usize = 112;
-
-/// How many bytes a slot has beside those of a page.
-pub const TAG_BYTES: usize = 64;
+use fa_types::{Geometry, TAG_BYTES};
 
 /// How many bytes of a file stand before the first slot.
 const HEADER_AREA: u64 = 4096;
@@ -34,7 +28,7 @@ pub(crate) fn slot_count(geometry: Geometry) -> usize
 /// Where a slot begins in a file, in bytes.
 pub(crate) fn slot_offset(geometry: Geometry, slot: u32) -> u64
     requires { slot ≤ slots_of_die geometry }
-    ensures { result ≡ 4096 + slot * bytes_of_slot geometry }
+    ensures { result ≡ offset_of_slot geometry slot }
 {
     HEADER_AREA + u64::from(slot) * slot_bytes(geometry) as u64
 }

@@ -3,9 +3,9 @@ use Rattle.std.proofs.Common.{◌≡◌, ℕ, zero, suc, ◌+◌, ◌*◌, ◌^�
 use Rattle.std.specs.List.{flat_map, AllByRecursion}
 use Rattle.std.proofs.lemmas.List.{nil_from_length, drop_at, take_at}
 use Rattle.byteorder.specs.Endian.{big_bytes, big_number}
-use Rattle.byteorder.specs.Numbers.{big_from-lt}
-use Rattle.fa_nego.specs.Negotiation.{Asked, IsAsked, Asks, asked_bytes}
-use Rattle.fa_nego.proofs.Bytes.{IsBytes, IsBytes-take, big_number_2, big_number_4, big_bytes_2, big_bytes_4}
+use Rattle.byteorder.specs.Numbers.{big_from-lt, big_number-reads_back}
+use Rattle.fa_nego.specs.Negotiation.{Asked, IsAsked, AsksFor, asked_bytes}
+use Rattle.fa_types.proofs.BigEndian.{AreBytes, AreBytes-take, big_bytes-whole}
 
 -- the bytes of some types of information
 abbrev types_bytes : List ℕ → List ℕ
@@ -23,7 +23,7 @@ record HasTypes (bytes : List ℕ) (n : ℕ) : Type 0 where
   spelled : types_bytes types ≡ bytes
 
 -- twice as many bytes are so many types
-has_types : (n : ℕ) (bytes : List ℕ) → length bytes ≡ 2 * n → IsBytes bytes → HasTypes bytes n
+has_types : (n : ℕ) (bytes : List ℕ) → length bytes ≡ 2 * n → AreBytes bytes → HasTypes bytes n
 has_types zero bytes len fits = record {
   types = [];
   count = refl;
@@ -34,12 +34,12 @@ has_types (suc n) [] len fits = absurd (omega arith)
 has_types (suc n) (a ∷ []) len fits = absurd (omega arith)
 has_types (suc n) (a ∷ b ∷ bytes) len fits =
     let rest = has_types n bytes (omega arith) (λ i. fits (suc (suc i))) in
-    let front = IsBytes-take 2 (a ∷ b ∷ bytes) fits in
+    let front = AreBytes-take 2 (a ∷ b ∷ bytes) fits in
     record {
       types = big_number 2 (a ∷ b ∷ []) ∷ rest.types;
       count = ap suc rest.count;
       each = (big_from-lt 0 2 (a ∷ b ∷ []) front, rest.each);
-      spelled = ap (λ first. first ++ types_bytes rest.types) (big_bytes_2 (a ∷ b ∷ []) refl front) ∙ ap (λ others. a ∷ b ∷ others) rest.spelled;
+      spelled = ap (λ first. first ++ types_bytes rest.types) (big_bytes-whole 2 (a ∷ b ∷ []) refl front) ∙ ap (λ others. a ∷ b ∷ others) rest.spelled;
     }
 
 -- What data that asks for something is.
@@ -58,7 +58,7 @@ length-asked_bytes asked =
 
 name_len-asked_bytes : (asked : Asked) → IsAsked asked → big_number 4 (take 4 (asked_bytes asked)) ≡ length asked.name
 unfolding asked_bytes
-name_len-asked_bytes asked is = big_number_4 (length asked.name) [] is.name
+name_len-asked_bytes asked is = big_number-reads_back 4 (length asked.name) [] is.name
 
 name-asked_bytes : (asked : Asked) → take (length asked.name) (drop 4 (asked_bytes asked)) ≡ asked.name
 unfolding asked_bytes
@@ -72,9 +72,9 @@ count-asked_bytes asked is =
     let count = big_bytes 2 (length asked.types) in
     let behind : drop (length asked.name) ((asked.name ++ count) ++ types_bytes asked.types) ≡ count ++ types_bytes asked.types =
     ap (drop (length asked.name)) (append_assoc asked.name count (types_bytes asked.types)) ∙ drop_at asked.name (count ++ types_bytes asked.types) (length asked.name) refl in
-    ap (λ bytes. big_number 2 (take 2 bytes)) behind ∙ big_number_2 (length asked.types) [] is.types
+    ap (λ bytes. big_number 2 (take 2 bytes)) behind ∙ big_number-reads_back 2 (length asked.types) [] is.types
 
-pub is_spelled : (given : List ℕ) (asked : Asked) → Asks given asked → IsSpelled given asked
+pub is_spelled : (given : List ℕ) (asked : Asked) → AsksFor given asked → IsSpelled given asked
 is_spelled given asked asks = record {
   len = ap length asks.1 ∙ length-asked_bytes asked;
   name_len = ap (λ bytes. big_number 4 (take 4 bytes)) asks.1 ∙ name_len-asked_bytes asked asks.0;
@@ -91,14 +91,14 @@ unfolding asked_bytes
 asked_bytes-is asked = refl
 
 -- These parts ask for the name.
-pub asks_for : (given len name count types : List ℕ) → given ≡ len ++ name ++ count ++ types → IsBytes len → IsBytes count → IsBytes types
+pub asks_for : (given len name count types : List ℕ) → given ≡ len ++ name ++ count ++ types → AreBytes len → AreBytes count → AreBytes types
     → length len ≡ 4 → length count ≡ 2 → big_number 4 len ≡ length name → length types ≡ 2 * big_number 2 count
-    → (asked : Asked) × Asks given asked × (asked.name ≡ name)
+    → (asked : Asked) × AsksFor given asked × (asked.name ≡ name)
 asks_for given len name count types parts len_fits count_fits types_fits len_len count_len name_len types_len =
     let has = has_types (big_number 2 count) types types_len types_fits in
     let asked : Asked = record { name = name; types = has.types } in
-    let number : big_bytes 4 (length name) ≡ len = ap (big_bytes 4) (sym name_len) ∙ big_bytes_4 len len_len len_fits in
-    let counted : big_bytes 2 (length has.types) ≡ count = ap (big_bytes 2) has.count ∙ big_bytes_2 count count_len count_fits in (
+    let number : big_bytes 4 (length name) ≡ len = ap (big_bytes 4) (sym name_len) ∙ big_bytes-whole 4 len len_len len_fits in
+    let counted : big_bytes 2 (length has.types) ≡ count = ap (big_bytes 2) has.count ∙ big_bytes-whole 2 count count_len count_fits in (
       asked,
       (
         record { name = omega (arith, big_from-lt 0 4 len len_fits); types = omega (arith, has.count, big_from-lt 0 2 count count_fits); each = has.each },
@@ -108,7 +108,7 @@ asks_for given len name count types parts len_fits count_fits types_fits len_len
     )
 
 -- Data asks for one name at most.
-pub same_name : (given : List ℕ) (asked asked' : Asked) → Asks given asked → Asks given asked' → asked.name ≡ asked'.name
+pub same_name : (given : List ℕ) (asked asked' : Asked) → AsksFor given asked → AsksFor given asked' → asked.name ≡ asked'.name
 same_name given asked asked' asks asks' =
     let is = is_spelled given asked asks in
     let is' = is_spelled given asked' asks' in

@@ -2,9 +2,9 @@
 use Rattle.std.proofs.Common.{◌≡◌, ℕ, ◌^◌, ◌<◌, List, ◌++◌, length, take, drop, refl, sym, ap, ◌∙◌, arith, append_assoc}
 use Rattle.std.proofs.lemmas.List.{take-append-drop, drop-drop, length-take, length-drop}
 use Rattle.byteorder.specs.Endian.{big_bytes, big_number}
-use Rattle.byteorder.specs.Numbers.{big_from-take}
+use Rattle.byteorder.specs.Numbers.{big_from-take, big_number-reads_back}
 use Rattle.fa_nego.specs.Negotiation.{head_bytes}
-use Rattle.fa_nego.proofs.Bytes.{IsBytes, IsBytes-take, IsBytes-drop, big_number_4, big_bytes_4, big_bytes_8}
+use Rattle.fa_types.proofs.BigEndian.{AreBytes, AreBytes-take, AreBytes-drop, big_bytes-whole}
 
 -- there are 16 bytes of it
 pub length-head_bytes : (option len : ℕ) → length (head_bytes option len) ≡ 16
@@ -19,12 +19,12 @@ take-head_bytes option len rest = refl
 -- the option's number stands in it
 pub option_in_head : (option len : ℕ) (rest : List ℕ) → option < 2 ^ 32 → big_number 4 (drop 8 (head_bytes option len ++ rest)) ≡ option
 unfolding head_bytes
-option_in_head option len rest fits = big_number_4 option (big_bytes 4 len ++ rest) fits
+option_in_head option len rest fits = big_number-reads_back 4 option (big_bytes 4 len ++ rest) fits
 
 -- the length stands in it
 pub length_in_head : (option len : ℕ) (rest : List ℕ) → len < 2 ^ 32 → big_number 4 (drop 12 (head_bytes option len ++ rest)) ≡ len
 unfolding head_bytes
-length_in_head option len rest fits = big_number_4 len rest fits
+length_in_head option len rest fits = big_number-reads_back 4 len rest fits
 
 -- it is told apart from what follows
 pub rest_of_head : (option len : ℕ) (rest : List ℕ) → drop 16 (head_bytes option len ++ rest) ≡ rest
@@ -55,14 +55,14 @@ joined : (a a' b b' c c' : List ℕ) → a ≡ a' → b ≡ b' → c ≡ c' → 
 joined a a' b b' c c' p q r = cc
 
 -- 16 bytes that begin with the magic number say an option's number and a length
-pub head_from_bytes : (bytes : List ℕ) (option len : ℕ) → length bytes ≡ 16 → IsBytes bytes → big_number 8 bytes ≡ 0x49484156454f5054
+pub head_from_bytes : (bytes : List ℕ) (option len : ℕ) → length bytes ≡ 16 → AreBytes bytes → big_number 8 bytes ≡ 0x49484156454f5054
     → option ≡ big_number 4 (drop 8 bytes) → len ≡ big_number 4 (drop 12 bytes) → bytes ≡ head_bytes option len
 unfolding head_bytes
 head_from_bytes bytes option len long fits magic is_option is_len =
     let first : big_bytes 8 0x49484156454f5054 ≡ take 8 bytes =
-    ap (big_bytes 8) (sym magic ∙ sym (big_from-take 0 8 8 bytes (omega arith))) ∙ big_bytes_8 (take 8 bytes) (omega (arith, length-take 8 bytes)) (IsBytes-take 8 bytes fits) in
+    ap (big_bytes 8) (sym magic ∙ sym (big_from-take 0 8 8 bytes (omega arith))) ∙ big_bytes-whole 8 (take 8 bytes) (omega (arith, length-take 8 bytes)) (AreBytes-take 8 bytes fits) in
     let second : big_bytes 4 option ≡ take 4 (drop 8 bytes) =
-    ap (big_bytes 4) (is_option ∙ sym (big_from-take 0 4 4 (drop 8 bytes) (omega arith))) ∙ big_bytes_4 (take 4 (drop 8 bytes)) (omega (arith, length-take 4 (drop 8 bytes), length-drop 8 bytes)) (IsBytes-take 4 (drop 8 bytes) (IsBytes-drop 8 bytes fits)) in
+    ap (big_bytes 4) (is_option ∙ sym (big_from-take 0 4 4 (drop 8 bytes) (omega arith))) ∙ big_bytes-whole 4 (take 4 (drop 8 bytes)) (omega (arith, length-take 4 (drop 8 bytes), length-drop 8 bytes)) (AreBytes-take 4 (drop 8 bytes) (AreBytes-drop 8 bytes fits)) in
     let third : big_bytes 4 len ≡ drop 12 bytes =
-    ap (big_bytes 4) is_len ∙ big_bytes_4 (drop 12 bytes) (omega (arith, length-drop 12 bytes)) (IsBytes-drop 12 bytes fits) in
+    ap (big_bytes 4) is_len ∙ big_bytes-whole 4 (drop 12 bytes) (omega (arith, length-drop 12 bytes)) (AreBytes-drop 12 bytes fits) in
     split_16 bytes ∙ sym (joined (big_bytes 8 0x49484156454f5054) (take 8 bytes) (big_bytes 4 option) (take 4 (drop 8 bytes)) (big_bytes 4 len) (drop 12 bytes) first second third)

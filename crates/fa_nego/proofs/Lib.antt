@@ -1,6 +1,6 @@
 pub mod Asking
-pub mod Bytes
 pub mod Heads
 pub mod OneAnswer
+pub mod OneHandshake
 pub mod StageLaws
 pub mod Stages

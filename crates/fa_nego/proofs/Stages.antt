@@ -4,30 +4,24 @@ use Rattle.std.specs.List.{AllByRecursion}
 use Rattle.std.proofs.lemmas.List.{append-nil, take-append-drop, flat_map_more, nil_from_length, take_all, take-take}
 use Rattle.std.proofs.lemmas.Bool.Decides.{nat_tests}
 use Rattle.byteorder.specs.Endian.{big_bytes, big_number}
-use Rattle.fa_nego.specs.Negotiation.{Next, GoesOn, Closes, Turn, IsTurn, IsPassed, Sent, IsOption, turns_heard, IsPart, refuses_flags, refuses_magic, refuses_length, ends, ComesTo, head_bytes, option_bytes, longest_data}
-use Rattle.fa_nego.specs.Talk.{Flags, Options, Over, IsAt, wanted}
-use Rattle.fa_nego.specs.View.{stage_at, next_at}
-use Rattle.fa_nego.specs.Heard.{talk_at, IsWithin, IsHeldAt}
+use Rattle.fa_nego.specs.Negotiation.{Turn, IsTurn, IsPassed, Sent, IsOption, turns_heard, IsPart, refuses_flags, refuses_magic, refuses_length, ends, ComesTo, head_bytes, option_bytes, max_data}
+use Rattle.fa_nego.specs.declared.step.Step.{Step}
+use Rattle.fa_nego.specs.declared.step.Step.TheVariants.{More, Closed}
+use Rattle.fa_nego.specs.NegoState.{Flags, Options, Over, IsAt, wanted}
+use Rattle.fa_nego.specs.View.{stage_at}
+use Rattle.fa_nego.specs.Heard.{state_at, IsWithin, IsHeldAt}
 use Rattle.fa_nego.specs.declared.phase.Phase.{Phase}
 use Rattle.fa_nego.specs.declared.phase.Phase.TheVariants as phases
-use Rattle.fa_nego.specs.declared.phase.Ending.{Ending}
-use Rattle.fa_nego.specs.declared.phase.Ending.TheVariants as endings
 use Rattle.fa_nego.specs.declared.step.CloseCause.TheVariants.{UnknownFlag, WrongMagic, TooLong}
-use Rattle.fa_nego.proofs.Bytes.{IsBytes, big_bytes_4}
+use Rattle.fa_types.proofs.BigEndian.{AreBytes, big_bytes-whole}
 use Rattle.fa_nego.proofs.Heads.{same_head, length-head_bytes, take-head_bytes, length_in_head}
 
--- an end is no going on
-pub next_at-ends : (ending : Ending) → next_at ending ≢ GoesOn
-next_at-ends endings.Begins = λ e. cc
-next_at-ends endings.Aborts = λ e. cc
-next_at-ends (endings.Closes cause) = λ e. cc
-
 -- four bytes of flags, of which one is not known
-pub flags_refused : (export : List ℕ) (size : ℕ) (held heard said : List ℕ) → IsBytes held → 4 ≤ length held → 4 ≤ big_number 4 held → big_number 4 held < 2 ^ 32
-    → IsHeldAt export size (Flags held) heard said → IsAt (talk_at export size (Over (Closes UnknownFlag))) heard (said ++ [])
+pub flags_refused : (export : List ℕ) (size : ℕ) (held heard said : List ℕ) → AreBytes held → 4 ≤ length held → 4 ≤ big_number 4 held → big_number 4 held < 2 ^ 32
+    → IsHeldAt export size (Flags held) heard said → IsAt (state_at export size (Over (Closed UnknownFlag))) heard (said ++ [])
 flags_refused export size held heard said fits long high below at = (
   (λ e. cc),
-  refuses_flags (big_number 4 held) below (λ low. absurd (omega arith)) (at.1 ∙ sym (big_bytes_4 held (omega (arith, at.0)) fits)) (rw append-nil at.2) refl,
+  refuses_flags (big_number 4 held) below (λ low. absurd (omega arith)) (at.1 ∙ sym (big_bytes-whole 4 held (omega (arith, at.0)) fits)) (rw append-nil at.2) refl,
 )
 
 -- a front of a front
@@ -47,7 +41,7 @@ fills held given option len (inr part) o l same =
     omega (arith, part.5, one.same_len, ap length one.same_rest)
 
 module _ (export : List ℕ) (size flags : ℕ) (held heard said : List ℕ) (long : 16 ≤ length held) (at : IsHeldAt export size (Options flags held) heard said) where
-  pub magic_refused : take 8 (take 16 held) ≢ big_bytes 8 0x49484156454f5054 → IsAt (talk_at export size (Over (Closes WrongMagic))) heard said
+  pub magic_refused : take 8 (take 16 held) ≢ big_bytes 8 0x49484156454f5054 → IsAt (state_at export size (Over (Closed WrongMagic))) heard said
   magic_refused wrong = elim at.3 [
     | inl short ↦
         let whole : take 16 held ≡ held = take_all 16 held short in
@@ -56,8 +50,8 @@ module _ (export : List ℕ) (size flags : ℕ) (held heard said : List ℕ) (lo
         absurd (wrong (ap (λ bytes. take 8 (take 16 bytes)) part.6 ∙ take_twice part.0 part.1 part.2))
   ]
 
-  pub length_refused : (option len : ℕ) → option < 2 ^ 32 → longest_data < len → len < 2 ^ 32 → take 16 held ≡ head_bytes option len
-      → IsAt (talk_at export size (Over (Closes TooLong))) heard said
+  pub length_refused : (option len : ℕ) → option < 2 ^ 32 → max_data < len → len < 2 ^ 32 → take 16 held ≡ head_bytes option len
+      → IsAt (state_at export size (Over (Closed TooLong))) heard said
   length_refused option len o over l head = elim at.3 [
     | inl short ↦
         let whole : take 16 held ≡ held = take_all 16 held short in
@@ -73,7 +67,7 @@ pub record HoldsOption (held : List ℕ) (sent : Sent) : Type 0 where
   pub bytes : held ≡ option_bytes sent
 
 -- the option with this head is whole once it has as much data as the head says
-pub holds_option : (held : List ℕ) (option len : ℕ) → IsWithin held → option < 2 ^ 32 → len ≤ longest_data → take 16 held ≡ head_bytes option len → len ≤ length (drop 16 held)
+pub holds_option : (held : List ℕ) (option len : ℕ) → IsWithin held → option < 2 ^ 32 → len ≤ max_data → take 16 held ≡ head_bytes option len → len ≤ length (drop 16 held)
     → HoldsOption held (record { option = option; given = drop 16 held })
 holds_option held option len within o l head whole =
     let same = begins held (head_bytes option len) head in
@@ -94,7 +88,7 @@ module _ (export : List ℕ) (size flags : ℕ) (held heard said : List ℕ) (at
   is_turn = record { option = whole.is_option; comes = comes }
 
   -- the negotiation goes on after the option
-  pub passes : turn.come.next ≡ GoesOn → IsAt (talk_at export size (Options flags [])) heard (said ++ turn.come.said)
+  pub passes : turn.come.next ≡ More → IsAt (state_at export size (Options flags [])) heard (said ++ turn.come.said)
   passes goes_on = (
     at.0 ++ turn ∷ [],
     heard,
@@ -109,7 +103,7 @@ module _ (export : List ℕ) (size flags : ℕ) (held heard said : List ℕ) (at
   )
 
   -- the negotiation is over after the option
-  pub is_over : (next : Next) → turn.come.next ≡ next → next ≢ GoesOn → IsAt (talk_at export size (Over next)) heard (said ++ turn.come.said)
+  pub is_over : (next : Step) → turn.come.next ≡ next → next ≢ More → IsAt (state_at export size (Over next)) heard (said ++ turn.come.said)
   is_over next is_next over = (
     over,
     ends flags at.0 at.1 said turn at.2 is_turn (λ e. over (sym is_next ∙ e)) (at.4 ∙ ap (λ bytes. at.1 ++ bytes) whole.bytes) refl (sym is_next),
@@ -128,10 +122,10 @@ part_grows flags held piece (inr part) fits =
 
 -- A piece that is no longer than what is wanted is heard.
 pub grows : (export : List ℕ) (size : ℕ) (phase : Phase) (held piece heard said : List ℕ) → length piece ≤ wanted (stage_at phase held)
-    → IsAt (talk_at export size (stage_at phase held)) heard said → IsHeldAt export size (stage_at phase (held ++ piece)) (heard ++ piece) said
+    → IsAt (state_at export size (stage_at phase held)) heard said → IsHeldAt export size (stage_at phase (held ++ piece)) (heard ++ piece) said
 grows export size phases.Flags held piece heard said fits at =
     (omega (arith, at.0, length-append held piece), ap (λ bytes. bytes ++ piece) at.1, at.2)
 grows export size (phases.Options flags) held piece heard said fits at =
     (at.0, at.1, at.2, part_grows flags held piece at.3 fits, ap (λ bytes. bytes ++ piece) at.4 ∙ append_assoc at.1 held piece)
-grows export size (phases.Over ending) held piece heard said fits at =
+grows export size (phases.Over step) held piece heard said fits at =
     rw (nil_from_length piece (omega arith), append-nil) at

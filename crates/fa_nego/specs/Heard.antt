@@ -1,29 +1,30 @@
 -- What the parts of a negotiation do with the bytes of one item.
 use Rattle.std.specs.Prelude.{◌≡◌, ◌≢◌, ℕ, ◌^◌, ◌<◌, ◌≤◌, ◌⊎◌, List, [], ◌++◌, length, take, Option, None, Some}
 use Rattle.byteorder.specs.Endian.{big_bytes}
-use Rattle.fa_nego.specs.Negotiation.{GoesOn, Turn, Opens, Negotiates, head_bytes, longest_data}
-use Rattle.fa_nego.specs.Talk.{Stage, Flags, Options, Over, Talk, IsAt}
+use Rattle.fa_nego.specs.Negotiation.{Turn, Opens, Negotiates, head_bytes, max_data}
+use Rattle.fa_nego.specs.declared.step.Step.TheVariants.{More}
+use Rattle.fa_nego.specs.NegoState.{Stage, Flags, Options, Over, NegoState, IsAt}
 use Rattle.fa_nego.specs.View.{stage_at}
 use Rattle.fa_nego.specs.declared.phase.Phase.{Phase}
 use Rattle.fa_nego.specs.declared.judge.Head.{Head}
 use Rattle.fa_nego.specs.declared.judge.Head.TheVariants.{WrongMagic, TooLong, Good}
 
 -- a negotiation about this export at this stage
-abbrev pub talk_at : List ℕ → ℕ → Stage → Talk
-talk_at export size stage = record { export = export; size = size; stage = stage }
+abbrev pub state_at : List ℕ → ℕ → Stage → NegoState
+state_at export size stage = record { export = export; size = size; stage = stage }
 
 -- what 16 bytes before an option's data say
 abbrev pub IsHead : List ℕ → Head → Type 0
 IsHead bytes WrongMagic = take 8 bytes ≢ big_bytes 8 0x49484156454f5054
 IsHead bytes TooLong =
-    (option len : ℕ) × (option < 2 ^ 32) × (longest_data < len) × (len < 2 ^ 32) × (bytes ≡ head_bytes option len)
-IsHead bytes (Good option len) = (option < 2 ^ 32) × (len ≤ longest_data) × (bytes ≡ head_bytes option len)
+    (option len : ℕ) × (option < 2 ^ 32) × (max_data < len) × (len < 2 ^ 32) × (bytes ≡ head_bytes option len)
+IsHead bytes (Good option len) = (option < 2 ^ 32) × (len ≤ max_data) × (bytes ≡ head_bytes option len)
 
 -- no more than a whole option
 abbrev pub IsWithin : List ℕ → Type 0
 IsWithin held =
     (length held ≤ 16)
-    ⊎ ((option len : ℕ) × (more : List ℕ) × (option < 2 ^ 32) × (len ≤ longest_data) × (length more ≤ len) × (held ≡ head_bytes option len ++ more))
+    ⊎ ((option len : ℕ) × (more : List ℕ) × (option < 2 ^ 32) × (len ≤ max_data) × (length more ≤ len) × (held ≡ head_bytes option len ++ more))
 
 -- A negotiation that has heard and said these bytes is at this stage, but what it holds may be a whole
 -- item that is not yet judged.
@@ -31,7 +32,7 @@ abbrev pub IsHeldAt : List ℕ → ℕ → Stage → List ℕ → List ℕ → T
 IsHeldAt export size (Flags held) heard said = (length held ≤ 4) × (heard ≡ held) × (said ≡ [])
 IsHeldAt export size (Options flags held) heard said =
     (turns : List Turn) × (front : List ℕ) × Opens export size flags turns front said × IsWithin held × (heard ≡ front ++ held)
-IsHeldAt export size (Over next) heard said = (next ≢ GoesOn) × Negotiates export size heard said next
+IsHeldAt export size (Over next) heard said = (next ≢ More) × Negotiates export size heard said next
 
 -- the stage after an item of a phase is judged: still its own where the item is not whole
 abbrev pub stage_after : Phase → List ℕ → Option Phase → Stage
@@ -41,9 +42,9 @@ stage_after phase held (Some next) = stage_at next []
 -- From a stage whose item is not yet judged the server says these bytes and is at another stage.
 abbrev pub Judges : List ℕ → ℕ → Stage → List ℕ → Stage → Type 0
 Judges export size from out to =
-    (heard said : List ℕ) → IsHeldAt export size from heard said → IsAt (talk_at export size to) heard (said ++ out)
+    (heard said : List ℕ) → IsHeldAt export size from heard said → IsAt (state_at export size to) heard (said ++ out)
 
 -- From a stage the server hears these bytes, says those, and is at another stage.
 abbrev pub Hears : List ℕ → ℕ → Stage → List ℕ → List ℕ → Stage → Type 0
 Hears export size from piece out to =
-    (heard said : List ℕ) → IsAt (talk_at export size from) heard said → IsAt (talk_at export size to) (heard ++ piece) (said ++ out)
+    (heard said : List ℕ) → IsAt (state_at export size from) heard said → IsAt (state_at export size to) (heard ++ piece) (said ++ out)

@@ -1,4 +1,4 @@
 pub mod Heard
 pub mod Negotiation
-pub mod Talk
+pub mod NegoState
 pub mod View

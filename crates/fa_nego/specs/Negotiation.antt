@@ -4,7 +4,8 @@
 use Rattle.std.specs.Prelude.{◌≡◌, ◌≢◌, ℕ, ◌^◌, ◌<◌, ◌≤◌, ◌⊎◌, List, [], ◌++◌, length, take}
 use Rattle.std.specs.List.{flat_map, AllByRecursion}
 use Rattle.byteorder.specs.Endian.{big_bytes}
-use Rattle.fa_nego.specs.declared.step.CloseCause.{CloseCause}
+use Rattle.fa_nego.specs.declared.step.Step.{Step}
+use Rattle.fa_nego.specs.declared.step.Step.TheVariants.{More, Go, Aborted, Closed}
 use Rattle.fa_nego.specs.declared.step.CloseCause.TheVariants.{UnknownFlag, WrongMagic, TooLong, UnknownName}
 
 -- the first words of the server: two magic numbers, and its flags FIXED_NEWSTYLE and NO_ZEROES
@@ -24,13 +25,13 @@ abbrev pub option_bytes : Sent → List ℕ
 option_bytes sent = head_bytes sent.option (length sent.given) ++ sent.given
 
 -- the longest data of an option
-abbrev pub longest_data : ℕ
-longest_data = 65536
+abbrev pub max_data : ℕ
+max_data = 65536
 
 -- an option that the server hears to its end
 pub record IsOption (sent : Sent) : Type 0 where
   pub number : sent.option < 2 ^ 32
-  pub not_long : length sent.given ≤ longest_data
+  pub not_long : length sent.given ≤ max_data
 
 -- a reply to an option, of some type and with some data
 unfoldable pub option_reply : ℕ → ℕ → List ℕ → List ℕ
@@ -78,21 +79,14 @@ pub record IsAsked (asked : Asked) : Type 0 where
   pub types : length asked.types < 2 ^ 16
   pub each : AllByRecursion (λ type. type < 2 ^ 16) asked.types
 
--- the data asks for something
-abbrev pub Asks : List ℕ → Asked → Type 0
-Asks given asked = IsAsked asked × (given ≡ asked_bytes asked)
-
--- How the negotiation stands: it goes on, transmission begins, or the connection ends.
-pub data Next : Type 0 where
-  GoesOn : Next
-  Begins : Next
-  Aborts : Next
-  Closes : (cause : CloseCause) → Next
+-- the data asks for this
+abbrev pub AsksFor : List ℕ → Asked → Type 0
+AsksFor given asked = IsAsked asked × (given ≡ asked_bytes asked)
 
 -- What an option comes to: what the server says to it, and how the negotiation stands after it.
 pub record Come : Type 0 where
   pub said : List ℕ
-  pub next : Next
+  pub next : Step
 
 -- The name is the export's, or left out.
 abbrev pub IsKnown : List ℕ → List ℕ → Type 0
@@ -101,17 +95,17 @@ IsKnown export name = (name ≡ []) ⊎ (name ≡ export)
 -- What a GO with this data comes to.
 pub data GoComesTo (export : List ℕ) (size : ℕ) (given : List ℕ) (come : Come) : Type 0 where
   -- the data asks for nothing
-  invalid : ((asked : Asked) → Asks given asked → ⊥) → come ≡ record { said = option_reply 7 err_invalid []; next = GoesOn } → GoComesTo export size given come
-  unknown : (asked : Asked) → Asks given asked → (IsKnown export asked.name → ⊥) → come ≡ record { said = option_reply 7 err_unknown []; next = GoesOn } → GoComesTo export size given come
-  known : (asked : Asked) → Asks given asked → IsKnown export asked.name → come ≡ record { said = option_reply 7 info (export_info size) ++ option_reply 7 ack []; next = Begins } → GoComesTo export size given come
+  invalid : ((asked : Asked) → AsksFor given asked → ⊥) → come ≡ record { said = option_reply 7 err_invalid []; next = More } → GoComesTo export size given come
+  unknown : (asked : Asked) → AsksFor given asked → (IsKnown export asked.name → ⊥) → come ≡ record { said = option_reply 7 err_unknown []; next = More } → GoComesTo export size given come
+  known : (asked : Asked) → AsksFor given asked → IsKnown export asked.name → come ≡ record { said = option_reply 7 info (export_info size) ++ option_reply 7 ack []; next = Go } → GoComesTo export size given come
 
 -- What an option comes to, by its number: EXPORT_NAME, ABORT, GO, and all others. The data of ABORT
 -- means nothing.
 pub data ComesTo (export : List ℕ) (size : ℕ) (sent : Sent) (come : Come) : Type 0 where
-  export_name : sent.option ≡ 1 → come ≡ record { said = []; next = Closes UnknownName } → ComesTo export size sent come
-  abort : sent.option ≡ 2 → come ≡ record { said = option_reply 2 ack []; next = Aborts } → ComesTo export size sent come
+  export_name : sent.option ≡ 1 → come ≡ record { said = []; next = Closed UnknownName } → ComesTo export size sent come
+  abort : sent.option ≡ 2 → come ≡ record { said = option_reply 2 ack []; next = Aborted } → ComesTo export size sent come
   go : sent.option ≡ 7 → GoComesTo export size sent.given come → ComesTo export size sent come
-  unsupported : sent.option ≢ 1 → sent.option ≢ 2 → sent.option ≢ 7 → come ≡ record { said = option_reply sent.option err_unsup []; next = GoesOn } → ComesTo export size sent come
+  unsupported : sent.option ≢ 1 → sent.option ≢ 2 → sent.option ≢ 7 → come ≡ record { said = option_reply sent.option err_unsup []; next = More } → ComesTo export size sent come
 
 -- An option with what it came to.
 pub record Turn : Type 0 where
@@ -125,7 +119,7 @@ pub record IsTurn (export : List ℕ) (size : ℕ) (turn : Turn) : Type 0 where
 -- a turn after which the negotiation goes on
 pub record IsPassed (export : List ℕ) (size : ℕ) (turn : Turn) : Type 0 where
   pub turn_taken : IsTurn export size turn
-  pub goes_on : turn.come.next ≡ GoesOn
+  pub goes_on : turn.come.next ≡ More
 
 abbrev pub turns_heard : List Turn → List ℕ
 turns_heard turns = flat_map (λ turn. option_bytes turn.sent) turns
@@ -148,18 +142,18 @@ pub record Opens (export : List ℕ) (size flags : ℕ) (turns : List Turn) (hea
 abbrev pub IsPart : List ℕ → Type 0
 IsPart rest =
     (length rest < 16)
-    ⊎ ((option len : ℕ) × (more : List ℕ) × (option < 2 ^ 32) × (len ≤ longest_data) × (length more < len) × (rest ≡ head_bytes option len ++ more))
+    ⊎ ((option len : ℕ) × (more : List ℕ) × (option < 2 ^ 32) × (len ≤ max_data) × (length more < len) × (rest ≡ head_bytes option len ++ more))
 
 -- The bytes of a client, what the server has said to them behind its greeting, and how the negotiation
 -- stands: the client sends flags, and then options.
-pub data Negotiates (export : List ℕ) (size : ℕ) (heard said : List ℕ) (next : Next) : Type 0 where
-  hears_flags : length heard < 4 → said ≡ [] → next ≡ GoesOn → Negotiates export size heard said next
+pub data Negotiates (export : List ℕ) (size : ℕ) (heard said : List ℕ) (next : Step) : Type 0 where
+  hears_flags : length heard < 4 → said ≡ [] → next ≡ More → Negotiates export size heard said next
   -- a flag that the server doesn't know
-  refuses_flags : (flags : ℕ) → flags < 2 ^ 32 → (AreKnown flags → ⊥) → heard ≡ big_bytes 4 flags → said ≡ [] → next ≡ Closes UnknownFlag → Negotiates export size heard said next
-  hears_options : (flags : ℕ) (turns : List Turn) (front rest : List ℕ) → Opens export size flags turns front said → IsPart rest → heard ≡ front ++ rest → next ≡ GoesOn → Negotiates export size heard said next
+  refuses_flags : (flags : ℕ) → flags < 2 ^ 32 → (AreKnown flags → ⊥) → heard ≡ big_bytes 4 flags → said ≡ [] → next ≡ Closed UnknownFlag → Negotiates export size heard said next
+  hears_options : (flags : ℕ) (turns : List Turn) (front rest : List ℕ) → Opens export size flags turns front said → IsPart rest → heard ≡ front ++ rest → next ≡ More → Negotiates export size heard said next
   -- the last option begins transmission, or ends the connection
-  ends : (flags : ℕ) (turns : List Turn) (front before : List ℕ) (last : Turn) → Opens export size flags turns front before → IsTurn export size last → last.come.next ≢ GoesOn → heard ≡ front ++ option_bytes last.sent → said ≡ before ++ last.come.said → next ≡ last.come.next → Negotiates export size heard said next
+  ends : (flags : ℕ) (turns : List Turn) (front before : List ℕ) (last : Turn) → Opens export size flags turns front before → IsTurn export size last → last.come.next ≢ More → heard ≡ front ++ option_bytes last.sent → said ≡ before ++ last.come.said → next ≡ last.come.next → Negotiates export size heard said next
   -- 16 bytes that don't begin as an option does
-  refuses_magic : (flags : ℕ) (turns : List Turn) (front head : List ℕ) → Opens export size flags turns front said → length head ≡ 16 → take 8 head ≢ big_bytes 8 0x49484156454f5054 → heard ≡ front ++ head → next ≡ Closes WrongMagic → Negotiates export size heard said next
+  refuses_magic : (flags : ℕ) (turns : List Turn) (front head : List ℕ) → Opens export size flags turns front said → length head ≡ 16 → take 8 head ≢ big_bytes 8 0x49484156454f5054 → heard ≡ front ++ head → next ≡ Closed WrongMagic → Negotiates export size heard said next
   -- 16 bytes that announce too much data
-  refuses_length : (flags : ℕ) (turns : List Turn) (front : List ℕ) (option len : ℕ) → Opens export size flags turns front said → option < 2 ^ 32 → longest_data < len → len < 2 ^ 32 → heard ≡ front ++ head_bytes option len → next ≡ Closes TooLong → Negotiates export size heard said next
+  refuses_length : (flags : ℕ) (turns : List Turn) (front : List ℕ) (option len : ℕ) → Opens export size flags turns front said → option < 2 ^ 32 → max_data < len → len < 2 ^ 32 → heard ≡ front ++ head_bytes option len → next ≡ Closed TooLong → Negotiates export size heard said next

@@ -1,13 +1,13 @@
 //! What the data of a GO asks for: NBD protocol text, "Option types", NBD_OPT_GO.
 ghost use Rattle.std.specs.Prelude.{◌≡◌, ◌↔◌, IsTrue, IfSome, IfNone};
-ghost use Rattle.fa_nego.specs.Negotiation.{Asked, Asks, IsKnown};
+ghost use Rattle.fa_nego.specs.Negotiation.{Asked, AsksFor, IsKnown};
 
 use byteorder::{BigEndian, ByteOrder};
 
 /// The name of the export that this data asks for, or `None` where it asks for nothing.
 pub fn asked_name(given: &[u8]) -> Option<&[u8]>
-    ensures some { IfSome result (λ name. ((asked : Asked) × Asks given.now asked × (asked.name ≡ name.now))) }
-    ensures none { IfNone result ((asked : Asked) → Asks given.now asked → ⊥) }
+    ensures some { IfSome result (λ name. ((asked : Asked) × AsksFor given.now asked × (asked.name ≡ name.now))) }
+    ensures none { IfNone result ((asked : Asked) → AsksFor given.now asked → ⊥) }
 {
     if given.len() < 6 {
         return None;

@@ -1,14 +1,14 @@
 //! What comes of the bytes that are held of an item of the client.
 ghost use Rattle.std.specs.Prelude.{◌≡◌, ℕ, List, [], length, IfOk};
 ghost use Rattle.fa_nego.specs.Negotiation.{GoComesTo, ComesTo};
-ghost use Rattle.fa_nego.specs.Talk.{Flags, Options};
-ghost use Rattle.fa_nego.specs.View.{stage_at, next_after};
+ghost use Rattle.fa_nego.specs.NegoState.{Flags, Options};
+ghost use Rattle.fa_nego.specs.View.{stage_at};
 ghost use Rattle.fa_nego.specs.Heard.{IsHead, Judges, stage_after};
 
 use crate::asked::{asked_name, is_known};
-use crate::phase::{Ending, Phase};
+use crate::phase::Phase;
 use crate::reply::{ACK, ERR_INVALID, ERR_UNKNOWN, ERR_UNSUP, GO, OPTION_MAGIC, info_reply, reply};
-use crate::step::CloseCause;
+use crate::step::{CloseCause, Step};
 use byteorder::{BigEndian, ByteOrder};
 use std::alloc::{AllocError, Allocator};
 
@@ -19,7 +19,7 @@ pub const FLAGS_LEN: usize = 4;
 pub const HEAD_LEN: usize = 16;
 
 /// The most bytes of data that an option may have.
-const LONGEST_DATA: u32 = 65_536;
+const MAX_DATA_BYTES: u32 = 65_536;
 
 /// The option by which a client asks for transmission in the old way.
 const EXPORT_NAME: u32 = 1;
@@ -27,17 +27,17 @@ const EXPORT_NAME: u32 = 1;
 /// The option by which a client ends the connection.
 const ABORT: u32 = 2;
 
-/// What an option comes to: what the server says to it, and how the negotiation ended, if it did.
+/// What an option comes to: what the server says to it, and how the negotiation stands after it.
 #[derive(Drop)]
 pub struct Come<A: Allocator> {
     pub said: Vec<u8, A>,
-    pub ending: Option<Ending>,
+    pub next: Step,
 }
 
 /// What comes of the bytes of an item: what the server says to them, and the phase that follows,
 /// `None` where the item is not whole.
 #[derive(Drop)]
-pub struct Judged<A: Allocator> {
+pub struct ItemAnswer<A: Allocator> {
     pub said: Vec<u8, A>,
     pub next: Option<Phase>,
 }
@@ -60,12 +60,12 @@ pub fn judge<A: Allocator>(
     size: u64,
     phase: Phase,
     held: &[u8],
-) -> Result<Judged<A>, AllocError>
+) -> Result<ItemAnswer<A>, AllocError>
     ensures { IfOk result (λ judged. Judges export.now size (stage_at phase held.now) judged.said.items
         (stage_after phase held.now judged.next)) }
 {
     match phase {
-        Phase::Flags => Ok(Judged {
+        Phase::Flags => Ok(ItemAnswer {
             said: Vec::new(alloc),
             next: judge_flags(held),
         }),
@@ -87,7 +87,7 @@ fn judge_flags(held: &[u8]) -> Option<Phase>
     if flags < 4 {
         Some(Phase::Options { flags })
     } else {
-        Some(Phase::Over(Ending::Closes(CloseCause::UnknownFlag)))
+        Some(Phase::Over(Step::Closed(CloseCause::UnknownFlag)))
     }
 }
 
@@ -98,7 +98,7 @@ fn judge_option<A: Allocator>(
     size: u64,
     flags: u32,
     held: &[u8],
-) -> Result<Judged<A>, AllocError>
+) -> Result<ItemAnswer<A>, AllocError>
     ensures { IfOk result (λ judged. Judges export.now size (Options flags held.now) judged.said.items
         (stage_after (Phase.Options flags) held.now judged.next)) }
 {
@@ -114,11 +114,11 @@ fn judge_option<A: Allocator>(
                 return Ok(waits(alloc));
             }
             let come = answer(alloc, export, size, option, given)?;
-            let next = match come.ending {
-                None => Phase::Options { flags },
-                Some(ending) => Phase::Over(ending),
+            let next = match come.next {
+                Step::More => Phase::Options { flags },
+                step => Phase::Over(step),
             };
-            Ok(Judged {
+            Ok(ItemAnswer {
                 said: come.said,
                 next: Some(next),
             })
@@ -127,24 +127,24 @@ fn judge_option<A: Allocator>(
 }
 
 /// An item that is not whole, of which the server says nothing.
-fn waits<A: Allocator>(alloc: A) -> Judged<A>
+fn waits<A: Allocator>(alloc: A) -> ItemAnswer<A>
     ensures said { result.said.items ≡ [] }
     ensures next { result.next ≡ None }
 {
-    Judged {
+    ItemAnswer {
         said: Vec::new(alloc),
         next: None,
     }
 }
 
 /// The end of a negotiation that the server closes with no word.
-fn closed<A: Allocator>(alloc: A, cause: CloseCause) -> Judged<A>
+fn closed<A: Allocator>(alloc: A, cause: CloseCause) -> ItemAnswer<A>
     ensures said { result.said.items ≡ [] }
-    ensures next { result.next ≡ Some (Phase.Over (Ending.Closes cause)) }
+    ensures next { result.next ≡ Some (Phase.Over (Step.Closed cause)) }
 {
-    Judged {
+    ItemAnswer {
         said: Vec::new(alloc),
-        next: Some(Phase::Over(Ending::Closes(cause))),
+        next: Some(Phase::Over(Step::Closed(cause))),
     }
 }
 
@@ -157,7 +157,7 @@ fn head_of(head: &[u8]) -> Head
         return Head::WrongMagic;
     }
     let len = BigEndian::read_u32(&head[12..]);
-    if len > LONGEST_DATA {
+    if len > MAX_DATA_BYTES {
         return Head::TooLong;
     }
     let option = BigEndian::read_u32(&head[8..]);
@@ -173,21 +173,21 @@ fn answer<A: Allocator>(
     given: &[u8],
 ) -> Result<Come<A>, AllocError>
     ensures { IfOk result (λ come. ComesTo export.now size (record { option = option; given = given.now })
-        (record { said = come.said.items; next = next_after come.ending })) }
+        (record { said = come.said.items; next = come.next })) }
 {
     match option {
         EXPORT_NAME => Ok(Come {
             said: Vec::new(alloc),
-            ending: Some(Ending::Closes(CloseCause::UnknownName)),
+            next: Step::Closed(CloseCause::UnknownName),
         }),
         ABORT => Ok(Come {
             said: reply(alloc, ABORT, ACK)?,
-            ending: Some(Ending::Aborts),
+            next: Step::Aborted,
         }),
         GO => go(alloc, export, size, given),
         _ => Ok(Come {
             said: reply(alloc, option, ERR_UNSUP)?,
-            ending: None,
+            next: Step::More,
         }),
     }
 }
@@ -195,22 +195,22 @@ fn answer<A: Allocator>(
 /// What a GO with this data comes to.
 fn go<A: Allocator>(alloc: A, export: &[u8], size: u64, given: &[u8]) -> Result<Come<A>, AllocError>
     ensures { IfOk result (λ come. GoComesTo export.now size given.now
-        (record { said = come.said.items; next = next_after come.ending })) }
+        (record { said = come.said.items; next = come.next })) }
 {
     let Some(name) = asked_name(given) else {
         return Ok(Come {
             said: reply(alloc, GO, ERR_INVALID)?,
-            ending: None,
+            next: Step::More,
         });
     };
     if !is_known(export, name) {
         return Ok(Come {
             said: reply(alloc, GO, ERR_UNKNOWN)?,
-            ending: None,
+            next: Step::More,
         });
     }
     Ok(Come {
         said: info_reply(alloc, size)?,
-        ending: Some(Ending::Begins),
+        next: Step::Go,
     })
 }

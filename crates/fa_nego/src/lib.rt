@@ -8,8 +8,6 @@ mod nego;
 mod phase;
 mod reply;
 mod step;
-#[cfg(test)]
-mod tests;
 
-pub use nego::{LONGEST_NAME, Nego, greeting};
+pub use nego::{MAX_NAME_BYTES, Nego, greeting};
 pub use step::{CloseCause, Fed, Step};

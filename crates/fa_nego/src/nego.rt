@@ -1,7 +1,7 @@
 //! The negotiation with one client.
 ghost use Rattle.std.specs.Prelude.{◌≡◌, ℕ, ◌≤◌, List, ◌++◌, length, take, min, IfOk, OnErr};
 ghost use Rattle.fa_nego.specs.Negotiation.{greeting_bytes};
-ghost use Rattle.fa_nego.specs.Talk.{new_talk, next_of, step_of, cause_of, wanted, IsAt};
+ghost use Rattle.fa_nego.specs.NegoState.{new_state, step_of, cause_of, wanted, IsAt};
 ghost use Rattle.fa_nego.specs.View.{stage_at};
 ghost use Rattle.fa_nego.specs.Heard.{Hears};
 
@@ -13,8 +13,8 @@ use byteorder::{BigEndian, ByteOrder};
 use std::alloc::{AllocError, Allocator, Global};
 use std::marker::Model;
 
-/// The longest name of an export, in bytes.
-pub const LONGEST_NAME: usize = 4096;
+/// The most bytes that the name of an export may have.
+pub const MAX_NAME_BYTES: usize = 4096;
 
 /// The server's side of a handshake, from behind its greeting on. It is fed with the client's bytes
 /// until it is over.
@@ -28,9 +28,9 @@ pub struct Nego<'a, A: Allocator = Global> {
 }
 
 impl<'a, A: Allocator> Model for Nego<'a, A> {
-    ghost use Rattle.fa_nego.specs.Talk.{Talk};
+    ghost use Rattle.fa_nego.specs.NegoState.{NegoState};
 
-    ghost Value = { Talk };
+    ghost Value = { NegoState };
 
     ghost use Rattle.fa_nego.specs.View.{stage_at};
 
@@ -40,8 +40,8 @@ impl<'a, A: Allocator> Model for Nego<'a, A> {
 impl<'a, A: Allocator> Nego<'a, A> {
     /// A negotiation that has heard nothing. The export has this name and size, in bytes.
     pub fn new(alloc: A, export: &'a str, size: u64) -> Nego<'a, A>
-        requires { length export.now ≤ LONGEST_NAME }
-        ensures { result ≡ new_talk export.now size }
+        requires { length export.now ≤ MAX_NAME_BYTES }
+        ensures { result ≡ new_state export.now size }
     {
         Nego {
             export,
@@ -65,7 +65,7 @@ impl<'a, A: Allocator> Nego<'a, A> {
         ensures used { IfOk result (λ fed. fed.used ≡ min (length piece.now) (wanted self.old.stage)) }
         ensures answer { IfOk result (λ fed. (heard said : List ℕ) → IsAt self.old heard said
             → IsAt self.new (heard ++ take fed.used piece.now) (said ++ fed.out.items)) }
-        ensures step { IfOk result (λ fed. fed.step ≡ step_of (next_of self.new.stage)) }
+        ensures step { IfOk result (λ fed. fed.step ≡ step_of self.new.stage) }
         ensures same_export { (self.new.export ≡ self.old.export) × (self.new.size ≡ self.old.size) }
         ensures err { OnErr result (self.new ≡ self.old) }
     {
@@ -87,7 +87,7 @@ impl<'a, A: Allocator> Nego<'a, A> {
 
     /// Why the server closes the connection, once it does.
     pub fn close_cause(&self) -> Option<CloseCause>
-        ensures { result ≡ cause_of (next_of self.now.stage) }
+        ensures { result ≡ cause_of (step_of self.now.stage) }
     {
         self.phase.close_cause()
     }

@@ -10,8 +10,8 @@ pub enum Step {
     Go,
     /// The client ended the connection.
     Aborted,
-    /// The server closes the connection, for a cause.
-    Closed,
+    /// The server closes the connection, for this cause.
+    Closed(CloseCause),
 }
 
 /// Why the server closes the connection.

@@ -16,9 +16,9 @@ use Rattle.fa_cert.specs.Runs.{any_closes}
 use Rattle.fa_cert.specs.Verdict.{IsVerdict}
 use Rattle.fa_cert.specs.BatchText.{IsBatchText, IsRead, StartsWithBatch, closed_line, end_line, page_line}
 use Rattle.fa_cert.specs.CertificateText.{HasPlaceLine, IsCertificateText, IsSomeCertificate, certificate_lines}
-use Rattle.fa_cert.specs.Text.{Begins, GoesWrong, IsFirstWrongLine, IsTextError, lines_of, words_by_line, words_of}
-use Rattle.fa_prog.specs.Output.{Prints}
-use Rattle.fa_prog.specs.Verify.{AreTexts, AreSomeTexts, IsJudged, RunsVerify, judged_status, judged_text}
+use Rattle.fa_cert.specs.Text.{Begins, GoesWrong, IsFirstWrongLine, IsTextError, words_by_line, words_of}
+use Rattle.fa_io.specs.Lines.{lines_of}
+use Rattle.fa_prog.specs.Verify.{AreTexts, AreSomeTexts, IsJudged}
 use Rattle.fa_prog.specs.declared.verify.Judged.{Judged}
 use Rattle.fa_prog.specs.declared.verify.Judged.TheVariants.{Verdict}
 
@@ -175,11 +175,11 @@ wrong_line_behind text rest entries runs number is wrong = record {
     )
 
 -- the lines of an input that begins with a batch text
-lines_read : (input : List ℕ) (found : BatchText) (read : IsRead input found) → words_by_line input ≡ map words_of read.text ++ words_by_line found.rest.now
+lines_read : {A : Type 0} (input : List ℕ) (found : BatchText A) (read : IsRead input found) → words_by_line input ≡ map words_of read.text ++ words_by_line found.rest.now
 lines_read input found read = ap (map words_of) read.parts ∙ map-append words_of read.text (lines_of found.rest.now)
 
 -- The first wrong line of the certificate text behind what is read of a batch is that of both.
-pub certificate_fault : (input : List ℕ) (found : BatchText) (fault : TextError) → IsRead input found → IsTextError IsSomeCertificate found.line (words_by_line found.rest.now) fault
+pub certificate_fault : {A : Type 0} (input : List ℕ) (found : BatchText A) (fault : TextError) → IsRead input found → IsTextError IsSomeCertificate found.line (words_by_line found.rest.now) fault
     → IsTextError AreSomeTexts 1 (words_by_line input) fault
 certificate_fault input found (Line number) read is =
     let from : found.line ≡ 1 + length (map words_of read.text) = (let size = length-map read.text words_of in omega (arith, read.number, size)) in
@@ -189,7 +189,7 @@ certificate_fault input found (Line number) read is =
 certificate_fault input found NoMemory read is = tt
 
 -- What is read of both texts.
-both_read : (input : List ℕ) (found : BatchText) (rounds : ℕ) (places : List Place) (pages : List Page) (read : IsRead input found)
+both_read : {A : Type 0} (input : List ℕ) (found : BatchText A) (rounds : ℕ) (places : List Place) (pages : List Page) (read : IsRead input found)
     → IsCertificateText (words_by_line found.rest.now) rounds places pages → AreTexts (words_by_line input) found.batch read.runs rounds places pages
 both_read input found rounds places pages read is = record {
   first = map words_of read.text;
@@ -200,7 +200,7 @@ both_read input found rounds places pages read is = record {
 }
 
 -- Where the batch is sound, that is the verdict of the check.
-pub comes_to_verdict : (input : List ℕ) (found : BatchText) (rounds : ℕ) (places : List Place) (pages : List Page) (verdict : CheckVerdict) → IsRead input found
+pub comes_to_verdict : {A : Type 0} (input : List ℕ) (found : BatchText A) (rounds : ℕ) (places : List Place) (pages : List Page) (verdict : CheckVerdict) → IsRead input found
     → IsCertificateText (words_by_line found.rest.now) rounds places pages → AreFine found.batch
     → IsVerdict found.batch (current_of found.closed) (is_closed found.closed) rounds places pages verdict → IsJudged input (Verdict verdict)
 comes_to_verdict input found rounds places pages verdict read is fine checked =
@@ -214,15 +214,4 @@ comes_to_verdict input found rounds places pages verdict read is fine checked =
       record { few = read.is.few; fine = fine },
       subst (λ closed. IsVerdict found.batch 1 closed rounds places pages verdict) closes
           (subst (λ current. IsVerdict found.batch current (is_closed found.closed) rounds places pages verdict) read.current checked),
-    )
-
--- The whole input is the text, and what it comes to is printed.
-pub RunsVerify-printed : (remaining : Option (List ℕ)) (text used held shown : List ℕ) (judged : Judged) (old new : Option (List ℕ)) (meant status : ℕ) → IfSome remaining (λ xs. text ≡ held ++ xs)
-    → held ≡ [] → used ≡ text → IsJudged used judged → shown ≡ judged_text judged → meant ≡ judged_status judged → Prints shown meant old new status → IfSome remaining (λ xs. RunsVerify xs old new status)
-RunsVerify-printed None text used held shown judged old new meant status whole none all is same means prints = tt
-RunsVerify-printed (Some xs) text used held shown judged old new meant status whole none all is same means prints =
-    inl (
-      judged,
-      subst (λ input. IsJudged input judged) (all ∙ whole ∙ ap (λ h. h ++ xs) none) is,
-      subst (λ t. Prints t (judged_status judged) old new status) same (subst (λ n. Prints shown n old new status) means prints),
     )

@@ -1,14 +1,11 @@
 -- Lines of hexadecimal digits, and the bytes that they spell.
 use Rattle.std.specs.Prelude.{◌≡◌, ℕ, suc, not, ◌==◌, List, [], ◌∷◌, ◌++◌, Result, Ok, Err}
-use Rattle.std.specs.List.{filter, slice_split}
+use Rattle.std.specs.List.{filter}
+use Rattle.fa_io.specs.Lines.{lines_of}
 use Rattle.hex.specs.Hex.{decode_of}
 use Rattle.fa_prog.specs.declared.hex_lines.TextFault.{TextFault}
 use Rattle.fa_prog.specs.declared.hex_lines.TextFault.TheVariants.{Line, NoMemory}
 use Rattle.hex.specs.declared.error.FromHexError.{FromHexError}
-
--- the lines of a text, at each line feed
-abbrev pub lines_of : List ℕ → List (List ℕ)
-lines_of text = slice_split (λ b. b == 10) text
 
 -- a line without its spaces
 abbrev pub without_spaces : List ℕ → List ℕ
@@ -29,7 +26,7 @@ bytes_from number (line ∷ lines) = line_and (decode_of (without_spaces line)) 
 abbrev pub bytes_of_text : List ℕ → Result (List ℕ) ℕ
 bytes_of_text text = bytes_from 1 (lines_of text)
 
--- why a text is not read: its first faulty line, or want of memory
+-- why a text is not read: its first faulty line, or out of memory
 abbrev pub IsFault : Result (List ℕ) ℕ → TextFault → Type 0
 IsFault spelled (Line number) = spelled ≡ Err number
 IsFault spelled NoMemory = Unit {0}

@@ -1,5 +1,6 @@
+pub mod Arguments
 pub mod HexLines
 pub mod Output
+pub mod Program
 pub mod Talk
 pub mod Verify
-pub mod Words

@@ -1,17 +1,42 @@
 -- What is printed, and with which status a run ends.
-use Rattle.std.specs.Prelude.{◌≡◌, ◌⊎◌, ℕ, List, [], ◌∷◌, ◌++◌, codes, Option}
-use Rattle.std.specs.Io.KnownBytes.{Appends}
-use Rattle.fa_session.specs.Streams.{IsCut}
+use Rattle.std.specs.Prelude.{◌≡◌, ◌≢◌, ◌⊎◌, ℕ, List, [], ◌∷◌, ◌++◌, codes, Option}
+use Rattle.std.specs.Io.KnownBytes.{Appends, IsAtEnd}
+use Rattle.std.specs.declared.io.ErrorKind.{ErrorKind}
+use Rattle.std.specs.declared.io.ErrorKind.TheVariants.{Interrupted, OutOfMemory}
+use Rattle.fa_io.specs.Streams.{Streams, IsCut, Reads}
 
 -- What printing a text comes to: it is printed, and the run ends with the status that is meant; or a write
--- fails, a beginning of the text is printed, and the status is 1.
+-- fails, a prefix of the text is printed, and the status is 1.
 abbrev pub Prints : List ℕ → ℕ → Option (List ℕ) → Option (List ℕ) → ℕ → Type 0
 Prints text meant old new status = ((status ≡ meant) × Appends old new text) ⊎ ((status ≡ 1) × IsCut old new text)
 
--- What a command prints that could not do its work: that there was no memory, or that its input could not be read.
-abbrev pub GivesUp : List ℕ → Option (List ℕ) → Option (List ℕ) → ℕ → Type 0
-GivesUp cannot_read old new status = Prints (codes "no memory" ++ 10 ∷ []) 1 old new status ⊎ Prints cannot_read 1 old new status
+-- What is printed where memory was refused.
+abbrev pub TellsNoMemory : Option (List ℕ) → Option (List ℕ) → ℕ → Type 0
+TellsNoMemory old new status = Prints (codes "no memory" ++ 10 ∷ []) 1 old new status
 
--- The line of usage was printed, or a beginning of it.
-abbrev pub ShowsUsage : Option (List ℕ) → Option (List ℕ) → Type 0
-ShowsUsage old new = Appends old new (codes "usage: flasharr talk | verify" ++ 10 ∷ []) ⊎ IsCut old new (codes "usage: flasharr talk | verify" ++ 10 ∷ [])
+-- What a command prints whose input could not be read to its end, by the kind of the error: that memory was
+-- refused, or that the input cannot be read.
+abbrev pub GivesUp : ErrorKind → List ℕ → Option (List ℕ) → Option (List ℕ) → ℕ → Type 0
+GivesUp OutOfMemory cannot_read old new status = TellsNoMemory old new status
+GivesUp kind cannot_read old new status = Prints cannot_read 1 old new status
+
+-- What a command does with its input, where Tells is what it prints of a text. It reads some bytes. Either they
+-- are the whole input, and what is to be said of them is printed, or that there was no memory for it; or an error
+-- came before the end, which is no interruption, and that is printed.
+abbrev pub RunsOver : (List ℕ → Option (List ℕ) → Option (List ℕ) → ℕ → Type 0) → List ℕ → Streams → ℕ → Type 0
+RunsOver Tells cannot_read s status =
+    (text : List ℕ) × Reads s text
+    × ((IsAtEnd s.left_after × (Tells text s.held_before s.held_after status ⊎ TellsNoMemory s.held_before s.held_after status))
+    ⊎ ((kind : ErrorKind) × (kind ≢ Interrupted) × GivesUp kind cannot_read s.held_before s.held_after status))
+
+-- The line of usage was printed, or a prefix of it, and the status is 2.
+abbrev pub ShowsUsage : Option (List ℕ) → Option (List ℕ) → ℕ → Type 0
+ShowsUsage old new status =
+    (status ≡ 2)
+    × (Appends old new (codes "usage: flasharr talk | verify" ++ 10 ∷ []) ⊎ IsCut old new (codes "usage: flasharr talk | verify" ++ 10 ∷ []))
+
+-- What the program does where its arguments cannot be had, by the kind of the error: it prints that memory was
+-- refused, or the line of usage.
+abbrev pub RefusesArguments : ErrorKind → Option (List ℕ) → Option (List ℕ) → ℕ → Type 0
+RefusesArguments OutOfMemory old new status = TellsNoMemory old new status
+RefusesArguments kind old new status = ShowsUsage old new status

@@ -7,7 +7,13 @@ use Rattle.fa_session.specs.Ends.{end_number}
 use Rattle.fa_session.specs.Session.{Session}
 use Rattle.fa_session.specs.declared.session_end.SessionEnd.{SessionEnd}
 use Rattle.fa_prog.specs.HexLines.{bytes_of_text}
-use Rattle.fa_prog.specs.Output.{GivesUp, Prints}
+use Rattle.fa_io.specs.Streams.{Streams}
+use Rattle.fa_prog.specs.Output.{Prints, RunsOver}
+
+-- a reader that has these bytes left before and after, and a writer that holds these before and after
+abbrev pub known : List ℕ → List ℕ → List ℕ → List ℕ → Streams
+known bytes left held written =
+    record { left_before = Some bytes; left_after = Some left; held_before = Some held; held_after = Some written }
 
 -- what is printed of a connection: the server's bytes, and the number of the end
 unfoldable pub talk_text : List ℕ → SessionEnd → List ℕ
@@ -22,17 +28,20 @@ pub record Talks (size : ℕ) (export text out : List ℕ) : Type 0 where
   pub after : List ℕ
   pub end : SessionEnd
   pub spelled : bytes_of_text text ≡ Ok bytes
-  pub session : Session MemoryMade export size (Some bytes) (Some left) (Some []) (Some written) (replicate size 0) after end
+  pub session : Session MemoryMade export size (known bytes left [] written) (replicate size 0) after end
   pub printed : out ≡ talk_text written end
 
 -- what is printed of a faulty line
 unfoldable pub line_text : ℕ → List ℕ
 line_text line = codes "talk: line " ++ decimal line ++ 10 ∷ []
 
--- What the command does with its whole input: it prints a connection, or the first faulty line and nothing else.
--- Else there was no memory, or the input could not be read.
-abbrev pub RunsTalk : ℕ → List ℕ → List ℕ → Option (List ℕ) → Option (List ℕ) → ℕ → Type 0
-RunsTalk size export text old new status =
+-- What is printed of a text: a connection of the bytes that its lines spell, or its first faulty line and nothing
+-- else.
+abbrev pub TellsTalk : ℕ → List ℕ → List ℕ → Option (List ℕ) → Option (List ℕ) → ℕ → Type 0
+TellsTalk size export text old new status =
     ((out : List ℕ) × Talks size export text out × Prints out 0 old new status)
-    ⊎ (((line : ℕ) × (bytes_of_text text ≡ Err line) × Prints (line_text line) 2 old new status)
-    ⊎ GivesUp (codes "talk: cannot read" ++ 10 ∷ []) old new status)
+    ⊎ ((line : ℕ) × (bytes_of_text text ≡ Err line) × Prints (line_text line) 2 old new status)
+
+-- What the command does.
+abbrev pub RunsTalk : ℕ → List ℕ → Streams → ℕ → Type 0
+RunsTalk size export s status = RunsOver (TellsTalk size export) (codes "talk: cannot read" ++ 10 ∷ []) s status

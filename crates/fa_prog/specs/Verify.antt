@@ -12,7 +12,8 @@ use Rattle.fa_cert.specs.CertificateText.{IsCertificateText}
 use Rattle.fa_cert.specs.Runs.{any_closes}
 use Rattle.fa_cert.specs.Text.{words_by_line, IsFirstWrongLine}
 use Rattle.fa_cert.specs.Verdict.{IsVerdict, verdict_text}
-use Rattle.fa_prog.specs.Output.{GivesUp, Prints}
+use Rattle.fa_io.specs.Streams.{Streams}
+use Rattle.fa_prog.specs.Output.{Prints, RunsOver}
 use Rattle.fa_prog.specs.declared.verify.Judged.{Judged}
 use Rattle.fa_prog.specs.declared.verify.Judged.TheVariants.{Line, Unsound, Verdict}
 
@@ -56,9 +57,11 @@ judged_status (Unsound unsound) = 2
 judged_status (Verdict (Least rounds)) = 0
 judged_status (Verdict (Refused refusal)) = 1
 
--- What the command does with its whole input: it prints what the input comes to, and nothing else. Else there was
--- no memory, or the input could not be read.
-abbrev pub RunsVerify : List ℕ → Option (List ℕ) → Option (List ℕ) → ℕ → Type 0
-RunsVerify text old new status =
-    ((judged : Judged) × IsJudged text judged × Prints (judged_text judged) (judged_status judged) old new status)
-    ⊎ GivesUp (codes "verify: cannot read" ++ 10 ∷ []) old new status
+-- What is printed of a text: what it comes to, and nothing else.
+abbrev pub TellsVerify : List ℕ → Option (List ℕ) → Option (List ℕ) → ℕ → Type 0
+TellsVerify text old new status =
+    (judged : Judged) × IsJudged text judged × Prints (judged_text judged) (judged_status judged) old new status
+
+-- What the command does.
+abbrev pub RunsVerify : Streams → ℕ → Type 0
+RunsVerify s status = RunsOver TellsVerify (codes "verify: cannot read" ++ 10 ∷ []) s status

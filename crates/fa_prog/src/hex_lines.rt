@@ -1,9 +1,9 @@
 //! Lines of hexadecimal digits.
-ghost use Rattle.std.specs.Prelude.{◌≡◌, ◌⊎◌, ◌++◌, ◌==◌, IsErr, IfOk, IfErr, OnOk, Ok, drop, length};
-ghost use Rattle.std.specs.List.{position};
+ghost use Rattle.std.specs.Prelude.{◌≡◌, ◌⊎◌, ◌++◌, IsErr, IfOk, IfErr, OnOk, Ok, drop, length};
 ghost use Rattle.fa_prog.specs.HexLines.{without_spaces as spaceless, bytes_of_text, IsFault};
 ghost use Rattle.hex.specs.Hex.{decode_of};
 
+use fa_io::cut_line;
 use hex::FromHexError;
 use std::alloc::{AllocError, Allocator};
 
@@ -13,7 +13,7 @@ pub(crate) enum TextFault {
     /// The first line, from 1, with another character than a digit or a space, or with an odd
     /// number of digits.
     Line(u64),
-    /// No memory.
+    /// Memory was refused.
     NoMemory,
 }
 
@@ -29,20 +29,12 @@ pub(crate) fn read_hex_lines<A: Allocator + Copy>(
     let mut bytes = Vec::new(alloc);
     let mut rest = text;
     let mut number = 1;
-    'lines: while let Some(end) = first_feed(rest) {
-        append_line(alloc, &mut bytes, &rest[..end], number)?;
-        rest = &rest[end + 1..];
+    'lines: while let Some((line, behind)) = cut_line(rest) {
+        append_line(alloc, &mut bytes, line, number)?;
+        rest = behind;
         number += 1;
     }
-    append_line(alloc, &mut bytes, rest, number)?;
     Ok(bytes)
-}
-
-/// Where the first line feed stands.
-fn first_feed(text: &[u8]) -> Option<usize>
-    ensures { result ≡ position (λ b. b == 10) text.now }
-{
-    text.iter().position(|b| *b == b'\n')
 }
 
 /// Appends the bytes that a line spells. It has this number.

@@ -2,12 +2,12 @@
 #![tactic(auto)]
 
 mod hex_lines;
+mod input;
 mod output;
 mod program;
+mod status;
 mod talk;
 mod verify;
 
-pub use program::{refuse_words, run};
-
-#[cfg(test)]
-mod tests;
+pub use program::{run, start};
+pub use status::Status;

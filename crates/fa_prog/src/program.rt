@@ -1,32 +1,63 @@
-//! What the program does with its words.
-ghost use Rattle.std.specs.Prelude.{◌≡◌, ◌≢◌, [], ◌∷◌, ◌++◌, map, codes, string_bytes, IfSome};
-ghost use Rattle.fa_prog.specs.Output.{Prints, ShowsUsage};
-ghost use Rattle.fa_prog.specs.Talk.{RunsTalk};
-ghost use Rattle.fa_prog.specs.Verify.{RunsVerify};
-ghost use Rattle.fa_prog.specs.Words.{command_in};
+//! What the program does with its arguments.
+ghost use Rattle.std.specs.Prelude.{◌≡◌, ◌⊎◌, [], ◌∷◌, drop, map, string_bytes, IfOk, IfErr};
+ghost use Rattle.std.specs.IoError.{error_kind};
+ghost use Rattle.std.specs.Vec.Iter.{into_iter_items};
+ghost use Rattle.fa_prog.specs.Arguments.{subcommand_in};
+ghost use Rattle.fa_prog.specs.Output.{ShowsUsage, RefusesArguments, TellsNoMemory};
+ghost use Rattle.fa_prog.specs.Program.{Runs};
 
-use crate::output::{FAULTY, NO_MEMORY, refuse};
-use crate::talk::{TALK_SIZE, run_talk};
+use crate::output::{FAULTY, refuse_for_memory};
+use crate::status::Status;
+use crate::talk::run_talk;
 use crate::verify::run_verify;
-use fa_session::send_all;
-use std::alloc::Global;
-use std::io::{ErrorKind, Read, Write};
+use fa_io::send_all;
+use std::alloc::{AllocError, Allocator};
+use std::env::Args;
+use std::io::{self, ErrorKind, Read, Write};
 
 /// What the program can do.
 #[derive(Clone, Copy, Debug, PartialEq, Eq)]
-enum Command {
+enum Subcommand {
     /// Serves one client, whose bytes are given as text.
     Talk,
     /// Checks a certificate.
     Verify,
 }
 
-/// What is printed where the words are no command.
+/// What is printed where the arguments are no command.
 const USAGE: &[u8] = b"usage: flasharr talk | verify\n";
 
-/// Runs the program with these words, those behind its name, on an input and an output. Answers the
+/// Runs the program with all of its arguments, of which the first is its name, as [`run`] does with
+/// those behind it. Where the arguments cannot be had, it prints that memory was refused, with status
+/// 1, or else, as where one is no text, a line of usage, with status 2.
+pub fn start<R: Read, W: Write, A: Allocator + Copy>(
+    alloc: A,
+    arguments: io::Result<Args<A>>,
+    input: &mut R,
+    output: &mut W,
+) -> Status
+    ensures given { IfOk arguments (λ all. Runs (map string_bytes (drop 1 (into_iter_items all)))
+        (record {
+          left_before = R.remaining input.old;
+          left_after = R.remaining input.new;
+          held_before = W.contents output.old;
+          held_after = W.contents output.new;
+        }) result.number
+        ⊎ TellsNoMemory (W.contents output.old) (W.contents output.new) result.number) }
+    ensures refused { IfErr arguments (λ e. RefusesArguments (error_kind e) (W.contents output.old) (W.contents output.new) result.number) }
+{
+    match arguments {
+        Ok(all) => match listed(alloc, all) {
+            Ok(list) => Status::of(run(alloc, behind_name(&list), input, output)),
+            Err(AllocError) => Status::of(refuse_for_memory(output)),
+        },
+        Err(error) => Status::of(refuse_arguments(error.kind(), output)),
+    }
+}
+
+/// Runs the program with these arguments, those behind its name, on an input and an output. Answers the
 /// status with which it ends: 0 where the work was done, 1 where it was refused or memory, input or
-/// output failed, 2 at a fault of the words or of the input's text.
+/// output failed, 2 at a fault of the arguments or of the input's text.
 ///
 /// `talk` reads lines of hexadecimal digits as the bytes of one NBD client, serves them over a plain
 /// store of 64 pages of 512 zero bytes under the name `disk`, and prints the server's bytes, in
@@ -34,59 +65,83 @@ const USAGE: &[u8] = b"usage: flasharr talk | verify\n";
 ///
 /// `verify` reads a batch text and a certificate text, and prints `least R` or the first refusal.
 ///
-/// Other words print a line of usage.
-pub fn run<R: Read, W: Write>(alloc: Global, words: &[String], input: &mut R, output: &mut W) -> u8
-    ensures talk { map string_bytes words.now ≡ codes "talk" ∷ [] → IfSome (R.remaining input.old)
-        (λ text. RunsTalk TALK_SIZE (codes "disk") text (W.contents output.old) (W.contents output.new) result) }
-    ensures verify { map string_bytes words.now ≡ codes "verify" ∷ [] → IfSome (R.remaining input.old)
-        (λ text. RunsVerify text (W.contents output.old) (W.contents output.new) result) }
-    ensures other { map string_bytes words.now ≢ codes "talk" ∷ [] → map string_bytes words.now ≢ codes "verify" ∷ []
-        → (result ≡ 2) × ShowsUsage (W.contents output.old) (W.contents output.new) }
+/// Other arguments print a line of usage.
+pub fn run<R: Read, W: Write, A: Allocator + Copy>(
+    alloc: A,
+    arguments: &[String<A>],
+    input: &mut R,
+    output: &mut W,
+) -> u8
+    ensures { Runs (map string_bytes arguments.now) (record {
+      left_before = R.remaining input.old;
+      left_after = R.remaining input.new;
+      held_before = W.contents output.old;
+      held_after = W.contents output.new;
+    }) result }
 {
-    match command_of(words) {
-        Some(Command::Talk) => run_talk(alloc, input, output),
-        Some(Command::Verify) => run_verify(alloc, input, output),
+    match subcommand_of(arguments) {
+        Some(Subcommand::Talk) => run_talk(alloc, input, output),
+        Some(Subcommand::Verify) => run_verify(alloc, input, output),
         None => show_usage(output),
     }
 }
 
-/// What the program does where its words cannot be had, for the kind of the error: prints that there
-/// was no memory, status 1, or else, as where a word is not text, a line of usage, status 2.
-pub fn refuse_words<W: Write>(kind: ErrorKind, output: &mut W) -> u8
-    ensures memory { kind ≡ ErrorKind.OutOfMemory → Prints (codes "no memory" ++ 10 ∷ []) 1 (W.contents output.old) (W.contents output.new) result }
-    ensures other { kind ≢ ErrorKind.OutOfMemory → (result ≡ 2) × ShowsUsage (W.contents output.old) (W.contents output.new) }
+/// All of the arguments, as a list.
+fn listed<A: Allocator>(alloc: A, mut all: Args<A>) -> Result<Vec<String<A>, A>, AllocError>
+    ensures { IfOk result (λ list. list.items ≡ into_iter_items all) }
+{
+    let mut list = Vec::new(alloc);
+    'arguments: while let Some(argument) = all.next() {
+        list.push(argument)?;
+    }
+    Ok(list)
+}
+
+/// The arguments behind the program's name.
+fn behind_name<A: Allocator>(all: &[String<A>]) -> &[String<A>]
+    ensures { result.now ≡ drop 1 all.now }
+{
+    match all {
+        [_name, given @ ..] => given,
+        [] => &[],
+    }
+}
+
+/// What is done where the arguments cannot be had, for an error of this kind.
+fn refuse_arguments<W: Write>(kind: ErrorKind, output: &mut W) -> u8
+    ensures { RefusesArguments kind (W.contents output.old) (W.contents output.new) result }
 {
     match kind {
-        ErrorKind::OutOfMemory => refuse(output, NO_MEMORY),
+        ErrorKind::OutOfMemory => refuse_for_memory(output),
         _ => show_usage(output),
     }
 }
 
 /// Prints a line of usage.
 fn show_usage<W: Write>(output: &mut W) -> u8
-    ensures { (result ≡ 2) × ShowsUsage (W.contents output.old) (W.contents output.new) }
+    ensures { ShowsUsage (W.contents output.old) (W.contents output.new) result }
 {
     let _ = send_all(output, USAGE);
     FAULTY
 }
 
-/// The command that the words are.
-fn command_of(words: &[String]) -> Option<Command>
-    ensures { result ≡ command_in (map string_bytes words.now) }
+/// The command that the arguments are.
+fn subcommand_of<A: Allocator>(arguments: &[String<A>]) -> Option<Subcommand>
+    ensures { result ≡ subcommand_in (map string_bytes arguments.now) }
 {
-    match words {
-        [word] => named(word.as_str()),
+    match arguments {
+        [name] => named(name.as_str()),
         _ => None,
     }
 }
 
 /// The command of this name.
-fn named(word: &str) -> Option<Command>
-    ensures { result ≡ command_in (word.now ∷ []) }
+fn named(name: &str) -> Option<Subcommand>
+    ensures { result ≡ subcommand_in (name.now ∷ []) }
 {
-    match word {
-        "talk" => Some(Command::Talk),
-        "verify" => Some(Command::Verify),
+    match name {
+        "talk" => Some(Subcommand::Talk),
+        "verify" => Some(Subcommand::Verify),
         _ => None,
     }
 }

@@ -1,11 +1,13 @@
 //! The command `talk`.
-ghost use Rattle.std.specs.Prelude.{◌≡◌, IfOk, IfErr, IfSome, codes, string_bytes};
+ghost use Rattle.std.specs.Prelude.{◌≡◌, ◌⊎◌, IfOk, IfErr, codes, string_bytes};
 ghost use Rattle.fa_session.specs.Ends.{end_number};
 ghost use Rattle.fa_prog.specs.HexLines.{bytes_of_text, IsFault};
-ghost use Rattle.fa_prog.specs.Talk.{Talks, RunsTalk, talk_text as text_of, line_text as text_of_line};
+ghost use Rattle.fa_prog.specs.Output.{TellsNoMemory};
+ghost use Rattle.fa_prog.specs.Talk.{Talks, TellsTalk, RunsTalk, talk_text as text_of, line_text as text_of_line};
 
 use crate::hex_lines::{TextFault, read_hex_lines};
-use crate::output::{DONE, FAULTY, NO_MEMORY, print, refuse, refuse_input};
+use crate::input::read_input;
+use crate::output::{DONE, FAULTY, print, refuse_for_memory, refuse_input};
 use fa_session::{SessionEnd, serve_stream};
 use fa_types::MemBlocks;
 use std::alloc::{AllocError, Allocator};
@@ -23,20 +25,31 @@ pub(crate) fn run_talk<R: Read, W: Write, A: Allocator + Copy>(
     input: &mut R,
     output: &mut W,
 ) -> u8
-    ensures { IfSome (R.remaining input.old) (λ text. RunsTalk TALK_SIZE (codes "disk") text
-        (W.contents output.old) (W.contents output.new) result) }
+    ensures { RunsTalk TALK_SIZE (codes "disk") (record {
+      left_before = R.remaining input.old;
+      left_after = R.remaining input.new;
+      held_before = W.contents output.old;
+      held_after = W.contents output.new;
+    }) result }
 {
-    let mut text = Vec::new(alloc);
-    if let Err(error) = input.read_to_end(&mut text) {
-        return refuse_input(output, error.kind(), b"talk: cannot read\n");
+    match read_input(alloc, input) {
+        Ok(text) => tell_talk(alloc, &text, output),
+        Err(kind) => refuse_input(output, kind, b"talk: cannot read\n"),
     }
-    match talk(alloc, TALK_SIZE, &text) {
+}
+
+/// Prints the connection of the bytes that a text spells, or its first faulty line.
+fn tell_talk<W: Write, A: Allocator + Copy>(alloc: A, text: &[u8], output: &mut W) -> u8
+    ensures { TellsTalk TALK_SIZE (codes "disk") text.now (W.contents output.old) (W.contents output.new) result
+        ⊎ TellsNoMemory (W.contents output.old) (W.contents output.new) result }
+{
+    match talk(alloc, TALK_SIZE, text) {
         Ok(out) => print(output, DONE, out.as_bytes()),
         Err(TextFault::Line(line)) => match line_text(alloc, line) {
             Ok(told) => print(output, FAULTY, told.as_bytes()),
-            Err(AllocError) => refuse(output, NO_MEMORY),
+            Err(AllocError) => refuse_for_memory(output),
         },
-        Err(TextFault::NoMemory) => refuse(output, NO_MEMORY),
+        Err(TextFault::NoMemory) => refuse_for_memory(output),
     }
 }
 

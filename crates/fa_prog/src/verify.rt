@@ -1,11 +1,13 @@
 //! The command `verify`.
-ghost use Rattle.std.specs.Prelude.{◌≡◌, IfOk, IfErr, IfSome, string_bytes};
+ghost use Rattle.std.specs.Prelude.{◌≡◌, ◌⊎◌, IfOk, IfErr, string_bytes};
 ghost use Rattle.fa_cert.specs.Text.{IsTextError, words_by_line};
-ghost use Rattle.fa_prog.specs.Verify.{AreSomeTexts, IsJudged, RunsVerify, judged_status, judged_text};
+ghost use Rattle.fa_prog.specs.Output.{TellsNoMemory};
+ghost use Rattle.fa_prog.specs.Verify.{AreSomeTexts, IsJudged, TellsVerify, RunsVerify, judged_status, judged_text};
 
-use crate::output::{DONE, FAULTY, NO_MEMORY, REFUSED, print, refuse, refuse_input};
+use crate::input::read_input;
+use crate::output::{DONE, FAULTY, REFUSED, print, refuse_for_memory, refuse_input};
 use fa_cert::{TextError, Unsound, Verdict, check, read_batch, read_certificate};
-use std::alloc::{AllocError, Global};
+use std::alloc::{AllocError, Allocator};
 use std::io::{Read, Write};
 
 /// What comes of a batch text with a certificate text behind it.
@@ -21,24 +23,40 @@ enum Judged {
 
 /// The command `verify`: reads a batch text and a certificate text, and prints the verdict, or else
 /// the first line that is wrong, or what makes the batch unsound.
-pub(crate) fn run_verify<R: Read, W: Write>(alloc: Global, input: &mut R, output: &mut W) -> u8
-    ensures { IfSome (R.remaining input.old) (λ text. RunsVerify text (W.contents output.old) (W.contents output.new) result) }
+pub(crate) fn run_verify<R: Read, W: Write, A: Allocator + Copy>(
+    alloc: A,
+    input: &mut R,
+    output: &mut W,
+) -> u8
+    ensures { RunsVerify (record {
+      left_before = R.remaining input.old;
+      left_after = R.remaining input.new;
+      held_before = W.contents output.old;
+      held_after = W.contents output.new;
+    }) result }
 {
-    let mut text = Vec::new(alloc);
-    if let Err(error) = input.read_to_end(&mut text) {
-        return refuse_input(output, error.kind(), b"verify: cannot read\n");
+    match read_input(alloc, input) {
+        Ok(text) => tell_verify(alloc, &text, output),
+        Err(kind) => refuse_input(output, kind, b"verify: cannot read\n"),
     }
-    match judge(alloc, &text) {
+}
+
+/// Prints what a text comes to.
+fn tell_verify<W: Write, A: Allocator + Copy>(alloc: A, text: &[u8], output: &mut W) -> u8
+    ensures { TellsVerify text.now (W.contents output.old) (W.contents output.new) result
+        ⊎ TellsNoMemory (W.contents output.old) (W.contents output.new) result }
+{
+    match judge(alloc, text) {
         Ok(judged) => match told(alloc, &judged) {
             Ok(line) => print(output, status_of(&judged), line.as_bytes()),
-            Err(AllocError) => refuse(output, NO_MEMORY),
+            Err(AllocError) => refuse_for_memory(output),
         },
-        Err(AllocError) => refuse(output, NO_MEMORY),
+        Err(AllocError) => refuse_for_memory(output),
     }
 }
 
 /// Judges a batch text with a certificate text behind it. A fault of the texts is what they come to.
-fn judge(alloc: Global, text: &[u8]) -> Result<Judged, AllocError>
+fn judge<A: Allocator + Copy>(alloc: A, text: &[u8]) -> Result<Judged, AllocError>
     ensures { IfOk result (IsJudged text.now) }
 {
     match judge_texts(alloc, text) {
@@ -50,7 +68,7 @@ fn judge(alloc: Global, text: &[u8]) -> Result<Judged, AllocError>
 
 /// Reads both texts, and judges what they say. The faults of the texts come before those of the
 /// batch, and these before the check.
-fn judge_texts(alloc: Global, text: &[u8]) -> Result<Judged, TextError>
+fn judge_texts<A: Allocator + Copy>(alloc: A, text: &[u8]) -> Result<Judged, TextError>
     ensures judged { IfOk result (IsJudged text.now) }
     ensures fault { IfErr result (IsTextError AreSomeTexts 1 (words_by_line text.now)) }
 {
@@ -74,7 +92,7 @@ fn judge_texts(alloc: Global, text: &[u8]) -> Result<Judged, TextError>
 
 /// The line that is printed.
 #[tactic(auto, unfolding(crate::specs::Verify::judged_text))]
-fn told(alloc: Global, judged: &Judged) -> Result<String, AllocError>
+fn told<A: Allocator + Copy>(alloc: A, judged: &Judged) -> Result<String<A>, AllocError>
     ensures { IfOk result (λ line. string_bytes line ≡ judged_text judged.now) }
 {
     match judged {
@@ -86,7 +104,7 @@ fn told(alloc: Global, judged: &Judged) -> Result<String, AllocError>
 
 /// The line that is printed of a batch that is not sound.
 #[tactic(auto, unfolding(crate::specs::Verify::judged_text))]
-fn unsound_told(alloc: Global, unsound: Unsound) -> Result<String, AllocError>
+fn unsound_told<A: Allocator + Copy>(alloc: A, unsound: Unsound) -> Result<String<A>, AllocError>
     ensures { IfOk result (λ line. string_bytes line ≡ judged_text (Judged.Unsound unsound)) }
 {
     match unsound {

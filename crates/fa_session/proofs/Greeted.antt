@@ -1,204 +1,187 @@
 -- From the pieces of a handshake to the handshake.
 use Rattle.std.proofs.Common.{◌≡◌, ℕ, ◌<◌, List, [], ◌++◌, Option, Err, refl, sym, ap, ◌∙◌, subst, arith, append-nil, append_assoc, inl, inr}
-use Rattle.std.specs.Io.KnownBytes.{Consumes, Appends}
-use Rattle.std.proofs.KnownBytes.{Appends-trans, Consumes-trans, Consumes-nil}
-use Rattle.fa_nego.specs.Negotiation.{greeting_bytes, Next, GoesOn, Begins, Aborts, Closes, Negotiates}
-use Rattle.fa_nego.specs.Talk.{Talk, new_talk, IsAt, wanted, next_of, step_of}
-use Rattle.fa_nego.specs.declared.step.Step.TheVariants.{More, Go, Aborted as StepAborted, Closed as StepClosed}
+use Rattle.std.specs.Io.KnownBytes.{Appends}
+use Rattle.std.proofs.KnownBytes.{Consumes-nil}
+use Rattle.std.specs.List.{flat_map}
+use Rattle.fa_io.specs.Streams.{Streams, Reads, Writes, WritesPart, IsCut}
+use Rattle.fa_io.specs.declared.reading.ReadEnd.TheVariants.{EndOfInput, Failed, TooManyReads}
+use Rattle.fa_io.proofs.StreamLemmas.{between, IsNext, joined, Reads-joined, Writes-joined, missing-le}
+use Rattle.fa_nego.specs.Negotiation.{greeting_bytes, Negotiates}
+use Rattle.fa_nego.specs.NegoState.{NegoState, new_state, IsAt, wanted, step_of}
+use Rattle.fa_nego.specs.declared.step.Step.TheVariants.{More, Go, Aborted as AbortedByClient, Closed as ClosedByServer}
 use Rattle.fa_nego.specs.declared.step.CloseCause.{CloseCause}
 use Rattle.fa_nego.proofs.StageLaws.{starts, stage_negotiates, wants_until_over}
-use Rattle.fa_session.proofs.Cuts.{missing-le}
-use Rattle.fa_session.specs.Streams.{IsCut}
-use Rattle.std.specs.List.{flat_map}
 use Rattle.fa_types.specs.Store.{Call, Answer}
+use Rattle.fa_session.specs.Ends.{end_of_hearing}
 use Rattle.fa_session.specs.Exchanges.{heard_of, Transmitted}
 use Rattle.fa_session.specs.Session.{Moment, EndsEarly, Greets, Session}
-use Rattle.fa_session.specs.Serving.{Sends}
-use Rattle.fa_session.specs.Handshake.{HearsPiece, Hears}
+use Rattle.fa_session.specs.Handshake.{HearsPiece, HearsOnce}
+use Rattle.fa_session.specs.declared.stream_end.HearEnd.{HearEnd}
+use Rattle.fa_session.specs.declared.stream_end.HearEnd.TheVariants.{Unread, Unsent, NoMemory}
 use Rattle.fa_session.specs.declared.session_end.SessionEnd.{SessionEnd}
-use Rattle.fa_session.specs.declared.session_end.SessionEnd.TheVariants.{Disconnected, Aborted, Closed, InputEnded, ReadFailed, WriteFailed, NoMemory}
+use Rattle.fa_session.specs.declared.session_end.SessionEnd.TheVariants.{Aborted, Closed, WriteFailed}
 
--- The handshake so far: what was heard was consumed, and what was said was written whole.
-pub record IsHeard (export : List ℕ) (size : ℕ) (left_old left_new held_old held_new : Option (List ℕ)) (talk : Talk) : Type 0 where
+-- The handshake so far: what was heard was read, and what was said was written whole.
+pub record IsHeard (export : List ℕ) (size : ℕ) (streams : Streams) (state : NegoState) : Type 0 where
   pub heard : List ℕ
   pub said : List ℕ
-  pub same_export : talk.export ≡ export
-  pub same_size : talk.size ≡ size
-  pub at : IsAt talk heard said
-  pub consumed : Consumes left_old left_new heard
-  pub appended : Appends held_old held_new (greeting_bytes ++ said)
+  pub same_export : state.export ≡ export
+  pub same_size : state.size ≡ size
+  pub at : IsAt state heard said
+  pub was_read : Reads streams heard
+  pub was_written : Writes streams (greeting_bytes ++ said)
 
 -- a negotiation that goes on wants more
-pub wants-more : (talk : Talk) (heard said : List ℕ) → IsAt talk heard said → next_of talk.stage ≡ GoesOn → 0 < wanted talk.stage
-wants-more talk heard said at goes_on = Positive (wanted talk.stage) (λ none. (wants_until_over talk heard said at).0 none goes_on)
+pub wants-more : (state : NegoState) (heard said : List ℕ) → IsAt state heard said → step_of state.stage ≡ More → 0 < wanted state.stage
+wants-more state heard said at goes_on = Positive (wanted state.stage) (λ none. (wants_until_over state heard said at).0 none goes_on)
   where
     Positive : (n : ℕ) → (n ≡ 0 → ⊥) → 0 < n
     Positive n some = omega (arith, some)
 
--- the step that is told of what comes next
-pub next-go : (next : Next) → step_of next ≡ Go → next ≡ Begins
-next-go GoesOn told = cc
-next-go Begins told = refl
-next-go Aborts told = cc
-next-go (Closes cause) told = cc
-
-pub next-more : (next : Next) → step_of next ≡ More → next ≡ GoesOn
-next-more GoesOn told = refl
-next-more Begins told = cc
-next-more Aborts told = cc
-next-more (Closes cause) told = cc
-
-pub next-aborted : (next : Next) → step_of next ≡ StepAborted → next ≡ Aborts
-next-aborted GoesOn told = cc
-next-aborted Begins told = cc
-next-aborted Aborts told = refl
-next-aborted (Closes cause) told = cc
-
-pub next-closed : (next : Next) → step_of next ≡ StepClosed → (cause : CloseCause) × (next ≡ Closes cause)
-next-closed GoesOn told = cc
-next-closed Begins told = cc
-next-closed Aborts told = cc
-next-closed (Closes cause) told = (cause, refl)
-
 module _ (export : List ℕ) (size : ℕ) where
   -- how the negotiation stands, for this export
-  negotiates-at : (talk : Talk) (heard said : List ℕ) → talk.export ≡ export → talk.size ≡ size → IsAt talk heard said → Negotiates export size heard said (next_of talk.stage)
-  negotiates-at talk heard said same_export same_size at =
-      subst (λ e. Negotiates e size heard said (next_of talk.stage)) same_export (subst (λ n. Negotiates talk.export n heard said (next_of talk.stage)) same_size (stage_negotiates talk heard said at))
+  negotiates-at : (state : NegoState) (heard said : List ℕ) → state.export ≡ export → state.size ≡ size → IsAt state heard said → Negotiates export size heard said (step_of state.stage)
+  negotiates-at state heard said same_export same_size at =
+      subst (λ e. Negotiates e size heard said (step_of state.stage)) same_export (subst (λ n. Negotiates state.export n heard said (step_of state.stage)) same_size (stage_negotiates state heard said at))
+
+  -- the greeting was written, and nothing was heard
+  pub IsHeard-greeted : (a h k : Option (List ℕ)) (first : List ℕ) (state : NegoState) → first ≡ greeting_bytes → Appends h k first → state ≡ new_state export size → IsHeard export size (between a a h k) state
+  IsHeard-greeted a h k first state greets written new = subst (IsHeard export size (between a a h k)) (sym new) (record {
+    heard = [];
+    said = [];
+    same_export = refl;
+    same_size = refl;
+    at = starts export size;
+    was_read = Consumes-nil a;
+    was_written = subst (Appends h k) (greets ∙ sym (append-nil greeting_bytes)) written;
+  })
 
   -- one more piece was heard and answered
-  pub IsHeard-more : (a b c h k l : Option (List ℕ)) (old new : Talk) → IsHeard export size a b h k old → new.export ≡ old.export → new.size ≡ old.size → HearsPiece b c old new (Appends k l) → IsHeard export size a c h l new
-  IsHeard-more a b c h k l old new far same_export same_size piece = record {
+  pub IsHeard-more : (s t : Streams) (old new : NegoState) → IsNext s t → IsHeard export size s old → new.export ≡ old.export → new.size ≡ old.size → HearsPiece t old new (Writes t) → IsHeard export size (joined s t) new
+  IsHeard-more s t old new next far same_export same_size piece = record {
     heard = far.heard ++ piece.piece;
     said = far.said ++ piece.latest;
     same_export = same_export ∙ far.same_export;
     same_size = same_size ∙ far.same_size;
     at = piece.answered far.heard far.said far.at;
-    consumed = Consumes-trans a b c far.heard piece.piece far.consumed piece.consumed;
-    appended = subst (Appends h l) (append_assoc greeting_bytes far.said piece.latest) (Appends-trans h k l (greeting_bytes ++ far.said) piece.latest far.appended piece.replied);
+    was_read = Reads-joined s t far.heard piece.piece next far.was_read piece.was_read;
+    was_written = subst (Writes (joined s t)) (append_assoc greeting_bytes far.said piece.latest) (Writes-joined s t (greeting_bytes ++ far.said) piece.latest next far.was_written piece.replied);
   }
 
   -- transmission begins
-  pub Greets-at : (a b h k : Option (List ℕ)) (talk : Talk) → IsHeard export size a b h k talk → next_of talk.stage ≡ Begins → Greets export size a b h k
-  Greets-at a b h k talk far begins = record {
+  pub Greets-at : (s : Streams) (state : NegoState) → IsHeard export size s state → step_of state.stage ≡ Go → Greets export size s
+  Greets-at s state far begins = record {
     heard = far.heard;
     said = far.said;
-    negotiates = subst (Negotiates export size far.heard far.said) begins (negotiates-at talk far.heard far.said far.same_export far.same_size far.at);
-    consumed = far.consumed;
-    appended = far.appended;
+    negotiates = subst (Negotiates export size far.heard far.said) begins (negotiates-at state far.heard far.said far.same_export far.same_size far.at);
+    was_read = far.was_read;
+    was_written = far.was_written;
   }
 
   -- a moment at which all that was said is written
-  whole : (a b h k : Option (List ℕ)) (talk : Talk) (unheard : List ℕ) (c : Option (List ℕ)) → (far : IsHeard export size a b h k talk) → Consumes b c unheard → Moment export size a c h k
-  whole a b h k talk unheard c far more = record {
+  whole : (s : Streams) (state : NegoState) → IsHeard export size s state → Moment export size s
+  whole s state far = record {
     heard = far.heard;
     said = far.said;
-    next = next_of talk.stage;
+    next = step_of state.stage;
+    unheard = [];
+    written = greeting_bytes ++ far.said;
+    missing = [];
+    negotiates = negotiates-at state far.heard far.said far.same_export far.same_size far.at;
+    was_read = subst (Reads s) (sym (append-nil far.heard)) far.was_read;
+    was_written = far.was_written;
+    output = append-nil (greeting_bytes ++ far.said);
+  }
+
+  -- a moment after which some bytes were read, and not heard
+  stopped : (s t : Streams) (state : NegoState) (unheard : List ℕ) → IsNext s t → IsHeard export size s state → Reads t unheard → Writes t [] → Moment export size (joined s t)
+  stopped s t state unheard next far read written = record {
+    heard = far.heard;
+    said = far.said;
+    next = step_of state.stage;
     unheard = unheard;
     written = greeting_bytes ++ far.said;
     missing = [];
-    negotiates = negotiates-at talk far.heard far.said far.same_export far.same_size far.at;
-    consumed = Consumes-trans a b c far.heard unheard far.consumed more;
-    appended = far.appended;
+    negotiates = negotiates-at state far.heard far.said far.same_export far.same_size far.at;
+    was_read = Reads-joined s t far.heard unheard next far.was_read read;
+    was_written = subst (Writes (joined s t)) (append-nil (greeting_bytes ++ far.said)) (Writes-joined s t (greeting_bytes ++ far.said) [] next far.was_written written);
     output = append-nil (greeting_bytes ++ far.said);
   }
 
   -- a moment at which the end of the last answer is not written
-  cut : (a b c h k l : Option (List ℕ)) (old new : Talk) → IsHeard export size a b h k old → new.export ≡ old.export → new.size ≡ old.size → HearsPiece b c old new (IsCut k l) → Moment export size a c h l
-  cut a b c h k l old new far same_export same_size piece = record {
+  cut : (s t : Streams) (old new : NegoState) → IsNext s t → IsHeard export size s old → new.export ≡ old.export → new.size ≡ old.size → HearsPiece t old new (WritesPart t) → Moment export size (joined s t)
+  cut s t old new next far same_export same_size piece = record {
     heard = far.heard ++ piece.piece;
     said = far.said ++ piece.latest;
-    next = next_of new.stage;
+    next = step_of new.stage;
     unheard = [];
     written = greeting_bytes ++ far.said ++ piece.replied.sent;
     missing = piece.replied.missing;
     negotiates = negotiates-at new (far.heard ++ piece.piece) (far.said ++ piece.latest) (same_export ∙ far.same_export) (same_size ∙ far.same_size) (piece.answered far.heard far.said far.at);
-    consumed = subst (Consumes a c) (sym (append-nil (far.heard ++ piece.piece))) (Consumes-trans a b c far.heard piece.piece far.consumed piece.consumed);
-    appended = Appends-trans h k l (greeting_bytes ++ far.said) piece.replied.sent far.appended piece.replied.appended;
+    was_read = subst (Reads (joined s t)) (sym (append-nil (far.heard ++ piece.piece))) (Reads-joined s t far.heard piece.piece next far.was_read piece.was_read);
+    was_written = Writes-joined s t (greeting_bytes ++ far.said) piece.replied.sent next far.was_written piece.replied.appended;
     output =
         append_assoc (greeting_bytes ++ far.said) piece.replied.sent piece.replied.missing
         ∙ ap (λ end. greeting_bytes ++ far.said ++ end) (sym piece.replied.all)
         ∙ append_assoc greeting_bytes far.said piece.latest;
   }
 
-  -- the bytes of nothing more
-  held-still : (h k l : Option (List ℕ)) (xs : List ℕ) → Appends h k xs → Appends k l [] → Appends h l xs
-  held-still h k l xs first second = subst (Appends h l) (append-nil xs) (Appends-trans h k l xs [] first second)
-
-  still : (a b h k l : Option (List ℕ)) (talk new : Talk) → IsHeard export size a b h k talk → new ≡ talk → Appends k l [] → IsHeard export size a b h l talk
-  still a b h k l talk new far same more = record {
-    heard = far.heard;
-    said = far.said;
-    same_export = far.same_export;
-    same_size = far.same_size;
-    at = far.at;
-    consumed = far.consumed;
-    appended = held-still h k l (greeting_bytes ++ far.said) far.appended more;
-  }
-
   -- hearing ends the connection
-  pub EndsEarly-hears : (a b c h k l : Option (List ℕ)) (old new : Talk) (end : SessionEnd) → IsHeard export size a b h k old → next_of old.stage ≡ GoesOn → new.export ≡ old.export → new.size ≡ old.size → Hears b c k l old new (Err end) → EndsEarly export size a c h l end
-  unfolding whole cut still
-  EndsEarly-hears a b c h k l old new WriteFailed far goes_on same_export same_size heard = (
-    cut a b c h k l old new far same_export same_size heard,
+  pub EndsEarly-hears : (s t : Streams) (old new : NegoState) (end : HearEnd) → IsNext s t → IsHeard export size s old → step_of old.stage ≡ More → new.export ≡ old.export → new.size ≡ old.size
+      → HearsOnce t old new (Err end) → EndsEarly export size (joined s t) (end_of_hearing end)
+  unfolding stopped cut
+  EndsEarly-hears s t old new (Unsent failed) next far goes_on same_export same_size heard = (
+    cut s t old new next far same_export same_size heard,
     (
       refl,
       heard.replied.some_missing,
-      inr (far.heard, heard.piece, far.said, heard.latest, (old, far.same_export, far.same_size, far.at, heard.not_long), refl, refl, missing-le k l heard.latest heard.replied),
+      inr (far.heard, heard.piece, far.said, heard.latest, (old, far.same_export, far.same_size, far.at, heard.not_long), refl, refl, missing-le t.held_before t.held_after heard.latest heard.replied),
     ),
   )
-  EndsEarly-hears a b c h k l old new InputEnded far goes_on same_export same_size heard =
-      (whole a b h l old [] c (still a b h k l old new far heard.3 heard.2) heard.0, (refl, refl, goes_on, heard.1))
-  EndsEarly-hears a b c h k l old new ReadFailed far goes_on same_export same_size heard =
-      (whole a b h l old [] c (still a b h k l old new far heard.2 heard.1) heard.0, (refl, refl, goes_on))
-  EndsEarly-hears a b c h k l old new NoMemory far goes_on same_export same_size heard = (
-    whole a b h l old heard.0.0 c (still a b h k l old new far heard.2 heard.1) heard.0.2,
+  EndsEarly-hears s t old new (Unread EndOfInput) next far goes_on same_export same_size heard =
+      (stopped s t old [] next far heard.0 heard.2, (refl, refl, goes_on, heard.1))
+  EndsEarly-hears s t old new (Unread (Failed fault)) next far goes_on same_export same_size heard =
+      (stopped s t old [] next far heard.0 heard.2, (refl, refl, goes_on))
+  EndsEarly-hears s t old new (Unread TooManyReads) next far goes_on same_export same_size heard =
+      (stopped s t old [] next far heard.0 heard.2, (refl, refl, goes_on))
+  EndsEarly-hears s t old new NoMemory next far goes_on same_export same_size heard = (
+    stopped s t old heard.0.0 next far heard.0.2 heard.1,
     (refl, goes_on, (old, far.same_export, far.same_size, far.at, heard.0.1)),
   )
-  EndsEarly-hears a b c h k l old new Disconnected far goes_on same_export same_size heard = absurd heard
-  EndsEarly-hears a b c h k l old new Aborted far goes_on same_export same_size heard = absurd heard
-  EndsEarly-hears a b c h k l old new Closed far goes_on same_export same_size heard = absurd heard
 
   -- an option or the flags end the connection
-  pub EndsEarly-aborted : (a b h k : Option (List ℕ)) (talk : Talk) → IsHeard export size a b h k talk → next_of talk.stage ≡ Aborts → EndsEarly export size a b h k Aborted
+  pub EndsEarly-aborted : (s : Streams) (state : NegoState) → IsHeard export size s state → step_of state.stage ≡ AbortedByClient → EndsEarly export size s Aborted
   unfolding whole
-  EndsEarly-aborted a b h k talk far aborts = (whole a b h k talk [] b far (Consumes-nil b), (refl, refl, aborts))
+  EndsEarly-aborted s state far aborts = (whole s state far, (refl, refl, aborts))
 
-  pub EndsEarly-closed : (a b h k : Option (List ℕ)) (talk : Talk) → IsHeard export size a b h k talk → (cause : CloseCause) × (next_of talk.stage ≡ Closes cause) → EndsEarly export size a b h k Closed
+  pub EndsEarly-closed : (s : Streams) (state : NegoState) (cause : CloseCause) → IsHeard export size s state → step_of state.stage ≡ ClosedByServer cause → EndsEarly export size s Closed
   unfolding whole
-  EndsEarly-closed a b h k talk far closes = (whole a b h k talk [] b far (Consumes-nil b), (refl, refl, closes))
+  EndsEarly-closed s state cause far closes = (whole s state far, (refl, refl, (cause, closes)))
 
   -- the greeting is not written whole
-  greeting-cut : (a h k : Option (List ℕ)) → (part : IsCut h k greeting_bytes) → Moment export size a a h k
+  greeting-cut : (a h k : Option (List ℕ)) → (part : IsCut h k greeting_bytes) → Moment export size (between a a h k)
   greeting-cut a h k part = record {
     heard = [];
     said = [];
-    next = GoesOn;
+    next = More;
     unheard = [];
     written = part.sent;
     missing = part.missing;
-    negotiates = stage_negotiates (new_talk export size) [] [] (starts export size);
-    consumed = Consumes-nil a;
-    appended = part.appended;
+    negotiates = stage_negotiates (new_state export size) [] [] (starts export size);
+    was_read = Consumes-nil a;
+    was_written = part.appended;
     output = sym part.all ∙ sym (append-nil greeting_bytes);
   }
 
-  greeting-sends : (a h k : Option (List ℕ)) (end : SessionEnd) → Sends h k greeting_bytes (Err end) → EndsEarly export size a a h k end
+  pub EndsEarly-greeting : (a h k : Option (List ℕ)) (first : List ℕ) → first ≡ greeting_bytes → IsCut h k first → EndsEarly export size (between a a h k) WriteFailed
   unfolding greeting-cut
-  greeting-sends a h k WriteFailed sends = (greeting-cut a h k sends, (refl, sends.some_missing, inl (refl, refl)))
-  greeting-sends a h k Disconnected sends = absurd sends
-  greeting-sends a h k Aborted sends = absurd sends
-  greeting-sends a h k Closed sends = absurd sends
-  greeting-sends a h k InputEnded sends = absurd sends
-  greeting-sends a h k ReadFailed sends = absurd sends
-  greeting-sends a h k NoMemory sends = absurd sends
-
-  pub EndsEarly-greeting : (a h k : Option (List ℕ)) (first : List ℕ) (end : SessionEnd) → first ≡ greeting_bytes → Sends h k first (Err end) → EndsEarly export size a a h k end
-  EndsEarly-greeting a h k first end greets sends = greeting-sends a h k end (subst (λ bytes. Sends h k bytes (Err end)) greets sends)
+  EndsEarly-greeting a h k first greets part =
+      let known : IsCut h k greeting_bytes = subst (IsCut h k) greets part in
+      (greeting-cut a h k known, (refl, known.some_missing, inl (refl, refl)))
 
   -- after the handshake, transmission
-  pub Session-transmits : {S : Type 0} (made : S → Call → Answer → S → Type 0) (a b c h k l : Option (List ℕ)) (s t : S) (end : SessionEnd) → Greets export size a b h k → Transmitted made size b c k l s t end → Session made export size a c h l s t end
-  Session-transmits made a b c h k l s t end greets rest = inr (record {
+  pub Session-transmits : {S : Type 0} (made : S → Call → Answer → S → Type 0) (s t : Streams) (before after : S) (end : SessionEnd) → IsNext s t → Greets export size s → Transmitted made size t before after end → Session made export size (joined s t) before after end
+  Session-transmits made s t before after end next greets rest = inr (record {
     heard = greets.heard;
     said = greets.said;
     exchanges = rest.exchanges;
@@ -206,8 +189,8 @@ module _ (export : List ℕ) (size : ℕ) where
     written = greeting_bytes ++ greets.said ++ rest.written;
     missing = rest.missing;
     negotiates = greets.negotiates;
-    consumed = Consumes-trans a b c greets.heard (flat_map heard_of rest.exchanges ++ rest.last) greets.consumed rest.consumed;
-    appended = Appends-trans h k l (greeting_bytes ++ greets.said) rest.written greets.appended rest.appended;
+    was_read = Reads-joined s t greets.heard (flat_map heard_of rest.exchanges ++ rest.last) next greets.was_read rest.was_read;
+    was_written = Writes-joined s t (greeting_bytes ++ greets.said) rest.written next greets.was_written rest.was_written;
     output = append_assoc (greeting_bytes ++ greets.said) rest.written rest.missing ∙ ap (λ end. greeting_bytes ++ greets.said ++ end) rest.output;
     right = rest.right;
     asked = rest.asked;

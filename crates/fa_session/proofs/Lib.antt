@@ -1,4 +1,3 @@
-pub mod Cuts
 pub mod Greeted
 pub mod OneReading
 pub mod Served

@@ -1,11 +1,14 @@
--- The bytes of a client have one reading as requests.
+-- The bytes of a client have one reading: as a handshake, and as requests.
 use Rattle.std.proofs.Common.{◌≡◌, ℕ, List, [], ◌∷◌, ◌++◌, length, take, map, refl, sym, ap, ◌∙◌, arith, append_assoc, append-nil, length-append, inl, inr}
 use Rattle.std.proofs.lemmas.List.{take-append-le}
 use Rattle.std.specs.List.{flat_map, AllByRecursion}
 use Rattle.fa_cmds.specs.declared.request.Request.{Request}
 use Rattle.fa_cmds.specs.declared.decision.Decision.TheVariants.{Disconnect as Leave}
 use Rattle.fa_cmds.specs.Requests.{request_bytes, body_length, decision}
-use Rattle.fa_types.proofs.Bytes.{append-parts}
+use Rattle.fa_nego.specs.Negotiation.{Negotiates}
+use Rattle.fa_nego.specs.declared.step.Step.TheVariants.{Go}
+use Rattle.fa_nego.proofs.OneHandshake.{one_handshake}
+use Rattle.fa_types.proofs.BigEndian.{append-parts}
 use Rattle.fa_cmds.proofs.Spelling.{length-request_bytes, take-request_bytes, one_request-ahead}
 use Rattle.fa_session.specs.Exchanges.{Exchange, Outcome, Asked, NotAsked, NoneForData, MayCome, IsExchange, heard_of, asked_of, IsRest}
 
@@ -52,3 +55,16 @@ one_reading size (e ∷ es) (f ∷ fs) last rest left right ends ends' same =
     let bodies = append-parts e.body behind-e f.body behind-f (left.0.whole_body ∙ ap body_length one.0 ∙ sym right.0.whole_body) one.1 in
     let others = one_reading size es fs last rest left.1 right.1 ends ends' bodies.1 in
     (ap (λ r. (r, e.body) ∷ map asked_of es) one.0 ∙ ap (λ b. (f.request, b) ∷ map asked_of es) bodies.0 ∙ ap (λ t. asked_of f ∷ t) others.0, others.1)
+
+-- the same, from the first byte of a connection on
+pub one_connection : (export : List ℕ) (size : ℕ) (heard heard' said said' : List ℕ) (es fs : List Exchange) (last rest : List ℕ) → Negotiates export size heard said Go → Negotiates export size heard' said' Go
+    → AllByRecursion (IsExchange size) es → AllByRecursion (IsExchange size) fs → IsRest size last → IsRest size rest
+    → heard ++ (flat_map heard_of es ++ last) ≡ heard' ++ (flat_map heard_of fs ++ rest)
+    → (heard ≡ heard') × (said ≡ said') × (map asked_of es ≡ map asked_of fs) × (last ≡ rest)
+one_connection export size heard heard' said said' es fs last rest is is' left right ends ends' same =
+    let behind-e : List ℕ = flat_map heard_of es ++ last in
+    let behind-f : List ℕ = flat_map heard_of fs ++ rest in
+    let one = one_handshake export size heard heard' behind-e behind-f said said' Go Go is is' (λ more. cc) (λ more. cc) same in
+    let behind = append-parts heard behind-e heard' behind-f (ap length one.0) same in
+    let requests = one_reading size es fs last rest left right ends ends' behind.1 in
+    (one.0, one.1, requests.0, requests.1)

@@ -1,43 +1,44 @@
 -- From the parts of an exchange to the exchange, and from exchanges to transmission.
 use Rattle.std.proofs.Common.{◌≡◌, ℕ, ◌<◌, List, [], ◌∷◌, ◌++◌, length, take, Option, Some, Result, Ok, Err, if◌then◌else◌, refl, sym, ap, ◌∙◌, subst, arith, append-nil, append_assoc, inl, inr}
-use Rattle.std.specs.Result.{IsErr}
 use Rattle.std.specs.List.{flat_map, AllByRecursion}
-use Rattle.std.specs.Io.KnownBytes.{Consumes, Appends}
-use Rattle.std.proofs.KnownBytes.{Appends-nil, Appends-trans, Consumes-trans, Consumes-nil}
+use Rattle.std.specs.Io.KnownBytes.{Consumes}
+use Rattle.std.proofs.KnownBytes.{Appends-nil, Consumes-trans, Consumes-nil}
 use Rattle.std.proofs.lemmas.List.{length-take-le}
 use Rattle.std.proofs.lemmas.List.Concat.{flat_map-append}
+use Rattle.fa_io.specs.Streams.{Streams, Reads, Writes, EndsReading, Fills, Skips}
+use Rattle.fa_io.specs.declared.reading.ReadEnd.{ReadEnd}
+use Rattle.fa_io.specs.declared.reading.ReadEnd.TheVariants.{EndOfInput, Failed, TooManyReads}
+use Rattle.fa_io.specs.declared.sending.SendFailed.{SendFailed}
+use Rattle.fa_io.proofs.StreamLemmas.{between, IsNext, joined, Reads-joined, Writes-joined, missing-le}
 use Rattle.fa_types.specs.Store.{Call, Reading, Writing, Answer}
-use Rattle.fa_session.proofs.Cuts.{missing-le}
 use Rattle.fa_cmds.specs.declared.request.Request.{Request}
 use Rattle.fa_cmds.specs.declared.reply.ReplyCode.{ReplyCode}
 use Rattle.fa_cmds.specs.Requests.{IsRequest, request_bytes, body_length, reply_bytes, is_fua, is_write}
 use Rattle.fa_cmds.specs.declared.request.Command.TheVariants.{Read, Write}
-use Rattle.fa_session.specs.Streams.{Fills, Skips, end_of}
-use Rattle.fa_session.specs.Exchanges.{Outcome, Exchange, call_of, MayCome, IsExchange, heard_of, reply_of, reply_to, Makes, Chain, EndsTransmission, Transmitted}
-use Rattle.fa_session.specs.Serving.{Sends, IsWholeBody, Declines, Answers, IsServed, Serves}
-use Rattle.fa_session.specs.declared.streams.Filled.{Filled}
-use Rattle.fa_session.specs.declared.streams.Filled.TheVariants.{Whole, EndedAt, FailedAt}
+use Rattle.fa_session.specs.Ends.{end_of_read, end_of_stream}
+use Rattle.fa_session.specs.Exchanges.{Outcome, Exchange, call_of, MayCome, IsExchange, heard_of, reply_of, reply_to, Makes, Chain, IsPartOfRequest, EndsTransmission, Transmitted}
+use Rattle.fa_session.specs.Serving.{ReadsBody, StopsInBody, Declines, AnswersRequest, AsksStore, IsServed}
+use Rattle.fa_session.specs.declared.stream_end.StreamEnd.{StreamEnd}
+use Rattle.fa_session.specs.declared.stream_end.StreamEnd.TheVariants.{Unread, Unsent}
 use Rattle.fa_session.specs.declared.session_end.SessionEnd.{SessionEnd}
 use Rattle.fa_session.specs.declared.session_end.SessionEnd.TheVariants.{Disconnected, Aborted, Closed, InputEnded, ReadFailed, WriteFailed, NoMemory}
 
--- a body whose bytes stop coming while they are dropped
-pub Declines-stopped : (r : Request) (code : ReplyCode) (a b h : Option (List ℕ)) (filled : Filled) → Skips a b (body_length r) filled → IsErr (end_of filled) → Declines r code a b h h (end_of filled)
-Declines-stopped r code a b h Whole skips err = cc
-Declines-stopped r code a b h (EndedAt n) skips err =
-    ((skips.2.0, subst (λ m. m < body_length r) (sym skips.2.1) skips.0, skips.2.2), skips.1, Appends-nil h)
-Declines-stopped r code a b h (FailedAt n) skips err =
-    ((skips.1.0, subst (λ m. m < body_length r) (sym skips.1.1) skips.0, skips.1.2), Appends-nil h)
+-- transmission ends in part of a request where no byte comes
+unread : (size : ℕ) (last : List ℕ) (left : Option (List ℕ)) (end : ReadEnd) → IsPartOfRequest last → EndsReading end left → EndsTransmission size [] last [] left (end_of_read end)
+unread size last left EndOfInput part at_end = (refl, part, at_end)
+unread size last left (Failed fault) part any = (refl, part)
+unread size last left TooManyReads part any = (refl, part)
 
--- a body that was dropped whole, and then the reply
-pub Declines-sent : (r : Request) (code : ReplyCode) (a b h k : Option (List ℕ)) (res : Result (Unit {0}) SessionEnd) → Skips a b (body_length r) Whole → Sends h k (reply_bytes code r.cookie) res → Declines r code a b h k res
-Declines-sent r code a b h k (Ok done) skips sends = ((skips.0, (skips.1, skips.2)), sends)
-Declines-sent r code a b h k (Err WriteFailed) skips sends = ((skips.0, (skips.1, skips.2)), sends)
-Declines-sent r code a b h k (Err Disconnected) skips sends = absurd sends
-Declines-sent r code a b h k (Err Aborted) skips sends = absurd sends
-Declines-sent r code a b h k (Err Closed) skips sends = absurd sends
-Declines-sent r code a b h k (Err InputEnded) skips sends = absurd sends
-Declines-sent r code a b h k (Err ReadFailed) skips sends = absurd sends
-Declines-sent r code a b h k (Err NoMemory) skips sends = absurd sends
+-- data whose bytes stop coming while they are dropped
+pub StopsInBody-skips : (r : Request) (a b h : Option (List ℕ)) (end : ReadEnd) → Skips a b (body_length r) (Err end) → StopsInBody r (between a b h h) end
+StopsInBody-skips r a b h end skips = (skips.0, skips.1, Appends-nil h)
+
+-- data whose bytes stop coming
+pub StopsInBody-fills : (r : Request) (a b h : Option (List ℕ)) (body : List ℕ) (end : ReadEnd) → length body ≡ body_length r → Fills a b body (Err end) → StopsInBody r (between a b h h) end
+StopsInBody-fills r a b h body end whole fills =
+    let n = fills.0.0 in
+    let e = length-take-le n body (omega (arith, fills.0.1)) in
+    ((take n body, omega (arith, e, whole, fills.0.1), fills.0.2), fills.1, Appends-nil h)
 
 -- what a READ and a WRITE ask for
 pub call_of-read : (r : Request) (body : List ℕ) → r.command ≡ Read → call_of r.command r body ≡ Some (Reading r.offset r.length)
@@ -55,10 +56,10 @@ body_length-write r write = ap (λ command. if is_write command then r.length el
 
 module _ {S : Type 0} (made : S → Call → Answer → S → Type 0) (size : ℕ) (r : Request) where
   -- a request that is declined, and why that is right
-  pub Answers-declined : (a b h k : Option (List ℕ)) (s : S) (code : ReplyCode) (outcome : Outcome) (res : Result (Unit {0}) SessionEnd)
-      → ((body : List ℕ) → MayCome size r body outcome) → reply_of r.cookie outcome ≡ reply_bytes code r.cookie → Makes made s outcome s
-      → Declines r code a b h k res → Answers made size r a b h k s s res
-  Answers-declined a b h k s code outcome (Ok done) right same asked declines = record {
+  pub AnswersRequest-declined : (s : Streams) (store : S) (code : ReplyCode) (outcome : Outcome) (res : Result (Unit {0}) StreamEnd)
+      → ((body : List ℕ) → MayCome size r body outcome) → reply_of r.cookie outcome ≡ reply_bytes code r.cookie → Makes made store outcome store
+      → Declines r code s res → AnswersRequest made size r s store store res
+  AnswersRequest-declined s store code outcome (Ok done) right same asked declines = record {
     body = declines.0.0;
     outcome = outcome;
     whole = declines.0.1;
@@ -66,7 +67,7 @@ module _ {S : Type 0} (made : S → Call → Answer → S → Type 0) (size : �
     asked = asked;
     replied = rw same declines.1;
   }
-  Answers-declined a b h k s code outcome (Err WriteFailed) right same asked declines = record {
+  AnswersRequest-declined s store code outcome (Err (Unsent failed)) right same asked declines = record {
     body = declines.0.0;
     outcome = outcome;
     whole = declines.0.1;
@@ -74,100 +75,83 @@ module _ {S : Type 0} (made : S → Call → Answer → S → Type 0) (size : �
     asked = asked;
     replied = rw same declines.1;
   }
-  Answers-declined a b h k s code outcome (Err InputEnded) right same asked declines = (declines.0, declines.1, declines.2, refl)
-  Answers-declined a b h k s code outcome (Err ReadFailed) right same asked declines = (declines.0, declines.1, refl)
-  Answers-declined a b h k s code outcome (Err Disconnected) right same asked declines = absurd declines
-  Answers-declined a b h k s code outcome (Err Aborted) right same asked declines = absurd declines
-  Answers-declined a b h k s code outcome (Err Closed) right same asked declines = absurd declines
-  Answers-declined a b h k s code outcome (Err NoMemory) right same asked declines = absurd declines
+  AnswersRequest-declined s store code outcome (Err (Unread end)) right same asked declines = (declines, refl)
 
-  part : (body : List ℕ) (n : ℕ) → length body ≡ body_length r → n < length body → length (take n body) < body_length r
-  part body n whole below = let e = length-take-le n body (omega arith) in omega (arith, e, whole)
+  -- the data was read, and the store was asked
+  pub AnswersRequest-asked : (a b h k : Option (List ℕ)) (before after : S) (body : List ℕ) → ReadsBody r (between a b h k) body → AsksStore made size r body h k before after (Ok tt) → AnswersRequest made size r (between a b h k) before after (Ok tt)
+  AnswersRequest-asked a b h k before after body whole asks = record {
+    body = body;
+    outcome = asks.outcome;
+    whole = whole;
+    right = asks.right;
+    asked = asks.asked;
+    replied = asks.replied;
+  }
 
-  -- a body whose bytes stop coming
-  pub Answers-stopped : (a b h : Option (List ℕ)) (s : S) (body : List ℕ) (filled : Filled) → length body ≡ body_length r → Fills a b body filled → IsErr (end_of filled) → Answers made size r a b h h s s (end_of filled)
-  Answers-stopped a b h s body Whole whole fills err = cc
-  Answers-stopped a b h s body (EndedAt n) whole fills err =
-      ((take n body, part body n whole fills.0, fills.2), fills.1, Appends-nil h, refl)
-  Answers-stopped a b h s body (FailedAt n) whole fills err =
-      ((take n body, part body n whole fills.0, fills.1), Appends-nil h, refl)
+  pub AnswersRequest-unsent : (a b h k : Option (List ℕ)) (before after : S) (body : List ℕ) (failed : SendFailed) → ReadsBody r (between a b h k) body → AsksStore made size r body h k before after (Err failed) → AnswersRequest made size r (between a b h k) before after (Err (Unsent failed))
+  AnswersRequest-unsent a b h k before after body failed whole asks = record {
+    body = body;
+    outcome = asks.outcome;
+    whole = whole;
+    right = asks.right;
+    asked = asks.asked;
+    replied = asks.replied;
+  }
 
-  -- the data, the call and the reply
-  pub Answers-sent : (a b h k : Option (List ℕ)) (s t : S) (body : List ℕ) (outcome : Outcome) (res : Result (Unit {0}) SessionEnd) → IsWholeBody r a b body → MayCome size r body outcome → Makes made s outcome t → Sends h k (reply_of r.cookie outcome) res → Answers made size r a b h k s t res
-  Answers-sent a b h k s t body outcome (Ok done) whole right asked sends = record { body = body; outcome = outcome; whole = whole; right = right; asked = asked; replied = sends }
-  Answers-sent a b h k s t body outcome (Err WriteFailed) whole right asked sends = record { body = body; outcome = outcome; whole = whole; right = right; asked = asked; replied = sends }
-  Answers-sent a b h k s t body outcome (Err Disconnected) whole right asked sends = absurd sends
-  Answers-sent a b h k s t body outcome (Err Aborted) whole right asked sends = absurd sends
-  Answers-sent a b h k s t body outcome (Err Closed) whole right asked sends = absurd sends
-  Answers-sent a b h k s t body outcome (Err InputEnded) whole right asked sends = absurd sends
-  Answers-sent a b h k s t body outcome (Err ReadFailed) whole right asked sends = absurd sends
-  Answers-sent a b h k s t body outcome (Err NoMemory) whole right asked sends = absurd sends
-
-  -- after a request's 28 bytes, what follows them makes an exchange, or ends transmission
-  pub Serves-answered : (a b c h k : Option (List ℕ)) (head : List ℕ) (s t : S) (res : Result (Unit {0}) SessionEnd) → IsRequest r → head ≡ request_bytes r → Consumes a b head → Answers made size r b c h k s t res → Serves made size a c h k s t res
-  Serves-answered a b c h k head s t (Ok done) fits spelled consumed follows = record {
+  -- after a request's 28 bytes, what follows them makes an exchange
+  pub IsServed-answered : (a b c h k : Option (List ℕ)) (head : List ℕ) (before after : S) → IsRequest r → head ≡ request_bytes r → Consumes a b head → AnswersRequest made size r (between b c h k) before after (Ok tt) → IsServed made size (between a c h k) before after
+  IsServed-answered a b c h k head before after fits spelled consumed follows = record {
     exchange = record { request = r; body = follows.body; outcome = follows.outcome };
     right = record { request_fits = fits; whole_body = follows.whole.0; right = follows.right };
-    consumed = subst (λ front. Consumes a c (front ++ follows.body)) spelled (Consumes-trans a b c head follows.body consumed follows.whole.1);
-    appended = follows.replied;
+    was_read = subst (λ front. Consumes a c (front ++ follows.body)) spelled (Consumes-trans a b c head follows.body consumed follows.whole.1);
+    was_written = follows.replied;
     asked = follows.asked;
   }
-  Serves-answered a b c h k head s t (Err WriteFailed) fits spelled consumed follows =
+
+  -- or transmission ends with it
+  pub Transmitted-answered : (a b c h k : Option (List ℕ)) (head : List ℕ) (before after : S) (end : StreamEnd) → IsRequest r → head ≡ request_bytes r → Consumes a b head → AnswersRequest made size r (between b c h k) before after (Err end) → Transmitted made size (between a c h k) before after (end_of_stream end)
+  Transmitted-answered a b c h k head before after (Unsent failed) fits spelled consumed follows =
       let e : Exchange = record { request = r; body = follows.body; outcome = follows.outcome } in
       record {
         exchanges = e ∷ [];
         last = [];
         written = follows.replied.sent;
         missing = follows.replied.missing;
-        consumed = subst (Consumes a c) (ap (λ front. front ++ follows.body) spelled ∙ sym (append-nil (heard_of e)) ∙ sym (append-nil (heard_of e ++ [])))
+        was_read = subst (Consumes a c) (ap (λ front. front ++ follows.body) spelled ∙ sym (append-nil (heard_of e)) ∙ sym (append-nil (heard_of e ++ [])))
             (Consumes-trans a b c head follows.body consumed follows.whole.1);
-        appended = follows.replied.appended;
+        was_written = follows.replied.appended;
         output = sym follows.replied.all ∙ sym (append-nil (reply_to e));
         right = (record { request_fits = fits; whole_body = follows.whole.0; right = follows.right }, tt);
-        asked = (t, follows.asked, refl);
+        asked = (after, follows.asked, refl);
         ends = (refl, follows.replied.some_missing, ([], e, refl, missing-le h k (reply_to e) follows.replied));
       }
-  Serves-answered a b c h k head s t (Err InputEnded) fits spelled consumed follows = record {
-    exchanges = [];
-    last = head ++ follows.0.0;
-    written = [];
-    missing = [];
-    consumed = Consumes-trans a b c head follows.0.0 consumed follows.0.2;
-    appended = follows.2;
-    output = refl;
-    right = tt;
-    asked = follows.3;
-    ends = (refl, inr (r, follows.0.0, fits, follows.0.1, ap (λ front. front ++ follows.0.0) spelled), follows.1);
-  }
-  Serves-answered a b c h k head s t (Err ReadFailed) fits spelled consumed follows = record {
-    exchanges = [];
-    last = head ++ follows.0.0;
-    written = [];
-    missing = [];
-    consumed = Consumes-trans a b c head follows.0.0 consumed follows.0.2;
-    appended = follows.1;
-    output = refl;
-    right = tt;
-    asked = follows.2;
-    ends = (refl, inr (r, follows.0.0, fits, follows.0.1, ap (λ front. front ++ follows.0.0) spelled));
-  }
-  Serves-answered a b c h k head s t (Err Disconnected) fits spelled consumed follows = absurd follows
-  Serves-answered a b c h k head s t (Err Aborted) fits spelled consumed follows = absurd follows
-  Serves-answered a b c h k head s t (Err Closed) fits spelled consumed follows = absurd follows
-  Serves-answered a b c h k head s t (Err NoMemory) fits spelled consumed follows = absurd follows
+  Transmitted-answered a b c h k head before after (Unread end) fits spelled consumed follows =
+      let more : List ℕ = follows.0.0.0 in
+      record {
+        exchanges = [];
+        last = head ++ more;
+        written = [];
+        missing = [];
+        was_read = Consumes-trans a b c head more consumed follows.0.0.2;
+        was_written = follows.0.2;
+        output = refl;
+        right = tt;
+        asked = follows.1;
+        ends = unread size (head ++ more) c end (inr (r, more, fits, follows.0.0.1, ap (λ front. front ++ more) spelled)) follows.0.1;
+      }
 
 -- So many exchanges so far.
-pub record IsSoFar {S : Type 0} (made : S → Call → Answer → S → Type 0) (size : ℕ) (left_old left_new held_old held_new : Option (List ℕ)) (before after : S) : Type 0 where
+pub record IsSoFar {S : Type 0} (made : S → Call → Answer → S → Type 0) (size : ℕ) (streams : Streams) (before after : S) : Type 0 where
   pub exchanges : List Exchange
-  pub consumed : Consumes left_old left_new (flat_map heard_of exchanges)
-  pub appended : Appends held_old held_new (flat_map reply_to exchanges)
+  pub was_read : Reads streams (flat_map heard_of exchanges)
+  pub was_written : Writes streams (flat_map reply_to exchanges)
   pub right : AllByRecursion (IsExchange size) exchanges
   pub asked : Chain made before exchanges after
 
 module _ {S : Type 0} (made : S → Call → Answer → S → Type 0) (size : ℕ) where
   -- none yet
-  pub IsSoFar-none : (a h : Option (List ℕ)) (s : S) → IsSoFar made size a a h h s s
-  IsSoFar-none a h s = record { exchanges = []; consumed = Consumes-nil a; appended = Appends-nil h; right = tt; asked = refl }
+  pub IsSoFar-none : (a h : Option (List ℕ)) (store : S) → IsSoFar made size (between a a h h) store store
+  IsSoFar-none a h store = record { exchanges = []; was_read = Consumes-nil a; was_written = Appends-nil h; right = tt; asked = refl }
 
   -- chains one after the other
   Chain-append : (s t u : S) (es fs : List Exchange) → Chain made s es t → Chain made t fs u → Chain made s (es ++ fs) u
@@ -179,15 +163,15 @@ module _ {S : Type 0} (made : S → Call → Answer → S → Type 0) (size : �
   right-append (e ∷ es) fs first second = (first.0, right-append es fs first.1 second)
 
   -- one more
-  pub IsSoFar-more : (a b c h k l : Option (List ℕ)) (s t u : S) → IsSoFar made size a b h k s t → IsServed made size b c k l t u → IsSoFar made size a c h l s u
-  IsSoFar-more a b c h k l s t u far served = record {
+  pub IsSoFar-more : (s t : Streams) (before middle after : S) → IsNext s t → IsSoFar made size s before middle → IsServed made size t middle after → IsSoFar made size (joined s t) before after
+  IsSoFar-more s t before middle after next far served = record {
     exchanges = far.exchanges ++ served.exchange ∷ [];
-    consumed = subst (Consumes a c) (sym (flat_map-append heard_of far.exchanges (served.exchange ∷ []) ∙ ap (λ end. flat_map heard_of far.exchanges ++ end) (append-nil (heard_of served.exchange))))
-        (Consumes-trans a b c (flat_map heard_of far.exchanges) (heard_of served.exchange) far.consumed served.consumed);
-    appended = subst (Appends h l) (sym (flat_map-append reply_to far.exchanges (served.exchange ∷ []) ∙ ap (λ end. flat_map reply_to far.exchanges ++ end) (append-nil (reply_to served.exchange))))
-        (Appends-trans h k l (flat_map reply_to far.exchanges) (reply_to served.exchange) far.appended served.appended);
+    was_read = subst (Reads (joined s t)) (sym (flat_map-append heard_of far.exchanges (served.exchange ∷ []) ∙ ap (λ end. flat_map heard_of far.exchanges ++ end) (append-nil (heard_of served.exchange))))
+        (Reads-joined s t (flat_map heard_of far.exchanges) (heard_of served.exchange) next far.was_read served.was_read);
+    was_written = subst (Writes (joined s t)) (sym (flat_map-append reply_to far.exchanges (served.exchange ∷ []) ∙ ap (λ end. flat_map reply_to far.exchanges ++ end) (append-nil (reply_to served.exchange))))
+        (Writes-joined s t (flat_map reply_to far.exchanges) (reply_to served.exchange) next far.was_written served.was_written);
     right = right-append far.exchanges (served.exchange ∷ []) far.right (served.right, tt);
-    asked = Chain-append s t u far.exchanges (served.exchange ∷ []) far.asked (u, served.asked, refl);
+    asked = Chain-append before middle after far.exchanges (served.exchange ∷ []) far.asked (after, served.asked, refl);
   }
 
   -- an end after more exchanges is an end
@@ -202,52 +186,41 @@ module _ {S : Type 0} (made : S → Call → Answer → S → Type 0) (size : �
   EndsTransmission-behind es fs last missing left NoMemory ends = ends
 
   -- the end of transmission, after the exchanges so far
-  pub Transmitted-behind : (a b c h k l : Option (List ℕ)) (s t u : S) (end : SessionEnd) → IsSoFar made size a b h k s t → Transmitted made size b c k l t u end → Transmitted made size a c h l s u end
-  Transmitted-behind a b c h k l s t u end far rest = record {
+  pub Transmitted-behind : (s t : Streams) (before middle after : S) (end : SessionEnd) → IsNext s t → IsSoFar made size s before middle → Transmitted made size t middle after end → Transmitted made size (joined s t) before after end
+  Transmitted-behind s t before middle after end next far rest = record {
     exchanges = far.exchanges ++ rest.exchanges;
     last = rest.last;
     written = flat_map reply_to far.exchanges ++ rest.written;
     missing = rest.missing;
-    consumed = subst (Consumes a c)
+    was_read = subst (Reads (joined s t))
         (sym (append_assoc (flat_map heard_of far.exchanges) (flat_map heard_of rest.exchanges) rest.last) ∙ ap (λ front. front ++ rest.last) (sym (flat_map-append heard_of far.exchanges rest.exchanges)))
-        (Consumes-trans a b c (flat_map heard_of far.exchanges) (flat_map heard_of rest.exchanges ++ rest.last) far.consumed rest.consumed);
-    appended = Appends-trans h k l (flat_map reply_to far.exchanges) rest.written far.appended rest.appended;
+        (Reads-joined s t (flat_map heard_of far.exchanges) (flat_map heard_of rest.exchanges ++ rest.last) next far.was_read rest.was_read);
+    was_written = Writes-joined s t (flat_map reply_to far.exchanges) rest.written next far.was_written rest.was_written;
     output = append_assoc (flat_map reply_to far.exchanges) rest.written rest.missing ∙ ap (λ end. flat_map reply_to far.exchanges ++ end) rest.output ∙ sym (flat_map-append reply_to far.exchanges rest.exchanges);
     right = right-append far.exchanges rest.exchanges far.right rest.right;
-    asked = Chain-append s t u far.exchanges rest.exchanges far.asked rest.asked;
-    ends = EndsTransmission-behind far.exchanges rest.exchanges rest.last rest.missing c end rest.ends;
+    asked = Chain-append before middle after far.exchanges rest.exchanges far.asked rest.asked;
+    ends = EndsTransmission-behind far.exchanges rest.exchanges rest.last rest.missing t.left_after end rest.ends;
   }
 
   -- transmission ends with a last item, before any exchange
-  pub Transmitted-last : (a b h : Option (List ℕ)) (s : S) (last : List ℕ) (end : SessionEnd) → Consumes a b last → EndsTransmission size [] last [] b end → Transmitted made size a b h h s s end
-  Transmitted-last a b h s last end consumed ends = record {
+  pub Transmitted-last : (a b h : Option (List ℕ)) (store : S) (last : List ℕ) (end : SessionEnd) → Consumes a b last → EndsTransmission size [] last [] b end → Transmitted made size (between a b h h) store store end
+  Transmitted-last a b h store last end consumed ends = record {
     exchanges = [];
     last = last;
     written = [];
     missing = [];
-    consumed = consumed;
-    appended = Appends-nil h;
+    was_read = consumed;
+    was_written = Appends-nil h;
     output = refl;
     right = tt;
     asked = refl;
     ends = ends;
   }
 
--- all bytes came where nothing else is said
-pub Fills-whole : (a b : Option (List ℕ)) (into : List ℕ) (filled : Filled) → end_of filled ≡ Ok tt → Fills a b into filled → Consumes a b into
-Fills-whole a b into Whole whole fills = fills
-Fills-whole a b into (EndedAt n) whole fills = cc
-Fills-whole a b into (FailedAt n) whole fills = cc
-
--- the bytes of a request stop coming
-pub Serves-stopped : {S : Type 0} (made : S → Call → Answer → S → Type 0) (size : ℕ) (a b h : Option (List ℕ)) (s : S) (head : List ℕ) (filled : Filled) (end : SessionEnd) → length head ≡ 28 → Fills a b head filled → end_of filled ≡ Err end → Transmitted made size a b h h s s end
-Serves-stopped made size a b h s head filled end whole fills ends =
-    subst (λ r. IsErr r → Serves made size a b h h s s r) ends (Stopped filled fills) refl
-  where
-    short : (n : ℕ) → n < length head → length (take n head) < 28
-    short n below = let e = length-take-le n head (omega arith) in omega (arith, e, whole)
-
-    Stopped : (filled : Filled) → Fills a b head filled → IsErr (end_of filled) → Serves made size a b h h s s (end_of filled)
-    Stopped Whole fills err = cc
-    Stopped (EndedAt n) fills err = Transmitted-last made size a b h s (take n head) InputEnded fills.2 (refl, inl (short n fills.0), fills.1)
-    Stopped (FailedAt n) fills err = Transmitted-last made size a b h s (take n head) ReadFailed fills.1 (refl, inl (short n fills.0))
+  -- the bytes of a request stop coming
+  pub Transmitted-stopped : (a b h : Option (List ℕ)) (store : S) (head : List ℕ) (end : ReadEnd) → length head ≡ 28 → Fills a b head (Err end) → Transmitted made size (between a b h h) store store (end_of_read end)
+  Transmitted-stopped a b h store head end whole fills =
+      let n = fills.0.0 in
+      let e = length-take-le n head (omega (arith, fills.0.1)) in
+      let short : length (take n head) < 28 = omega (arith, e, whole, fills.0.1) in
+      Transmitted-last a b h store (take n head) (end_of_read end) fills.0.2 (unread size (take n head) b end (inl short) fills.1)

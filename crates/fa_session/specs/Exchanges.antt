@@ -2,8 +2,9 @@
 -- NBD protocol text, "Transmission phase".
 use Rattle.std.specs.Prelude.{◌≡◌, ◌≢◌, ℕ, ◌<◌, ◌≤◌, ◌⊎◌, List, [], ◌∷◌, ◌++◌, length, take, Option, None, Some}
 use Rattle.std.specs.List.{flat_map, AllByRecursion}
-use Rattle.std.specs.Io.KnownBytes.{Consumes, Appends, IsAtEnd}
+use Rattle.std.specs.Io.KnownBytes.{IsAtEnd}
 use Rattle.byteorder.specs.Endian.{big_bytes}
+use Rattle.fa_io.specs.Streams.{Streams, Reads, Writes}
 use Rattle.fa_types.specs.Store.{Call, Reading, Writing, Answer, Gave, Done, Refused}
 use Rattle.fa_types.specs.declared.blocks.BlockFault.{BlockFault}
 use Rattle.fa_types.specs.declared.blocks.BlockFault.TheVariants.{Lost, NoRoom, NoMemory, Spent}
@@ -15,7 +16,9 @@ use Rattle.fa_cmds.specs.declared.reply.ReplyCode.{ReplyCode}
 use Rattle.fa_cmds.specs.declared.reply.ReplyCode.TheVariants.{Success, Io, NoMemory as OutOfMemory, NoSpace}
 use Rattle.fa_cmds.specs.Requests.{IsRequest, request_bytes, body_length, reply_bytes, decision, is_fua}
 use Rattle.fa_session.specs.declared.session_end.SessionEnd.{SessionEnd}
-use Rattle.fa_session.specs.declared.session_end.SessionEnd.TheVariants.{Disconnected, Aborted, Closed, InputEnded, ReadFailed, WriteFailed, NoMemory as NegotiationNoMemory}
+use Rattle.fa_session.specs.declared.session_end.SessionEnd.TheVariants.{Disconnected, Aborted, Closed}
+use Rattle.fa_session.specs.declared.session_end.SessionEnd.TheVariants.{InputEnded, ReadFailed, WriteFailed}
+use Rattle.fa_session.specs.declared.session_end.SessionEnd.TheVariants.{NoMemory as NegotiationNoMemory}
 
 -- what a refusal of the store is answered with
 abbrev pub code_of : BlockFault → ReplyCode
@@ -119,16 +122,16 @@ EndsTransmission size es last missing left WriteFailed =
     × ((front : List Exchange) × (e : Exchange) × (es ≡ front ++ e ∷ []) × (length missing ≤ length (reply_to e)))
 EndsTransmission size es last missing left NegotiationNoMemory = ⊥
 
--- Transmission over a store of this size: what the reader had left before and after, what the writer held
--- before and after, the store before and after, and the end.
-pub record Transmitted {S : Type 0} (made : S → Call → Answer → S → Type 0) (size : ℕ) (left_old left_new held_old held_new : Option (List ℕ)) (before after : S) (end : SessionEnd) : Type 0 where
+-- Transmission over a store of this size: what the streams did, the store before and after, and the end.
+pub record Transmitted {S : Type 0} (made : S → Call → Answer → S → Type 0) (size : ℕ) (streams : Streams)
+    (before after : S) (end : SessionEnd) : Type 0 where
   pub exchanges : List Exchange
   pub last : List ℕ
   pub written : List ℕ
   pub missing : List ℕ
-  pub consumed : Consumes left_old left_new (flat_map heard_of exchanges ++ last)
-  pub appended : Appends held_old held_new written
+  pub was_read : Reads streams (flat_map heard_of exchanges ++ last)
+  pub was_written : Writes streams written
   pub output : written ++ missing ≡ flat_map reply_to exchanges
   pub right : AllByRecursion (IsExchange size) exchanges
   pub asked : Chain made before exchanges after
-  pub ends : EndsTransmission size exchanges last missing left_new end
+  pub ends : EndsTransmission size exchanges last missing streams.left_after end

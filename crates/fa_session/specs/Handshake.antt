@@ -1,37 +1,32 @@
 -- What the parts of a handshake come to.
-use Rattle.std.specs.Prelude.{◌≡◌, ℕ, ◌≤◌, List, [], ◌++◌, length, Option, Result, Ok, Err}
-use Rattle.std.specs.Io.KnownBytes.{Consumes, Appends, IsAtEnd}
-use Rattle.fa_nego.specs.Talk.{Talk, IsAt, wanted, next_of, step_of}
+use Rattle.std.specs.Prelude.{◌≡◌, ℕ, ◌≤◌, List, [], ◌++◌, length, Result, Ok, Err}
+use Rattle.fa_io.specs.Streams.{Streams, Reads, Writes, WritesPart, EndsReading}
+use Rattle.fa_nego.specs.NegoState.{NegoState, IsAt, wanted, step_of}
 use Rattle.fa_nego.specs.declared.step.Step.{Step}
-use Rattle.fa_session.specs.Streams.{IsCut}
 use Rattle.fa_session.specs.Session.{EndsEarly, Greets}
+use Rattle.fa_session.specs.declared.stream_end.HearEnd.{HearEnd}
+use Rattle.fa_session.specs.declared.stream_end.HearEnd.TheVariants.{Unread, Unsent, NoMemory}
 use Rattle.fa_session.specs.declared.session_end.SessionEnd.{SessionEnd}
-use Rattle.fa_session.specs.declared.session_end.SessionEnd.TheVariants.{InputEnded, ReadFailed, WriteFailed, NoMemory}
 
 -- A piece of the client's bytes, no longer than was wanted, that was heard, and the answer to it.
-pub record HearsPiece (left_old left_new : Option (List ℕ)) (old new : Talk) (sent : List ℕ → Type 0) : Type 0 where
+pub record HearsPiece (streams : Streams) (old new : NegoState) (sent : List ℕ → Type 0) : Type 0 where
   pub piece : List ℕ
   pub latest : List ℕ
   pub not_long : length piece ≤ wanted old.stage
-  pub consumed : Consumes left_old left_new piece
+  pub was_read : Reads streams piece
   pub answered : (heard said : List ℕ) → IsAt old heard said → IsAt new (heard ++ piece) (said ++ latest)
   pub replied : sent latest
 
 -- what hearing once came to
-abbrev pub Hears : (left_old left_new held_old held_new : Option (List ℕ)) → Talk → Talk → Result Step SessionEnd → Type 0
-Hears left_old left_new held_old held_new old new (Ok step) =
-    HearsPiece left_old left_new old new (Appends held_old held_new) × (step ≡ step_of (next_of new.stage))
-Hears left_old left_new held_old held_new old new (Err WriteFailed) =
-    HearsPiece left_old left_new old new (IsCut held_old held_new)
-Hears left_old left_new held_old held_new old new (Err InputEnded) =
-    Consumes left_old left_new [] × IsAtEnd left_new × Appends held_old held_new [] × (new ≡ old)
-Hears left_old left_new held_old held_new old new (Err ReadFailed) =
-    Consumes left_old left_new [] × Appends held_old held_new [] × (new ≡ old)
-Hears left_old left_new held_old held_new old new (Err NoMemory) =
-    ((piece : List ℕ) × (length piece ≤ wanted old.stage) × Consumes left_old left_new piece) × Appends held_old held_new [] × (new ≡ old)
-Hears left_old left_new held_old held_new old new (Err end) = ⊥
+abbrev pub HearsOnce : Streams → NegoState → NegoState → Result Step HearEnd → Type 0
+HearsOnce streams old new (Ok step) = HearsPiece streams old new (Writes streams) × (step ≡ step_of new.stage)
+HearsOnce streams old new (Err (Unsent failed)) = HearsPiece streams old new (WritesPart streams)
+HearsOnce streams old new (Err (Unread end)) =
+    Reads streams [] × EndsReading end streams.left_after × Writes streams [] × (new ≡ old)
+HearsOnce streams old new (Err NoMemory) =
+    ((piece : List ℕ) × (length piece ≤ wanted old.stage) × Reads streams piece) × Writes streams [] × (new ≡ old)
 
 -- what the handshake came to
-abbrev pub Negotiated : List ℕ → ℕ → (left_old left_new held_old held_new : Option (List ℕ)) → Result (Unit {0}) SessionEnd → Type 0
-Negotiated export size left_old left_new held_old held_new (Ok done) = Greets export size left_old left_new held_old held_new
-Negotiated export size left_old left_new held_old held_new (Err end) = EndsEarly export size left_old left_new held_old held_new end
+abbrev pub Negotiated : List ℕ → ℕ → Streams → Result (Unit {0}) SessionEnd → Type 0
+Negotiated export size streams (Ok done) = Greets export size streams
+Negotiated export size streams (Err end) = EndsEarly export size streams end

@@ -3,8 +3,8 @@ pub mod Exchanges
 pub mod Handshake
 pub mod Serving
 pub mod Session
-pub mod Streams
 pub use Rattle.fa_cmds.specs.Requests
+pub use Rattle.fa_io.specs.Streams
+pub use Rattle.fa_nego.specs.NegoState
 pub use Rattle.fa_nego.specs.Negotiation
-pub use Rattle.fa_nego.specs.Talk
 pub use Rattle.fa_types.specs.Store

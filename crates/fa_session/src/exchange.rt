@@ -1,14 +1,14 @@
 //! What is done with one request.
 ghost use Rattle.std.specs.Prelude.{◌≡◌, ◌+◌, ◌≤◌, [], length};
 ghost use Rattle.fa_cmds.specs.Requests.{decision, IsToDo};
-ghost use Rattle.fa_session.specs.Serving.{Declines, Answers, Asks};
+ghost use Rattle.fa_io.specs.Streams.{Streams};
+ghost use Rattle.fa_session.specs.Serving.{Declines, AnswersRequest, AsksStore};
 ghost use Rattle.fa_cmds.specs.declared.decision.Decision.TheVariants.{Do};
 
-use crate::calls::Calls;
 use crate::replies::{code_of, reply, reply_with_data};
-use crate::session_end::SessionEnd;
-use crate::streams::{fill, received, skip};
+use crate::stream_end::StreamEnd;
 use fa_cmds::{Command, ReplyCode, Request, body_len};
+use fa_io::{Calls, SendFailed, fill, skip};
 use fa_types::Blocks;
 use std::alloc::Allocator;
 use std::io::{Read, Write};
@@ -23,13 +23,18 @@ pub(crate) fn decline<R: Read, W: Write>(
     calls: &mut Calls,
     request: Request,
     code: ReplyCode,
-) -> Result<(), SessionEnd>
-    ensures declined { Declines request code (R.remaining reader.old) (R.remaining reader.new)
-        (W.contents writer.old) (W.contents writer.new) result }
+) -> Result<(), StreamEnd>
+    ensures declined { let streams : Streams = record {
+      left_before = R.remaining reader.old;
+      left_after = R.remaining reader.new;
+      held_before = W.contents writer.old;
+      held_after = W.contents writer.new;
+    } in
+        Declines request code streams result }
     ensures no_fewer { calls.old.reads ≤ calls.new.reads }
 {
-    received(skip(reader, calls, body_len(request) as usize))?;
-    reply(writer, calls, code, request.cookie)
+    skip(reader, calls, body_len(request) as usize)?;
+    Ok(reply(writer, calls, code, request.cookie)?)
 }
 
 /// Does what a READ or a WRITE asks for, and replies.
@@ -41,23 +46,28 @@ pub(crate) fn perform<R: Read, W: Write, B: Blocks, A: Allocator>(
     blocks: &mut B,
     size: u64,
     request: Request,
-) -> Result<(), SessionEnd>
+) -> Result<(), StreamEnd>
     requires decided { decision request size ≡ Do }
     requires to_do { IsToDo request size }
     requires size { size ≡ (B.view blocks.old).size }
-    ensures answered { Answers B.made size request (R.remaining reader.old) (R.remaining reader.new)
-        (W.contents writer.old) (W.contents writer.new) blocks.old blocks.new result }
+    ensures answered { let streams : Streams = record {
+      left_before = R.remaining reader.old;
+      left_after = R.remaining reader.new;
+      held_before = W.contents writer.old;
+      held_after = W.contents writer.new;
+    } in
+        AnswersRequest B.made size request streams blocks.old blocks.new result }
     ensures size { (B.view blocks.new).size ≡ (B.view blocks.old).size }
     ensures no_fewer { calls.old.reads ≤ calls.new.reads }
 {
     if request.command == Command::Read {
-        return give(alloc, writer, calls, blocks, size, request);
+        return Ok(give(alloc, writer, calls, blocks, size, request)?);
     }
     let Ok(mut body) = vec![in alloc; 0u8; request.length as usize] else {
         return decline(reader, writer, calls, request, ReplyCode::NoMemory);
     };
-    received(fill(reader, calls, body.as_mut_slice()))?;
-    take(writer, calls, blocks, size, request, body.as_slice())
+    fill(reader, calls, body.as_mut_slice())?;
+    Ok(take(writer, calls, blocks, size, request, body.as_slice())?)
 }
 
 /// Asks the store for the bytes of a READ, and replies.
@@ -68,11 +78,11 @@ fn give<W: Write, B: Blocks, A: Allocator>(
     blocks: &mut B,
     size: u64,
     request: Request,
-) -> Result<(), SessionEnd>
+) -> Result<(), SendFailed>
     requires command { request.command ≡ Command.Read }
     requires decided { decision request size ≡ Do }
     requires within { request.offset + request.length ≤ (B.view blocks.old).size }
-    ensures asks { Asks B.made size request [] (W.contents writer.old) (W.contents writer.new)
+    ensures asks { AsksStore B.made size request [] (W.contents writer.old) (W.contents writer.new)
         blocks.old blocks.new result }
     ensures size { (B.view blocks.new).size ≡ (B.view blocks.old).size }
     ensures reads { calls.new.reads ≡ calls.old.reads }
@@ -91,11 +101,11 @@ fn take<W: Write, B: Blocks>(
     size: u64,
     request: Request,
     body: &[u8],
-) -> Result<(), SessionEnd>
+) -> Result<(), SendFailed>
     requires command { request.command ≡ Command.Write }
     requires decided { decision request size ≡ Do }
     requires within { request.offset + length body.now ≤ (B.view blocks.old).size }
-    ensures asks { Asks B.made size request body.now (W.contents writer.old) (W.contents writer.new)
+    ensures asks { AsksStore B.made size request body.now (W.contents writer.old) (W.contents writer.new)
         blocks.old blocks.new result }
     ensures size { (B.view blocks.new).size ≡ (B.view blocks.old).size }
     ensures reads { calls.new.reads ≡ calls.old.reads }

@@ -1,18 +1,18 @@
 //! The handshake of a connection.
 ghost use Rattle.std.specs.Prelude.{◌≡◌, ◌<◌, ◌≤◌, length, IfOk, OnOk};
-ghost use Rattle.fa_nego.specs.Talk.{wanted};
-ghost use Rattle.fa_session.specs.Handshake.{Hears, Negotiated};
+ghost use Rattle.fa_io.specs.Streams.{Streams};
+ghost use Rattle.fa_nego.specs.NegoState.{wanted};
+ghost use Rattle.fa_session.specs.Handshake.{HearsOnce, Negotiated};
 
-use crate::calls::Calls;
-use crate::replies::send_whole;
 use crate::session_end::SessionEnd;
-use crate::streams::{Got, read_some};
-use fa_nego::{LONGEST_NAME, Nego, Step, greeting};
+use crate::stream_end::HearEnd;
+use fa_io::{Calls, read_some, send};
+use fa_nego::{MAX_NAME_BYTES, Nego, Step, greeting};
 use std::alloc::Allocator;
 use std::io::{Read, Write};
 
 /// The most bytes of the client that are read at once.
-const MOST_AT_ONCE: usize = 512;
+const MAX_AT_ONCE: usize = 512;
 
 /// Greets the client and negotiates with it, until transmission begins. An `Err` is the end of the
 /// connection.
@@ -24,18 +24,23 @@ pub(crate) fn negotiate<R: Read, W: Write, A: Allocator + Copy>(
     export: &str,
     size: u64,
 ) -> Result<(), SessionEnd>
-    requires { length export.now ≤ LONGEST_NAME }
-    ensures { Negotiated export.now size (R.remaining reader.old) (R.remaining reader.new)
-        (W.contents writer.old) (W.contents writer.new) result }
+    requires { length export.now ≤ MAX_NAME_BYTES }
+    ensures { let streams : Streams = record {
+      left_before = R.remaining reader.old;
+      left_after = R.remaining reader.new;
+      held_before = W.contents writer.old;
+      held_after = W.contents writer.new;
+    } in
+        Negotiated export.now size streams result }
 {
-    send_whole(writer, calls, &greeting())?;
+    send(writer, calls, &greeting())?;
     let mut nego = Nego::new(alloc, export, size);
     'items: loop {
         match hear(alloc, reader, writer, calls, &mut nego)? {
             Step::More => {}
             Step::Go => return Ok(()),
             Step::Aborted => return Err(SessionEnd::Aborted),
-            Step::Closed => return Err(SessionEnd::Closed),
+            Step::Closed(_) => return Err(SessionEnd::Closed),
         }
     }
 }
@@ -48,23 +53,24 @@ fn hear<R: Read, W: Write, A: Allocator>(
     writer: &mut W,
     calls: &mut Calls,
     nego: &mut Nego<'_, A>,
-) -> Result<Step, SessionEnd>
+) -> Result<Step, HearEnd>
     requires { 0 < wanted nego.old.stage }
-    ensures hears { Hears (R.remaining reader.old) (R.remaining reader.new) (W.contents writer.old)
-        (W.contents writer.new) nego.old nego.new result }
+    ensures hears { let streams : Streams = record {
+      left_before = R.remaining reader.old;
+      left_after = R.remaining reader.new;
+      held_before = W.contents writer.old;
+      held_after = W.contents writer.new;
+    } in
+        HearsOnce streams nego.old nego.new result }
     ensures counted { OnOk result (calls.old.reads < calls.new.reads) }
     ensures same_export { (nego.new.export ≡ nego.old.export) × (nego.new.size ≡ nego.old.size) }
 {
-    let mut buffer = [0u8; MOST_AT_ONCE];
-    let room = nego.wanted().min(MOST_AT_ONCE);
-    let n = match read_some(reader, calls, &mut buffer[..room]) {
-        Got::Bytes(n) => n,
-        Got::Ended => return Err(SessionEnd::InputEnded),
-        Got::Failed => return Err(SessionEnd::ReadFailed),
-    };
+    let mut buffer = [0u8; MAX_AT_ONCE];
+    let room = nego.wanted().min(MAX_AT_ONCE);
+    let n = read_some(reader, calls, &mut buffer[..room])?;
     let Ok(fed) = nego.feed(alloc, &buffer[..n]) else {
-        return Err(SessionEnd::NoMemory);
+        return Err(HearEnd::NoMemory);
     };
-    send_whole(writer, calls, fed.out.as_slice())?;
+    send(writer, calls, fed.out.as_slice())?;
     Ok(fed.step)
 }

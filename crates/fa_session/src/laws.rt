@@ -1,14 +1,24 @@
 //! Laws of the definitions, each the contract of a function with no code.
 ghost use Rattle.std.specs.Prelude.{◌≡◌, ℕ, List, ◌++◌, map};
 ghost use Rattle.std.specs.List.{flat_map, AllByRecursion};
+ghost use Rattle.fa_nego.specs.Negotiation.{Negotiates};
+ghost use Rattle.fa_nego.specs.declared.step.Step.TheVariants.{Go};
 ghost use Rattle.fa_session.specs.Exchanges.{Exchange, IsExchange, IsRest, heard_of, asked_of};
 
-/// The bytes of a client have one reading: the same requests with the same data, one after the
-/// other, and the same rest behind them.
+/// The bytes of a client have one reading. Behind the handshake they are the same requests with the same
+/// data, one after the other, and the same rest behind them; and from the first byte of a connection on
+/// they begin with the same handshake, to which the server says the same.
 pub fn one_reading()
-    ensures { (size : ℕ) (es fs : List Exchange) (last rest : List ℕ)
+    ensures requests { (size : ℕ) (es fs : List Exchange) (last rest : List ℕ)
         → AllByRecursion (IsExchange size) es → AllByRecursion (IsExchange size) fs
         → IsRest size last → IsRest size rest
         → flat_map heard_of es ++ last ≡ flat_map heard_of fs ++ rest
         → (map asked_of es ≡ map asked_of fs) × (last ≡ rest) }
+    ensures connection { (export : List ℕ) (size : ℕ) (heard heard_again said said_again : List ℕ)
+        (es fs : List Exchange) (last rest : List ℕ)
+        → Negotiates export size heard said Go → Negotiates export size heard_again said_again Go
+        → AllByRecursion (IsExchange size) es → AllByRecursion (IsExchange size) fs
+        → IsRest size last → IsRest size rest
+        → heard ++ (flat_map heard_of es ++ last) ≡ heard_again ++ (flat_map heard_of fs ++ rest)
+        → (heard ≡ heard_again) × (said ≡ said_again) × (map asked_of es ≡ map asked_of fs) × (last ≡ rest) }
 {}

@@ -1,13 +1,11 @@
 //! Replies to the client.
 ghost use Rattle.std.specs.Prelude.{◌≡◌, ◌++◌};
 ghost use Rattle.fa_cmds.specs.Requests.{reply_bytes};
+ghost use Rattle.fa_io.specs.Streams.{Sends};
 ghost use Rattle.fa_session.specs.Exchanges.{code_of as code_for};
-ghost use Rattle.fa_session.specs.Serving.{Sends};
 
-use crate::calls::Calls;
-use crate::session_end::SessionEnd;
-use crate::streams::send;
 use fa_cmds::{ReplyCode, write_reply};
+use fa_io::{Calls, SendFailed, send};
 use fa_types::BlockFault;
 use std::io::Write;
 
@@ -28,11 +26,11 @@ pub(crate) fn reply<W: Write>(
     calls: &mut Calls,
     code: ReplyCode,
     cookie: u64,
-) -> Result<(), SessionEnd>
+) -> Result<(), SendFailed>
     ensures sent { Sends (W.contents writer.old) (W.contents writer.new) (reply_bytes code cookie) result }
     ensures reads { calls.new.reads ≡ calls.old.reads }
 {
-    send_whole(writer, calls, &write_reply(code, cookie))
+    send(writer, calls, &write_reply(code, cookie))
 }
 
 /// Sends a reply of success and the data that it has.
@@ -41,23 +39,11 @@ pub(crate) fn reply_with_data<W: Write>(
     calls: &mut Calls,
     cookie: u64,
     bytes: &[u8],
-) -> Result<(), SessionEnd>
+) -> Result<(), SendFailed>
     ensures sent { Sends (W.contents writer.old) (W.contents writer.new)
         (reply_bytes ReplyCode.Success cookie ++ bytes.now) result }
     ensures reads { calls.new.reads ≡ calls.old.reads }
 {
     reply(writer, calls, ReplyCode::Success, cookie)?;
-    send_whole(writer, calls, bytes)
-}
-
-/// Sends the bytes. Where a write fails the connection ends.
-pub(crate) fn send_whole<W: Write>(
-    writer: &mut W,
-    calls: &mut Calls,
-    bytes: &[u8],
-) -> Result<(), SessionEnd>
-    ensures sent { Sends (W.contents writer.old) (W.contents writer.new) bytes.now result }
-    ensures reads { calls.new.reads ≡ calls.old.reads }
-{
-    send(writer, calls, bytes).map_err(|_| SessionEnd::WriteFailed)
+    send(writer, calls, bytes)
 }

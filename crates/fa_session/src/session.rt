@@ -1,12 +1,13 @@
 //! One connection.
 ghost use Rattle.std.specs.Prelude.{◌≤◌, length};
+ghost use Rattle.fa_io.specs.Streams.{Streams};
 ghost use Rattle.fa_session.specs.Session.{Session};
 
-use crate::calls::Calls;
 use crate::handshake::negotiate;
 use crate::session_end::SessionEnd;
 use crate::transmission::transmit;
-use fa_nego::LONGEST_NAME;
+use fa_io::Calls;
+use fa_nego::MAX_NAME_BYTES;
 use fa_types::Blocks;
 use std::alloc::Allocator;
 use std::io::{Read, Write};
@@ -15,7 +16,7 @@ use std::io::{Read, Write};
 /// export has the name that is given, and then the requests in turn.
 ///
 /// No byte is read beyond those that the session uses. After [`SessionEnd::WriteFailed`] what was
-/// written is a beginning of the whole output. The reader and the writer are called at most 2^62
+/// written is a prefix of the whole output. The reader and the writer are called at most 2^62
 /// times each.
 pub fn serve_stream<R: Read, W: Write, B: Blocks, A: Allocator + Copy>(
     alloc: A,
@@ -24,9 +25,14 @@ pub fn serve_stream<R: Read, W: Write, B: Blocks, A: Allocator + Copy>(
     blocks: &mut B,
     export: &str,
 ) -> SessionEnd
-    requires { length export.now ≤ LONGEST_NAME }
-    ensures { Session B.made export.now (B.view blocks.old).size (R.remaining reader.old) (R.remaining reader.new)
-        (W.contents writer.old) (W.contents writer.new) blocks.old blocks.new result }
+    requires { length export.now ≤ MAX_NAME_BYTES }
+    ensures { let streams : Streams = record {
+      left_before = R.remaining reader.old;
+      left_after = R.remaining reader.new;
+      held_before = W.contents writer.old;
+      held_after = W.contents writer.new;
+    } in
+        Session B.made export.now (B.view blocks.old).size streams blocks.old blocks.new result }
 {
     let mut calls = Calls::new();
     let size = blocks.size();

@@ -1,6 +1,10 @@
 //! How a connection ends.
 ghost use Rattle.std.specs.Prelude.{◌≡◌};
-ghost use Rattle.fa_session.specs.Ends.{end_number};
+ghost use Rattle.fa_session.specs.Ends.{end_number, end_of_read, end_of_stream, end_of_hearing};
+ghost use Rattle.fa_session.specs.declared.session_end.SessionEnd.TheVariants.{WriteFailed};
+
+use crate::stream_end::{HearEnd, StreamEnd};
+use fa_io::{ReadEnd, SendFailed};
 
 /// How a connection ended.
 #[derive(Clone, Copy, Debug, PartialEq, Eq)]
@@ -34,6 +38,48 @@ impl SessionEnd {
             SessionEnd::ReadFailed => 5,
             SessionEnd::WriteFailed => 6,
             SessionEnd::NoMemory => 7,
+        }
+    }
+}
+
+impl From<ReadEnd> for SessionEnd {
+    ghost from_gives = { λ end result. result ≡ end_of_read end };
+
+    fn from(end: ReadEnd) -> SessionEnd {
+        match end {
+            ReadEnd::EndOfInput => SessionEnd::InputEnded,
+            ReadEnd::Failed(_) | ReadEnd::TooManyReads => SessionEnd::ReadFailed,
+        }
+    }
+}
+
+impl From<SendFailed> for SessionEnd {
+    ghost from_gives = { λ _ result. result ≡ WriteFailed };
+
+    fn from(_failed: SendFailed) -> SessionEnd {
+        SessionEnd::WriteFailed
+    }
+}
+
+impl From<StreamEnd> for SessionEnd {
+    ghost from_gives = { λ end result. result ≡ end_of_stream end };
+
+    fn from(end: StreamEnd) -> SessionEnd {
+        match end {
+            StreamEnd::Unread(end) => SessionEnd::from(end),
+            StreamEnd::Unsent(failed) => SessionEnd::from(failed),
+        }
+    }
+}
+
+impl From<HearEnd> for SessionEnd {
+    ghost from_gives = { λ end result. result ≡ end_of_hearing end };
+
+    fn from(end: HearEnd) -> SessionEnd {
+        match end {
+            HearEnd::Unread(end) => SessionEnd::from(end),
+            HearEnd::Unsent(failed) => SessionEnd::from(failed),
+            HearEnd::NoMemory => SessionEnd::NoMemory,
         }
     }
 }

@@ -1,13 +1,13 @@
 //! Transmission: the client's requests, served in turn.
 ghost use Rattle.std.specs.Prelude.{◌≡◌, ◌<◌, OnOk};
+ghost use Rattle.fa_io.specs.Streams.{Streams};
 ghost use Rattle.fa_session.specs.Exchanges.{Transmitted};
-ghost use Rattle.fa_session.specs.Serving.{Serves};
+ghost use Rattle.fa_session.specs.Serving.{ServesOne};
 
-use crate::calls::Calls;
 use crate::exchange::{decline, perform};
 use crate::session_end::SessionEnd;
-use crate::streams::{fill, received};
 use fa_cmds::{Decision, REQUEST_BYTES, decide, read_request};
+use fa_io::{Calls, fill};
 use fa_types::Blocks;
 use std::alloc::Allocator;
 use std::io::{Read, Write};
@@ -22,8 +22,13 @@ pub(crate) fn transmit<R: Read, W: Write, B: Blocks, A: Allocator + Copy>(
     size: u64,
 ) -> SessionEnd
     requires { size ≡ (B.view blocks.old).size }
-    ensures { Transmitted B.made size (R.remaining reader.old) (R.remaining reader.new)
-        (W.contents writer.old) (W.contents writer.new) blocks.old blocks.new result }
+    ensures { let streams : Streams = record {
+      left_before = R.remaining reader.old;
+      left_after = R.remaining reader.new;
+      held_before = W.contents writer.old;
+      held_after = W.contents writer.new;
+    } in
+        Transmitted B.made size streams blocks.old blocks.new result }
 {
     'requests: loop {
         match serve_request(alloc, reader, writer, calls, blocks, size) {
@@ -43,19 +48,24 @@ fn serve_request<R: Read, W: Write, B: Blocks, A: Allocator>(
     size: u64,
 ) -> Result<(), SessionEnd>
     requires { size ≡ (B.view blocks.old).size }
-    ensures served { Serves B.made size (R.remaining reader.old) (R.remaining reader.new)
-        (W.contents writer.old) (W.contents writer.new) blocks.old blocks.new result }
+    ensures served { let streams : Streams = record {
+      left_before = R.remaining reader.old;
+      left_after = R.remaining reader.new;
+      held_before = W.contents writer.old;
+      held_after = W.contents writer.new;
+    } in
+        ServesOne B.made size streams blocks.old blocks.new result }
     ensures size { OnOk result ((B.view blocks.new).size ≡ (B.view blocks.old).size) }
     ensures counted { OnOk result (calls.old.reads < calls.new.reads) }
 {
     let mut head = [0u8; REQUEST_BYTES];
-    received(fill(reader, calls, &mut head))?;
+    fill(reader, calls, &mut head)?;
     let Ok(request) = read_request(&head) else {
         return Err(SessionEnd::Closed);
     };
     match decide(request, size) {
         Decision::Disconnect => Err(SessionEnd::Disconnected),
-        Decision::Refuse(code) => decline(reader, writer, calls, request, code),
-        Decision::Do => perform(alloc, reader, writer, calls, blocks, size, request),
+        Decision::Refuse(code) => Ok(decline(reader, writer, calls, request, code)?),
+        Decision::Do => Ok(perform(alloc, reader, writer, calls, blocks, size, request)?),
     }
 }

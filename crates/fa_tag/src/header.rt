@@ -5,12 +5,9 @@ ghost use Rattle.fa_tag.specs.declared.header.Header.{Header};
 ghost use Rattle.fa_tag.specs.SlotGrammar.{with_digest as bytes_and_digest};
 ghost use Rattle.fa_tag.specs.HeaderGrammar.{IsHeader, HasRole, SpellsHeader, header_bytes, shape_fields, state_fields, marks_number};
 
-use crate::bytes::{array_at, digest_of, join, same_bytes, u32_at, u64_at};
+use crate::numbers::{array_at, digest_of, join, same_bytes, u32_at, u64_at};
 use byteorder::{BigEndian, ByteOrder};
-use fa_types::{Die, Geometry};
-
-/// How many bytes a header has.
-pub const HEADER_BYTES: usize = 112;
+use fa_types::{Die, Geometry, HEADER_BYTES};
 
 /// The letters `FLSHARR1`, the first of a header.
 const MAGIC: u64 = 0x464c_5348_4152_5231;
@@ -19,7 +16,7 @@ const MAGIC: u64 = 0x464c_5348_4152_5231;
 const FORMAT: u32 = 1;
 
 /// The greatest epoch: 2^62.
-const LAST_EPOCH: u64 = 1 << 62;
+const MAX_EPOCH: u64 = 1 << 62;
 
 /// What an image says of itself and of its array.
 #[derive(Clone, Copy, Debug, PartialEq, Eq)]
@@ -114,7 +111,7 @@ fn has_role(header: &Header) -> bool
     if header.spare {
         header.epoch == 0 && header.mask == 0
     } else {
-        (1..=LAST_EPOCH).contains(&header.epoch) && (header.mask >> header.die.0) & 1 == 1
+        (1..=MAX_EPOCH).contains(&header.epoch) && (header.mask >> header.die.0) & 1 == 1
     }
 }
 

@@ -2,12 +2,10 @@
 //! nothing else is. No call takes memory.
 #![tactic(auto)]
 
-mod bytes;
 mod header;
 pub mod laws;
+mod numbers;
 mod tag;
-#[cfg(test)]
-mod tests;
 
-pub use header::{HEADER_BYTES, Header, open_header, seal_header};
-pub use tag::{Opened, TAG_BYTES, Tag, open, seal};
+pub use header::{Header, open_header, seal_header};
+pub use tag::{Opened, Tag, open, seal};

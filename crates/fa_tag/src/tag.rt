@@ -3,13 +3,11 @@ ghost use Rattle.std.specs.Prelude.{◌≡◌, ◌+◌, ◌↔◌, ℕ, List, �
 ghost use Rattle.fa_tag.specs.declared.tag.Tag.{Tag};
 ghost use Rattle.fa_tag.specs.SlotGrammar.{IsTag, IsSlot, IsErased as AreErased, IsOpened, slot_1, tag_bytes, payload_of, place_number};
 
-use crate::bytes::{digest_of, join, same_bytes, u64_at};
+use crate::numbers::{digest_of, join, same_bytes, u64_at};
 use byteorder::{BigEndian, ByteOrder};
-use fa_types::{Die, Page, Seq, Slot};
+use fa_types::bytes::is_erased;
+use fa_types::{Die, Page, Seq, Slot, TAG_BYTES};
 use sha2::{Digest, Sha256};
-
-/// How many bytes a slot has behind its payload.
-pub const TAG_BYTES: usize = 64;
 
 /// The letters `SLT1`, the first of the tag.
 const MAGIC: u32 = 0x534c_5431;
@@ -73,12 +71,6 @@ pub fn open(bytes: &[u8]) -> Opened
         Some(tag) => Opened::Good(tag),
         None => Opened::Bad,
     }
-}
-
-fn is_erased(bytes: &[u8]) -> bool
-    ensures { IsTrue result ↔ AreErased bytes.now }
-{
-    bytes.iter().all(|byte| *byte == 0xff)
 }
 
 /// The tag of sealed bytes.

@@ -14,8 +14,8 @@ abbrev pub AreBlocks : ℕ → Type 0
 AreBlocks blocks = (4 ≤ blocks) × (blocks ≤ 4096)
 
 -- 4 to 256 slots of a block
-abbrev pub AreSlots : ℕ → Type 0
-AreSlots slots = (4 ≤ slots) × (slots ≤ 256)
+abbrev pub AreSlotsOfBlock : ℕ → Type 0
+AreSlotsOfBlock slots = (4 ≤ slots) × (slots ≤ 256)
 
 -- the four sizes of a page, in bytes
 abbrev pub is_page_size : ℕ → Bool
@@ -31,7 +31,7 @@ pub record ArePages (dies spares blocks slots pages : ℕ) : Type 0 where
 pub record IsGeometry (dies spares blocks slots page_bytes pages : ℕ) : Type 0 where
   pub dies_fit : AreDies dies spares
   pub blocks_fit : AreBlocks blocks
-  pub slots_fit : AreSlots slots
+  pub slots_fit : AreSlotsOfBlock slots
   pub page_fits : IsTrue (is_page_size page_bytes)
   pub pages_fit : ArePages dies spares blocks slots pages
 
@@ -49,17 +49,17 @@ abbrev pub IsFirstFault : (dies spares blocks slots page_bytes pages : ℕ) → 
 IsFirstFault dies spares blocks slots page_bytes pages Dies = ¬ (AreDies dies spares)
 IsFirstFault dies spares blocks slots page_bytes pages Blocks = AreDies dies spares × (¬ (AreBlocks blocks))
 IsFirstFault dies spares blocks slots page_bytes pages Slots =
-    AreDies dies spares × AreBlocks blocks × (¬ (AreSlots slots))
+    AreDies dies spares × AreBlocks blocks × (¬ (AreSlotsOfBlock slots))
 IsFirstFault dies spares blocks slots page_bytes pages PageBytes =
-    AreDies dies spares × AreBlocks blocks × AreSlots slots × (¬ (IsTrue (is_page_size page_bytes)))
+    AreDies dies spares × AreBlocks blocks × AreSlotsOfBlock slots × (¬ (IsTrue (is_page_size page_bytes)))
 IsFirstFault dies spares blocks slots page_bytes pages Pages =
-    AreDies dies spares × AreBlocks blocks × AreSlots slots × IsTrue (is_page_size page_bytes)
+    AreDies dies spares × AreBlocks blocks × AreSlotsOfBlock slots × IsTrue (is_page_size page_bytes)
     × (¬ (ArePages dies spares blocks slots pages))
 
 -- the faults are numbered in that order
-abbrev pub number_of : GeometryFault → ℕ
-number_of Dies = 1
-number_of Blocks = 2
-number_of Slots = 3
-number_of PageBytes = 4
-number_of Pages = 5
+abbrev pub geometry_fault_number : GeometryFault → ℕ
+geometry_fault_number Dies = 1
+geometry_fault_number Blocks = 2
+geometry_fault_number Slots = 3
+geometry_fault_number PageBytes = 4
+geometry_fault_number Pages = 5

@@ -1,8 +1,8 @@
--- The plain store is a block store: each call that it makes is one.
-use Rattle.std.proofs.Common.{◌≡◌, ℕ, ◌+◌, ◌≤◌, List, length, replicate, slice_index, refl, ap, ◌∙◌, arith, length-append, length-take, length-drop}
+-- The plain store is a block store: each call that it makes is one, and all of its bytes are seen.
+use Rattle.std.proofs.Common.{lit≤, ◌≡◌, ℕ, ◌+◌, ◌≤◌, List, length, replicate, slice_index, refl, ap, ◌∙◌, arith, length-append, length-take, length-drop}
 use Rattle.std.proofs.lemmas.List.{length-replicate}
 use Rattle.std.proofs.lemmas.Bool.{false≢true}
-use Rattle.fa_types.specs.Store.{Call, Reading, Writing, Zeroing, Flushing, Answer, Gave, Done, Refused, Meets, IsUnwritten, IsWritten, with_bytes, bytes_at}
+use Rattle.fa_types.specs.Store.{Call, Reading, Writing, Zeroing, Flushing, Answer, Gave, Done, Refused, Meets, IsUnwritten, IsWritten, IsWhole, with_bytes, bytes_at}
 use Rattle.fa_types.specs.Memory.{memory_view, MemoryMade}
 use Rattle.fa_types.specs.declared.blocks.BlockFault.TheVariants.{Lost, NoRoom, NoMemory, Spent}
 
@@ -75,3 +75,6 @@ memory_meets before after (Zeroing offset len fua) (Gave given) made = absurd ma
 memory_meets before after (Zeroing offset len fua) (Refused fault) made = absurd made
 memory_meets before after Flushing (Gave given) made = absurd made
 memory_meets before after Flushing (Refused fault) made = absurd made
+
+pub memory_whole : (bytes : List ℕ) → IsWhole (memory_view bytes)
+memory_whole bytes = record { some_bytes = lit≤ tt; sized = λ alone. refl }

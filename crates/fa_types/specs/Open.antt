@@ -20,8 +20,8 @@ pub record IsNthOpen (current : ℕ) (closed : ℕ → ℕ → Bool) (die n roun
   pub before : (m : ℕ) → current + m ≡ round → open_among current closed die m + 1 ≡ n
 
 -- the most rounds of a die that are closed from the current one on
-abbrev pub most_closed : ℕ
-most_closed = 1048576
+abbrev pub max_closed : ℕ
+max_closed = 1048576
 
 abbrev pub FewClosed : ℕ → (ℕ → ℕ → Bool) → Type 0
-FewClosed current closed = (die n : ℕ) → rounds_that (closed die) current n ≤ most_closed
+FewClosed current closed = (die n : ℕ) → rounds_that (closed die) current n ≤ max_closed

@@ -19,6 +19,11 @@ pub record Store : Type 0 where
   -- a counter is at its end
   pub spent : Bool
 
+-- A page has a byte or more. Where nobody else calls the store, its content has as many bytes as it is large.
+pub record IsWhole (store : Store) : Type 0 where
+  pub some_bytes : 1 ≤ store.page_bytes
+  pub sized : IsTrue store.alone → length store.content ≡ store.size
+
 pub data Call : Type 0 where
   Reading : (offset len : ℕ) → Call
   Writing : (offset : ℕ) (bytes : List ℕ) (fua : Bool) → Call
@@ -87,7 +92,8 @@ IsCutShort before offset bytes fua fault after =
     HasCause after offset (length bytes) fault
     × ((n : ℕ) × StopsAfter before.page_bytes offset (length bytes) fua fault n × IsWritten before after offset (take n bytes))
 
--- Which answers a call can have. A read gives as many bytes as were asked for, and wants no room.
+-- Which answers a call can have. A read gives as many bytes as were asked for, and wants no room. A flush
+-- wants neither room nor memory.
 abbrev pub IsAnswer : Call → Answer → Type 0
 IsAnswer (Reading offset len) (Gave bytes) = length bytes ≡ len
 IsAnswer (Reading offset len) Done = ⊥
@@ -100,6 +106,7 @@ IsAnswer (Zeroing offset len fua) answer = Unit {0}
 IsAnswer Flushing (Gave given) = ⊥
 IsAnswer Flushing Done = Unit {0}
 IsAnswer Flushing (Refused NoRoom) = ⊥
+IsAnswer Flushing (Refused NoMemory) = ⊥
 IsAnswer Flushing (Refused fault) = Unit {0}
 
 -- What a store that is alone does.

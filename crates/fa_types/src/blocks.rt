@@ -1,6 +1,6 @@
 //! The trait of a block store.
 ghost use Rattle.std.specs.Prelude.{◌≡◌, ◌+◌, ◌≤◌, length, IfOk, IfErr, OnOk};
-ghost use Rattle.fa_types.specs.Store.{Store, Call, Reading, Writing, Zeroing, Flushing, Answer, Gave, Done, Refused, Meets};
+ghost use Rattle.fa_types.specs.Store.{Store, Call, Reading, Writing, Zeroing, Flushing, Answer, Gave, Done, Refused, Meets, IsWhole};
 
 use std::alloc::Allocator;
 use thiserror::Error;
@@ -63,11 +63,14 @@ pub trait Blocks {
         ensures done { OnOk result (made self.old (Zeroing offset len fua) Done self.new) }
         ensures refused { IfErr result (λ fault. made self.old (Zeroing offset len fua) (Refused fault) self.new) };
 
-    /// Puts all that was written on its images.
+    /// Puts all that was written on its images. It is never refused for memory.
     fn flush(&mut self) -> Result<(), BlockFault>
         ensures done { OnOk result (made self.old Flushing Done self.new) }
         ensures refused { IfErr result (λ fault. made self.old Flushing (Refused fault) self.new) };
 
     /// Each call is one of a block store.
     ghost meets: { (before after : Self) (call : Call) (answer : Answer) → made before call answer after → Meets (view before) call answer (view after) };
+
+    /// A store has pages of at least one byte, and of one that is alone each byte is seen.
+    ghost whole: { (store : Self) → IsWhole (view store) };
 }

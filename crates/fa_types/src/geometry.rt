@@ -1,6 +1,6 @@
 //! The shape of an array, within its limits.
 ghost use Rattle.std.specs.Prelude.{◌≡◌, ◌≤◌, ◌↔◌, IfOk, IfErr, IsTrue};
-ghost use Rattle.fa_types.specs.Geometry.{AreDies, AreBlocks, AreSlots, ArePages, is_page_size as page_size_test, IsGeometry, IsFirstFault, number_of};
+ghost use Rattle.fa_types.specs.Geometry.{AreDies, AreBlocks, AreSlotsOfBlock, ArePages, is_page_size as page_size_test, IsGeometry, IsFirstFault, geometry_fault_number};
 
 use thiserror::Error;
 
@@ -46,7 +46,7 @@ pub enum GeometryFault {
 impl GeometryFault {
     /// The fault's number, 1 to 5.
     pub fn number(self) -> u8
-        ensures { result ≡ number_of self }
+        ensures { result ≡ geometry_fault_number self }
     {
         match self {
             GeometryFault::Dies => 1,
@@ -115,7 +115,7 @@ fn is_page_size(bytes: u32) -> bool
 fn are_pages(dies: u32, spares: u32, blocks: u32, slots: u32, pages: u64) -> bool
     requires dies { AreDies dies spares }
     requires blocks { AreBlocks blocks }
-    requires slots { AreSlots slots }
+    requires slots { AreSlotsOfBlock slots }
     ensures { IsTrue result ↔ ArePages dies spares blocks slots pages }
 {
     let room = u64::from(dies - spares) * u64::from(blocks - 2) * u64::from(slots);

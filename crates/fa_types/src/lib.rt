@@ -3,16 +3,17 @@
 #![tactic(auto)]
 
 mod blocks;
+pub mod bytes;
 mod geometry;
 pub mod laws;
 mod mem_blocks;
 mod numbers;
 mod rounds;
-#[cfg(test)]
-mod tests;
+mod sizes;
 
 pub use blocks::{BlockFault, Blocks};
 pub use geometry::{Geometry, GeometryFault};
 pub use mem_blocks::MemBlocks;
 pub use numbers::{Die, Page, Round, Seq, Slot};
 pub use rounds::Rounds;
+pub use sizes::{HEADER_BYTES, TAG_BYTES};

@@ -1,8 +1,8 @@
 //! The plain store: bytes in memory, with no dies.
-ghost use Rattle.std.specs.Prelude.{◌≡◌, ℕ, ◌+◌, ◌≤◌, length, replicate, IfOk, OnOk, IfErr, IsOk};
-ghost use Rattle.fa_types.specs.Store.{with_bytes, bytes_at};
+ghost use Rattle.std.specs.Prelude.{◌≡◌, replicate, IfOk};
 
 use crate::blocks::{BlockFault, Blocks};
+use crate::bytes::{fill, part, put};
 use std::alloc::{AllocError, Allocator, Global};
 use std::marker::Model;
 
@@ -33,13 +33,15 @@ impl<A: Allocator> MemBlocks<A> {
 
 impl<A: Allocator> Blocks for MemBlocks<A> {
     ghost use Rattle.fa_types.specs.Memory.{memory_view, MemoryMade};
-    ghost use Rattle.fa_types.specs.MemoryMeets.{memory_meets};
+    ghost use Rattle.fa_types.specs.MemoryMeets.{memory_meets, memory_whole};
 
     ghost view = { memory_view };
 
     ghost made = { MemoryMade };
 
     ghost meets = { λ before after call answer made. memory_meets before after call answer made };
+
+    ghost whole = { memory_whole };
 
     fn size(&self) -> u64 {
         self.bytes.len() as u64
@@ -61,35 +63,11 @@ impl<A: Allocator> Blocks for MemBlocks<A> {
     }
 
     fn zero(&mut self, offset: u64, len: u64, _fua: bool) -> Result<(), BlockFault> {
-        clear(self.bytes.as_mut_slice(), offset as usize, len as usize);
+        fill(self.bytes.as_mut_slice(), offset as usize, len as usize, 0);
         Ok(())
     }
 
     fn flush(&mut self) -> Result<(), BlockFault> {
         Ok(())
     }
-}
-
-/// The `len` bytes from the offset.
-fn part(bytes: &[u8], offset: usize, len: usize) -> &[u8]
-    requires { offset + len ≤ length bytes.now }
-    ensures { result.now ≡ bytes_at offset len bytes.now }
-{
-    &bytes[offset..offset + len]
-}
-
-/// Writes the bytes at the offset.
-fn put(into: &mut [u8], offset: usize, bytes: &[u8])
-    requires { offset + length bytes.now ≤ length into.old }
-    ensures { into.new ≡ with_bytes offset bytes.now into.old }
-{
-    into[offset..offset + bytes.len()].copy_from_slice(bytes);
-}
-
-/// Writes `len` zeros at the offset.
-fn clear(into: &mut [u8], offset: usize, len: usize)
-    requires { offset + len ≤ length into.old }
-    ensures { into.new ≡ with_bytes offset (replicate len 0) into.old }
-{
-    into[offset..offset + len].fill(0);
 }

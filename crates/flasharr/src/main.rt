@@ -1,20 +1,15 @@
-//! The program: its words, its input and its output go to the library.
+//! The program: its arguments, its input and its output go to the library, and it ends with the status
+//! that comes of them.
 #![tactic(auto)]
 
-use std::process::ExitCode;
+use fa_prog::Status;
 use std::{env, io};
 
-fn main(rt: HostRuntime) -> ExitCode {
-    let mut output = io::writer(&rt);
-    let status = match words(&rt) {
-        Ok(words) => fa_prog::run(rt.alloc(), &words, &mut rt.stdin(), &mut output),
-        Err(error) => fa_prog::refuse_words(error.kind(), &mut output),
-    };
-    ExitCode::from(status)
-}
-
-/// The words with which the program was called, but for its name.
-fn words(rt: &HostRuntime) -> io::Result<Vec<String>> {
-    let words = env::args(rt)?.skip(1).collect(rt.alloc())?;
-    Ok(words)
+fn main(rt: HostRuntime) -> Status {
+    fa_prog::start(
+        rt.alloc(),
+        env::args(&rt),
+        &mut rt.stdin(),
+        &mut io::writer(&rt),
+    )
 }

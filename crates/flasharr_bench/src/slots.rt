@@ -3,8 +3,8 @@ ghost use Rattle.std.specs.Prelude.{◌≡◌, ◌+◌, ◌<◌, ◌≤◌, ◌^
 ghost use Rattle.fa_tag.specs.SlotGrammar.{IsTag};
 ghost use Rattle.flasharr_bench.specs.Good.{IsGood};
 
-use fa_tag::{Opened, TAG_BYTES, Tag, open, seal};
-use fa_types::{Die, Page, Seq, Slot};
+use fa_tag::{Opened, Tag, open, seal};
+use fa_types::{Die, Page, Seq, Slot, TAG_BYTES};
 use std::io;
 use std::rt::Clock;
 use std::time::{Duration, Instant};

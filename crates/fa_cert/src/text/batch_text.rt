@@ -1,30 +1,31 @@
 //! The text of a batch: its pages with their holders, and the rounds in which dies are closed.
-ghost use Rattle.std.specs.Prelude.{◌≡◌, ◌≢◌, ℕ, ◌+◌, ◌^◌, ◌<◌, ◌≤◌, ◌∷◌, List, length, map, codes, All, IfOk, IfErr, MatchOption};
-ghost use Rattle.std.specs.List.Sorted.{IsStrictlyIncreasing};
-ghost use Rattle.fa_cert.specs.Batch.{Entry};
-ghost use Rattle.fa_cert.specs.BatchText.{HasClosedLine, HasPageLine, IsRead, SaysOfBatch, StartsWithBatch, closed_line as words_of_run, page_line as words_of_page};
+ghost use Rattle.std.specs.Prelude.{◌≡◌, ◌≢◌, ◌+◌, ◌≤◌, ◌∷◌, length, map, codes, All, IfOk, IfErr, MatchOption};
+ghost use Rattle.fa_cert.specs.BatchText.{HasClosedLine, IsRead, SaysOfBatch, StartsWithBatch, closed_line};
 ghost use Rattle.fa_cert.specs.Text.{IsTextError, words_by_line, words_left, words_of};
 
-use crate::batch::{Batch, MOST_PAGES};
+use crate::batch::{Batch, MAX_PAGES};
 use crate::closed::{Closed, Run};
 use crate::text::TextError;
 use crate::text::words::{
-    MOST_DIE, MOST_PAGE, cut_line, cut_word, is_word, next_number, rising_numbers, three_numbers,
+    MAX_DIE, MAX_PAGE, cut_word, is_only_word, is_word, next_number, rising_numbers, three_numbers,
 };
+use fa_io::cut_line;
 use fa_types::{Die, Page, Round};
-use std::alloc::{AllocError, Global};
+use std::alloc::{AllocError, Allocator, Global};
 
-const MOST_RUNS: usize = 4096;
+/// The most runs of closed rounds of a batch text.
+const MAX_RUNS: usize = 4096;
 
-const LAST_ROUND: u64 = 1_000_000;
+/// The highest round in which a batch text closes a die.
+const MAX_CLOSED_ROUND: u64 = 1_000_000;
 
 /// What a batch text says, and where it ends.
 #[derive(Debug, Drop)]
-pub struct BatchText<'a> {
+pub struct BatchText<'a, A: Allocator = Global> {
     /// The pages in the order of their lines. They need not be sound.
-    pub batch: Batch,
+    pub batch: Batch<A>,
     /// The closed rounds, the current one being 1.
-    pub closed: Closed,
+    pub closed: Closed<A>,
     /// The input behind the text.
     pub rest: &'a [u8],
     /// The number of the line at which the rest begins.
@@ -33,8 +34,8 @@ pub struct BatchText<'a> {
 
 /// What a line of a batch text says, behind the first.
 #[derive(Debug, Drop)]
-enum BatchLine {
-    Page(Page, Vec<Die>),
+enum BatchLine<A: Allocator> {
+    Page(Page, Vec<Die, A>),
     Closed(Run),
     End,
     Other,
@@ -43,7 +44,10 @@ enum BatchLine {
 /// Reads the batch text with which an input begins: `batch`, then at most 1,024 lines `page P on D D ..`,
 /// then at most 4,096 lines `closed D FIRST LAST`, then `end`. Pages are 0 to 1,048,575 and dies 0 to 63,
 /// rising; rounds are 1 to 1,000,000, the first not above the last. Else the first line that is wrong.
-pub fn read_batch(alloc: Global, input: &[u8]) -> Result<BatchText<'_>, TextError>
+pub fn read_batch<A: Allocator + Copy>(
+    alloc: A,
+    input: &[u8],
+) -> Result<BatchText<'_, A>, TextError>
     ensures read { IfOk result (IsRead input.now) }
     ensures early { IfOk result (λ text. text.line + length text.rest.now ≤ 3 + length input.now) }
     ensures fault { IfErr result (IsTextError StartsWithBatch 1 (words_by_line input.now)) }
@@ -51,23 +55,23 @@ pub fn read_batch(alloc: Global, input: &[u8]) -> Result<BatchText<'_>, TextErro
     let Some((first, behind)) = cut_line(input) else {
         return Err(TextError::Line(1));
     };
-    if !is_word(first, b"batch") {
+    if !is_only_word(first, b"batch") {
         return Err(TextError::Line(1));
     }
     let mut batch = Batch::new(alloc);
-    let mut runs: Vec<Run> = Vec::new(alloc);
+    let mut runs: Vec<Run, A> = Vec::new(alloc);
     let mut rest = behind;
     let mut line = 2u64;
     while let Some((text, after)) = cut_line(rest) {
         match line_of(alloc, text)? {
             BatchLine::Page(page, holders) => {
-                if !runs.is_empty() || batch.len() >= MOST_PAGES {
+                if !runs.is_empty() || batch.len() >= MAX_PAGES {
                     return Err(TextError::Line(line));
                 }
                 batch.push(page, holders)?;
             }
             BatchLine::Closed(run) => {
-                if runs.len() >= MOST_RUNS {
+                if runs.len() >= MAX_RUNS {
                     return Err(TextError::Line(line));
                 }
                 runs.push(run)?;
@@ -90,7 +94,7 @@ pub fn read_batch(alloc: Global, input: &[u8]) -> Result<BatchText<'_>, TextErro
 }
 
 /// What a line says.
-fn line_of(alloc: Global, line: &[u8]) -> Result<BatchLine, AllocError>
+fn line_of<A: Allocator + Copy>(alloc: A, line: &[u8]) -> Result<BatchLine<A>, AllocError>
     ensures { IfOk result (SaysOfBatch (words_of line.now)) }
 {
     let (word, rest) = cut_word(line);
@@ -103,17 +107,17 @@ fn line_of(alloc: Global, line: &[u8]) -> Result<BatchLine, AllocError>
             None => BatchLine::Other,
         });
     }
-    if rest.is_none() && is_word(word, b"end") {
+    if is_only_word(line, b"end") {
         return Ok(BatchLine::End);
     }
     Ok(BatchLine::Other)
 }
 
 /// What stands behind `page`: the number of the page, `on`, and its holders, rising.
-fn page_line(alloc: Global, rest: Option<&[u8]>) -> Result<BatchLine, AllocError>
+fn page_line<A: Allocator + Copy>(alloc: A, rest: Option<&[u8]>) -> Result<BatchLine<A>, AllocError>
     ensures { IfOk result (SaysOfBatch (codes "page" ∷ words_left rest.entry)) }
 {
-    let Some((page, rest)) = next_number(rest, MOST_PAGE) else {
+    let Some((page, rest)) = next_number(rest, MAX_PAGE) else {
         return Ok(BatchLine::Other);
     };
     let Some(text) = rest else {
@@ -123,7 +127,7 @@ fn page_line(alloc: Global, rest: Option<&[u8]>) -> Result<BatchLine, AllocError
     if !is_word(word, b"on") {
         return Ok(BatchLine::Other);
     }
-    match rising_numbers(alloc, rest, MOST_DIE)? {
+    match rising_numbers(alloc, rest, MAX_DIE)? {
         Some(numbers) => {
             let holders = dies_of(alloc, numbers.as_slice())?;
             Ok(BatchLine::Page(Page(page), holders))
@@ -133,7 +137,7 @@ fn page_line(alloc: Global, rest: Option<&[u8]>) -> Result<BatchLine, AllocError
 }
 
 /// The dies of these numbers.
-fn dies_of(alloc: Global, numbers: &[u64]) -> Result<Vec<Die>, AllocError>
+fn dies_of<A: Allocator>(alloc: A, numbers: &[u64]) -> Result<Vec<Die, A>, AllocError>
     requires { All (λ n. n ≤ 63) numbers.now }
     ensures { IfOk result (λ dies. map (λ d. d.0) dies.items ≡ numbers.now) }
 {
@@ -146,10 +150,10 @@ fn dies_of(alloc: Global, numbers: &[u64]) -> Result<Vec<Die>, AllocError>
 
 /// What stands behind `closed`: a die, and its first and last closed round.
 fn closed_run(rest: Option<&[u8]>) -> Option<Run>
-    ensures { MatchOption result ((run : Run) → HasClosedLine run → codes "closed" ∷ words_left rest.entry ≢ words_of_run run)
-        (λ run. (codes "closed" ∷ words_left rest.entry ≡ words_of_run run) × HasClosedLine run) }
+    ensures { MatchOption result ((run : Run) → HasClosedLine run → codes "closed" ∷ words_left rest.entry ≢ closed_line run)
+        (λ run. (codes "closed" ∷ words_left rest.entry ≡ closed_line run) × HasClosedLine run) }
 {
-    let (die, first, last) = three_numbers(rest, (MOST_DIE, LAST_ROUND, LAST_ROUND))?;
+    let (die, first, last) = three_numbers(rest, (MAX_DIE, MAX_CLOSED_ROUND, MAX_CLOSED_ROUND))?;
     if first == 0 || last < first {
         return None;
     }

@@ -1,36 +1,38 @@
 //! The text of a certificate: a plan, and the pages that show that no plan has fewer rounds.
-ghost use Rattle.std.specs.Prelude.{◌≡◌, ◌≢◌, ℕ, ◌+◌, ◌^◌, ◌<◌, ◌≤◌, ◌∷◌, ◌++◌, List, length, map, codes, All, IfOk, IfErr, OnOk, MatchOption, string_bytes};
+ghost use Rattle.std.specs.Prelude.{◌≡◌, ◌≢◌, ℕ, ◌+◌, ◌^◌, ◌<◌, ◌≤◌, ◌∷◌, ◌++◌, List, length, map, codes};
+ghost use Rattle.std.specs.Prelude.{IfOk, IfErr, OnOk, MatchOption, string_bytes};
 ghost use Rattle.std.specs.List.Sorted.{IsNonDecreasing, IsPermutation};
-ghost use Rattle.fa_cert.specs.CertificateText.{HasPlaceLine, IsCertificateText, IsPrinted, IsSomeCertificate, SaysOfCertificate, place_line, rounds_line, short_lines};
+ghost use Rattle.fa_cert.specs.CertificateText.{HasPlaceLine, IsCertificateText, IsPrinted, IsSomeCertificate};
+ghost use Rattle.fa_cert.specs.CertificateText.{SaysOfCertificate, place_line, rounds_line, short_lines};
 ghost use Rattle.fa_cert.specs.Text.{IsTextError, words_by_line, words_left, words_of};
 
-use crate::plan::{Place, Places, Plan};
-use crate::shortage::Shortage;
+use crate::plan::{Place, Places, Plan, Shortage};
 use crate::text::TextError;
 use crate::text::words::{
-    MOST_DIE, MOST_PAGE, cut_line, cut_word, is_word, next_number, rising_numbers, three_numbers,
+    MAX_DIE, MAX_PAGE, cut_word, is_only_word, is_word, next_number, rising_numbers, three_numbers,
 };
+use fa_io::cut_line;
 use fa_types::{Die, Page, Round};
-use std::alloc::{AllocError, Global};
+use std::alloc::{AllocError, Allocator, Global};
 use std::fmt::Write;
 
 /// The highest round, and number of rounds, of a certificate text.
-const LAST_ROUND: u64 = 2_000_000;
+const MAX_CERTIFICATE_ROUND: u64 = 2_000_000;
 
 /// What a certificate text says.
 #[derive(Debug, Drop)]
-pub struct Certificate {
+pub struct Certificate<A: Allocator = Global> {
     /// The plan, with the rounds that it claims.
-    pub plan: Plan,
+    pub plan: Plan<A>,
     /// The pages that are to show that no plan has fewer.
-    pub shortage: Shortage,
+    pub shortage: Shortage<A>,
 }
 
 /// What a line of a certificate text says, behind the first.
 #[derive(Debug, Drop)]
-enum CertificateLine {
+enum CertificateLine<A: Allocator> {
     Place(Place),
-    Short(Shortage),
+    Short(Shortage<A>),
     End,
     Other,
 }
@@ -38,7 +40,11 @@ enum CertificateLine {
 /// Reads the certificate text that an input is, of which the first line has this number: `rounds R`, lines
 /// `place P D ROUND`, one line `short P P ..` with the pages rising unless the shortage is empty, then `end`,
 /// and nothing behind it. Rounds are at most 2,000,000. Else the first line that is wrong.
-pub fn read_certificate(alloc: Global, input: &[u8], line: u64) -> Result<Certificate, TextError>
+pub fn read_certificate<A: Allocator + Copy>(
+    alloc: A,
+    input: &[u8],
+    line: u64,
+) -> Result<Certificate<A>, TextError>
     requires { line + length input.now + 1 < 2 ^ 64 }
     ensures read { IfOk result (λ found. IsCertificateText (words_by_line input.now) found.plan.rounds found.plan.places found.shortage) }
     ensures fault { IfErr result (IsTextError IsSomeCertificate line (words_by_line input.now)) }
@@ -56,13 +62,13 @@ pub fn read_certificate(alloc: Global, input: &[u8], line: u64) -> Result<Certif
     while let Some((text, after)) = cut_line(rest) {
         match line_of(alloc, text)? {
             CertificateLine::Place(place) => {
-                if !shortage.as_slice().is_empty() {
+                if !shortage.is_empty() {
                     return Err(TextError::Line(line));
                 }
                 places.push(place)?;
             }
             CertificateLine::Short(pages) => {
-                if !shortage.as_slice().is_empty() {
+                if !shortage.is_empty() {
                     return Err(TextError::Line(line));
                 }
                 shortage = pages;
@@ -91,7 +97,7 @@ fn rounds_of(line: &[u8]) -> Option<u64>
     if !is_word(word, b"rounds") {
         return None;
     }
-    let (rounds, rest) = next_number(rest, LAST_ROUND)?;
+    let (rounds, rest) = next_number(rest, MAX_CERTIFICATE_ROUND)?;
     match rest {
         Some(_) => None,
         None => Some(rounds),
@@ -99,7 +105,7 @@ fn rounds_of(line: &[u8]) -> Option<u64>
 }
 
 /// What a line says.
-fn line_of(alloc: Global, line: &[u8]) -> Result<CertificateLine, AllocError>
+fn line_of<A: Allocator + Copy>(alloc: A, line: &[u8]) -> Result<CertificateLine<A>, AllocError>
     ensures { IfOk result (SaysOfCertificate (words_of line.now)) }
 {
     let (word, rest) = cut_word(line);
@@ -112,20 +118,23 @@ fn line_of(alloc: Global, line: &[u8]) -> Result<CertificateLine, AllocError>
     if is_word(word, b"short") {
         return short_line(alloc, rest);
     }
-    if rest.is_none() && is_word(word, b"end") {
+    if is_only_word(line, b"end") {
         return Ok(CertificateLine::End);
     }
     Ok(CertificateLine::Other)
 }
 
 /// What stands behind `short`: the numbers of the pages, rising.
-fn short_line(alloc: Global, rest: Option<&[u8]>) -> Result<CertificateLine, AllocError>
+fn short_line<A: Allocator + Copy>(
+    alloc: A,
+    rest: Option<&[u8]>,
+) -> Result<CertificateLine<A>, AllocError>
     ensures { IfOk result (SaysOfCertificate (codes "short" ∷ words_left rest.entry)) }
 {
     if rest.is_none() {
         return Ok(CertificateLine::Other);
     }
-    match rising_numbers(alloc, rest, MOST_PAGE)? {
+    match rising_numbers(alloc, rest, MAX_PAGE)? {
         Some(numbers) => Ok(CertificateLine::Short(shortage_of(alloc, numbers.as_slice())?)),
         None => Ok(CertificateLine::Other),
     }
@@ -136,7 +145,7 @@ fn place_of(rest: Option<&[u8]>) -> Option<Place>
     ensures { MatchOption result ((x : Place) → HasPlaceLine x → codes "place" ∷ words_left rest.entry ≢ place_line x)
         (λ x. (codes "place" ∷ words_left rest.entry ≡ place_line x) × HasPlaceLine x) }
 {
-    let (page, die, round) = three_numbers(rest, (MOST_PAGE, MOST_DIE, LAST_ROUND))?;
+    let (page, die, round) = three_numbers(rest, (MAX_PAGE, MAX_DIE, MAX_CERTIFICATE_ROUND))?;
     Some(Place {
         page: Page(page),
         die: Die(die as u8),
@@ -145,7 +154,7 @@ fn place_of(rest: Option<&[u8]>) -> Option<Place>
 }
 
 /// The pages of these numbers.
-fn shortage_of(alloc: Global, numbers: &[u64]) -> Result<Shortage, AllocError>
+fn shortage_of<A: Allocator>(alloc: A, numbers: &[u64]) -> Result<Shortage<A>, AllocError>
     ensures { IfOk result (λ pages. map (λ p. p.0) pages ≡ numbers.now) }
 {
     let mut shortage = Shortage::new(alloc);
@@ -157,7 +166,11 @@ fn shortage_of(alloc: Global, numbers: &[u64]) -> Result<Shortage, AllocError>
 
 /// The text of a plan and a shortage, its places and its pages by rising page. What has a text is read
 /// back from it.
-pub fn print(alloc: Global, plan: &Plan, shortage: &Shortage) -> Result<String, AllocError>
+pub fn print<A: Allocator + Copy>(
+    alloc: A,
+    plan: &Plan<A>,
+    shortage: &Shortage<A>,
+) -> Result<String<A>, AllocError>
     ensures { IfOk result (λ out. IsPrinted plan.now.rounds plan.now.places shortage.now (string_bytes out)) }
 {
     let places = places_by_page(alloc, plan.places.as_slice())?;
@@ -174,7 +187,7 @@ pub fn print(alloc: Global, plan: &Plan, shortage: &Shortage) -> Result<String, 
 }
 
 /// Copies of these places, by rising page.
-fn places_by_page(alloc: Global, places: &[Place]) -> Result<Vec<Place>, AllocError>
+fn places_by_page<A: Allocator>(alloc: A, places: &[Place]) -> Result<Vec<Place, A>, AllocError>
     ensures same { IfOk result (λ copies. IsPermutation places.now copies.items) }
     ensures rising { IfOk result (λ copies. IsNonDecreasing (map (λ x. x.page.0) copies.items)) }
 {
@@ -184,7 +197,7 @@ fn places_by_page(alloc: Global, places: &[Place]) -> Result<Vec<Place>, AllocEr
 }
 
 /// Copies of these pages, rising.
-fn rising_pages(alloc: Global, pages: &[Page]) -> Result<Vec<Page>, AllocError>
+fn rising_pages<A: Allocator>(alloc: A, pages: &[Page]) -> Result<Vec<Page, A>, AllocError>
     ensures same { IfOk result (λ copies. IsPermutation pages.now copies.items) }
     ensures rising { IfOk result (λ copies. IsNonDecreasing (map (λ p. p.0) copies.items)) }
 {
@@ -194,7 +207,7 @@ fn rising_pages(alloc: Global, pages: &[Page]) -> Result<Vec<Page>, AllocError>
 }
 
 /// Prints the line of a place.
-fn print_place(out: &mut String, place: &Place) -> Result<(), AllocError>
+fn print_place<A: Allocator>(out: &mut String<A>, place: &Place) -> Result<(), AllocError>
     ensures { OnOk result ((line : List ℕ) × (string_bytes out.new ≡ string_bytes out.old ++ line)
         × ((more : List ℕ) → words_by_line (line ++ more) ≡ place_line place.now ∷ words_by_line more)) }
 {
@@ -206,7 +219,7 @@ fn print_place(out: &mut String, place: &Place) -> Result<(), AllocError>
 }
 
 /// Prints the line of a shortage of these pages, if there are any.
-fn print_short(out: &mut String, pages: &[Page]) -> Result<(), AllocError>
+fn print_short<A: Allocator>(out: &mut String<A>, pages: &[Page]) -> Result<(), AllocError>
     ensures { OnOk result ((lines : List ℕ) × (string_bytes out.new ≡ string_bytes out.old ++ lines)
         × ((more : List ℕ) → words_by_line (lines ++ more) ≡ short_lines pages.now ++ words_by_line more)) }
 {

@@ -1,37 +1,25 @@
-//! The words of a line, and the lines of an input.
-ghost use Rattle.std.specs.Prelude.{◌≡◌, ◌≢◌, ◌↔◌, ℕ, ◌-◌, ◌<◌, ◌≤◌, ◌^◌, [], ◌∷◌, List, length, map, All, IfSome, IfOk, IsTrue, MatchOption, slice_index, ◌==◌, position};
+//! The words of a line.
+ghost use Rattle.std.specs.Prelude.{◌≡◌, ◌≢◌, ◌↔◌, ℕ, ◌-◌, ◌<◌, ◌≤◌, ◌^◌, [], ◌∷◌, List, length, map, IfSome, IfOk, IsTrue};
+ghost use Rattle.std.specs.Prelude.{MatchOption, slice_index};
 ghost use Rattle.std.specs.Fmt.{decimal};
-ghost use Rattle.std.specs.List.Sorted.{IsStrictlyIncreasing};
-ghost use Rattle.fa_cert.specs.Text.{lines_of, words_of, words_left};
+ghost use Rattle.fa_cert.specs.Text.{words_of, words_left};
+ghost use Rattle.fa_cert.specs.Numbers.{AreWithin, IsRisingUpTo, three_words};
 
-use std::alloc::{AllocError, Global};
+use fa_io::first_index;
+use std::alloc::{AllocError, Allocator};
 
 /// The highest number of a page in a text.
-pub(crate) const MOST_PAGE: u64 = 1_048_575;
+pub(crate) const MAX_PAGE: u64 = 1_048_575;
 
 /// The highest number of a die in a text.
-pub(crate) const MOST_DIE: u64 = 63;
-
-/// The first line of an input and what follows its line feed; nothing where the input is at its end.
-pub(crate) fn cut_line(input: &[u8]) -> Option<(&[u8], &[u8])>
-    ensures lines { MatchOption result (lines_of input.now ≡ []) (λ r. lines_of input.now ≡ r.0.now ∷ lines_of r.1.now) }
-    ensures less { IfSome result (λ r. length r.1.now < length input.now) }
-{
-    if input.is_empty() {
-        return None;
-    }
-    match first_place(input, b'\n') {
-        Some(end) => Some((&input[..end], &input[end + 1..])),
-        None => Some((input, &[])),
-    }
-}
+pub(crate) const MAX_DIE: u64 = 63;
 
 /// The first word of a line and what follows the space behind it, where there is one.
 pub(crate) fn cut_word(line: &[u8]) -> (&[u8], Option<&[u8]>)
     ensures words { words_of line.now ≡ result.0.now ∷ words_left result.1 }
     ensures less { IfSome result.1 (λ r. length r.now < length line.now) }
 {
-    match first_place(line, b' ') {
+    match first_index(line, b' ') {
         Some(end) => (&line[..end], Some(&line[end + 1..])),
         None => (line, None),
     }
@@ -44,10 +32,18 @@ pub(crate) fn is_word(word: &[u8], name: &[u8]) -> bool
     word == name
 }
 
-/// The number that a word writes, where it is at most so large.
-pub(crate) fn number(word: &[u8], most: u64) -> Option<u64>
-    requires { most < 2 ^ 32 }
-    ensures { MatchOption result ((n : ℕ) → n ≤ most → word.now ≡ decimal n → ⊥) (λ n. (n ≤ most) × (word.now ≡ decimal n)) }
+/// Whether a line is this one word.
+pub(crate) fn is_only_word(line: &[u8], name: &[u8]) -> bool
+    ensures { IsTrue result ↔ (words_of line.now ≡ name.now ∷ []) }
+{
+    let (word, rest) = cut_word(line);
+    rest.is_none() && is_word(word, name)
+}
+
+/// The number that a word writes, where it is at most `max`.
+pub(crate) fn number(word: &[u8], max: u64) -> Option<u64>
+    requires { max < 2 ^ 32 }
+    ensures { MatchOption result ((n : ℕ) → n ≤ max → word.now ≡ decimal n → ⊥) (λ n. (n ≤ max) × (word.now ≡ decimal n)) }
 {
     if word.is_empty() {
         return None;
@@ -61,55 +57,55 @@ pub(crate) fn number(word: &[u8], most: u64) -> Option<u64>
             return None;
         }
         value = 10 * value + u64::from(*byte - b'0');
-        if most < value {
+        if max < value {
             return None;
         }
     }
     Some(value)
 }
 
-/// The number that is the next word of what is left of a line, at most so large, and what is left then.
-pub(crate) fn next_number(line: Option<&[u8]>, most: u64) -> Option<(u64, Option<&[u8]>)>
-    requires { most < 2 ^ 32 }
-    ensures { MatchOption result ((n : ℕ) (more : List (List ℕ)) → n ≤ most → words_left line.entry ≢ decimal n ∷ more)
-        (λ r. (r.0 ≤ most) × (words_left line.entry ≡ decimal r.0 ∷ words_left r.1)) }
+/// The number that is the next word of what is left of a line, at most `max`, and what is left then.
+pub(crate) fn next_number(line: Option<&[u8]>, max: u64) -> Option<(u64, Option<&[u8]>)>
+    requires { max < 2 ^ 32 }
+    ensures { MatchOption result ((n : ℕ) (more : List (List ℕ)) → n ≤ max → words_left line.entry ≢ decimal n ∷ more)
+        (λ r. (r.0 ≤ max) × (words_left line.entry ≡ decimal r.0 ∷ words_left r.1)) }
 {
     let (word, rest) = cut_word(line?);
-    Some((number(word, most)?, rest))
+    Some((number(word, max)?, rest))
 }
 
-/// The three numbers, each at most so large, that are all the words of what is left of a line.
-pub(crate) fn three_numbers(line: Option<&[u8]>, most: (u64, u64, u64)) -> Option<(u64, u64, u64)>
-    requires first { most.0 < 2 ^ 32 }
-    requires second { most.1 < 2 ^ 32 }
-    requires third { most.2 < 2 ^ 32 }
-    ensures { MatchOption result ((a b c : ℕ) → a ≤ most.0 → b ≤ most.1 → c ≤ most.2 → words_left line.entry ≢ decimal a ∷ decimal b ∷ decimal c ∷ [])
-        (λ r. (r.0 ≤ most.0) × (r.1 ≤ most.1) × (r.2 ≤ most.2) × (words_left line.entry ≡ decimal r.0 ∷ decimal r.1 ∷ decimal r.2 ∷ [])) }
+/// The three numbers, each at most its `max`, that are all the words of what is left of a line.
+pub(crate) fn three_numbers(line: Option<&[u8]>, max: (u64, u64, u64)) -> Option<(u64, u64, u64)>
+    requires first { max.0 < 2 ^ 32 }
+    requires second { max.1 < 2 ^ 32 }
+    requires third { max.2 < 2 ^ 32 }
+    ensures { MatchOption result ((n : ℕ × ℕ × ℕ) → AreWithin max n → words_left line.entry ≢ three_words n)
+        (λ n. AreWithin max n × (words_left line.entry ≡ three_words n)) }
 {
-    let (first, rest) = next_number(line, most.0)?;
-    let (second, rest) = next_number(rest, most.1)?;
-    let (third, rest) = next_number(rest, most.2)?;
+    let (first, rest) = next_number(line, max.0)?;
+    let (second, rest) = next_number(rest, max.1)?;
+    let (third, rest) = next_number(rest, max.2)?;
     match rest {
         Some(_) => None,
         None => Some((first, second, third)),
     }
 }
 
-/// The rising numbers, each at most so large, that are all the words of what is left of a line.
-pub(crate) fn rising_numbers(
-    alloc: Global,
+/// The rising numbers, each at most `max`, that are all the words of what is left of a line.
+pub(crate) fn rising_numbers<A: Allocator>(
+    alloc: A,
     line: Option<&[u8]>,
-    most: u64,
-) -> Result<Option<Vec<u64>>, AllocError>
-    requires { most < 2 ^ 32 }
-    ensures { IfOk result (λ r. MatchOption r ((ns : List ℕ) → All (λ n. n ≤ most) ns → IsStrictlyIncreasing ns → words_left line.entry ≢ map decimal ns)
-        (λ ns. All (λ n. n ≤ most) ns.items × IsStrictlyIncreasing ns.items × (words_left line.entry ≡ map decimal ns.items))) }
+    max: u64,
+) -> Result<Option<Vec<u64, A>>, AllocError>
+    requires { max < 2 ^ 32 }
+    ensures { IfOk result (λ r. MatchOption r ((ns : List ℕ) → IsRisingUpTo max ns → words_left line.entry ≢ map decimal ns)
+        (λ ns. IsRisingUpTo max ns.items × (words_left line.entry ≡ map decimal ns.items))) }
 {
     let mut numbers = Vec::new(alloc);
     let mut rest = line;
     while let Some(text) = rest {
         let (word, after) = cut_word(text);
-        let Some(n) = number(word, most) else {
+        let Some(n) = number(word, max) else {
             return Ok(None);
         };
         if !is_above(n, numbers.as_slice()) {
@@ -129,11 +125,4 @@ fn is_above(n: u64, numbers: &[u64]) -> bool
         Some(last) => *last < n,
         None => true,
     }
-}
-
-/// The first place of a byte.
-fn first_place(bytes: &[u8], byte: u8) -> Option<usize>
-    ensures { result ≡ position (λ b. b == byte) bytes.now }
-{
-    bytes.iter().position(|b| *b == byte)
 }

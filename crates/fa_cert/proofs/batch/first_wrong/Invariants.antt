@@ -3,5 +3,5 @@ use Rattle.fa_cert.specs.Batch.{AreFine}
 use Rattle.fa_cert.specs.Index.{entries_of}
 use Rattle.fa_cert.proofs.batch.first_wrong.Given as goal
 
-abbrev pub invariant-loop-place : goal.invariant-loop-place
-invariant-loop-place l = AreFine (take l.place (entries_of l.entries))
+abbrev pub invariant-loop-index : goal.invariant-loop-index
+invariant-loop-index g l = AreFine (take l.index (entries_of l.entries))

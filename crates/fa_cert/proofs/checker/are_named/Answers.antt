@@ -5,18 +5,18 @@ use Rattle.fa_cert.proofs.checker.are_named.Goals as goal
 use Rattle.fa_cert.proofs.checker.are_named.Goals.{then-not-names-via-then-not-names, then-not-names-via-else-not-names+then-has_page}
 
 pub returns-then-not-names : goal.returns-then-not-names
-returns-then-not-names c =
+returns-then-not-names g c =
     let d : Page = record { 0 = 0 } in (
       λ no. cc,
       λ all. elim c.then-not-names.branch [
-        | then-not-names-via-then-not-names w ↦ (let known = c.names.ensures.1 (known_at c.args.batch.now c.args.pages.now c.loop-place.place d (omega arith) all) in let a = w.if-not-names.true in cc)
+        | then-not-names-via-then-not-names w ↦ (let known = c.names.ensures.1 (known_at c.args.batch.now c.args.pages.now c.loop-index.index d (omega arith) all) in let a = w.if-not-names.true in cc)
         | then-not-names-via-else-not-names+then-has_page w ↦
-            absurd (not_twice c.args.batch.now c.args.pages.now c.loop-place.place d (omega arith) all (sym w.has_page.ensures ∙ w.if-has_page.true))
+            absurd (not_twice c.args.batch.now c.args.pages.now c.loop-index.index d (omega arith) all (sym w.has_page.ensures ∙ w.if-has_page.true))
       ],
     )
 
-pub loop-place-preserved : goal.loop-place-preserved
-loop-place-preserved c =
+pub loop-index-preserved : goal.loop-index-preserved
+loop-index-preserved g c =
     let d : Page = record { 0 = 0 } in
-    named_more c.args.batch.now c.args.pages.now c.loop-place.place d (omega arith) c.loop-place.invariant (c.names.ensures.0 c.if-not-names.false)
+    named_more c.args.batch.now c.args.pages.now c.loop-index.index d (omega arith) c.loop-index.invariant (c.names.ensures.0 c.if-not-names.false)
     (sym c.has_page.ensures ∙ c.if-has_page.false)

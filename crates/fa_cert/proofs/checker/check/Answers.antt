@@ -1,4 +1,4 @@
-use Rattle.std.proofs.Common.{◌≡◌, ℕ, zero, suc, Bool, List, MatchOption, subst, sym, arith}
+use Rattle.std.proofs.Common.{◌≡◌, ℕ, zero, suc, Bool, List, subst, sym, arith}
 use Rattle.fa_types.specs.declared.numbers.Page.{Page}
 use Rattle.fa_cert.specs.declared.plan.Place.{Place}
 use Rattle.fa_cert.specs.declared.verdict.Refusal.{Refusal}
@@ -7,6 +7,7 @@ use Rattle.fa_cert.specs.Batch.{Entry}
 use Rattle.fa_cert.specs.Plan.{IsPlan, rounds_of}
 use Rattle.fa_cert.specs.Certificate.{IsCertificate, ShowsNoFewer, AreNamed}
 use Rattle.fa_cert.specs.Verdict.{IsRefused}
+use Rattle.fa_cert.proofs.Parts.{where_some}
 use Rattle.fa_cert.proofs.checker.check.Goals as goal
 
 -- what shows that no plan has fewer rounds names pages of the batch: with no round there is no page to name
@@ -26,23 +27,18 @@ module _ (batch : List Entry) (current : ℕ) (closed : ℕ → ℕ → Bool) (p
   refuted rounds pages ShortagePage is certificate = is.2 (are_named rounds pages certificate.least)
   refuted rounds pages NotShort is certificate = is.3 certificate.least
 
-pub returns-in-Some-clause-verdict : goal.returns-in-Some-clause-verdict
-returns-in-Some-clause-verdict g c =
-    let found = subst (λ o. MatchOption o
-    (IsPlan c.args.batch.now (g.R.Rounds.current c.args.rounds.now) (g.R.Rounds.closed c.args.rounds.now) c.as_slice-places.result.now × (rounds_of (g.R.Rounds.current c.args.rounds.now) c.as_slice-places.result.now ≡ c.args.plan.now.rounds))
-    (λ r. (pages : List Page) → IsRefused c.args.batch.now (g.R.Rounds.current c.args.rounds.now) (g.R.Rounds.closed c.args.rounds.now) c.args.plan.now.rounds c.as_slice-places.result.now pages r))
-    c.in-Some.is c.in_ok-refusal.ensures.found in
-    subst (λ xs. IsRefused c.args.batch.now (g.R.Rounds.current c.args.rounds.now) (g.R.Rounds.closed c.args.rounds.now) c.args.plan.now.rounds xs c.args.shortage.now c.in-Some.refusal)
-    c.as_slice-places.ensures (found c.args.shortage.now)
-
-pub returns-in-Some-clause-least : goal.returns-in-Some-clause-least
-returns-in-Some-clause-least g c =
-    let found = subst (λ o. MatchOption o
-    (IsPlan c.args.batch.now (g.R.Rounds.current c.args.rounds.now) (g.R.Rounds.closed c.args.rounds.now) c.as_slice-places.result.now × (rounds_of (g.R.Rounds.current c.args.rounds.now) c.as_slice-places.result.now ≡ c.args.plan.now.rounds))
-    (λ r. (pages : List Page) → IsRefused c.args.batch.now (g.R.Rounds.current c.args.rounds.now) (g.R.Rounds.closed c.args.rounds.now) c.args.plan.now.rounds c.as_slice-places.result.now pages r))
-    c.in-Some.is c.in_ok-refusal.ensures.found in
+pub returns-in-Some : goal.returns-in-Some
+returns-in-Some g c =
+    let found =
+    where_some (IsPlan c.args.batch.now (g.R.Rounds.current c.args.rounds.now) (g.R.Rounds.closed c.args.rounds.now) c.as_slice-places.result.now × (rounds_of (g.R.Rounds.current c.args.rounds.now) c.as_slice-places.result.now ≡ c.args.plan.now.rounds))
+    (λ r. (pages : List Page) → IsRefused c.args.batch.now (g.R.Rounds.current c.args.rounds.now) (g.R.Rounds.closed c.args.rounds.now) c.args.plan.now.rounds c.as_slice-places.result.now pages r)
+    c.in-Some.refusal c.in-Some.is c.in_ok-refusal.ensures.found in
     let is = subst (λ xs. IsRefused c.args.batch.now (g.R.Rounds.current c.args.rounds.now) (g.R.Rounds.closed c.args.rounds.now) c.args.plan.now.rounds xs c.args.shortage.now c.in-Some.refusal)
-    c.as_slice-places.ensures (found c.args.shortage.now) in (
-      λ no. cc,
-      λ certificate. absurd (refuted c.args.batch.now (g.R.Rounds.current c.args.rounds.now) (g.R.Rounds.closed c.args.rounds.now) c.args.plan.now.places c.args.plan.now.rounds c.args.shortage.now c.in-Some.refusal is certificate),
-    )
+    c.as_slice-places.ensures (found c.args.shortage.now) in
+    record {
+      verdict = is;
+      least = (
+        λ no. cc,
+        λ certificate. absurd (refuted c.args.batch.now (g.R.Rounds.current c.args.rounds.now) (g.R.Rounds.closed c.args.rounds.now) c.args.plan.now.places c.args.plan.now.rounds c.args.shortage.now c.in-Some.refusal is certificate),
+      );
+    }

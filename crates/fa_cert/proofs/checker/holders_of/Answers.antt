@@ -3,4 +3,4 @@ use Rattle.fa_cert.proofs.Placed.{get_or-replicate_default}
 use Rattle.fa_cert.proofs.checker.holders_of.Goals as goal
 
 pub loop-page-init : goal.loop-page-init
-loop-page-init c = (refl, λ die. get_or-replicate_default 256 die false)
+loop-page-init g c = (refl, λ die. get_or-replicate_default 256 die false)

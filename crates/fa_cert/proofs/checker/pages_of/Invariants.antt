@@ -5,7 +5,7 @@ use Rattle.fa_cert.specs.Plan.{ArePlacedOnce}
 use Rattle.fa_cert.proofs.checker.pages_of.Given as goal
 
 abbrev pub invariant-loop-place : goal.invariant-loop-place
-invariant-loop-place l =
+invariant-loop-place g l =
     ((page : ℕ) → contains nat_cmp l.pages page ≡ list_any (λ x. x.page.0 == page) (take l.place-index l.places))
     × (l.once ≡ true → ArePlacedOnce (take l.place-index l.places))
     × (l.once ≡ false → ArePlacedOnce (take l.place-index l.places) → ⊥)

@@ -5,7 +5,7 @@ use Rattle.fa_cert.specs.Runs.{any_closes, closed_by}
 use Rattle.fa_cert.proofs.closed.spans_of.Given as goal
 
 abbrev pub invariant-loop-run : goal.invariant-loop-run
-invariant-loop-run l =
+invariant-loop-run g l =
     (length l.dies.items ≡ 256)
     × ((die round : ℕ) → closed_by l.dies.items die round ≡ any_closes (take l.run-index l.runs) die round)
     × ((die j : ℕ) (d : Run) → l.run-index ≤ j → j < length l.runs → AllByRecursion (λ s. s.first ≤ (get_or l.runs j d).first.0) (get_or l.dies.items die []))

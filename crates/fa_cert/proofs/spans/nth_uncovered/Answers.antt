@@ -1,7 +1,6 @@
-use Rattle.std.proofs.Common.{subst, sym, ◌∙◌, arith}
+use Rattle.std.proofs.Common.{sym, ◌∙◌, arith}
 use Rattle.fa_cert.specs.declared.spans.Span.{Span}
-use Rattle.fa_cert.specs.Runs.{is_covered}
-use Rattle.fa_cert.proofs.Covered.{IsNth, nth_found, nth_before, rising_at, step_near, stays_early, stays_past}
+use Rattle.fa_cert.proofs.Covered.{nth_is_free, rising_at, step_near, stays_early, stays_past}
 use Rattle.fa_cert.proofs.spans.nth_uncovered.Goals as goal
 
 pub overflow_sub-round-then-from-span : goal.overflow_sub-round-then-from-span
@@ -22,28 +21,13 @@ overflow_add-round-then-from-span-2 c =
     let near = step_near c.args.from c.args.n c.args.spans.now c.requires.rising c.requires.first c.requires.few c.loop-span.span-index c.loop-span.round d (omega arith) c.loop-span.invariant (omega arith) (omega arith) in
     omega (arith, near, c.max.ensures, c.requires.early, c.requires.small)
 
-pub returns-after-loop-span-clause-free : goal.returns-after-loop-span-clause-free
-returns-after-loop-span-clause-free c =
-    let same = sym (stays_past c.args.from c.loop-span.round c.args.spans.now c.loop-span.span-index (omega arith)) ∙ c.loop-span.invariant in
-    let is = subst (λ r. IsNth c.args.from c.args.n (is_covered c.args.spans.now) r) (sym same) (nth_found c.args.from c.args.n c.args.spans.now c.requires.rising c.requires.first) in
-    (is.late, is.free)
+pub returns-after-loop-span : goal.returns-after-loop-span
+returns-after-loop-span c =
+    nth_is_free c.args.from c.args.n c.args.spans.now c.requires.rising c.requires.first c.loop-span.round
+    (sym (stays_past c.args.from c.loop-span.round c.args.spans.now c.loop-span.span-index (omega arith)) ∙ c.loop-span.invariant)
 
-pub returns-after-loop-span-clause-before : goal.returns-after-loop-span-clause-before
-returns-after-loop-span-clause-before c =
-    let same = sym (stays_past c.args.from c.loop-span.round c.args.spans.now c.loop-span.span-index (omega arith)) ∙ c.loop-span.invariant in
-    let is = subst (λ r. IsNth c.args.from c.args.n (is_covered c.args.spans.now) r) (sym same) (nth_found c.args.from c.args.n c.args.spans.now c.requires.rising c.requires.first) in
-    nth_before c.args.from c.args.n (is_covered c.args.spans.now) c.loop-span.round is
-
-pub returns-then-round-span-clause-free : goal.returns-then-round-span-clause-free
-returns-then-round-span-clause-free c =
+pub returns-then-round-span : goal.returns-then-round-span
+returns-then-round-span c =
     let d : Span = record { first = 0; last = 0 } in
-    let same = sym (stays_early c.args.from c.loop-span.round c.args.spans.now c.loop-span.span-index d (omega arith) c.if-round-span.true) ∙ c.loop-span.invariant in
-    let is = subst (λ r. IsNth c.args.from c.args.n (is_covered c.args.spans.now) r) (sym same) (nth_found c.args.from c.args.n c.args.spans.now c.requires.rising c.requires.first) in
-    (is.late, is.free)
-
-pub returns-then-round-span-clause-before : goal.returns-then-round-span-clause-before
-returns-then-round-span-clause-before c =
-    let d : Span = record { first = 0; last = 0 } in
-    let same = sym (stays_early c.args.from c.loop-span.round c.args.spans.now c.loop-span.span-index d (omega arith) c.if-round-span.true) ∙ c.loop-span.invariant in
-    let is = subst (λ r. IsNth c.args.from c.args.n (is_covered c.args.spans.now) r) (sym same) (nth_found c.args.from c.args.n c.args.spans.now c.requires.rising c.requires.first) in
-    nth_before c.args.from c.args.n (is_covered c.args.spans.now) c.loop-span.round is
+    nth_is_free c.args.from c.args.n c.args.spans.now c.requires.rising c.requires.first c.loop-span.round
+    (sym (stays_early c.args.from c.loop-span.round c.args.spans.now c.loop-span.span-index d (omega arith) c.if-round-span.true) ∙ c.loop-span.invariant)

@@ -2,7 +2,7 @@ use Rattle.std.proofs.Common.{◌≡◌, ◌++◌, take, drop, ℕ, length, List
 use Rattle.std.proofs.lemmas.List.{take_all}
 use Rattle.std.proofs.Math.Seq.{take-add}
 use Rattle.byteorder.specs.Endian.{big_bytes, big_number}
-use Rattle.fa_types.proofs.Bytes.{AreBytes, big_bytes-read}
+use Rattle.fa_types.proofs.BigEndian.{AreBytes, big_bytes-read}
 use Rattle.fa_cmds.specs.Requests.{request_bytes, command_number}
 use Rattle.fa_cmds.specs.declared.request.Request.{Request}
 use Rattle.fa_cmds.proofs.request.read_request.Goals as goal

@@ -1,4 +1,4 @@
-use Rattle.fa_image.proofs.Slots.{inside, outside}
+use Rattle.fa_image.specs.Slots.{inside, outside}
 use Rattle.fa_image.proofs.laws.a_write_changes_what_it_names.Goals as goal
 
 pub returns-clause-inside : goal.returns-clause-inside

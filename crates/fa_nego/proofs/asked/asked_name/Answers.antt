@@ -1,7 +1,7 @@
 use Rattle.std.proofs.Common.{◌≡◌, ◌++◌, length, take, drop, sym, ap, ◌∙◌, arith, append_assoc}
 use Rattle.std.proofs.lemmas.List.{take-append-drop}
 use Rattle.byteorder.specs.Endian.{big_number}
-use Rattle.fa_nego.proofs.Bytes.{IsBytes, IsBytes-take, IsBytes-drop}
+use Rattle.fa_types.proofs.BigEndian.{AreBytes, AreBytes-take, AreBytes-drop}
 use Rattle.fa_nego.proofs.Asking.{is_spelled, asks_for}
 use Rattle.fa_nego.proofs.asked.asked_name.Goals as goal
 
@@ -31,18 +31,18 @@ returns-clause-some c =
     let given = c.args.given.now in
     let rest = c.split_at.result.1.now in
     let behind = c.split_at-2.result.1.now in
-    let fits : IsBytes given = λ i. omega (arith, c.type_inv.given i) in
-    let rest_fits : IsBytes rest = rw c.split_at.ensures.back (IsBytes-drop 4 given fits) in
-    let behind_fits : IsBytes behind = rw c.split_at-2.ensures.back (IsBytes-drop c.read_u32-len.result rest rest_fits) in
+    let fits : AreBytes given = λ i. omega (arith, c.type_inv.given i) in
+    let rest_fits : AreBytes rest = rw c.split_at.ensures.back (AreBytes-drop 4 given fits) in
+    let behind_fits : AreBytes behind = rw c.split_at-2.ensures.back (AreBytes-drop c.read_u32-len.result rest rest_fits) in
     let fourth : take 4 given ++ drop 4 given ≡ given = take-append-drop 4 given in
     let named : take c.read_u32-len.result rest ++ drop c.read_u32-len.result rest ≡ rest = take-append-drop c.read_u32-len.result rest in
     let counted : take 2 behind ++ drop 2 behind ≡ behind = take-append-drop 2 behind in
     let whole : given ≡ c.split_at.result.0.now ++ (c.split_at-2.result.0.now ++ (c.split_at-3.result.0.now ++ c.split_at-3.result.1.now)) = cc in
     asks_for given c.split_at.result.0.now c.split_at-2.result.0.now c.split_at-3.result.0.now c.split_at-3.result.1.now
     (whole ∙ sym (append_assoc c.split_at.result.0.now c.split_at-2.result.0.now _) ∙ sym (append_assoc (c.split_at.result.0.now ++ c.split_at-2.result.0.now) c.split_at-3.result.0.now c.split_at-3.result.1.now))
-    (rw c.split_at.ensures.front (IsBytes-take 4 given fits))
-    (rw c.split_at-3.ensures.front (IsBytes-take 2 behind behind_fits))
-    (rw c.split_at-3.ensures.back (IsBytes-drop 2 behind behind_fits))
+    (rw c.split_at.ensures.front (AreBytes-take 4 given fits))
+    (rw c.split_at-3.ensures.front (AreBytes-take 2 behind behind_fits))
+    (rw c.split_at-3.ensures.back (AreBytes-drop 2 behind behind_fits))
     c.split_at.ensures.front_len
     c.split_at-3.ensures.front_len
     (sym c.read_u32-len.ensures ∙ sym c.split_at-2.ensures.front_len)

@@ -2,7 +2,7 @@ use Rattle.std.proofs.Common.{◌≡◌, ℕ, ◌-◌, List, length, take, drop,
 use Rattle.std.proofs.lemmas.List.{take_all, length-drop}
 use Rattle.byteorder.specs.Endian.{big_number}
 use Rattle.byteorder.specs.Numbers.{big_from-lt}
-use Rattle.fa_nego.proofs.Bytes.{IsBytes, IsBytes-drop}
+use Rattle.fa_types.proofs.BigEndian.{AreBytes, AreBytes-drop}
 use Rattle.fa_nego.proofs.Heads.{head_from_bytes}
 use Rattle.fa_nego.proofs.judge.head_of.Goals as goal
 use Rattle.fa_nego.proofs.judge.head_of.Goals.{After-read_u32-len}
@@ -12,15 +12,15 @@ read_from : (bytes : List ℕ) (n place : ℕ) → n ≡ big_number 4 (take (len
 read_from bytes n place is =
     is ∙ ap (big_number 4) (take_all (length bytes - place) (drop place bytes) (omega (arith, length-drop place bytes)))
 
-pub returns-then-len-gt-LONGEST_DATA : goal.returns-then-len-gt-LONGEST_DATA
-returns-then-len-gt-LONGEST_DATA c =
+pub returns-then-len-gt-MAX_DATA_BYTES : goal.returns-then-len-gt-MAX_DATA_BYTES
+returns-then-len-gt-MAX_DATA_BYTES c =
     let head = c.args.head.now in
-    let fits : IsBytes head = λ i. omega (arith, c.type_inv.head i) in
+    let fits : AreBytes head = λ i. omega (arith, c.type_inv.head i) in
     let option = big_number 4 (drop 8 head) in (
       option,
       c.read_u32-len.result,
-      big_from-lt 0 4 (drop 8 head) (IsBytes-drop 8 head fits),
-      c.if-len-gt-LONGEST_DATA.true,
+      big_from-lt 0 4 (drop 8 head) (AreBytes-drop 8 head fits),
+      c.if-len-gt-MAX_DATA_BYTES.true,
       c.read_u32-len.type_inv,
       head_from_bytes head option c.read_u32-len.result c.requires fits (sym c.read_u64.ensures ∙ c.if-read_u64-ne-OPTION_MAGIC.false) refl
           (read_from head c.read_u32-len.result 12 c.read_u32-len.ensures),

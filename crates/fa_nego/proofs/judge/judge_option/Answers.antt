@@ -1,10 +1,9 @@
-use Rattle.std.proofs.Common.{◌≡◌, drop, sym, ap, ◌∙◌}
+use Rattle.std.proofs.Common.{◌≡◌, drop, refl, sym, ap, ◌∙◌}
 use Rattle.std.proofs.lemmas.List.{append-nil}
 use Rattle.fa_nego.specs.Negotiation.{Turn}
-use Rattle.fa_nego.specs.View.{next_at, next_after}
-use Rattle.fa_nego.proofs.Stages.{magic_refused, length_refused, holds_option, passes, is_over, next_at-ends}
+use Rattle.fa_nego.proofs.Stages.{magic_refused, length_refused, holds_option, passes, is_over}
 use Rattle.fa_nego.proofs.judge.judge_option.Goals as goal
-use Rattle.fa_nego.proofs.judge.judge_option.Goals.{in-None, in-Some}
+use Rattle.fa_nego.proofs.judge.judge_option.Goals.{in-More, in_default}
 
 pub returns-in-WrongMagic : goal.returns-in-WrongMagic
 returns-in-WrongMagic g c heard said at =
@@ -28,9 +27,9 @@ returns-after-come g c heard said at =
     let comes = rw given at c.in_ok-come-in-Good.ensures in
     let turn : Turn = record {
       sent = record { option = c.in-Good.option; given = drop 16 held };
-      come = record { said = come.said.items; next = next_after come.ending };
+      come = record { said = come.said.items; next = come.next };
     } in
     elim c.match-come.branch [
-      | in-None w ↦ rw w.next-is (passes c.args.export.now c.args.size c.args.flags held heard said at turn whole comes (ap next_after w.in-None.is))
-      | in-Some w ↦ rw w.next-is (is_over c.args.export.now c.args.size c.args.flags held heard said at turn whole comes (next_at w.in-Some.ending) (ap next_after w.in-Some.is) (next_at-ends w.in-Some.ending))
+      | in-More w ↦ rw w.next-is (passes c.args.export.now c.args.size c.args.flags held heard said at turn whole comes w.in-More.is)
+      | in_default w ↦ rw w.next-is (is_over c.args.export.now c.args.size c.args.flags held heard said at turn whole comes come.next refl w.in_default.not-More)
     ]

@@ -1,6 +1,7 @@
 -- The bytes so far, and then those of the lines that are left, are those of the text.
 use Rattle.std.proofs.Common.{◌≡◌, ◌+◌, ◌≤◌, length}
-use Rattle.fa_prog.specs.HexLines.{lines_of, bytes_from, bytes_of_text}
+use Rattle.fa_io.specs.Lines.{lines_of}
+use Rattle.fa_prog.specs.HexLines.{bytes_from, bytes_of_text}
 use Rattle.fa_prog.proofs.Lines.{onto}
 use Rattle.fa_prog.proofs.hex_lines.read_hex_lines.Given as goal
 

@@ -5,12 +5,12 @@ use Rattle.fa_prog.proofs.verify.unsound_told.Goals as goal
 
 pub returns-in-NoHolder : goal.returns-in-NoHolder
 unfolding judged_text
-returns-in-NoHolder c =
+returns-in-NoHolder g c =
     rw c.in-NoHolder.is
     (subst (λ t. IfOk c.format.result (λ line. string_bytes line ≡ t)) (sym (append_assoc (codes "unsound: page " ++ decimal c.in-NoHolder.page.0) (codes " has no holder") (10 ∷ []))) c.format.ensures.ok)
 
 pub returns-in-Twice : goal.returns-in-Twice
 unfolding judged_text
-returns-in-Twice c =
+returns-in-Twice g c =
     rw c.in-Twice.is
     (subst (λ t. IfOk c.format-in-Twice.result (λ line. string_bytes line ≡ t)) (sym (append_assoc (codes "unsound: page " ++ decimal c.in-Twice.page.0) (codes " stands twice") (10 ∷ []))) c.format-in-Twice.ensures.ok)

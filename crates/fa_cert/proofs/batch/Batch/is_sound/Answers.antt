@@ -12,6 +12,6 @@ sound_iff batch None false few same fine = cc
 sound_iff batch (Some u) true few same first = cc
 sound_iff batch (Some u) false few same first = (λ no. cc, λ sound. absurd (not_fine batch u first sound.fine))
 
-pub returns-then-len-le-MOST_PAGES : goal.returns-then-len-le-MOST_PAGES
-returns-then-len-le-MOST_PAGES c =
+pub returns-then-len-le-MAX_PAGES : goal.returns-then-len-le-MAX_PAGES
+returns-then-len-le-MAX_PAGES g c =
     sound_iff c.args.self.now c.unsound.result c.is_none.result (omega arith) c.is_none.ensures c.unsound.ensures

@@ -1,16 +1,16 @@
 use Rattle.std.proofs.Common.{◌≡◌, Some, [], ◌∷◌, ◌++◌, length, subst, sym, rules, is_some, nat_cmp, cond, false}
 use Rattle.std.specs.BTreeMap.{get, is_at}
-use Rattle.fa_cert.specs.declared.batch.Held.{Held}
+use Rattle.fa_cert.specs.declared.batch.HeldPage.{HeldPage}
 use Rattle.fa_cert.specs.Index.{entries_of, IsIndexOf}
 use Rattle.fa_cert.proofs.Indexed.{index-push, nothing}
 use Rattle.fa_cert.proofs.batch.Batch.push.Goals as goal
 
 pub invariant_of-self-in_default : goal.invariant_of-self-in_default
-invariant_of-self-in_default c =
-    let h : Held = record { page = c.args.page; holders = c.args.holders } in
+invariant_of-self-in_default g c =
+    let h : HeldPage _ = record { page = c.args.page; holders = c.args.holders } in
     let items : c.push.new.self.items ≡ c.self.inside.entries.items ++ h ∷ [] = c.in_ok-push.ensures.items in
     let absent : is_some (get nat_cmp c.self.inside.first c.args.page.0) ≡ false = search rules in
-    let place : c.len-place.result ≡ length c.self.inside.entries.items = search rules in
+    let place : c.len-index.result ≡ length c.self.inside.entries.items = search rules in
     subst (λ held. IsIndexOf (entries_of held) c.insert.new.self) (sym items)
     (index-push c.self.inside.entries.items h c.self.inside.first c.insert.new.self c.self.invariant
     (nothing (get nat_cmp c.self.inside.first c.args.page.0) absent)

@@ -5,12 +5,12 @@ use Rattle.fa_cert.proofs.Windows.{rounds_that-not}
 use Rattle.fa_cert.proofs.closed.ClosedRounds.open_count.Goals as goal
 
 pub overflow_sub-result : goal.overflow_sub-result
-overflow_sub-result c =
+overflow_sub-result g c =
     let all = rounds_that-not (is_covered c.spans.result.now) c.args.self.now.current c.args.rounds in
     omega (arith, all, c.count.ensures)
 
 pub returns : goal.returns
-returns c =
+returns g c =
     let count = c.count.ensures ∙ ap (λ v. rounds_that (is_covered v) c.args.self.now.current c.args.rounds) c.spans.ensures in
     let all = rounds_that-not (is_covered (slice_index_or c.args.self.now.dies.items c.args.die.0 [])) c.args.self.now.current c.args.rounds in
     omega (arith, all, count)

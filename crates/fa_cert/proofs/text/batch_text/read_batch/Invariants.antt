@@ -1,12 +1,10 @@
-use Rattle.std.proofs.Common.{◌≡◌, ℕ, ◌+◌, ◌≤◌, ◌++◌, List, length, map}
-use Rattle.fa_cert.specs.Text.{lines_of, words_of}
+use Rattle.std.proofs.Common.{◌+◌, ◌≤◌, length}
 use Rattle.fa_cert.proofs.BatchTexts.{IsSoFar}
+use Rattle.fa_cert.proofs.Reading.{HasRead}
 use Rattle.fa_cert.proofs.text.batch_text.read_batch.Given as goal
 
 abbrev pub invariant-loop-text : goal.invariant-loop-text
-invariant-loop-text l =
-    (l.line + length l.rest ≤ 2 + length l.fn.input)
-    × ((before : List (List ℕ)) × (lines_of l.fn.input ≡ before ++ lines_of l.rest) × IsSoFar l.batch l.runs.items (map words_of before) × (l.line ≡ 1 + length before))
+invariant-loop-text g l = (l.line + length l.rest ≤ 2 + length l.fn.input) × HasRead 1 l.fn.input l.rest l.line (IsSoFar l.batch l.runs.items)
 
 abbrev pub decreases-loop-text : goal.decreases-loop-text
-decreases-loop-text l = length l.rest
+decreases-loop-text g l = length l.rest

@@ -10,7 +10,7 @@ use Rattle.fa_cert.proofs.Printed.{IsWord, ended, is_word, lines_behind, line_pr
 use Rattle.fa_cert.proofs.text.certificate_text.print.Goals as goal
 
 pub loop-place-init : goal.loop-place-init
-loop-place-init c = λ more.
+loop-place-init g c = λ more.
     let rounds = c.args.plan.now.rounds in
     let told : string_bytes c.write.new.self ≡ string_bytes c.new-out.result ++ (codes "rounds" ++ ended (decimal rounds ∷ [])) = c.in_ok-write.ensures.bytes in
     let all : string_bytes c.write.new.self ≡ codes "rounds" ++ ended (decimal rounds ∷ []) = told ∙ ap (λ v. v ++ (codes "rounds" ++ ended (decimal rounds ∷ []))) c.new-out.ensures.bytes in
@@ -18,7 +18,7 @@ loop-place-init c = λ more.
     ∙ line_printed (codes "rounds") (decimal rounds ∷ []) (is_word (codes "rounds") refl) (All-cons IsWord (decimal rounds) [] (number_word rounds (omega arith)) (All-nil IsWord)) more
 
 pub loop-place-preserved : goal.loop-place-preserved
-loop-place-preserved c = λ more.
+loop-place-preserved g c = λ more.
     let places = c.deref-place-items.result.now in
     let i : ℕ = c.loop-place.place-index in
     let none : Place = record { page = record { 0 = 0 }; die = record { 0 = 0 }; round = record { 0 = 0 } } in
@@ -28,7 +28,7 @@ loop-place-preserved c = λ more.
     ∙ ap (λ v. (rounds ∷ v) ++ words_by_line more) (sym (map_more place_line places i none (omega arith)))
 
 pub returns : goal.returns
-returns c =
+returns g c =
     let places = c.in_ok-places.places.items in
     let pages = c.in_ok-pages.pages.items in
     let whole = take_all c.loop-place.place-index c.deref-place-items.result.now (omega arith) ∙ c.deref-place-items.ensures.value in

@@ -5,7 +5,7 @@ use Rattle.fa_cert.proofs.Printed.{IsWord, ended, is_word, line_printed, number_
 use Rattle.fa_cert.proofs.text.certificate_text.print_place.Goals as goal
 
 pub returns : goal.returns
-returns c =
+returns g c =
     let x = c.args.place.now in
     let words : List (List ℕ) = decimal x.page.0 ∷ decimal x.die.0 ∷ decimal x.round.0 ∷ [] in
     let page = number_word x.page.0 (omega arith) in

@@ -7,7 +7,7 @@ use Rattle.fa_cert.proofs.Printed.{IsWord, ended, ended_is, number_word, short_p
 use Rattle.fa_cert.proofs.text.certificate_text.print_short.Goals as goal
 
 pub loop-page-preserved : goal.loop-page-preserved
-loop-page-preserved c =
+loop-page-preserved g c =
     let pages = c.args.pages.now in
     let i : ℕ = c.loop-page.page-index in
     let none : Page = record { 0 = 0 } in
@@ -21,7 +21,7 @@ loop-page-preserved c =
     )
 
 pub returns : goal.returns
-returns c =
+returns g c =
     let pages = c.args.pages.now in
     let i : ℕ = c.loop-page.page-index in
     let whole = take_all i pages (omega arith) in

@@ -4,6 +4,6 @@ use Rattle.fa_cert.proofs.Printed.{IsWord, spaced}
 use Rattle.fa_cert.proofs.text.certificate_text.print_short.Given as goal
 
 abbrev pub invariant-loop-page : goal.invariant-loop-page
-invariant-loop-page l =
+invariant-loop-page g l =
     (string_bytes l.out ≡ string_bytes l.fn.out ++ (codes "short" ++ spaced (map (λ p. decimal p.0) (take l.page-index l.pages))))
     × All (λ p. IsWord (decimal p.0)) (take l.page-index l.pages)

@@ -7,7 +7,7 @@ use Rattle.std.proofs.lemmas.Int.Digits.{digits_value_more, digits_more}
 use Rattle.std.proofs.lemmas.Str.{digit_value_digit}
 use Rattle.std.proofs.lemmas.Str.Parse.{digit_at}
 use Rattle.std.proofs.Math.Seq.{take-length}
-use Rattle.fa_cert.proofs.Cuts.{writes, written, no_leading_zero, front_value}
+use Rattle.fa_cert.proofs.Cuts.{writes, written, no_leading_zero, prefix_value}
 use Rattle.fa_cert.proofs.text.words.number.Goals as goal
 use Rattle.fa_cert.proofs.text.words.number.Goals.{else-word-eq48-via-then-word-eq48+else-word-gt1, else-word-eq48-via-else-word-eq48, then-byte-lt48-via-then-byte-lt48, then-byte-lt48-via-else-byte-lt48+then-byte-gt57}
 
@@ -30,13 +30,13 @@ returns-then-byte-lt48 c = λ n few is.
       | then-byte-lt48-via-else-byte-lt48+then-byte-gt57 w ↦ omega (arith, digit.1, w.if-byte-gt57.true)
     ]
 
-pub returns-then-most-value : goal.returns-then-most-value
-returns-then-most-value c = λ n few is.
+pub returns-then-max-value : goal.returns-then-max-value
+returns-then-max-value c = λ n few is.
     let value = (written c.args.word.now n (omega (arith, few, c.requires)) is).2 in
     let more = digits_value_more 10 c.args.word.now c.loop-byte.byte-index c.loop-byte-test.true in
     let digit = digit_value_digit (get_or c.args.word.now c.loop-byte.byte-index 0) (c.if-byte-lt48.false, c.if-byte-gt57.false) in
-    let front = front_value c.args.word.now (c.loop-byte.byte-index + 1) in
-    omega (arith, value, more, digit, front, c.loop-byte.invariant.0, c.from.ensures, c.if-most-value.true, few)
+    let front = prefix_value c.args.word.now (c.loop-byte.byte-index + 1) in
+    omega (arith, value, more, digit, front, c.loop-byte.invariant.0, c.from.ensures, c.if-max-value.true, few)
 
 pub loop-byte-preserved : goal.loop-byte-preserved
 loop-byte-preserved c =
@@ -45,7 +45,7 @@ loop-byte-preserved c =
     let small : digit_value (get_or c.args.word.now c.loop-byte.byte-index 0) < 10 = omega (arith, digit, c.if-byte-gt57.false) in (
       omega (arith, more, digit, c.loop-byte.invariant.0, c.from.ensures),
       digits_more 10 c.args.word.now c.loop-byte.byte-index c.loop-byte-test.true c.loop-byte.invariant.1 small,
-      c.if-most-value.false,
+      c.if-max-value.false,
     )
 
 pub returns : goal.returns

@@ -1,6 +1,7 @@
--- What the file holds is not said.
-use Rattle.std.proofs.Common.{[]}
+-- zeros
+use Rattle.std.proofs.Common.{true, replicate}
+use Rattle.fa_image.specs.File.{file_bytes}
 use Rattle.fa_image.proofs.file_image.FileImage.create.Given as goal
 
-abbrev pub ghost-over : goal.ghost-over
-ghost-over g a = record { bytes = []; lefts = [] }
+abbrev pub ghost-holding : goal.ghost-holding
+ghost-holding g a = record { bytes = replicate (file_bytes a.geometry) 0; lefts = g.lefts; honest = true }

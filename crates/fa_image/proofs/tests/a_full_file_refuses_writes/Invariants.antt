@@ -1,6 +1,0 @@
--- What the file holds is not said.
-use Rattle.std.proofs.Common.{[]}
-use Rattle.fa_image.proofs.tests.a_full_file_refuses_writes.Given as goal
-
-abbrev pub ghost-over : goal.ghost-over
-ghost-over g a = record { bytes = []; lefts = [] }

@@ -1,0 +1,177 @@
+//! The program's arguments, and faulty texts.
+use fa_io::faulty::{Failing, Piecewise};
+use fa_prog::{run, start};
+use std::alloc::{AllocError, Global};
+use std::io::{self, ErrorKind};
+use std::test::Fail;
+
+/// What the program prints of an input, and its status.
+pub fn printed(alloc: Global, arguments: &[&str], text: &str) -> Result<(u8, Vec<u8>), Fail> {
+    let given = given(alloc, arguments)?;
+    let mut input = text.as_bytes();
+    let mut output = Vec::new(alloc);
+    let status = run(alloc, &given, &mut input, &mut output);
+    Ok((status, output))
+}
+
+fn given(alloc: Global, arguments: &[&str]) -> Result<Vec<String>, AllocError> {
+    let mut given = Vec::new(alloc);
+    for argument in arguments {
+        given.push(String::from_str(alloc, argument)?)?;
+    }
+    Ok(given)
+}
+
+#[test]
+fn faulty_lines(rt: HostRuntime) -> Result<(), Fail> {
+    let cases = [
+        ("0", "talk: line 1\n"),
+        ("00 0\n", "talk: line 1\n"),
+        ("00000003\n\ng0\n", "talk: line 3\n"),
+        ("00000004\n00\t00", "talk: line 2\n"),
+        ("00\r\n", "talk: line 1\n"),
+        ("00\n000\nzz\n", "talk: line 2\n"),
+    ];
+    for (text, told) in cases {
+        let (status, output) = printed(rt.alloc(), &["talk"], text)?;
+        assert_eq!(rt; status, 2, "at {text:?}");
+        assert!(rt; output.as_slice() == told.as_bytes(), "at {text:?}");
+    }
+    Ok(())
+}
+
+#[test]
+fn lines_are_joined(rt: HostRuntime) -> Result<(), Fail> {
+    let greeting = "4e42444d4147494349484156454f50540003\nend ";
+    let cases = [
+        ("", "4\n"),
+        ("\n \n", "4\n"),
+        ("000000\n04", "3\n"),
+        ("0000 000a", "3\n"),
+        ("00 0000 0F", "3\n"),
+    ];
+    for (text, end) in cases {
+        let (status, output) = printed(rt.alloc(), &["talk"], text)?;
+        assert_eq!(rt; status, 0, "at {text:?}");
+        let rest = output.strip_prefix(greeting.as_bytes()).unwrap_or(&[]);
+        assert!(rt; rest == end.as_bytes(), "at {text:?}");
+    }
+    Ok(())
+}
+
+#[test]
+fn other_arguments(rt: HostRuntime) -> Result<(), Fail> {
+    let cases: [&[&str]; 5] = [&[], &["serve"], &["talk", "talk"], &["Talk"], &["verif"]];
+    for arguments in cases {
+        let (status, output) = printed(rt.alloc(), arguments, "")?;
+        assert_eq!(rt; status, 2);
+        assert!(rt; output.as_slice() == b"usage: flasharr talk | verify\n".as_slice());
+    }
+    Ok(())
+}
+
+// Five bytes are taken before the second write fails.
+#[test]
+fn output_that_fails(rt: HostRuntime) -> Result<(), Fail> {
+    let cases = [
+        ("talk", "", "4e42444d4147494349484156454f50540003\nend 4\n"),
+        (
+            "verify",
+            "batch\nend\nrounds 1\nend",
+            "refused 6 last round differs\n",
+        ),
+        ("verify", "batch", "text: line 2\n"),
+    ];
+    for (name, text, told) in cases {
+        let arguments = given(rt.alloc(), &[name])?;
+        for (fails_at, taken) in [(1, 0), (2, 5)] {
+            let mut input = text.as_bytes();
+            let mut output = Failing::new(Piecewise::new(Vec::new(rt.alloc()), 5), fails_at);
+            assert_eq!(rt; run(rt.alloc(), &arguments, &mut input, &mut output), 1);
+            assert!(rt;
+                output.inner.inner.as_slice() == &told.as_bytes()[..taken],
+                "at {told:?}"
+            );
+            assert_eq!(rt; output.calls, fails_at);
+        }
+    }
+    Ok(())
+}
+
+#[test]
+fn input_that_fails(rt: HostRuntime) -> Result<(), Fail> {
+    for (name, told) in [
+        ("talk", "talk: cannot read\n"),
+        ("verify", "verify: cannot read\n"),
+    ] {
+        let arguments = given(rt.alloc(), &[name])?;
+        for fails_at in 1..3u64 {
+            let text = b"batch\nend\nrounds 0\nend".as_slice();
+            let mut input = Failing::new(Piecewise::new(text, 7), fails_at);
+            let mut output = Vec::new(rt.alloc());
+            assert_eq!(rt; run(rt.alloc(), &arguments, &mut input, &mut output), 1);
+            assert!(rt; output.as_slice() == told.as_bytes(), "at {told:?}");
+        }
+    }
+    Ok(())
+}
+
+/// What the program prints that is started with all of these arguments, its name among them.
+fn started(alloc: Global, all: &[&str], text: &str) -> Result<(u8, Vec<u8>), Fail> {
+    let arguments = given(alloc, all)?.into_iter();
+    let mut input = text.as_bytes();
+    let mut output = Vec::new(alloc);
+    let status = start(alloc, Ok(arguments), &mut input, &mut output);
+    Ok((status.number(), output))
+}
+
+#[test]
+fn the_program_ends_with_the_status_of_its_run(rt: HostRuntime) -> Result<(), Fail> {
+    let refused = "batch\nend\nrounds 1\nend";
+    let cases: [(&[&str], &str, u8, &str); 6] = [
+        (
+            &["flasharr", "verify"],
+            "batch\nend\nrounds 0\nend",
+            0,
+            "least 0\n",
+        ),
+        (
+            &["flasharr", "verify"],
+            refused,
+            1,
+            "refused 6 last round differs\n",
+        ),
+        (&["flasharr", "verify"], "", 2, "text: line 1\n"),
+        (
+            &["flasharr", "talk", "extra"],
+            "",
+            2,
+            "usage: flasharr talk | verify\n",
+        ),
+        (&["flasharr"], "", 2, "usage: flasharr talk | verify\n"),
+        (&[], "", 2, "usage: flasharr talk | verify\n"),
+    ];
+    for (all, text, status, told) in cases {
+        let (ended, output) = started(rt.alloc(), all, text)?;
+        assert_eq!(rt; ended, status, "at {told:?}");
+        assert!(rt; output.as_slice() == told.as_bytes(), "at {told:?}");
+    }
+    Ok(())
+}
+
+#[test]
+fn arguments_that_cannot_be_had(rt: HostRuntime) -> Result<(), Fail> {
+    let cases = [
+        (ErrorKind::OutOfMemory, 1, "no memory\n"),
+        (ErrorKind::InvalidData, 2, "usage: flasharr talk | verify\n"),
+    ];
+    for (kind, status, told) in cases {
+        let mut input = b"".as_slice();
+        let mut output = Vec::new(rt.alloc());
+        let refused = Err(io::Error::from(kind));
+        let ended = start(rt.alloc(), refused, &mut input, &mut output);
+        assert_eq!(rt; ended.number(), status);
+        assert!(rt; output.as_slice() == told.as_bytes(), "at {told:?}");
+    }
+    Ok(())
+}

@@ -1,0 +1,185 @@
+//! Connections whose memory, reader or writer fails.
+use crate::rows::{FLAGS, GO, GONE, GREETING, served};
+use crate::spelling::{joined, spelled};
+use fa_io::faulty::{Failing, Piecewise};
+use fa_session::{SessionEnd, serve_stream};
+use fa_types::MemBlocks;
+use linked_list_allocator::LocalHeap;
+use std::alloc::Global;
+use std::test::Fail;
+
+/// A client that writes a page, reads it and the next, and disconnects.
+const REQUESTS: &str = "25609513 0001 0001 0000000000000001 0000000000000200 00000200 11x512
+    25609513 0000 0000 0000000000000002 0000000000000200 00000400
+    25609513 0000 0002 0000000000000003 0000000000000000 00000000";
+
+/// The replies to it.
+const REPLIES: &str = "67446698 00000000 0000000000000001
+    67446698 00000000 0000000000000002 11x512 00x512";
+
+fn client(alloc: Global) -> Result<Vec<u8>, Fail> {
+    joined(alloc, &[FLAGS, GO, REQUESTS])
+}
+
+fn server(alloc: Global) -> Result<Vec<u8>, Fail> {
+    joined(alloc, &[GREETING, GONE, REPLIES])
+}
+
+// The calls from the failing one on fail, so that one which is made again is seen too.
+#[test]
+fn each_read_fails(rt: HostRuntime) -> Result<(), Fail> {
+    let said = client(rt.alloc())?;
+    let answer = server(rt.alloc())?;
+    let mut failed = 0u64;
+    for calls in 1..10_000u64 {
+        let mut reader = Failing::new(Piecewise::new(said.as_slice(), 7), calls);
+        let mut writer = Vec::new(rt.alloc());
+        let ended = served(rt.alloc(), &mut reader, &mut writer)?;
+        if ended == SessionEnd::Disconnected {
+            break;
+        }
+        assert!(rt; ended == SessionEnd::ReadFailed, "at read {calls}");
+        assert!(rt; answer.starts_with(writer.as_slice()), "at read {calls}");
+        assert_eq!(rt; reader.calls, calls);
+        failed = calls;
+    }
+    assert!(rt; failed < 9_999);
+    assert!(rt; failed >= said.len() as u64 / 7);
+    Ok(())
+}
+
+#[test]
+fn each_write_fails(rt: HostRuntime) -> Result<(), Fail> {
+    let said = client(rt.alloc())?;
+    let answer = server(rt.alloc())?;
+    let mut failed = 0u64;
+    for calls in 1..10_000u64 {
+        let mut reader = said.as_slice();
+        let mut writer = Failing::new(Piecewise::new(Vec::new(rt.alloc()), 5), calls);
+        let ended = served(rt.alloc(), &mut reader, &mut writer)?;
+        if ended == SessionEnd::Disconnected {
+            break;
+        }
+        assert!(rt; ended == SessionEnd::WriteFailed, "at write {calls}");
+        assert!(rt;
+            answer.starts_with(writer.inner.inner.as_slice()),
+            "at write {calls}"
+        );
+        assert_eq!(rt; writer.calls, calls);
+        failed = calls;
+    }
+    assert!(rt; failed < 9_999);
+    assert!(rt; failed >= answer.len() as u64 / 5);
+    Ok(())
+}
+
+#[test]
+fn a_writer_that_takes_nothing(rt: HostRuntime) -> Result<(), Fail> {
+    let said = client(rt.alloc())?;
+    let mut reader = Piecewise::new(said.as_slice(), 4096);
+    let mut writer = Piecewise::new(Vec::new(rt.alloc()), 0);
+    assert!(rt; served(rt.alloc(), &mut reader, &mut writer)? == SessionEnd::WriteFailed);
+    assert_eq!(rt; writer.calls, 1);
+    assert_eq!(rt; reader.calls, 0);
+    Ok(())
+}
+
+// The session's memory is a heap that grows by little from run to run, so that each of its
+// allocations is the first that doesn't fit in some run.
+#[test]
+fn each_allocation_fails(rt: HostRuntime) -> Result<(), Fail> {
+    let said = client(rt.alloc())?;
+    let answer = server(rt.alloc())?;
+    let write_refused = spelled(
+        rt.alloc(),
+        "67446698 0000000c 0000000000000001
+        67446698 00000000 0000000000000002 00x1024",
+    )?;
+    let read_refused = spelled(
+        rt.alloc(),
+        "67446698 00000000 0000000000000001
+        67446698 0000000c 0000000000000002",
+    )?;
+    let both_refused = spelled(
+        rt.alloc(),
+        "67446698 0000000c 0000000000000001
+        67446698 0000000c 0000000000000002",
+    )?;
+    let begun = joined(rt.alloc(), &[GREETING, GONE])?;
+    let mut in_negotiation = 0u32;
+    let mut of_requests = 0u32;
+    let mut whole = 0u32;
+    for room in 0..200usize {
+        let heap = LocalHeap::new(rt.alloc(), room * 16)?;
+        let mut store = MemBlocks::new(rt.alloc(), 64 * 512)?;
+        let mut reader = Piecewise::new(said.as_slice(), 100);
+        let mut writer = Vec::new(rt.alloc());
+        let ended = serve_stream(&heap, &mut reader, &mut writer, &mut store, "disk");
+        let taken = writer.as_slice();
+        if ended == SessionEnd::NoMemory {
+            in_negotiation = in_negotiation.saturating_add(1);
+            assert!(rt; begun.starts_with(taken), "with {room}");
+            continue;
+        }
+        assert!(rt; ended == SessionEnd::Disconnected, "with {room}");
+        if taken == answer.as_slice() {
+            whole = whole.saturating_add(1);
+            continue;
+        }
+        of_requests = of_requests.saturating_add(1);
+        let replies = taken.strip_prefix(begun.as_slice()).unwrap_or(&[]);
+        let is_right = replies == write_refused.as_slice()
+            || replies == read_refused.as_slice()
+            || replies == both_refused.as_slice();
+        assert!(rt; is_right, "with {room}");
+    }
+    assert!(rt; in_negotiation > 1);
+    assert!(rt; of_requests > 1);
+    assert!(rt; whole > 1);
+    Ok(())
+}
+
+#[test]
+fn the_longest_read_and_write(rt: HostRuntime) -> Result<(), Fail> {
+    let mut bytes = Vec::with_capacity(rt.alloc(), 33_554_432)?;
+    for number in 0..4_194_304u64 {
+        bytes.extend_from_slice(&number.to_be_bytes())?;
+    }
+    let write = "25609513 0000 0001 0000000000000001 0000000000000000 02000000";
+    let read = "25609513 0000 0000 0000000000000002 0000000000000000 02000000";
+    let mut said = joined(rt.alloc(), &[FLAGS, GO, write])?;
+    said.extend_from_slice(&bytes)?;
+    said.extend_from_slice(spelled(rt.alloc(), read)?.as_slice())?;
+
+    let mut store = MemBlocks::new(rt.alloc(), 33_554_432)?;
+    let mut reader = Piecewise::new(said.as_slice(), 1_000_000);
+    let mut writer = Piecewise::new(Vec::new(rt.alloc()), 1_000_000);
+    let ended = serve_stream(rt.alloc(), &mut reader, &mut writer, &mut store, "disk");
+    assert!(rt; ended == SessionEnd::InputEnded);
+
+    let replies = "67446698 00000000 0000000000000001 67446698 00000000 0000000000000002";
+    let replies = spelled(rt.alloc(), replies)?;
+    let front = writer.inner.strip_suffix(bytes.as_slice()).unwrap_or(&[]);
+    assert!(rt; front.ends_with(replies.as_slice()));
+    // A call takes a million bytes: 33 or so for the data, and few for all else.
+    assert!(rt; reader.calls < 50);
+    assert!(rt; writer.calls < 50);
+    Ok(())
+}
+
+// The data of a WRITE that reaches past the end is dropped by few reads, and the next request is answered.
+#[test]
+fn the_data_of_a_refused_write(rt: HostRuntime) -> Result<(), Fail> {
+    let write = "25609513 0000 0001 0000000000000001 0000000000007e00 000f4240 11x1000000";
+    let read = "25609513 0000 0000 0000000000000002 0000000000000000 00000001";
+    let replies = "67446698 0000001c 0000000000000001 67446698 00000000 0000000000000002 00";
+    let said = joined(rt.alloc(), &[FLAGS, GO, write, read])?;
+    let answer = joined(rt.alloc(), &[GREETING, GONE, replies])?;
+    let mut reader = Piecewise::new(said.as_slice(), 1_000_000);
+    let mut writer = Vec::new(rt.alloc());
+    let ended = served(rt.alloc(), &mut reader, &mut writer)?;
+    assert!(rt; ended == SessionEnd::InputEnded);
+    assert!(rt; writer.as_slice() == answer.as_slice());
+    assert!(rt; reader.calls < 260);
+    Ok(())
+}

@@ -1,0 +1,444 @@
+//! Images on real files, in memory, and with a fuse.
+use crate::reopened::{left_and_opened, sealed_and_opened};
+use fa_image::{FileImage, FuseImage, Image, ImageFault, MemImage};
+use fa_tag::{Opened, Tag};
+use fa_types::{Die, Geometry, HEADER_BYTES, Page, Seq, Slot, TAG_BYTES};
+use std::fs::{OpenOptions, Permissions};
+use std::os::unix::fs::PermissionsExt;
+use std::os::unix::process::parent_id;
+use std::path::PathBuf;
+use std::test::Fail;
+use std::{env, fs, io, process};
+
+/// The bytes of a slot with a page of 512.
+const SLOT: usize = 576;
+
+/// Four dies of 16 blocks of 8 slots, with pages of 512.
+fn shape() -> Result<Geometry, Fail> {
+    Ok(Geometry::new(4, 0, 16, 8, 512, 64)?)
+}
+
+/// A path of this test and this run alone.
+fn path_of(rt: &HostRuntime, name: &str) -> Result<PathBuf, Fail> {
+    let name = format!(in rt.alloc(); "fa_image_{}_{name}", process::id(rt.process()))?;
+    Ok(env::temp_dir(rt)?.join(rt.alloc(), name.as_str())?)
+}
+
+fn create(rt: &HostRuntime, path: &PathBuf) -> io::Result<FileImage> {
+    let geometry = Geometry::new(4, 0, 16, 8, 512, 64).map_err(|_| io::ErrorKind::Other)?;
+    FileImage::create(rt, path.as_path(), geometry)
+}
+
+fn open(rt: &HostRuntime, path: &PathBuf) -> io::Result<FileImage> {
+    let geometry = Geometry::new(4, 0, 16, 8, 512, 64).map_err(|_| io::ErrorKind::Other)?;
+    FileImage::open(rt, path.as_path(), geometry)
+}
+
+/// Reads a slot, if it is one of the image's.
+fn read<I: Image>(image: &mut I, slot: u32, into: &mut [u8]) -> Result<(), ImageFault> {
+    let g = image.geometry();
+    if slot < g.blocks * g.slots && into.len() == g.page_bytes as usize + TAG_BYTES {
+        image.read_slot(Slot(slot), into)
+    } else {
+        Err(ImageFault::Sync)
+    }
+}
+
+/// Programs a slot, if it is one of the image's.
+fn program<I: Image>(image: &mut I, slot: u32, bytes: &[u8]) -> Result<(), ImageFault> {
+    let g = image.geometry();
+    if slot < g.blocks * g.slots && bytes.len() == g.page_bytes as usize + TAG_BYTES {
+        image.program(Slot(slot), bytes)
+    } else {
+        Err(ImageFault::Sync)
+    }
+}
+
+/// Erases a block, if it is one of the image's.
+fn erase<I: Image>(image: &mut I, block: u32) -> Result<(), ImageFault> {
+    if block < image.geometry().blocks {
+        image.erase_block(block)
+    } else {
+        Err(ImageFault::Sync)
+    }
+}
+
+fn has(bytes: &[u8], from: usize, to: usize, byte: u8) -> bool {
+    match bytes.get(from..to) {
+        Some(part) => part.iter().all(|b| *b == byte),
+        None => false,
+    }
+}
+
+#[test]
+fn a_new_image_is_zeros(rt: HostRuntime) -> Result<(), Fail> {
+    let path = path_of(&rt, "new")?;
+    let old = vec![in rt.alloc(); 0x77u8; 100_000]?;
+    fs::write(&rt, path.as_str(), old.as_slice())?;
+    let mut image = create(&rt, &path)?;
+    let bytes = fs::read(&rt, path.as_str())?;
+    assert_eq!(rt; bytes.len(), 77_824);
+    assert!(rt; has(&bytes, 0, 77_824, 0));
+    let mut slot = [1; SLOT];
+    let mut header = [1; HEADER_BYTES];
+    assert_eq!(rt; read(&mut image, 127, &mut slot), Ok(()));
+    assert_eq!(rt; slot, [0; SLOT]);
+    assert_eq!(rt; image.read_header(&mut header), Ok(()));
+    assert_eq!(rt; header, [0; HEADER_BYTES]);
+    assert_eq!(rt; (image.syncs(), image.faults()), (0, 0));
+    fs::remove_file(&rt, path.as_str())?;
+    Ok(())
+}
+
+/// The file is longer than the image, and full of 77.
+#[test]
+fn writes_touch_nothing_around(rt: HostRuntime) -> Result<(), Fail> {
+    let path = path_of(&rt, "around")?;
+    let old = vec![in rt.alloc(); 0x77u8; 78_000]?;
+    fs::write(&rt, path.as_str(), old.as_slice())?;
+    let mut image = open(&rt, &path)?;
+    assert_eq!(rt; program(&mut image, 17, &[0x5a; SLOT]), Ok(()));
+    assert_eq!(rt; program(&mut image, 127, &[0x33; SLOT]), Ok(()));
+    let bytes = fs::read(&rt, path.as_str())?;
+    assert_eq!(rt; bytes.len(), 78_000);
+    assert!(rt; has(&bytes, 0, 13_888, 0x77));
+    assert!(rt; has(&bytes, 13_888, 14_464, 0x5a));
+    assert!(rt; has(&bytes, 14_464, 77_248, 0x77));
+    assert!(rt; has(&bytes, 77_248, 77_824, 0x33));
+    assert!(rt; has(&bytes, 77_824, 78_000, 0x77));
+    assert_eq!(rt; erase(&mut image, 2), Ok(()));
+    let bytes = fs::read(&rt, path.as_str())?;
+    assert!(rt; has(&bytes, 0, 13_312, 0x77));
+    assert!(rt; has(&bytes, 13_312, 17_920, 0xff));
+    assert!(rt; has(&bytes, 17_920, 77_248, 0x77));
+    assert_eq!(rt; image.write_header(&[0x11; HEADER_BYTES]), Ok(()));
+    let bytes = fs::read(&rt, path.as_str())?;
+    assert_eq!(rt; bytes.len(), 78_000);
+    assert!(rt; has(&bytes, 0, 112, 0x11));
+    assert!(rt; has(&bytes, 112, 13_312, 0x77));
+    assert!(rt; has(&bytes, 77_824, 78_000, 0x77));
+    assert_eq!(rt; image.sync(), Ok(()));
+    assert_eq!(rt; (image.syncs(), image.faults()), (1, 0));
+    fs::remove_file(&rt, path.as_str())?;
+    Ok(())
+}
+
+/// How many writes of files this process has made, where the system counts them.
+fn writes_made(rt: &HostRuntime) -> Option<u64> {
+    let text = fs::read_to_string(rt, "/proc/self/io").ok()?;
+    let count = text.lines().find_map(|line| line.strip_prefix("syscw: "))?;
+    count.parse().ok()
+}
+
+#[test]
+fn each_write_is_one_call_of_the_file(rt: HostRuntime) -> Result<(), Fail> {
+    let path = path_of(&rt, "calls")?;
+    let mut image = create(&rt, &path)?;
+    let before = writes_made(&rt);
+    assert_eq!(rt; program(&mut image, 17, &[0x5a; SLOT]), Ok(()));
+    let programmed = writes_made(&rt);
+    assert_eq!(rt; erase(&mut image, 2), Ok(()));
+    let erased = writes_made(&rt);
+    assert_eq!(rt; image.write_header(&[0x11; HEADER_BYTES]), Ok(()));
+    let written = writes_made(&rt);
+    assert_eq!(rt; programmed, before.map(|count| count.wrapping_add(1)));
+    assert_eq!(rt; erased, programmed.map(|count| count.wrapping_add(1)));
+    assert_eq!(rt; written, erased.map(|count| count.wrapping_add(1)));
+    fs::remove_file(&rt, path.as_str())?;
+    Ok(())
+}
+
+#[test]
+fn what_was_left_is_read_again(rt: HostRuntime) -> Result<(), Fail> {
+    let path = path_of(&rt, "again")?;
+    let geometry = shape()?;
+    let slot = [0x24; SLOT];
+    if 5 >= geometry.blocks * geometry.slots
+        || slot.len() != geometry.page_bytes as usize + TAG_BYTES
+    {
+        return Err(Fail::from("another geometry"));
+    }
+    let (image, found) = left_and_opened(&rt, path.as_path(), geometry, Slot(5), &slot)?;
+    assert_eq!(rt; found.as_slice(), slot.as_slice());
+    assert_eq!(rt; (image.syncs(), image.faults()), (0, 0));
+    fs::remove_file(&rt, path.as_str())?;
+    Ok(())
+}
+
+#[test]
+fn a_sealed_page_is_opened_again(rt: HostRuntime) -> Result<(), Fail> {
+    let path = path_of(&rt, "sealed")?;
+    let geometry = shape()?;
+    let payload = [0x24; 512];
+    if 17 >= geometry.blocks * geometry.slots || payload.len() != geometry.page_bytes as usize {
+        return Err(Fail::from("another geometry"));
+    }
+    let tag = Tag {
+        page: Page(5),
+        seq: Seq(3),
+        die: Die(2),
+        slot: Slot(17),
+    };
+    let (image, opened) = sealed_and_opened(&rt, path.as_path(), geometry, tag, &payload)?;
+    assert_eq!(rt; opened, Opened::Good(tag));
+    assert_eq!(rt; (image.syncs(), image.faults()), (0, 0));
+    fs::remove_file(&rt, path.as_str())?;
+    Ok(())
+}
+
+/// Leaves an image for another process, with this process's number in its header, or reads the one
+/// that another left, and says whether it is as it was left. Each test is a process of its own, all
+/// with the same parent.
+fn leave_or_read(rt: &HostRuntime) -> Result<bool, Fail> {
+    let name = format!(in rt.alloc(); "fa_image_left_{}", parent_id(rt.process()))?;
+    let shared = env::temp_dir(rt)?.join(rt.alloc(), name.as_str())?;
+    let own = path_of(rt, "left")?;
+    let mut header = [0x42; HEADER_BYTES];
+    header[..4].copy_from_slice(&process::id(rt.process()).to_be_bytes());
+    let mut image = create(rt, &own)?;
+    image.write_header(&header)?;
+    program(&mut image, 5, &[0x24; SLOT])?;
+    image.sync()?;
+    drop(image);
+    let linked = fs::hard_link(rt, own.as_str(), shared.as_str());
+    fs::remove_file(rt, own.as_str())?;
+    let Err(fault) = linked else {
+        return Ok(true);
+    };
+    if fault.kind() != io::ErrorKind::AlreadyExists {
+        return Ok(false);
+    }
+    let mut left = open(rt, &shared)?;
+    let mut found = [0; HEADER_BYTES];
+    let mut slot = [0; SLOT];
+    left.read_header(&mut found)?;
+    read(&mut left, 5, &mut slot)?;
+    fs::remove_file(rt, shared.as_str())?;
+    Ok(found[..4] != header[..4] && found[4..] == header[4..] && slot == [0x24; SLOT])
+}
+
+/// Of this test and the next the later one reads what the earlier one left.
+#[test]
+fn a_header_is_read_by_the_next_process(rt: HostRuntime) -> Result<(), Fail> {
+    assert!(rt; leave_or_read(&rt)?);
+    Ok(())
+}
+
+#[test]
+fn a_header_is_left_for_the_next_process(rt: HostRuntime) -> Result<(), Fail> {
+    assert!(rt; leave_or_read(&rt)?);
+    Ok(())
+}
+
+#[test]
+fn a_file_that_is_too_short_refuses_what_it_lacks(rt: HostRuntime) -> Result<(), Fail> {
+    let path = path_of(&rt, "short")?;
+    let mut slot = [0; SLOT];
+    let mut header = [0; HEADER_BYTES];
+    let old = vec![in rt.alloc(); 7u8; 4096 + 3 * SLOT - 1]?;
+    fs::write(&rt, path.as_str(), old.as_slice())?;
+    let mut image = open(&rt, &path)?;
+    assert_eq!(rt; image.read_header(&mut header), Ok(()));
+    assert_eq!(rt; header, [7; HEADER_BYTES]);
+    assert_eq!(rt; read(&mut image, 1, &mut slot), Ok(()));
+    assert_eq!(rt; slot, [7; SLOT]);
+    assert_eq!(rt; read(&mut image, 2, &mut slot), Err(ImageFault::ReadSlot));
+    assert_eq!(rt; read(&mut image, 127, &mut slot), Err(ImageFault::ReadSlot));
+    assert_eq!(rt; (image.syncs(), image.faults()), (0, 2));
+    fs::write(&rt, path.as_str(), [].as_slice())?;
+    let mut image = open(&rt, &path)?;
+    assert_eq!(rt; image.read_header(&mut header), Err(ImageFault::ReadHeader));
+    assert_eq!(rt; image.faults(), 1);
+    fs::remove_file(&rt, path.as_str())?;
+    Ok(())
+}
+
+/// A file can lose bytes while it is open.
+#[test]
+fn a_file_that_shrinks_refuses_reads(rt: HostRuntime) -> Result<(), Fail> {
+    let path = path_of(&rt, "shrinks")?;
+    let mut slot = [0; SLOT];
+    let mut header = [0; HEADER_BYTES];
+    let mut image = create(&rt, &path)?;
+    fs::write(
+        &rt,
+        path.as_str(),
+        vec![in rt.alloc(); 7u8; 4096 + 3 * SLOT]?.as_slice(),
+    )?;
+    assert_eq!(rt; read(&mut image, 2, &mut slot), Ok(()));
+    assert_eq!(rt; slot, [7; SLOT]);
+    assert_eq!(rt; read(&mut image, 3, &mut slot), Err(ImageFault::ReadSlot));
+    assert_eq!(rt; image.read_header(&mut header), Ok(()));
+    assert_eq!(rt; (image.syncs(), image.faults()), (0, 1));
+    fs::write(&rt, path.as_str(), [7u8; 111].as_slice())?;
+    assert_eq!(rt; image.read_header(&mut header), Err(ImageFault::ReadHeader));
+    assert_eq!(rt; image.faults(), 2);
+    fs::remove_file(&rt, path.as_str())?;
+    Ok(())
+}
+
+#[test]
+fn what_is_no_image_file_is_refused(rt: HostRuntime) -> Result<(), Fail> {
+    let path = path_of(&rt, "refused")?;
+    let missing = open(&rt, &path).err().ok_or("opened")?;
+    assert_eq!(rt; missing.kind(), io::ErrorKind::NotFound);
+    fs::create_dir(&rt, path.as_str())?;
+    let folder = open(&rt, &path).err().ok_or("opened")?;
+    assert_eq!(rt; folder.kind(), io::ErrorKind::IsADirectory);
+    assert!(rt; create(&rt, &path).is_err());
+    fs::remove_dir(&rt, path.as_str())?;
+    // No user may write the file of a running program, and most may not write this one anyway.
+    let program = env::current_exe(&rt)?;
+    let running = open(&rt, &program).err().ok_or("opened")?;
+    assert!(rt;
+        matches!(
+            running.kind(),
+            io::ErrorKind::ExecutableFileBusy | io::ErrorKind::PermissionDenied
+        )
+    );
+    drop(create(&rt, &path)?);
+    fs::set_permissions(&rt, path.as_str(), Permissions::from_mode(0o444))?;
+    // A user who may write all files opens this one too.
+    if let Err(refused) = open(&rt, &path) {
+        assert_eq!(rt; refused.kind(), io::ErrorKind::PermissionDenied);
+    }
+    fs::remove_file(&rt, path.as_str())?;
+    Ok(())
+}
+
+/// `/dev/full` is a file that is always full: it reads as zeros, and refuses what is written.
+#[test]
+fn a_full_file_refuses_writes(rt: HostRuntime) -> Result<(), Fail> {
+    let file = OpenOptions::new()
+        .read(true)
+        .write(true)
+        .open(&rt, "/dev/full")?;
+    let mut image = FileImage::over(rt.alloc(), file, shape()?)?;
+    let mut slot = [1; SLOT];
+    assert_eq!(rt; program(&mut image, 3, &slot), Err(ImageFault::Program));
+    assert_eq!(rt; erase(&mut image, 1), Err(ImageFault::EraseBlock));
+    assert_eq!(rt;
+        image.write_header(&[1; HEADER_BYTES]),
+        Err(ImageFault::WriteHeader)
+    );
+    assert_eq!(rt; image.sync(), Err(ImageFault::Sync));
+    assert_eq!(rt; (image.syncs(), image.faults()), (0, 4));
+    assert_eq!(rt; read(&mut image, 3, &mut slot), Ok(()));
+    assert_eq!(rt; slot, [0; SLOT]);
+    Ok(())
+}
+
+/// `/dev/null` takes whatever is written and has no medium to put it on: a header is not written there.
+#[test]
+fn a_header_that_is_not_synced_is_refused(rt: HostRuntime) -> Result<(), Fail> {
+    let file = OpenOptions::new()
+        .read(true)
+        .write(true)
+        .open(&rt, "/dev/null")?;
+    let mut image = FileImage::over(rt.alloc(), file, shape()?)?;
+    assert_eq!(rt; program(&mut image, 3, &[1; SLOT]), Ok(()));
+    assert_eq!(rt;
+        image.write_header(&[1; HEADER_BYTES]),
+        Err(ImageFault::WriteHeader)
+    );
+    assert_eq!(rt; (image.syncs(), image.faults()), (0, 1));
+    Ok(())
+}
+
+#[test]
+fn memory_counts_what_is_overwritten(rt: HostRuntime) -> Result<(), Fail> {
+    let mut image = MemImage::new(rt.alloc(), shape()?)?;
+    let mut slot = [0; SLOT];
+    let mut header = [1; HEADER_BYTES];
+    assert_eq!(rt; read(&mut image, 127, &mut slot), Ok(()));
+    assert_eq!(rt; slot, [0xff; SLOT]);
+    assert_eq!(rt; image.read_header(&mut header), Ok(()));
+    assert_eq!(rt; header, [0; HEADER_BYTES]);
+    assert_eq!(rt; program(&mut image, 8, &[8; SLOT]), Ok(()));
+    assert_eq!(rt; program(&mut image, 15, &[15; SLOT]), Ok(()));
+    assert_eq!(rt; program(&mut image, 16, &[16; SLOT]), Ok(()));
+    assert_eq!(rt; image.overwrites(), 0);
+    assert_eq!(rt; program(&mut image, 8, &[9; SLOT]), Ok(()));
+    assert_eq!(rt; image.overwrites(), 1);
+    assert_eq!(rt; erase(&mut image, 1), Ok(()));
+    assert_eq!(rt; program(&mut image, 8, &[8; SLOT]), Ok(()));
+    assert_eq!(rt; image.overwrites(), 1);
+    assert_eq!(rt; read(&mut image, 15, &mut slot), Ok(()));
+    assert_eq!(rt; slot, [0xff; SLOT]);
+    assert_eq!(rt; read(&mut image, 16, &mut slot), Ok(()));
+    assert_eq!(rt; slot, [16; SLOT]);
+    assert_eq!(rt; image.sync(), Ok(()));
+    assert_eq!(rt; (image.syncs(), image.faults()), (1, 0));
+    Ok(())
+}
+
+/// The six calls in the order of their faults, each on something of its own.
+fn call<I: Image>(image: &mut I, number: u32) -> Result<(), ImageFault> {
+    match number {
+        1 => read(image, 0, &mut [0; SLOT]),
+        2 => program(image, 9, &[9; SLOT]),
+        3 => erase(image, 2),
+        4 => image.read_header(&mut [0; HEADER_BYTES]),
+        5 => image.write_header(&[5; HEADER_BYTES]),
+        _ => image.sync(),
+    }
+}
+
+#[test]
+fn a_fuse_fails_the_armed_call(rt: HostRuntime) -> Result<(), Fail> {
+    let faults = [
+        ImageFault::ReadSlot,
+        ImageFault::Program,
+        ImageFault::EraseBlock,
+        ImageFault::ReadHeader,
+        ImageFault::WriteHeader,
+        ImageFault::Sync,
+    ];
+    for (k, fault) in faults.iter().enumerate() {
+        let armed = k as u32 + 1;
+        assert_eq!(rt; u32::from(fault.number()), armed);
+        let mut image = FuseImage::new(MemImage::new(rt.alloc(), shape()?)?);
+        assert_eq!(rt; program(&mut image, 16, &[16; SLOT]), Ok(()));
+        image.arm(u64::from(armed));
+        for number in 1..7u32 {
+            let want = if number == armed { Err(*fault) } else { Ok(()) };
+            assert_eq!(rt;
+                call(&mut image, number),
+                want,
+                "fuse at {armed}, call {number}"
+            );
+        }
+        for number in 1..7u32 {
+            assert_eq!(rt;
+                call(&mut image, number),
+                Ok(()),
+                "after {armed}, call {number}"
+            );
+        }
+        assert_eq!(rt; image.faults(), 1);
+        assert_eq!(rt; image.inner().faults(), 0);
+    }
+    Ok(())
+}
+
+#[test]
+fn a_blown_fuse_leaves_the_image_alone(rt: HostRuntime) -> Result<(), Fail> {
+    let mut image = FuseImage::new(MemImage::new(rt.alloc(), shape()?)?);
+    assert_eq!(rt; program(&mut image, 16, &[16; SLOT]), Ok(()));
+    for number in [2, 3, 5, 6] {
+        image.arm(1);
+        assert!(rt; call(&mut image, number).is_err(), "call {number}");
+    }
+    assert_eq!(rt; image.faults(), 4);
+    let mut inner = image.into_inner();
+    let mut slot = [0; SLOT];
+    assert_eq!(rt; read(&mut inner, 9, &mut slot), Ok(()));
+    assert_eq!(rt; slot, [0xff; SLOT]);
+    assert_eq!(rt; read(&mut inner, 16, &mut slot), Ok(()));
+    assert_eq!(rt; slot, [16; SLOT]);
+    let mut header = [1; HEADER_BYTES];
+    assert_eq!(rt; inner.read_header(&mut header), Ok(()));
+    assert_eq!(rt; header, [0; HEADER_BYTES]);
+    assert_eq!(rt; (inner.syncs(), inner.faults()), (0, 0));
+    Ok(())
+}

@@ -1,0 +1,30 @@
+//! The tests of all crates, over their public calls: what no clause says. They stand in a crate of their
+//! own, since a crate with tests is proved once with them and once without.
+#![tactic(auto)]
+
+#[cfg(test)]
+mod arguments;
+#[cfg(test)]
+mod cmds;
+#[cfg(test)]
+mod fails;
+#[cfg(test)]
+mod image;
+#[cfg(test)]
+mod io;
+#[cfg(test)]
+mod nego;
+#[cfg(test)]
+mod reopened;
+#[cfg(test)]
+mod rows;
+#[cfg(test)]
+mod spelling;
+#[cfg(test)]
+mod tag;
+#[cfg(test)]
+mod texts;
+#[cfg(test)]
+mod types;
+#[cfg(test)]
+mod verdicts;

@@ -1,0 +1,197 @@
+//! Conversations with their answers, also cut after each byte and in pieces of each length.
+use crate::spelling::joined;
+use fa_io::faulty::{Interrupted, Piecewise};
+use fa_prog::run;
+use fa_session::{SessionEnd, serve_stream};
+use fa_types::MemBlocks;
+use std::alloc::Global;
+use std::io::{Read, Write};
+use std::process::Abort;
+use std::test::Fail;
+
+/// The flags of a client.
+pub const FLAGS: &str = "00000003";
+
+/// The greeting.
+pub const GREETING: &str = "4e42444d41474943 49484156454f5054 0003";
+
+/// A client that asks for transmission, by an empty name.
+pub const GO: &str = "49484156454f5054 00000007 00000006 00000000 0000";
+
+/// The answer to it.
+pub const GONE: &str = "0003e889045565a9 00000007 00000003 0000000c 0000 0000000000008000 014d
+    0003e889045565a9 00000007 00000001 00000000";
+
+/// What the server says to a client's bytes over a plain store of 64 pages of 512 zeros, and how the
+/// connection ends.
+pub fn served<R: Read, W: Write>(
+    alloc: Global,
+    reader: &mut R,
+    writer: &mut W,
+) -> Result<SessionEnd, Fail> {
+    let mut store = MemBlocks::new(alloc, 64 * 512)?;
+    Ok(serve_stream(alloc, reader, writer, &mut store, "disk"))
+}
+
+/// Tries one conversation: by the program, in pieces of each length with a writer that takes one
+/// byte a call, over streams that are interrupted at every other call, and cut after each byte.
+fn converses(
+    rt: &impl Abort,
+    alloc: Global,
+    client: &[&str],
+    server: &[&str],
+    end: u8,
+) -> Result<(), Fail> {
+    let said = joined(alloc, client)?;
+    let answer = joined(alloc, server)?;
+
+    let lines = hex::encode(alloc, said.as_slice())?;
+    let arguments = [String::from_str(alloc, "talk")?];
+    let mut input = lines.as_bytes();
+    let mut printed = Vec::new(alloc);
+    assert_eq!(rt; run(alloc, &arguments, &mut input, &mut printed), 0);
+    let mut expected = hex::encode(alloc, answer.as_slice())?;
+    let number = end.to_string(alloc)?;
+    expected.push_str("\nend ")?;
+    expected.push_str(number.as_str())?;
+    expected.push('\n')?;
+    assert!(rt; printed.as_slice() == expected.as_bytes());
+
+    for most in 1..=said.len() {
+        let mut reader = Piecewise::new(said.as_slice(), most);
+        let mut writer = Piecewise::new(Vec::new(alloc), 1);
+        let ended = served(alloc, &mut reader, &mut writer)?;
+        assert_eq!(rt; ended.number(), end, "in pieces of {most}");
+        assert!(rt; writer.inner.as_slice() == answer.as_slice());
+    }
+
+    let mut reader = Interrupted::new(Piecewise::new(said.as_slice(), 7));
+    let mut writer = Interrupted::new(Piecewise::new(Vec::new(alloc), 5));
+    let ended = served(alloc, &mut reader, &mut writer)?;
+    assert_eq!(rt; ended.number(), end);
+    assert!(rt; writer.inner.inner.as_slice() == answer.as_slice());
+
+    let mut before = 0;
+    for cut in 0..said.len() {
+        let mut reader = &said[..cut];
+        let mut writer = Vec::new(alloc);
+        let ended = served(alloc, &mut reader, &mut writer)?;
+        assert!(rt; answer.starts_with(writer.as_slice()), "cut after {cut}");
+        assert!(rt; before <= writer.len(), "cut after {cut}");
+        assert!(rt;
+            ended == SessionEnd::InputEnded || ended.number() == end,
+            "cut after {cut}"
+        );
+        before = writer.len();
+    }
+    Ok(())
+}
+
+#[test]
+fn hello(rt: HostRuntime) -> Result<(), Fail> {
+    converses(&rt, rt.alloc(), &[FLAGS, GO], &[GREETING, GONE], 4)
+}
+
+#[test]
+fn read_at_the_end(rt: HostRuntime) -> Result<(), Fail> {
+    let reads = "25609513 0000 0000 0000000000000001 0000000000007e00 00000200
+        25609513 0000 0000 0000000000000002 0000000000007e01 00000200";
+    let replies = "67446698 00000000 0000000000000001 00x512
+        67446698 00000016 0000000000000002";
+    converses(
+        &rt,
+        rt.alloc(),
+        &[FLAGS, GO, reads],
+        &[GREETING, GONE, replies],
+        4,
+    )
+}
+
+#[test]
+fn write_past_the_end(rt: HostRuntime) -> Result<(), Fail> {
+    let requests = "25609513 0000 0001 0000000000000003 0000000000007e01 00000200 11x512
+        25609513 0000 0002 0000000000000004 0000000000000000 00000000";
+    let replies = "67446698 0000001c 0000000000000003";
+    converses(
+        &rt,
+        rt.alloc(),
+        &[FLAGS, GO, requests],
+        &[GREETING, GONE, replies],
+        1,
+    )
+}
+
+#[test]
+fn unaligned_write(rt: HostRuntime) -> Result<(), Fail> {
+    let requests = "25609513 0000 0001 0000000000000001 00000000000001ff 00000003 aabbcc
+        25609513 0000 0000 0000000000000002 0000000000000000 00000400";
+    let replies = "67446698 00000000 0000000000000001
+        67446698 00000000 0000000000000002 00x511 aabbcc 00x510";
+    converses(
+        &rt,
+        rt.alloc(),
+        &[FLAGS, GO, requests],
+        &[GREETING, GONE, replies],
+        4,
+    )
+}
+
+#[test]
+fn unknown_options(rt: HostRuntime) -> Result<(), Fail> {
+    let options = "49484156454f5054 00000008 00000000 49484156454f5054 00000005 00000000";
+    let replies = "0003e889045565a9 00000008 80000001 00000000
+        0003e889045565a9 00000005 80000001 00000000";
+    converses(
+        &rt,
+        rt.alloc(),
+        &[FLAGS, options, GO],
+        &[GREETING, replies, GONE],
+        4,
+    )
+}
+
+#[test]
+fn bad_client_flags(rt: HostRuntime) -> Result<(), Fail> {
+    converses(&rt, rt.alloc(), &["00000004"], &[GREETING], 3)
+}
+
+#[test]
+fn cut_request(rt: HostRuntime) -> Result<(), Fail> {
+    let part = "25609513 0000 0000 0000000000000001 0000000000007e00 000002";
+    converses(&rt, rt.alloc(), &[FLAGS, GO, part], &[GREETING, GONE], 4)
+}
+
+#[test]
+fn go_with_a_short_count(rt: HostRuntime) -> Result<(), Fail> {
+    let option = "49484156454f5054 00000007 00000006 00000001 0000";
+    let reply = "0003e889045565a9 00000007 80000003 00000000";
+    converses(&rt, rt.alloc(), &[FLAGS, option], &[GREETING, reply], 4)
+}
+
+#[test]
+fn go_to_an_unknown_export(rt: HostRuntime) -> Result<(), Fail> {
+    let option = "49484156454f5054 00000007 00000007 00000001 78 0000";
+    let reply = "0003e889045565a9 00000007 80000006 00000000";
+    converses(&rt, rt.alloc(), &[FLAGS, option], &[GREETING, reply], 4)
+}
+
+#[test]
+fn option_with_too_much_data(rt: HostRuntime) -> Result<(), Fail> {
+    let option = "49484156454f5054 00000007 00010001";
+    converses(&rt, rt.alloc(), &[FLAGS, option], &[GREETING], 3)
+}
+
+#[test]
+fn abort_and_wrong_magic(rt: HostRuntime) -> Result<(), Fail> {
+    let abort = "49484156454f5054 00000002 00000000";
+    let acknowledged = "0003e889045565a9 00000002 00000001 00000000";
+    converses(
+        &rt,
+        rt.alloc(),
+        &[FLAGS, abort],
+        &[GREETING, acknowledged],
+        2,
+    )?;
+    let wrong = "25609514 0000 0000 0000000000000001 0000000000007e00 00000200";
+    converses(&rt, rt.alloc(), &[FLAGS, GO, wrong], &[GREETING, GONE], 3)
+}

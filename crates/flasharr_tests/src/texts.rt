@@ -1,0 +1,53 @@
+//! The texts of all faults, once.
+use fa_cert::TextError;
+use fa_cmds::WrongMagic;
+use fa_image::ImageFault;
+use fa_types::{BlockFault, GeometryFault};
+use std::alloc::Global;
+use std::fmt::Display;
+use std::process::Abort;
+use std::test::Fail;
+
+/// A fault has this text.
+fn tells<D: Display>(rt: &impl Abort, alloc: Global, fault: &D, text: &str) -> Result<(), Fail> {
+    let told = format!(in alloc; "{fault}")?;
+    assert!(rt; told.as_str() == text, "at {text:?}");
+    Ok(())
+}
+
+#[test]
+fn texts_of_faults(rt: HostRuntime) -> Result<(), Fail> {
+    let geometry = [
+        (GeometryFault::Dies, "dies or spares outside their limits"),
+        (GeometryFault::Blocks, "blocks outside their limits"),
+        (GeometryFault::Slots, "slots outside their limits"),
+        (GeometryFault::PageBytes, "no size of a page"),
+        (GeometryFault::Pages, "pages outside their limits"),
+    ];
+    for (fault, text) in geometry {
+        tells(&rt, rt.alloc(), &fault, text)?;
+    }
+    let store = [
+        (BlockFault::Lost, "lost"),
+        (BlockFault::NoRoom, "no room"),
+        (BlockFault::NoMemory, "no memory"),
+        (BlockFault::Spent, "a counter is at its end"),
+    ];
+    for (fault, text) in store {
+        tells(&rt, rt.alloc(), &fault, text)?;
+    }
+    let image = [
+        (ImageFault::ReadSlot, "a slot could not be read"),
+        (ImageFault::Program, "a slot could not be programmed"),
+        (ImageFault::EraseBlock, "a block could not be erased"),
+        (ImageFault::ReadHeader, "the header could not be read"),
+        (ImageFault::WriteHeader, "the header could not be written"),
+        (ImageFault::Sync, "the image could not be synced"),
+    ];
+    for (fault, text) in image {
+        tells(&rt, rt.alloc(), &fault, text)?;
+    }
+    tells(&rt, rt.alloc(), &WrongMagic, "wrong magic")?;
+    tells(&rt, rt.alloc(), &TextError::Line(7), "line 7")?;
+    tells(&rt, rt.alloc(), &TextError::NoMemory, "no memory")
+}

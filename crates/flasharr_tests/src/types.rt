@@ -1,0 +1,125 @@
+//! The limits of a geometry from both sides, and the plain store behind its trait.
+ghost use Rattle.std.specs.Prelude.{◌≤◌};
+
+use fa_types::{BlockFault, Blocks, Geometry, MemBlocks};
+use std::alloc::Global;
+use std::test::Fail;
+
+/// A geometry's fault by its number, 0 for none.
+fn fault_of(dies: u32, spares: u32, blocks: u32, slots: u32, page_bytes: u32, pages: u64) -> u8 {
+    match Geometry::new(dies, spares, blocks, slots, page_bytes, pages) {
+        Ok(_) => 0,
+        Err(fault) => fault.number(),
+    }
+}
+
+#[test]
+fn limits_of_dies_and_spares(rt: HostRuntime) {
+    let cases = [
+        (0, 0, 1),
+        (1, 0, 1),
+        (2, 0, 0),
+        (2, 1, 1),
+        (64, 0, 0),
+        (65, 0, 1),
+        (64, 62, 0),
+        (64, 63, 1),
+        (64, u32::MAX, 1),
+    ];
+    for (dies, spares, want) in cases {
+        let given = fault_of(dies, spares, 16, 8, 512, 1);
+        assert_eq!(rt; given, want, "{dies} dies, {spares} spares");
+    }
+}
+
+#[test]
+fn limits_of_blocks_slots_and_page_bytes(rt: HostRuntime) {
+    let cases = [
+        (3, 8, 512, 2),
+        (4, 8, 512, 0),
+        (4096, 8, 512, 0),
+        (4097, 8, 512, 2),
+        (16, 3, 512, 3),
+        (16, 4, 512, 0),
+        (16, 256, 512, 0),
+        (16, 257, 512, 3),
+        (16, 8, 0, 4),
+        (16, 8, 256, 4),
+        (16, 8, 511, 4),
+        (16, 8, 1024, 0),
+        (16, 8, 1536, 4),
+        (16, 8, 2048, 0),
+        (16, 8, 4096, 0),
+        (16, 8, 8192, 4),
+    ];
+    for (blocks, slots, page_bytes, want) in cases {
+        let given = fault_of(4, 0, blocks, slots, page_bytes, 1);
+        assert_eq!(rt;
+            given,
+            want,
+            "{blocks} blocks, {slots} slots, {page_bytes} bytes"
+        );
+    }
+}
+
+#[test]
+fn limits_of_pages(rt: HostRuntime) {
+    // Dies, spares, blocks, slots and pages: 4 dies of 14 usable blocks of 8 slots hold 448 copies.
+    let cases = [
+        (4, 0, 16, 8, 0, 5),
+        (4, 0, 16, 8, 1, 0),
+        (4, 0, 16, 8, 224, 0),
+        (4, 0, 16, 8, 225, 5),
+        (4, 1, 16, 8, 168, 0),
+        (4, 1, 16, 8, 169, 5),
+        (3, 0, 5, 5, 22, 0),
+        (3, 0, 5, 5, 23, 5),
+        (64, 0, 4096, 256, 1_048_576, 0),
+        (64, 0, 4096, 256, 1_048_577, 5),
+        (64, 0, 4096, 256, u64::MAX, 5),
+    ];
+    for (dies, spares, blocks, slots, pages, want) in cases {
+        let given = fault_of(dies, spares, blocks, slots, 512, pages);
+        assert_eq!(rt; given, want, "{pages} pages on {dies} dies");
+    }
+}
+
+#[test]
+fn first_fault_of_several(rt: HostRuntime) {
+    assert_eq!(rt; fault_of(1, 0, 3, 3, 511, 0), 1);
+    assert_eq!(rt; fault_of(4, 0, 3, 3, 511, 0), 2);
+    assert_eq!(rt; fault_of(4, 0, 16, 3, 511, 0), 3);
+    assert_eq!(rt; fault_of(4, 0, 16, 8, 511, 0), 4);
+    assert_eq!(rt; fault_of(4, 0, 16, 8, 512, 0), 5);
+}
+
+/// Makes each call of a store once. What was read comes back.
+fn calls_of<B: Blocks>(alloc: Global, store: &mut B) -> Result<Vec<u8>, BlockFault>
+    requires { 8 ≤ (B.view store.old).size }
+{
+    store.write(1, b"abcdef", false)?;
+    store.zero(3, 2, true)?;
+    store.flush()?;
+    store.read(alloc, 0, 8)
+}
+
+#[test]
+fn plain_store_behind_its_trait(rt: HostRuntime) -> Result<(), Fail> {
+    let mut store = MemBlocks::new(rt.alloc(), 8)?;
+    assert_eq!(rt; store.size(), 8);
+    assert_eq!(rt; store.read(rt.alloc(), 0, 8)?.as_slice(), [0; 8].as_slice());
+    let bytes = calls_of(rt.alloc(), &mut store)?;
+    assert_eq!(rt; bytes.as_slice(), b"\0ab\0\0ef\0".as_slice());
+    assert_eq!(rt; store.size(), 8);
+    assert_eq!(rt; store.read(rt.alloc(), 8, 0)?.len(), 0);
+    Ok(())
+}
+
+#[test]
+fn plain_store_of_no_bytes(rt: HostRuntime) -> Result<(), Fail> {
+    let mut store = MemBlocks::new(rt.alloc(), 0)?;
+    assert_eq!(rt; store.size(), 0);
+    store.write(0, b"", true)?;
+    assert_eq!(rt; store.read(rt.alloc(), 0, 0)?.len(), 0);
+    Ok(())
+}
