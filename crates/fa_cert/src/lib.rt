@@ -19,6 +19,3 @@ pub use listing::Listing;
 pub use plan::{Place, Places, Plan, Shortage};
 pub use text::{BatchText, Certificate, TextError, print, read_batch, read_certificate};
 pub use verdict::{Refusal, Verdict};
-
-#[cfg(test)]
-mod tests;

@@ -6,8 +6,8 @@ use crate::bytes::{fill, part, put};
 use std::alloc::{AllocError, Allocator, Global};
 use std::marker::Model;
 
-/// A store whose bytes lie in memory. It loses nothing, and only a read can be refused, for want of
-/// memory.
+/// A store whose bytes lie in memory. It loses nothing, and only a read can be refused, where it is out
+/// of memory.
 #[derive(Drop)]
 pub struct MemBlocks<A: Allocator = Global> {
     bytes: Vec<u8, A>,

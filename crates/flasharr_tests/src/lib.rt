@@ -5,6 +5,8 @@
 #[cfg(test)]
 mod arguments;
 #[cfg(test)]
+mod cert;
+#[cfg(test)]
 mod cmds;
 #[cfg(test)]
 mod fails;

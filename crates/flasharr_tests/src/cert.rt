@@ -2,7 +2,7 @@
 ghost use Rattle.std.specs.Prelude.{◌≡◌, IfOk};
 ghost use Rattle.fa_cert.specs.Closed.{current_of};
 
-use crate::{
+use fa_cert::{
     Batch, Closed, Place, Places, Plan, Refusal, Run, Shortage, TextError, Unsound, Verdict, check,
     end_soon, print, read_batch, read_certificate,
 };
