@@ -18,7 +18,8 @@ use Rattle.fa_prog.specs.declared.verify.Judged.{Judged}
 use Rattle.fa_prog.specs.declared.verify.Judged.TheVariants.{Line, Unsound, Verdict}
 
 -- lines that are a batch text with a certificate text at once behind it, and nothing more
-pub record AreTexts (lines : List (List (List ℕ))) (entries : List Entry) (runs : List Run) (rounds : ℕ) (places : List Place) (pages : List Page) : Type 0 where
+pub record AreTexts (lines : List (List (List ℕ))) (entries : List Entry) (runs : List Run) (rounds : ℕ)
+    (places : List Place) (pages : List Page) : Type 0 where
   pub first : List (List (List ℕ))
   pub second : List (List (List ℕ))
   pub parts : lines ≡ first ++ second

@@ -69,7 +69,8 @@ pub trait Blocks {
         ensures refused { IfErr result (λ fault. made self.old Flushing (Refused fault) self.new) };
 
     /// Each call is one of a block store.
-    ghost meets: { (before after : Self) (call : Call) (answer : Answer) → made before call answer after → Meets (view before) call answer (view after) };
+    ghost meets: { (before after : Self) (call : Call) (answer : Answer) → made before call answer after
+        → Meets (view before) call answer (view after) };
 
     /// A store has pages of at least one byte, and of one that is alone each byte is seen.
     ghost whole: { (store : Self) → IsWhole (view store) };

@@ -82,15 +82,29 @@ fn a_new_image_is_zeros(rt: HostRuntime) -> Result<(), Fail> {
     let mut slot = [1; SLOT];
     let mut header = [1; HEADER_BYTES];
     assert_eq!(rt; read(&mut image, 127, &mut slot), Ok(()));
-    assert_eq!(rt; slot, [0; SLOT]);
+    assert!(rt; has(&slot, 0, SLOT, 0));
     assert_eq!(rt; image.read_header(&mut header), Ok(()));
-    assert_eq!(rt; header, [0; HEADER_BYTES]);
+    assert!(rt; has(&header, 0, HEADER_BYTES, 0));
     assert_eq!(rt; (image.syncs(), image.faults()), (0, 0));
     fs::remove_file(&rt, path.as_str())?;
     Ok(())
 }
 
 /// The file is longer than the image, and full of 77.
+/// Whether a file has so many bytes, and in each part, from an offset to another, nothing but one byte.
+fn reads_as(
+    rt: &HostRuntime,
+    path: &str,
+    length: usize,
+    parts: &[(usize, usize, u8)],
+) -> Result<bool, Fail> {
+    let bytes = fs::read(rt, path)?;
+    let are_right = parts
+        .iter()
+        .all(|(from, to, byte)| has(&bytes, *from, *to, *byte));
+    Ok(bytes.len() == length && are_right)
+}
+
 #[test]
 fn writes_touch_nothing_around(rt: HostRuntime) -> Result<(), Fail> {
     let path = path_of(&rt, "around")?;
@@ -99,26 +113,34 @@ fn writes_touch_nothing_around(rt: HostRuntime) -> Result<(), Fail> {
     let mut image = open(&rt, &path)?;
     assert_eq!(rt; program(&mut image, 17, &[0x5a; SLOT]), Ok(()));
     assert_eq!(rt; program(&mut image, 127, &[0x33; SLOT]), Ok(()));
-    let bytes = fs::read(&rt, path.as_str())?;
-    assert_eq!(rt; bytes.len(), 78_000);
-    assert!(rt; has(&bytes, 0, 13_888, 0x77));
-    assert!(rt; has(&bytes, 13_888, 14_464, 0x5a));
-    assert!(rt; has(&bytes, 14_464, 77_248, 0x77));
-    assert!(rt; has(&bytes, 77_248, 77_824, 0x33));
-    assert!(rt; has(&bytes, 77_824, 78_000, 0x77));
+    let parts = [
+        (0, 13_888, 0x77),
+        (13_888, 14_464, 0x5a),
+        (14_464, 77_248, 0x77),
+        (77_248, 77_824, 0x33),
+        (77_824, 78_000, 0x77),
+    ];
+    assert!(rt; reads_as(&rt, path.as_str(), 78_000, &parts)?);
+    fs::remove_file(&rt, path.as_str())?;
+    Ok(())
+}
+
+#[test]
+fn an_erase_and_a_header_touch_nothing_around(rt: HostRuntime) -> Result<(), Fail> {
+    let path = path_of(&rt, "header")?;
+    let old = vec![in rt.alloc(); 0x77u8; 78_000]?;
+    fs::write(&rt, path.as_str(), old.as_slice())?;
+    let mut image = open(&rt, &path)?;
     assert_eq!(rt; erase(&mut image, 2), Ok(()));
-    let bytes = fs::read(&rt, path.as_str())?;
-    assert!(rt; has(&bytes, 0, 13_312, 0x77));
-    assert!(rt; has(&bytes, 13_312, 17_920, 0xff));
-    assert!(rt; has(&bytes, 17_920, 77_248, 0x77));
     assert_eq!(rt; image.write_header(&[0x11; HEADER_BYTES]), Ok(()));
-    let bytes = fs::read(&rt, path.as_str())?;
-    assert_eq!(rt; bytes.len(), 78_000);
-    assert!(rt; has(&bytes, 0, 112, 0x11));
-    assert!(rt; has(&bytes, 112, 13_312, 0x77));
-    assert!(rt; has(&bytes, 77_824, 78_000, 0x77));
-    assert_eq!(rt; image.sync(), Ok(()));
-    assert_eq!(rt; (image.syncs(), image.faults()), (1, 0));
+    assert_eq!(rt; (image.syncs(), image.faults()), (0, 0));
+    let parts = [
+        (0, 112, 0x11),
+        (112, 13_312, 0x77),
+        (13_312, 17_920, 0xff),
+        (17_920, 78_000, 0x77),
+    ];
+    assert!(rt; reads_as(&rt, path.as_str(), 78_000, &parts)?);
     fs::remove_file(&rt, path.as_str())?;
     Ok(())
 }
@@ -239,12 +261,20 @@ fn a_file_that_is_too_short_refuses_what_it_lacks(rt: HostRuntime) -> Result<(),
     fs::write(&rt, path.as_str(), old.as_slice())?;
     let mut image = open(&rt, &path)?;
     assert_eq!(rt; image.read_header(&mut header), Ok(()));
-    assert_eq!(rt; header, [7; HEADER_BYTES]);
+    assert!(rt; has(&header, 0, HEADER_BYTES, 7));
     assert_eq!(rt; read(&mut image, 1, &mut slot), Ok(()));
-    assert_eq!(rt; slot, [7; SLOT]);
+    assert!(rt; has(&slot, 0, SLOT, 7));
     assert_eq!(rt; read(&mut image, 2, &mut slot), Err(ImageFault::ReadSlot));
     assert_eq!(rt; read(&mut image, 127, &mut slot), Err(ImageFault::ReadSlot));
     assert_eq!(rt; (image.syncs(), image.faults()), (0, 2));
+    fs::remove_file(&rt, path.as_str())?;
+    Ok(())
+}
+
+#[test]
+fn an_empty_file_has_no_header(rt: HostRuntime) -> Result<(), Fail> {
+    let path = path_of(&rt, "empty")?;
+    let mut header = [0; HEADER_BYTES];
     fs::write(&rt, path.as_str(), [].as_slice())?;
     let mut image = open(&rt, &path)?;
     assert_eq!(rt; image.read_header(&mut header), Err(ImageFault::ReadHeader));
@@ -266,7 +296,7 @@ fn a_file_that_shrinks_refuses_reads(rt: HostRuntime) -> Result<(), Fail> {
         vec![in rt.alloc(); 7u8; 4096 + 3 * SLOT]?.as_slice(),
     )?;
     assert_eq!(rt; read(&mut image, 2, &mut slot), Ok(()));
-    assert_eq!(rt; slot, [7; SLOT]);
+    assert!(rt; has(&slot, 0, SLOT, 7));
     assert_eq!(rt; read(&mut image, 3, &mut slot), Err(ImageFault::ReadSlot));
     assert_eq!(rt; image.read_header(&mut header), Ok(()));
     assert_eq!(rt; (image.syncs(), image.faults()), (0, 1));
@@ -278,15 +308,27 @@ fn a_file_that_shrinks_refuses_reads(rt: HostRuntime) -> Result<(), Fail> {
 }
 
 #[test]
-fn what_is_no_image_file_is_refused(rt: HostRuntime) -> Result<(), Fail> {
-    let path = path_of(&rt, "refused")?;
+fn a_missing_file_is_no_image(rt: HostRuntime) -> Result<(), Fail> {
+    let path = path_of(&rt, "missing")?;
     let missing = open(&rt, &path).err().ok_or("opened")?;
     assert_eq!(rt; missing.kind(), io::ErrorKind::NotFound);
+    Ok(())
+}
+
+#[test]
+fn a_folder_is_no_image(rt: HostRuntime) -> Result<(), Fail> {
+    let path = path_of(&rt, "folder")?;
     fs::create_dir(&rt, path.as_str())?;
     let folder = open(&rt, &path).err().ok_or("opened")?;
     assert_eq!(rt; folder.kind(), io::ErrorKind::IsADirectory);
     assert!(rt; create(&rt, &path).is_err());
     fs::remove_dir(&rt, path.as_str())?;
+    Ok(())
+}
+
+#[test]
+fn a_file_that_may_not_be_written_is_refused(rt: HostRuntime) -> Result<(), Fail> {
+    let path = path_of(&rt, "refused")?;
     // No user may write the file of a running program, and most may not write this one anyway.
     let program = env::current_exe(&rt)?;
     let running = open(&rt, &program).err().ok_or("opened")?;
@@ -324,7 +366,7 @@ fn a_full_file_refuses_writes(rt: HostRuntime) -> Result<(), Fail> {
     assert_eq!(rt; image.sync(), Err(ImageFault::Sync));
     assert_eq!(rt; (image.syncs(), image.faults()), (0, 4));
     assert_eq!(rt; read(&mut image, 3, &mut slot), Ok(()));
-    assert_eq!(rt; slot, [0; SLOT]);
+    assert!(rt; has(&slot, 0, SLOT, 0));
     Ok(())
 }
 
@@ -345,30 +387,36 @@ fn a_header_that_is_not_synced_is_refused(rt: HostRuntime) -> Result<(), Fail> {
     Ok(())
 }
 
+/// Programs a slot, or erases a block where no byte is given for it.
+fn change(image: &mut MemImage, number: u32, byte: Option<u8>) -> Result<(), ImageFault> {
+    match byte {
+        Some(byte) => program(image, number, &[byte; SLOT]),
+        None => erase(image, number),
+    }
+}
+
 #[test]
 fn memory_counts_what_is_overwritten(rt: HostRuntime) -> Result<(), Fail> {
     let mut image = MemImage::new(rt.alloc(), shape()?)?;
-    let mut slot = [0; SLOT];
-    let mut header = [1; HEADER_BYTES];
-    assert_eq!(rt; read(&mut image, 127, &mut slot), Ok(()));
-    assert_eq!(rt; slot, [0xff; SLOT]);
-    assert_eq!(rt; image.read_header(&mut header), Ok(()));
-    assert_eq!(rt; header, [0; HEADER_BYTES]);
-    assert_eq!(rt; program(&mut image, 8, &[8; SLOT]), Ok(()));
-    assert_eq!(rt; program(&mut image, 15, &[15; SLOT]), Ok(()));
-    assert_eq!(rt; program(&mut image, 16, &[16; SLOT]), Ok(()));
-    assert_eq!(rt; image.overwrites(), 0);
-    assert_eq!(rt; program(&mut image, 8, &[9; SLOT]), Ok(()));
-    assert_eq!(rt; image.overwrites(), 1);
-    assert_eq!(rt; erase(&mut image, 1), Ok(()));
-    assert_eq!(rt; program(&mut image, 8, &[8; SLOT]), Ok(()));
-    assert_eq!(rt; image.overwrites(), 1);
-    assert_eq!(rt; read(&mut image, 15, &mut slot), Ok(()));
-    assert_eq!(rt; slot, [0xff; SLOT]);
-    assert_eq!(rt; read(&mut image, 16, &mut slot), Ok(()));
-    assert_eq!(rt; slot, [16; SLOT]);
-    assert_eq!(rt; image.sync(), Ok(()));
-    assert_eq!(rt; (image.syncs(), image.faults()), (1, 0));
+    let changes = [
+        (8, Some(8), 0),
+        (15, Some(15), 0),
+        (16, Some(16), 0),
+        (8, Some(9), 1),
+        (1, None, 1),
+        (8, Some(8), 1),
+    ];
+    for (number, byte, overwrites) in changes {
+        assert_eq!(rt; change(&mut image, number, byte), Ok(()));
+        assert_eq!(rt; image.sync(), Ok(()));
+        assert_eq!(rt; image.overwrites(), overwrites, "at {number}");
+    }
+    for (number, byte) in [(15, 0xff), (16, 16), (127, 0xff)] {
+        let mut slot = [0; SLOT];
+        assert_eq!(rt; read(&mut image, number, &mut slot), Ok(()));
+        assert!(rt; has(&slot, 0, SLOT, byte), "in {number}");
+    }
+    assert_eq!(rt; (image.syncs(), image.faults()), (6, 0));
     Ok(())
 }
 
@@ -433,12 +481,12 @@ fn a_blown_fuse_leaves_the_image_alone(rt: HostRuntime) -> Result<(), Fail> {
     let mut inner = image.into_inner();
     let mut slot = [0; SLOT];
     assert_eq!(rt; read(&mut inner, 9, &mut slot), Ok(()));
-    assert_eq!(rt; slot, [0xff; SLOT]);
+    assert!(rt; has(&slot, 0, SLOT, 0xff));
     assert_eq!(rt; read(&mut inner, 16, &mut slot), Ok(()));
-    assert_eq!(rt; slot, [16; SLOT]);
+    assert!(rt; has(&slot, 0, SLOT, 16));
     let mut header = [1; HEADER_BYTES];
     assert_eq!(rt; inner.read_header(&mut header), Ok(()));
-    assert_eq!(rt; header, [0; HEADER_BYTES]);
+    assert!(rt; has(&header, 0, HEADER_BYTES, 0));
     assert_eq!(rt; (inner.syncs(), inner.faults()), (0, 0));
     Ok(())
 }
