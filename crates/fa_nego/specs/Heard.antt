@@ -13,6 +13,10 @@ use Rattle.fa_nego.specs.declared.judge.Head.TheVariants.{WrongMagic, TooLong, G
 abbrev pub state_at : List ℕ → ℕ → Stage → NegoState
 state_at export size stage = record { export = export; size = size; stage = stage }
 
+-- what stands before the data of a reply, of which there are so many bytes
+abbrev pub head_of_reply : ℕ → ℕ → ℕ → List ℕ
+head_of_reply option type len = big_bytes 8 0x0003e889045565a9 ++ big_bytes 4 option ++ big_bytes 4 type ++ big_bytes 4 len
+
 -- what 16 bytes before an option's data say
 abbrev pub IsHead : List ℕ → Head → Type 0
 IsHead bytes WrongMagic = take 8 bytes ≢ big_bytes 8 0x49484156454f5054

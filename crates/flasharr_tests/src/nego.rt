@@ -119,10 +119,9 @@ fn wants_the_next_item(rt: HostRuntime) -> Result<(), Fail> {
 
 #[test]
 fn go_begins_transmission(rt: HostRuntime) -> Result<(), Fail> {
-    let inputs: [&[u8]; 3] = [
+    let inputs: [&[u8]; 2] = [
         b"\x00\x00\x00\x03IHAVEOPT\x00\x00\x00\x07\x00\x00\x00\x06\x00\x00\x00\x00\x00\x00",
         b"\x00\x00\x00\x01IHAVEOPT\x00\x00\x00\x07\x00\x00\x00\x0a\x00\x00\x00\x04disk\x00\x00",
-        b"\x00\x00\x00\x00IHAVEOPT\x00\x00\x00\x07\x00\x00\x00\x0a\x00\x00\x00\x00\x00\x02\x00\x01\x00\x03",
     ];
     for input in inputs {
         let case = Case {
@@ -137,6 +136,18 @@ fn go_begins_transmission(rt: HostRuntime) -> Result<(), Fail> {
         holds(&rt, &case)?;
     }
     Ok(())
+}
+
+#[test]
+fn old_way_begins_transmission(rt: HostRuntime) -> Result<(), Fail> {
+    let case = Case {
+        input: b"\x00\x00\x00\x02IHAVEOPT\x00\x00\x00\x01\x00\x00\x00\x04disk\x25\x60",
+        output: b"\x00\x00\x00\x00\x00\x00\x80\x00\x01\x4d",
+        step: Step::Go,
+        cause: None,
+        used: 24,
+    };
+    holds(&rt, &case)
 }
 
 #[test]
@@ -194,7 +205,7 @@ fn closes_for_each_cause(rt: HostRuntime) -> Result<(), Fail> {
             20,
         ),
         closes(
-            b"\x00\x00\x00\x03IHAVEOPT\x00\x00\x00\x01\x00\x00\x00\x04disk\x00",
+            b"\x00\x00\x00\x03IHAVEOPT\x00\x00\x00\x01\x00\x00\x00\x04dusk\x00",
             CloseCause::UnknownName,
             24,
         ),
