@@ -5,6 +5,7 @@ use Rattle.std.proofs.lemmas.List.{nil_from_length, drop_at, take_at, take_all, 
 use Rattle.byteorder.specs.Endian.{big_bytes, big_number}
 use Rattle.byteorder.specs.Numbers.{big_from-lt, big_number-reads_back}
 use Rattle.fa_nego.specs.Negotiation.{Asked, IsAsked, AsksFor, asked_bytes, kinds_bytes}
+use Rattle.fa_nego.specs.Heard.{AreKinds}
 use Rattle.fa_types.proofs.BigEndian.{AreBytes, AreBytes-take, big_bytes-whole}
 
 length-kinds_bytes : (kinds : List ℕ) → length (kinds_bytes kinds) ≡ 2 * length kinds
@@ -89,7 +90,7 @@ asked_bytes-is asked = refl
 -- These parts ask for the name, and for the kinds that the last part spells.
 pub asks_for : (given len name count kinds : List ℕ) → given ≡ len ++ name ++ count ++ kinds → AreBytes len → AreBytes count → AreBytes kinds
     → length len ≡ 4 → length count ≡ 2 → big_number 4 len ≡ length name → length kinds ≡ 2 * big_number 2 count
-    → (asked : Asked) × AsksFor given asked × (asked.name ≡ name) × (kinds_bytes asked.kinds ≡ kinds)
+    → (asked : Asked) × AsksFor given asked × (asked.name ≡ name) × AreKinds kinds asked.kinds
 asks_for given len name count kinds parts len_fits count_fits kinds_fits len_len count_len name_len kinds_len =
     let has = has_kinds (big_number 2 count) kinds kinds_len kinds_fits in
     let asked : Asked = record { name = name; kinds = has.kinds } in
@@ -101,7 +102,7 @@ asks_for given len name count kinds parts len_fits count_fits kinds_fits len_len
         parts ∙ sym (asked_bytes-is asked ∙ joined (big_bytes 4 (length name)) len name name (big_bytes 2 (length has.kinds)) count (kinds_bytes has.kinds) kinds number refl counted has.spelled),
       ),
       refl,
-      has.spelled,
+      (has.each, has.spelled),
     )
 
 -- the kind at an index stands in their bytes

@@ -2,11 +2,10 @@
 use Rattle.std.proofs.Common.{◌≡◌, ℕ, List, [], ◌++◌, length, refl, sym, ap, ◌∙◌, append_assoc}
 use Rattle.byteorder.specs.Endian.{big_bytes}
 use Rattle.fa_nego.specs.Numbers.{rep_ack, rep_info, info_export, info_name, info_block_size}
-use Rattle.fa_nego.specs.Negotiation.{option_reply, transmission_flags, export_info, name_info, block_size_info, told_if_asked, told}
-use Rattle.fa_nego.specs.Heard.{head_of_reply}
+use Rattle.fa_nego.specs.Negotiation.{reply_head_bytes, option_reply, transmission_flags, export_info, name_info, block_size_info, told_if_asked, told}
 
 -- the head of a reply, and its data
-reply_is : (option type : ℕ) (given : List ℕ) → option_reply option type given ≡ head_of_reply option type (length given) ++ given
+reply_is : (option type : ℕ) (given : List ℕ) → option_reply option type given ≡ reply_head_bytes option type (length given) ++ given
 unfolding option_reply
 reply_is option type given = refl
 
@@ -14,10 +13,10 @@ four_parts : (a b c d : List ℕ) → ((a ++ b) ++ c) ++ d ≡ a ++ (b ++ (c ++ 
 four_parts a b c d = simp append_assoc
 
 -- a head and two parts of data, said in turn, are a reply
-pub is_reply : (said head front back : List ℕ) (option type len : ℕ) → head ≡ head_of_reply option type len → len ≡ length (front ++ back)
+pub is_reply : (said head front back : List ℕ) (option type len : ℕ) → head ≡ reply_head_bytes option type len → len ≡ length (front ++ back)
     → ((said ++ head) ++ front) ++ back ≡ said ++ option_reply option type (front ++ back)
 is_reply said head front back option type len is_head is_len =
-    let whole : head ≡ head_of_reply option type (length (front ++ back)) = is_head ∙ ap (head_of_reply option type) is_len in
+    let whole : head ≡ reply_head_bytes option type (length (front ++ back)) = is_head ∙ ap (reply_head_bytes option type) is_len in
     four_parts said head front back ∙ ap (λ bytes. said ++ (bytes ++ (front ++ back))) whole ∙ ap (λ bytes. said ++ bytes) (sym (reply_is option type (front ++ back)))
 
 -- what is told of an export, kind by kind

@@ -34,10 +34,13 @@ pub record IsOption (sent : Sent) : Type 0 where
   pub number : sent.option < 2 ^ 32
   pub not_long : length sent.given ≤ max_data
 
+-- what stands before the data of a reply, of which there are so many bytes
+abbrev pub reply_head_bytes : ℕ → ℕ → ℕ → List ℕ
+reply_head_bytes option type len = big_bytes 8 0x0003e889045565a9 ++ big_bytes 4 option ++ big_bytes 4 type ++ big_bytes 4 len
+
 -- a reply to an option, of some type and with some data
 unfoldable pub option_reply : ℕ → ℕ → List ℕ → List ℕ
-option_reply option type given =
-    big_bytes 8 0x0003e889045565a9 ++ big_bytes 4 option ++ big_bytes 4 type ++ big_bytes 4 (length given) ++ given
+option_reply option type given = reply_head_bytes option type (length given) ++ given
 
 -- the transmission flags HAS_FLAGS, SEND_FLUSH, SEND_FUA, SEND_WRITE_ZEROES and CAN_MULTI_CONN
 abbrev pub transmission_flags : ℕ
@@ -120,7 +123,9 @@ pub data NameComesTo (export : List ℕ) (size flags : ℕ) (name : List ℕ) (c
   unknown_name : (IsKnown export name → ⊥)
       → come ≡ record { said = []; next = Closed UnknownName }
       → NameComesTo export size flags name come
-  known_name : IsKnown export name → come ≡ record { said = export_bytes size flags; next = Go } → NameComesTo export size flags name come
+  known_name : IsKnown export name
+      → come ≡ record { said = export_bytes size flags; next = Go }
+      → NameComesTo export size flags name come
 
 -- What a LIST with this data comes to.
 pub data ListComesTo (export given : List ℕ) (come : Come) : Type 0 where
@@ -196,7 +201,8 @@ pub record Opens (export : List ℕ) (size flags : ℕ) (turns : List Turn) (hea
 abbrev pub IsPart : List ℕ → Type 0
 IsPart rest =
     (length rest < 16)
-    ⊎ ((option len : ℕ) × (more : List ℕ) × (option < 2 ^ 32) × (len ≤ max_data) × (length more < len) × (rest ≡ head_bytes option len ++ more))
+    ⊎ ((option len : ℕ) × (more : List ℕ) × (option < 2 ^ 32) × (len ≤ max_data) × (length more < len)
+    × (rest ≡ head_bytes option len ++ more))
 
 -- The bytes of a client, what the server has said to them behind its greeting, and how the negotiation
 -- stands: the client sends flags, and then options.

@@ -1,7 +1,7 @@
 //! What the data of an INFO or GO asks for: NBD protocol text, "Option types", NBD_OPT_INFO and NBD_OPT_GO.
-ghost use Rattle.std.specs.Prelude.{◌≡◌, ◌↔◌, ℕ, ◌^◌, ◌<◌, List, IsTrue, IfSome, IfNone};
-ghost use Rattle.std.specs.List.{AllByRecursion};
-ghost use Rattle.fa_nego.specs.Negotiation.{Asked, AsksFor, IsKnown, kinds_bytes, is_among};
+ghost use Rattle.std.specs.Prelude.{◌≡◌, ◌↔◌, ℕ, List, IsTrue, IfSome, IfNone};
+ghost use Rattle.fa_nego.specs.Negotiation.{Asked, AsksFor, IsKnown, is_among};
+ghost use Rattle.fa_nego.specs.Heard.{AreKinds};
 
 use byteorder::{BigEndian, ByteOrder};
 
@@ -16,7 +16,7 @@ pub struct Query<'a> {
 /// What this data asks for, or `None` where it asks for nothing.
 pub fn read_query(given: &[u8]) -> Option<Query<'_>>
     ensures some { IfSome result (λ query. ((asked : Asked) × AsksFor given.now asked
-        × (asked.name ≡ query.name.now) × (kinds_bytes asked.kinds ≡ query.kinds.now))) }
+        × (asked.name ≡ query.name.now) × AreKinds query.kinds.now asked.kinds)) }
     ensures none { IfNone result ((asked : Asked) → AsksFor given.now asked → ⊥) }
 {
     if given.len() < 6 {
@@ -37,8 +37,7 @@ pub fn read_query(given: &[u8]) -> Option<Query<'_>>
 
 /// Whether this kind of information is among those that are asked for, two bytes each.
 pub fn asks_for(kinds: &[u8], kind: u16) -> bool
-    ensures { (asked : List ℕ) → AllByRecursion (λ one. one < 2 ^ 16) asked → kinds_bytes asked ≡ kinds.now
-        → result ≡ is_among kind asked }
+    ensures { (asked : List ℕ) → AreKinds kinds.now asked → result ≡ is_among kind asked }
 {
     for i in 0..kinds.len() / 2 {
         if BigEndian::read_u16(&kinds[2 * i..]) == kind {

@@ -1,19 +1,18 @@
 //! The bytes of the server: NBD protocol text, "Fixed newstyle negotiation" and "Option reply types".
 ghost use Rattle.std.specs.Prelude.{◌≡◌, ℕ, ◌+◌, ◌^◌, ◌<◌, ◌≤◌, List, [], ◌++◌, length, IfOk, OnOk};
-ghost use Rattle.std.specs.List.{AllByRecursion};
 ghost use Rattle.byteorder.specs.Endian.{big_bytes};
 ghost use Rattle.fa_nego.specs.Numbers.{rep_ack, rep_server};
 ghost use Rattle.fa_nego.specs.Negotiation.{
   greeting_bytes,
+  reply_head_bytes,
   option_reply,
   transmission_flags,
-  kinds_bytes,
   told_if_asked,
   told,
   export_bytes,
   server_bytes,
 };
-ghost use Rattle.fa_nego.specs.Heard.{head_of_reply};
+ghost use Rattle.fa_nego.specs.Heard.{AreKinds};
 
 use crate::asked::asks_for;
 use crate::nego::MAX_NAME_BYTES;
@@ -42,12 +41,13 @@ const TRANSMISSION_FLAGS: u16 = 0x014d;
 /// How many zeros end the answer to EXPORT_NAME.
 const ZEROES_LEN: usize = 124;
 
-/// The sizes of blocks that are told: any range is served, 4,096 bytes at once are preferred, and a READ
-/// or WRITE has at most 32 MiB.
+/// The least length of a request that is told: any range is served.
 const MIN_BLOCK: u32 = 1;
 
+/// The length and the boundary of requests that is told as preferred.
 const PREFERRED_BLOCK: u32 = 4096;
 
+/// The greatest length of a READ or WRITE that is told.
 const MAX_BLOCK: u32 = 33_554_432;
 
 /// The first words of the server.
@@ -63,38 +63,38 @@ pub fn first_words() -> [u8; 18]
 }
 
 /// What stands before the data of a reply, of which there are `len` bytes.
-fn reply_head(option: u32, kind: u32, len: u32) -> [u8; 20]
-    ensures { result ≡ head_of_reply option kind len }
+fn reply_head(option: u32, reply_type: u32, len: u32) -> [u8; 20]
+    ensures { result ≡ reply_head_bytes option reply_type len }
 {
     let mut head = [0; 20];
     BigEndian::write_u64(&mut head, REPLY_MAGIC);
     BigEndian::write_u32(&mut head[8..], option);
-    BigEndian::write_u32(&mut head[12..], kind);
+    BigEndian::write_u32(&mut head[12..], reply_type);
     BigEndian::write_u32(&mut head[16..], len);
     head
 }
 
 /// A reply with no data.
 #[tactic(auto, unfolding(crate::specs::Negotiation::option_reply))]
-pub fn reply<A: Allocator>(alloc: A, option: u32, kind: u32) -> Result<Vec<u8, A>, AllocError>
-    ensures { IfOk result (λ said. said.items ≡ option_reply option kind []) }
+pub fn reply<A: Allocator>(alloc: A, option: u32, reply_type: u32) -> Result<Vec<u8, A>, AllocError>
+    ensures { IfOk result (λ said. said.items ≡ option_reply option reply_type []) }
 {
-    Vec::from_slice(alloc, &reply_head(option, kind, 0))
+    Vec::from_slice(alloc, &reply_head(option, reply_type, 0))
 }
 
 /// Says a reply whose data is `front` and then `back`.
 fn push_reply<A: Allocator>(
     said: &mut Vec<u8, A>,
     option: u32,
-    kind: u32,
+    reply_type: u32,
     front: &[u8],
     back: &[u8],
 ) -> Result<(), AllocError>
     requires { length front.now + length back.now < 2 ^ 32 }
-    ensures { OnOk result (said.new.items ≡ said.old.items ++ option_reply option kind (front.now ++ back.now)) }
+    ensures { OnOk result (said.new.items ≡ said.old.items ++ option_reply option reply_type (front.now ++ back.now)) }
 {
     let len = (front.len() + back.len()) as u32;
-    said.extend_from_slice(&reply_head(option, kind, len))?;
+    said.extend_from_slice(&reply_head(option, reply_type, len))?;
     said.extend_from_slice(front)?;
     said.extend_from_slice(back)?;
     Ok(())
@@ -163,7 +163,7 @@ fn push_if_asked<A: Allocator>(
     kinds: &[u8],
 ) -> Result<(), AllocError>
     requires { length told.now ≤ MAX_NAME_BYTES }
-    ensures { OnOk result ((asked : List ℕ) → AllByRecursion (λ one. one < 2 ^ 16) asked → kinds_bytes asked ≡ kinds.now
+    ensures { OnOk result ((asked : List ℕ) → AreKinds kinds.now asked
         → said.new.items ≡ said.old.items ++ told_if_asked option kind (big_bytes 2 kind ++ told.now) asked) }
 {
     if asks_for(kinds, kind) {
@@ -182,8 +182,8 @@ pub fn information<A: Allocator>(
     kinds: &[u8],
 ) -> Result<Vec<u8, A>, AllocError>
     requires { length export.now ≤ MAX_NAME_BYTES }
-    ensures { IfOk result (λ said. (asked : List ℕ) → AllByRecursion (λ one. one < 2 ^ 16) asked
-        → kinds_bytes asked ≡ kinds.now → said.items ≡ told export.now size option asked) }
+    ensures { IfOk result (λ said. (asked : List ℕ) → AreKinds kinds.now asked
+        → said.items ≡ told export.now size option asked) }
 {
     let mut said = Vec::new(alloc);
     push_reply(

@@ -12,5 +12,5 @@ returns-then-not-is_known g c =
 pub returns : goal.returns
 returns g c =
     let asks = c.in-Some.ensures.some in
-    let is = c.in_ok-information.ensures asks.0.kinds asks.1.0.each asks.3 in
+    let is = c.in_ok-information.ensures asks.0.kinds asks.3 in
     known asks.0 asks.1 (rw asks.2 (c.is_known.ensures.0 c.if-not-is_known.false)) (ap (λ said. record { said = said; next = c.args.next }) is)
