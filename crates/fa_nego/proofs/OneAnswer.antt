@@ -3,11 +3,12 @@ use Rattle.std.proofs.Common.{◌≡◌, ◌≢◌, ℕ, ◌^◌, ◌<◌, ◌�
 use Rattle.std.specs.List.{AllByRecursion}
 use Rattle.std.proofs.lemmas.List.{append-nil, take_at, drop_at}
 use Rattle.byteorder.specs.Endian.{big_bytes, big_number}
-use Rattle.fa_nego.specs.Negotiation.{Come, GoComesTo, invalid, unknown, known, ComesTo, export_name, abort, go, unsupported, Sent, IsOption, Turn, IsTurn, IsPassed, turns_heard, turns_said, AreKnown, Opens, IsPart, Negotiates, hears_flags, refuses_flags, hears_options, ends, refuses_magic, refuses_length, head_bytes, option_bytes, max_data}
+use Rattle.fa_nego.specs.Negotiation.{Come, NameComesTo, unknown_name, known_name, ListComesTo, listed, with_data, InfoComesTo, invalid, unknown, known, told, Asked, ComesTo, export_name, abort, list, info, go, unsupported, Sent, IsOption, Turn, IsTurn, IsPassed, turns_heard, turns_said, AreKnown, Opens, IsPart, Negotiates, hears_flags, refuses_flags, hears_options, ends, refuses_magic, refuses_length, head_bytes, option_bytes, max_data}
+use Rattle.fa_nego.specs.Numbers.{opt_info, opt_go}
 use Rattle.fa_nego.specs.declared.step.Step.{Step}
-use Rattle.fa_nego.specs.declared.step.Step.TheVariants.{More, Closed}
+use Rattle.fa_nego.specs.declared.step.Step.TheVariants.{More, Go, Closed}
 use Rattle.fa_nego.specs.declared.step.CloseCause.TheVariants.{UnknownFlag, WrongMagic, TooLong}
-use Rattle.fa_nego.proofs.Asking.{same_name}
+use Rattle.fa_nego.proofs.Asking.{same_asked}
 use Rattle.byteorder.specs.Numbers.{big_number-reads_back}
 use Rattle.fa_nego.proofs.Heads.{same_head, length-head_bytes, take-head_bytes}
 
@@ -18,38 +19,73 @@ same_fronts a b x y len same = (
   sym (drop_at a x (length a) refl) ∙ ap (drop (length a)) same ∙ drop_at b y (length a) (sym len),
 )
 
--- what a GO comes to
-same_go : (export : List ℕ) (size : ℕ) (given : List ℕ) (come come' : Come) → GoComesTo export size given come → GoComesTo export size given come' → come ≡ come'
-same_go export size given come come' (invalid never is) (invalid never' is') = is ∙ sym is'
-same_go export size given come come' (invalid never is) (unknown asked asks not is') = absurd (never asked asks)
-same_go export size given come come' (invalid never is) (known asked asks name is') = absurd (never asked asks)
-same_go export size given come come' (unknown asked asks not is) (invalid never is') = absurd (never asked asks)
-same_go export size given come come' (unknown asked asks not is) (unknown asked' asks' not' is') = is ∙ sym is'
-same_go export size given come come' (unknown asked asks not is) (known asked' asks' name is') =
-    absurd (not (rw (same_name given asked asked' asks asks') name))
-same_go export size given come come' (known asked asks name is) (invalid never is') = absurd (never asked asks)
-same_go export size given come come' (known asked asks name is) (unknown asked' asks' not is') =
-    absurd (not (rw (same_name given asked' asked asks' asks) name))
-same_go export size given come come' (known asked asks name is) (known asked' asks' name' is') = is ∙ sym is'
+-- what an EXPORT_NAME comes to
+same_name : (export : List ℕ) (size flags : ℕ) (name : List ℕ) (come come' : Come) → NameComesTo export size flags name come → NameComesTo export size flags name come' → come ≡ come'
+same_name export size flags name come come' (unknown_name not is) (unknown_name not' is') = is ∙ sym is'
+same_name export size flags name come come' (unknown_name not is) (known_name is_known' is') = absurd (not is_known')
+same_name export size flags name come come' (known_name is_known is) (unknown_name not' is') = absurd (not' is_known)
+same_name export size flags name come come' (known_name is_known is) (known_name is_known' is') = is ∙ sym is'
+
+-- what a LIST comes to
+same_list : (export given : List ℕ) (come come' : Come) → ListComesTo export given come → ListComesTo export given come' → come ≡ come'
+same_list export given come come' (listed none is) (listed none' is') = is ∙ sym is'
+same_list export given come come' (listed none is) (with_data some' is') = absurd (some' none)
+same_list export given come come' (with_data some is) (listed none' is') = absurd (some none')
+same_list export given come come' (with_data some is) (with_data some' is') = is ∙ sym is'
+
+-- what an INFO or GO comes to
+same_info : (export : List ℕ) (size option : ℕ) (given : List ℕ) (next : Step) (come come' : Come) → InfoComesTo export size option given next come → InfoComesTo export size option given next come' → come ≡ come'
+same_info export size option given next come come' (invalid never is) (invalid never' is') = is ∙ sym is'
+same_info export size option given next come come' (invalid never is) (unknown asked asks not is') = absurd (never asked asks)
+same_info export size option given next come come' (invalid never is) (known asked asks name is') = absurd (never asked asks)
+same_info export size option given next come come' (unknown asked asks not is) (invalid never is') = absurd (never asked asks)
+same_info export size option given next come come' (unknown asked asks not is) (unknown asked' asks' not' is') = is ∙ sym is'
+same_info export size option given next come come' (unknown asked asks not is) (known asked' asks' name is') =
+    absurd (not (rw (same_asked given asked asked' asks asks') name))
+same_info export size option given next come come' (known asked asks name is) (invalid never is') = absurd (never asked asks)
+same_info export size option given next come come' (known asked asks name is) (unknown asked' asks' not is') =
+    absurd (not (rw (same_asked given asked' asked asks' asks) name))
+same_info export size option given next come come' (known asked asks name is) (known asked' asks' name' is') =
+    is ∙ ap (λ (one : Asked). record { said = told export size option one.kinds; next = next }) (same_asked given asked asked' asks asks') ∙ sym is'
 
 -- what an option comes to
-same_come : (export : List ℕ) (size : ℕ) (sent : Sent) (come come' : Come) → ComesTo export size sent come → ComesTo export size sent come' → come ≡ come'
-same_come export size sent come come' (export_name n is) (export_name n' is') = is ∙ sym is'
-same_come export size sent come come' (export_name n is) (abort n' is') = absurd (omega arith)
-same_come export size sent come come' (export_name n is) (go n' is') = absurd (omega arith)
-same_come export size sent come come' (export_name n is) (unsupported a b d is') = absurd (a n)
-same_come export size sent come come' (abort n is) (export_name n' is') = absurd (omega arith)
-same_come export size sent come come' (abort n is) (abort n' is') = is ∙ sym is'
-same_come export size sent come come' (abort n is) (go n' is') = absurd (omega arith)
-same_come export size sent come come' (abort n is) (unsupported a b d is') = absurd (b n)
-same_come export size sent come come' (go n is) (export_name n' is') = absurd (omega arith)
-same_come export size sent come come' (go n is) (abort n' is') = absurd (omega arith)
-same_come export size sent come come' (go n is) (go n' is') = same_go export size sent.given come come' is is'
-same_come export size sent come come' (go n is) (unsupported a b d is') = absurd (d n)
-same_come export size sent come come' (unsupported a b d is) (export_name n' is') = absurd (a n')
-same_come export size sent come come' (unsupported a b d is) (abort n' is') = absurd (b n')
-same_come export size sent come come' (unsupported a b d is) (go n' is') = absurd (d n')
-same_come export size sent come come' (unsupported a b d is) (unsupported a' b' d' is') = is ∙ sym is'
+same_come : (export : List ℕ) (size flags : ℕ) (sent : Sent) (come come' : Come) → ComesTo export size flags sent come → ComesTo export size flags sent come' → come ≡ come'
+same_come export size flags sent come come' (export_name n is) (export_name n' is') = same_name export size flags sent.given come come' is is'
+same_come export size flags sent come come' (export_name n is) (abort n' is') = absurd (omega arith)
+same_come export size flags sent come come' (export_name n is) (list n' is') = absurd (omega arith)
+same_come export size flags sent come come' (export_name n is) (info n' is') = absurd (omega arith)
+same_come export size flags sent come come' (export_name n is) (go n' is') = absurd (omega arith)
+same_come export size flags sent come come' (export_name n is) (unsupported n' is') = absurd (n'.not_export_name n)
+same_come export size flags sent come come' (abort n is) (export_name n' is') = absurd (omega arith)
+same_come export size flags sent come come' (abort n is) (abort n' is') = is ∙ sym is'
+same_come export size flags sent come come' (abort n is) (list n' is') = absurd (omega arith)
+same_come export size flags sent come come' (abort n is) (info n' is') = absurd (omega arith)
+same_come export size flags sent come come' (abort n is) (go n' is') = absurd (omega arith)
+same_come export size flags sent come come' (abort n is) (unsupported n' is') = absurd (n'.not_abort n)
+same_come export size flags sent come come' (list n is) (export_name n' is') = absurd (omega arith)
+same_come export size flags sent come come' (list n is) (abort n' is') = absurd (omega arith)
+same_come export size flags sent come come' (list n is) (list n' is') = same_list export sent.given come come' is is'
+same_come export size flags sent come come' (list n is) (info n' is') = absurd (omega arith)
+same_come export size flags sent come come' (list n is) (go n' is') = absurd (omega arith)
+same_come export size flags sent come come' (list n is) (unsupported n' is') = absurd (n'.not_list n)
+same_come export size flags sent come come' (info n is) (export_name n' is') = absurd (omega arith)
+same_come export size flags sent come come' (info n is) (abort n' is') = absurd (omega arith)
+same_come export size flags sent come come' (info n is) (list n' is') = absurd (omega arith)
+same_come export size flags sent come come' (info n is) (info n' is') = same_info export size opt_info sent.given More come come' is is'
+same_come export size flags sent come come' (info n is) (go n' is') = absurd (omega arith)
+same_come export size flags sent come come' (info n is) (unsupported n' is') = absurd (n'.not_info n)
+same_come export size flags sent come come' (go n is) (export_name n' is') = absurd (omega arith)
+same_come export size flags sent come come' (go n is) (abort n' is') = absurd (omega arith)
+same_come export size flags sent come come' (go n is) (list n' is') = absurd (omega arith)
+same_come export size flags sent come come' (go n is) (info n' is') = absurd (omega arith)
+same_come export size flags sent come come' (go n is) (go n' is') = same_info export size opt_go sent.given Go come come' is is'
+same_come export size flags sent come come' (go n is) (unsupported n' is') = absurd (n'.not_go n)
+same_come export size flags sent come come' (unsupported n is) (export_name n' is') = absurd (n.not_export_name n')
+same_come export size flags sent come come' (unsupported n is) (abort n' is') = absurd (n.not_abort n')
+same_come export size flags sent come come' (unsupported n is) (list n' is') = absurd (n.not_list n')
+same_come export size flags sent come come' (unsupported n is) (info n' is') = absurd (n.not_info n')
+same_come export size flags sent come come' (unsupported n is) (go n' is') = absurd (n.not_go n')
+same_come export size flags sent come come' (unsupported n is) (unsupported n' is') = is ∙ sym is'
 
 -- an option's bytes, with bytes behind them, begin with its head
 pub begins : (sent : Sent) (rest : List ℕ) → option_bytes sent ++ rest ≡ head_bytes sent.option (length sent.given) ++ (sent.given ++ rest)
@@ -64,18 +100,18 @@ same_sent sent sent' rest rest' is is' same =
     (numbers ∙ ap (λ bytes. record { option = sent'.option; given = bytes }) parts.0, parts.1)
 
 -- turns that begin the same bytes are one
-pub same_turn : (export : List ℕ) (size : ℕ) (turn turn' : Turn) (rest rest' : List ℕ) → IsTurn export size turn → IsTurn export size turn' → option_bytes turn.sent ++ rest ≡ option_bytes turn'.sent ++ rest'
+pub same_turn : (export : List ℕ) (size flags : ℕ) (turn turn' : Turn) (rest rest' : List ℕ) → IsTurn export size flags turn → IsTurn export size flags turn' → option_bytes turn.sent ++ rest ≡ option_bytes turn'.sent ++ rest'
     → (turn.come ≡ turn'.come) × (rest ≡ rest')
-same_turn export size turn turn' rest rest' is is' same =
+same_turn export size flags turn turn' rest rest' is is' same =
     let sents = same_sent turn.sent turn'.sent rest rest' is.option is'.option same in
-    (same_come export size turn'.sent turn.come turn'.come (rw sents.0 at is.comes) is'.comes, sents.1)
+    (same_come export size flags turn'.sent turn.come turn'.come (rw sents.0 at is.comes) is'.comes, sents.1)
 
 -- How a negotiation stands after its last turn that goes on, by the bytes that follow it.
-pub data Tail (export : List ℕ) (size : ℕ) (tail said : List ℕ) (next : Step) : Type 0 where
-  part : IsPart tail → said ≡ [] → next ≡ More → Tail export size tail said next
-  last : (turn : Turn) → IsTurn export size turn → turn.come.next ≢ More → tail ≡ option_bytes turn.sent → said ≡ turn.come.said → next ≡ turn.come.next → Tail export size tail said next
-  no_magic : length tail ≡ 16 → take 8 tail ≢ big_bytes 8 0x49484156454f5054 → said ≡ [] → next ≡ Closed WrongMagic → Tail export size tail said next
-  too_long : (option len : ℕ) → option < 2 ^ 32 → max_data < len → len < 2 ^ 32 → tail ≡ head_bytes option len → said ≡ [] → next ≡ Closed TooLong → Tail export size tail said next
+pub data Tail (export : List ℕ) (size flags : ℕ) (tail said : List ℕ) (next : Step) : Type 0 where
+  part : IsPart tail → said ≡ [] → next ≡ More → Tail export size flags tail said next
+  last : (turn : Turn) → IsTurn export size flags turn → turn.come.next ≢ More → tail ≡ option_bytes turn.sent → said ≡ turn.come.said → next ≡ turn.come.next → Tail export size flags tail said next
+  no_magic : length tail ≡ 16 → take 8 tail ≢ big_bytes 8 0x49484156454f5054 → said ≡ [] → next ≡ Closed WrongMagic → Tail export size flags tail said next
+  too_long : (option len : ℕ) → option < 2 ^ 32 → max_data < len → len < 2 ^ 32 → tail ≡ head_bytes option len → said ≡ [] → next ≡ Closed TooLong → Tail export size flags tail said next
 
 -- less than a whole option has less data than its head says
 part_short : (tail given : List ℕ) (option len : ℕ) → IsPart tail → option < 2 ^ 32 → len < 2 ^ 32 → tail ≡ head_bytes option len ++ given → (length given < len) × (len ≤ max_data)
@@ -91,7 +127,7 @@ part_magic tail (inl short) len = absurd (omega arith)
 part_magic tail (inr some) len = ap (take 8) some.6 ∙ take-head_bytes some.0 some.1 some.2
 
 -- an option does not stand where the bytes end otherwise
-module _ (export : List ℕ) (size : ℕ) (turn : Turn) (rest tail said : List ℕ) (next : Step) (is : IsTurn export size turn) (same : tail ≡ option_bytes turn.sent ++ rest) where
+module _ (export : List ℕ) (size flags : ℕ) (turn : Turn) (rest tail said : List ℕ) (next : Step) (is : IsTurn export size flags turn) (same : tail ≡ option_bytes turn.sent ++ rest) where
   in_head : tail ≡ head_bytes turn.sent.option (length turn.sent.given) ++ (turn.sent.given ++ rest)
   in_head = same ∙ begins turn.sent rest
 
@@ -113,13 +149,13 @@ alone : (tail : List ℕ) (turn : Turn) → tail ≡ option_bytes turn.sent → 
 alone tail turn same = same ∙ sym (append-nil (option_bytes turn.sent))
 
 -- a turn after which the negotiation goes on does not stand at its end
-not_passed : (export : List ℕ) (size : ℕ) (turn : Turn) (rest tail said : List ℕ) (next : Step) → IsPassed export size turn → tail ≡ option_bytes turn.sent ++ rest → Tail export size tail said next → ⊥
-not_passed export size turn rest tail said next is same (part some s n) = not_part export size turn rest tail said next is.turn_taken same some
-not_passed export size turn rest tail said next is same (last other is_other over o s n) =
-    let comes = same_turn export size turn other rest [] is.turn_taken is_other (sym same ∙ alone tail other o) in
+not_passed : (export : List ℕ) (size flags : ℕ) (turn : Turn) (rest tail said : List ℕ) (next : Step) → IsPassed export size flags turn → tail ≡ option_bytes turn.sent ++ rest → Tail export size flags tail said next → ⊥
+not_passed export size flags turn rest tail said next is same (part some s n) = not_part export size flags turn rest tail said next is.turn_taken same some
+not_passed export size flags turn rest tail said next is same (last other is_other over o s n) =
+    let comes = same_turn export size flags turn other rest [] is.turn_taken is_other (sym same ∙ alone tail other o) in
     over (ap (λ come. come.next) (sym comes.0) ∙ is.goes_on)
-not_passed export size turn rest tail said next is same (no_magic len wrong s n) = not_magic export size turn rest tail said next is.turn_taken same wrong
-not_passed export size turn rest tail said next is same (too_long option len o over l h s n) = not_long export size turn rest tail said next is.turn_taken same option len [] o over l (h ∙ sym (append-nil (head_bytes option len)))
+not_passed export size flags turn rest tail said next is same (no_magic len wrong s n) = not_magic export size flags turn rest tail said next is.turn_taken same wrong
+not_passed export size flags turn rest tail said next is same (too_long option len o over l h s n) = not_long export size flags turn rest tail said next is.turn_taken same option len [] o over l (h ∙ sym (append-nil (head_bytes option len)))
 
 -- Two answers are one.
 abbrev Same : List ℕ → List ℕ → Step → Step → Type 0
@@ -136,25 +172,25 @@ long_magic : (tail : List ℕ) (option len : ℕ) → tail ≡ head_bytes option
 long_magic tail option len h = ap (take 8) (h ∙ sym (append-nil (head_bytes option len))) ∙ take-head_bytes option len []
 
 -- by the bytes behind the last turn that goes on
-same_tail : (export : List ℕ) (size : ℕ) (tail said said' : List ℕ) (next next' : Step) → Tail export size tail said next → Tail export size tail said' next' → Same said said' next next'
-same_tail export size tail said said' next next' (part some s n) (part some' s' n') = (s ∙ sym s', n ∙ sym n')
-same_tail export size tail said said' next next' (part some s n) (last turn is over t s' n') = absurd (not_part export size turn [] tail said next is (alone tail turn t) some)
-same_tail export size tail said said' next next' (part some s n) (no_magic len wrong s' n') = absurd (wrong (part_magic tail some len))
-same_tail export size tail said said' next next' (part some s n) (too_long option len o over l h s' n') = absurd (long_part tail option len some o over l h)
-same_tail export size tail said said' next next' (last turn is over t s n) (part some s' n') = absurd (not_part export size turn [] tail said next is (alone tail turn t) some)
-same_tail export size tail said said' next next' (last turn is over t s n) (last turn' is' over' t' s' n') =
-    let comes = same_turn export size turn turn' [] [] is is' (sym (alone tail turn t) ∙ alone tail turn' t') in
+same_tail : (export : List ℕ) (size flags : ℕ) (tail said said' : List ℕ) (next next' : Step) → Tail export size flags tail said next → Tail export size flags tail said' next' → Same said said' next next'
+same_tail export size flags tail said said' next next' (part some s n) (part some' s' n') = (s ∙ sym s', n ∙ sym n')
+same_tail export size flags tail said said' next next' (part some s n) (last turn is over t s' n') = absurd (not_part export size flags turn [] tail said next is (alone tail turn t) some)
+same_tail export size flags tail said said' next next' (part some s n) (no_magic len wrong s' n') = absurd (wrong (part_magic tail some len))
+same_tail export size flags tail said said' next next' (part some s n) (too_long option len o over l h s' n') = absurd (long_part tail option len some o over l h)
+same_tail export size flags tail said said' next next' (last turn is over t s n) (part some s' n') = absurd (not_part export size flags turn [] tail said next is (alone tail turn t) some)
+same_tail export size flags tail said said' next next' (last turn is over t s n) (last turn' is' over' t' s' n') =
+    let comes = same_turn export size flags turn turn' [] [] is is' (sym (alone tail turn t) ∙ alone tail turn' t') in
     (s ∙ ap (λ come. come.said) comes.0 ∙ sym s', n ∙ ap (λ come. come.next) comes.0 ∙ sym n')
-same_tail export size tail said said' next next' (last turn is over t s n) (no_magic len wrong s' n') = absurd (not_magic export size turn [] tail said next is (alone tail turn t) wrong)
-same_tail export size tail said said' next next' (last turn is over t s n) (too_long option len o long l h s' n') = absurd (not_long export size turn [] tail said next is (alone tail turn t) option len [] o long l (h ∙ sym (append-nil (head_bytes option len))))
-same_tail export size tail said said' next next' (no_magic len wrong s n) (part some s' n') = absurd (wrong (part_magic tail some len))
-same_tail export size tail said said' next next' (no_magic len wrong s n) (last turn is over t s' n') = absurd (not_magic export size turn [] tail said next is (alone tail turn t) wrong)
-same_tail export size tail said said' next next' (no_magic len wrong s n) (no_magic len' wrong' s' n') = (s ∙ sym s', n ∙ sym n')
-same_tail export size tail said said' next next' (no_magic len wrong s n) (too_long option long o over l h s' n') = absurd (wrong (long_magic tail option long h))
-same_tail export size tail said said' next next' (too_long option len o over l h s n) (part some s' n') = absurd (long_part tail option len some o over l h)
-same_tail export size tail said said' next next' (too_long option len o long l h s n) (last turn is over t s' n') = absurd (not_long export size turn [] tail said next is (alone tail turn t) option len [] o long l (h ∙ sym (append-nil (head_bytes option len))))
-same_tail export size tail said said' next next' (too_long option long o over l h s n) (no_magic len wrong s' n') = absurd (wrong (long_magic tail option long h))
-same_tail export size tail said said' next next' (too_long option len o over l h s n) (too_long option' len' o' over' l' h' s' n') = (s ∙ sym s', n ∙ sym n')
+same_tail export size flags tail said said' next next' (last turn is over t s n) (no_magic len wrong s' n') = absurd (not_magic export size flags turn [] tail said next is (alone tail turn t) wrong)
+same_tail export size flags tail said said' next next' (last turn is over t s n) (too_long option len o long l h s' n') = absurd (not_long export size flags turn [] tail said next is (alone tail turn t) option len [] o long l (h ∙ sym (append-nil (head_bytes option len))))
+same_tail export size flags tail said said' next next' (no_magic len wrong s n) (part some s' n') = absurd (wrong (part_magic tail some len))
+same_tail export size flags tail said said' next next' (no_magic len wrong s n) (last turn is over t s' n') = absurd (not_magic export size flags turn [] tail said next is (alone tail turn t) wrong)
+same_tail export size flags tail said said' next next' (no_magic len wrong s n) (no_magic len' wrong' s' n') = (s ∙ sym s', n ∙ sym n')
+same_tail export size flags tail said said' next next' (no_magic len wrong s n) (too_long option long o over l h s' n') = absurd (wrong (long_magic tail option long h))
+same_tail export size flags tail said said' next next' (too_long option len o over l h s n) (part some s' n') = absurd (long_part tail option len some o over l h)
+same_tail export size flags tail said said' next next' (too_long option len o long l h s n) (last turn is over t s' n') = absurd (not_long export size flags turn [] tail said next is (alone tail turn t) option len [] o long l (h ∙ sym (append-nil (head_bytes option len))))
+same_tail export size flags tail said said' next next' (too_long option long o over l h s n) (no_magic len wrong s' n') = absurd (wrong (long_magic tail option long h))
+same_tail export size flags tail said said' next next' (too_long option len o over l h s n) (too_long option' len' o' over' l' h' s' n') = (s ∙ sym s', n ∙ sym n')
 
 -- the first of several turns, and what follows it
 pub first_turn : (turn : Turn) (turns : List Turn) (tail : List ℕ) → turns_heard (turn ∷ turns) ++ tail ≡ option_bytes turn.sent ++ (turns_heard turns ++ tail)
@@ -164,18 +200,18 @@ first_said : (turn : Turn) (turns : List Turn) (said : List ℕ) → turns_said 
 first_said turn turns said = append_assoc turn.come.said (turns_said turns) said
 
 -- by all turns
-same_turns : (export : List ℕ) (size : ℕ) (turns turns' : List Turn) (tail tail' said said' : List ℕ) (next next' : Step)
-    → AllByRecursion (IsPassed export size) turns → AllByRecursion (IsPassed export size) turns' → Tail export size tail said next → Tail export size tail' said' next'
+same_turns : (export : List ℕ) (size flags : ℕ) (turns turns' : List Turn) (tail tail' said said' : List ℕ) (next next' : Step)
+    → AllByRecursion (IsPassed export size flags) turns → AllByRecursion (IsPassed export size flags) turns' → Tail export size flags tail said next → Tail export size flags tail' said' next'
     → turns_heard turns ++ tail ≡ turns_heard turns' ++ tail' → Same (turns_said turns ++ said) (turns_said turns' ++ said') next next'
-same_turns export size [] [] tail tail' said said' next next' all all' end end' same =
-    same_tail export size tail said said' next next' end (rw (← same) at end')
-same_turns export size (turn ∷ turns) [] tail tail' said said' next next' all all' end end' same =
-    absurd (not_passed export size turn (turns_heard turns ++ tail) tail' said' next' all.0 (sym same ∙ first_turn turn turns tail) end')
-same_turns export size [] (turn ∷ turns) tail tail' said said' next next' all all' end end' same =
-    absurd (not_passed export size turn (turns_heard turns ++ tail') tail said next all'.0 (same ∙ first_turn turn turns tail') end)
-same_turns export size (turn ∷ turns) (turn' ∷ turns') tail tail' said said' next next' all all' end end' same =
-    let first = same_turn export size turn turn' (turns_heard turns ++ tail) (turns_heard turns' ++ tail') all.0.turn_taken all'.0.turn_taken (sym (first_turn turn turns tail) ∙ same ∙ first_turn turn' turns' tail') in
-    let rest = same_turns export size turns turns' tail tail' said said' next next' all.1 all'.1 end end' first.1 in (
+same_turns export size flags [] [] tail tail' said said' next next' all all' end end' same =
+    same_tail export size flags tail said said' next next' end (rw (← same) at end')
+same_turns export size flags (turn ∷ turns) [] tail tail' said said' next next' all all' end end' same =
+    absurd (not_passed export size flags turn (turns_heard turns ++ tail) tail' said' next' all.0 (sym same ∙ first_turn turn turns tail) end')
+same_turns export size flags [] (turn ∷ turns) tail tail' said said' next next' all all' end end' same =
+    absurd (not_passed export size flags turn (turns_heard turns ++ tail') tail said next all'.0 (same ∙ first_turn turn turns tail') end)
+same_turns export size flags (turn ∷ turns) (turn' ∷ turns') tail tail' said said' next next' all all' end end' same =
+    let first = same_turn export size flags turn turn' (turns_heard turns ++ tail) (turns_heard turns' ++ tail') all.0.turn_taken all'.0.turn_taken (sym (first_turn turn turns tail) ∙ same ∙ first_turn turn' turns' tail') in
+    let rest = same_turns export size flags turns turns' tail tail' said said' next next' all.1 all'.1 end end' first.1 in (
       first_said turn turns said ∙ ap (λ bytes. bytes ++ (turns_said turns ++ said)) (ap (λ come. come.said) first.0) ∙ ap (λ bytes. turn'.come.said ++ bytes) rest.0 ∙ sym (first_said turn' turns' said'),
       rest.1,
     )
@@ -184,11 +220,11 @@ same_turns export size (turn ∷ turns) (turn' ∷ turns') tail tail' said said'
 pub data Heard (export : List ℕ) (size : ℕ) (heard said : List ℕ) (next : Step) : Type 0 where
   few : length heard < 4 → said ≡ [] → next ≡ More → Heard export size heard said next
   refused : (flags : ℕ) → flags < 2 ^ 32 → (AreKnown flags → ⊥) → heard ≡ big_bytes 4 flags → said ≡ [] → next ≡ Closed UnknownFlag → Heard export size heard said next
-  options : (flags : ℕ) (turns : List Turn) (tail end : List ℕ) → AreKnown flags → AllByRecursion (IsPassed export size) turns → Tail export size tail end next
+  options : (flags : ℕ) (turns : List Turn) (tail end : List ℕ) → AreKnown flags → AllByRecursion (IsPassed export size flags) turns → Tail export size flags tail end next
       → heard ≡ big_bytes 4 flags ++ (turns_heard turns ++ tail) → said ≡ turns_said turns ++ end → Heard export size heard said next
 
 -- what opens a negotiation, and a tail behind it
-opened : (export : List ℕ) (size flags : ℕ) (turns : List Turn) (front tail before end heard said : List ℕ) (next : Step) → Opens export size flags turns front before → Tail export size tail end next
+opened : (export : List ℕ) (size flags : ℕ) (turns : List Turn) (front tail before end heard said : List ℕ) (next : Step) → Opens export size flags turns front before → Tail export size flags tail end next
     → heard ≡ front ++ tail → said ≡ before ++ end → Heard export size heard said next
 opened export size flags turns front tail before end heard said next opens tails h s =
     options flags turns tail end opens.known opens.passed tails
@@ -233,7 +269,7 @@ same_heard export size heard said said' next next' (options flags' turns tail en
     absurd (never (rw (same_flags flags flags' heard [] (turns_heard turns ++ tail) f (omega arith) (flags_alone flags heard h) h').0 is))
 same_heard export size heard said said' next next' (options flags turns tail end is all tails h s) (options flags' turns' tail' end' is' all' tails' h' s') =
     let rests = same_flags flags flags' heard (turns_heard turns ++ tail) (turns_heard turns' ++ tail') (omega arith) (omega arith) h h' in
-    let one = same_turns export size turns turns' tail tail' end end' next next' all all' tails tails' rests.1 in
+    let one = same_turns export size flags turns turns' tail tail' end end' next next' all (rw (← rests.0) at all') tails (rw (← rests.0) at tails') rests.1 in
     (s ∙ one.0 ∙ sym s', one.1)
 
 pub one_answer : (export : List ℕ) (size : ℕ) (heard said said' : List ℕ) (next next' : Step) → Negotiates export size heard said next → Negotiates export size heard said' next' → (said ≡ said') × (next ≡ next')

@@ -83,8 +83,8 @@ AllByRecursion-push : {X : Type 0} (P : X → Type 0) (xs : List X) (x : X) → 
 AllByRecursion-push P [] x all last = (last, tt)
 AllByRecursion-push P (y ∷ ys) x all last = (all.0, AllByRecursion-push P ys x all.1 last)
 
-module _ (export : List ℕ) (size flags : ℕ) (held heard said : List ℕ) (at : IsHeldAt export size (Options flags held) heard said) (turn : Turn) (whole : HoldsOption held turn.sent) (comes : ComesTo export size turn.sent turn.come) where
-  is_turn : IsTurn export size turn
+module _ (export : List ℕ) (size flags : ℕ) (held heard said : List ℕ) (at : IsHeldAt export size (Options flags held) heard said) (turn : Turn) (whole : HoldsOption held turn.sent) (comes : ComesTo export size flags turn.sent turn.come) where
+  is_turn : IsTurn export size flags turn
   is_turn = record { option = whole.is_option; comes = comes }
 
   -- the negotiation goes on after the option
@@ -94,7 +94,7 @@ module _ (export : List ℕ) (size flags : ℕ) (held heard said : List ℕ) (at
     heard,
     record {
       known = at.2.known;
-      passed = AllByRecursion-push (IsPassed export size) at.0 turn at.2.passed (record { turn_taken = is_turn; goes_on = goes_on });
+      passed = AllByRecursion-push (IsPassed export size flags) at.0 turn at.2.passed (record { turn_taken = is_turn; goes_on = goes_on });
       from_client = at.4 ∙ ap (λ bytes. bytes ++ held) at.2.from_client ∙ ap (λ bytes. (big_bytes 4 flags ++ turns_heard at.0) ++ bytes) whole.bytes ∙ flat_map_more (λ (one : Turn). option_bytes one.sent) (big_bytes 4 flags) at.0 turn;
       from_server = ap (λ bytes. bytes ++ turn.come.said) at.2.from_server ∙ flat_map_more (λ (one : Turn). one.come.said) [] at.0 turn;
     },

@@ -1,7 +1,8 @@
 -- What the parts of a negotiation do with the bytes of one item.
 use Rattle.std.specs.Prelude.{◌≡◌, ◌≢◌, ℕ, ◌^◌, ◌<◌, ◌≤◌, ◌⊎◌, List, [], ◌++◌, length, take, Option, None, Some}
+use Rattle.std.specs.List.{AllByRecursion}
 use Rattle.byteorder.specs.Endian.{big_bytes}
-use Rattle.fa_nego.specs.Negotiation.{Turn, Opens, Negotiates, head_bytes, max_data}
+use Rattle.fa_nego.specs.Negotiation.{Turn, Opens, Negotiates, kinds_bytes, head_bytes, max_data}
 use Rattle.fa_nego.specs.declared.step.Step.TheVariants.{More}
 use Rattle.fa_nego.specs.NegoState.{Stage, Flags, Options, Over, NegoState, IsAt}
 use Rattle.fa_nego.specs.View.{stage_at}
@@ -12,6 +13,10 @@ use Rattle.fa_nego.specs.declared.judge.Head.TheVariants.{WrongMagic, TooLong, G
 -- a negotiation about this export at this stage
 abbrev pub state_at : List ℕ → ℕ → Stage → NegoState
 state_at export size stage = record { export = export; size = size; stage = stage }
+
+-- the bytes are those of these kinds of information
+abbrev pub AreKinds : List ℕ → List ℕ → Type 0
+AreKinds bytes kinds = AllByRecursion (λ kind. kind < 2 ^ 16) kinds × (kinds_bytes kinds ≡ bytes)
 
 -- what 16 bytes before an option's data say
 abbrev pub IsHead : List ℕ → Head → Type 0
@@ -24,7 +29,8 @@ IsHead bytes (Good option len) = (option < 2 ^ 32) × (len ≤ max_data) × (byt
 abbrev pub IsWithin : List ℕ → Type 0
 IsWithin held =
     (length held ≤ 16)
-    ⊎ ((option len : ℕ) × (more : List ℕ) × (option < 2 ^ 32) × (len ≤ max_data) × (length more ≤ len) × (held ≡ head_bytes option len ++ more))
+    ⊎ ((option len : ℕ) × (more : List ℕ) × (option < 2 ^ 32) × (len ≤ max_data) × (length more ≤ len)
+    × (held ≡ head_bytes option len ++ more))
 
 -- A negotiation that has heard and said these bytes is at this stage, but what it holds may be a whole
 -- item that is not yet judged.
@@ -47,4 +53,5 @@ Judges export size from out to =
 -- From a stage the server hears these bytes, says those, and is at another stage.
 abbrev pub Hears : List ℕ → ℕ → Stage → List ℕ → List ℕ → Stage → Type 0
 Hears export size from piece out to =
-    (heard said : List ℕ) → IsAt (state_at export size from) heard said → IsAt (state_at export size to) (heard ++ piece) (said ++ out)
+    (heard said : List ℕ) → IsAt (state_at export size from) heard said
+    → IsAt (state_at export size to) (heard ++ piece) (said ++ out)

@@ -1,4 +1,5 @@
 pub mod Heard
 pub mod Negotiation
 pub mod NegoState
+pub mod Numbers
 pub mod View

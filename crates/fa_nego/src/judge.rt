@@ -1,13 +1,18 @@
 //! What comes of the bytes that are held of an item of the client.
-ghost use Rattle.std.specs.Prelude.{◌≡◌, ℕ, List, [], length, IfOk};
-ghost use Rattle.fa_nego.specs.Negotiation.{GoComesTo, ComesTo};
+ghost use Rattle.std.specs.Prelude.{◌≡◌, ℕ, ◌≤◌, List, [], length, IfOk};
+ghost use Rattle.fa_nego.specs.Negotiation.{NameComesTo, ListComesTo, InfoComesTo, ComesTo, refusal};
 ghost use Rattle.fa_nego.specs.NegoState.{Flags, Options};
 ghost use Rattle.fa_nego.specs.View.{stage_at};
 ghost use Rattle.fa_nego.specs.Heard.{IsHead, Judges, stage_after};
 
-use crate::asked::{asked_name, is_known};
+use crate::asked::{is_known, read_query};
+use crate::nego::MAX_NAME_BYTES;
+use crate::numbers::{
+    OPT_ABORT, OPT_EXPORT_NAME, OPT_GO, OPT_INFO, OPT_LIST, REP_ACK, REP_ERR_INVALID,
+    REP_ERR_UNKNOWN, REP_ERR_UNSUP,
+};
 use crate::phase::Phase;
-use crate::reply::{ACK, ERR_INVALID, ERR_UNKNOWN, ERR_UNSUP, GO, OPTION_MAGIC, info_reply, reply};
+use crate::reply::{OPTION_MAGIC, export_data, information, listing, reply};
 use crate::step::{CloseCause, Step};
 use byteorder::{BigEndian, ByteOrder};
 use std::alloc::{AllocError, Allocator};
@@ -20,12 +25,6 @@ pub const HEAD_LEN: usize = 16;
 
 /// The most bytes of data that an option may have.
 const MAX_DATA_BYTES: u32 = 65_536;
-
-/// The option by which a client asks for transmission in the old way.
-const EXPORT_NAME: u32 = 1;
-
-/// The option by which a client ends the connection.
-const ABORT: u32 = 2;
 
 /// What an option comes to: what the server says to it, and how the negotiation stands after it.
 #[derive(Drop)]
@@ -61,6 +60,7 @@ pub fn judge<A: Allocator>(
     phase: Phase,
     held: &[u8],
 ) -> Result<ItemAnswer<A>, AllocError>
+    requires { length export.now ≤ MAX_NAME_BYTES }
     ensures { IfOk result (λ judged. Judges export.now size (stage_at phase held.now) judged.said.items
         (stage_after phase held.now judged.next)) }
 {
@@ -99,6 +99,7 @@ fn judge_option<A: Allocator>(
     flags: u32,
     held: &[u8],
 ) -> Result<ItemAnswer<A>, AllocError>
+    requires { length export.now ≤ MAX_NAME_BYTES }
     ensures { IfOk result (λ judged. Judges export.now size (Options flags held.now) judged.said.items
         (stage_after (Phase.Options flags) held.now judged.next)) }
 {
@@ -113,7 +114,7 @@ fn judge_option<A: Allocator>(
             if given.len() < len as usize {
                 return Ok(waits(alloc));
             }
-            let come = answer(alloc, export, size, option, given)?;
+            let come = answer(alloc, export, size, flags, option, given)?;
             let next = match come.next {
                 Step::More => Phase::Options { flags },
                 step => Phase::Over(step),
@@ -164,53 +165,101 @@ fn head_of(head: &[u8]) -> Head
     Head::Good { option, len }
 }
 
-/// What an option with this data comes to.
+/// What an option with this data comes to, for a client with these flags.
 fn answer<A: Allocator>(
+    alloc: A,
+    export: &[u8],
+    size: u64,
+    flags: u32,
+    option: u32,
+    given: &[u8],
+) -> Result<Come<A>, AllocError>
+    requires { length export.now ≤ MAX_NAME_BYTES }
+    ensures { IfOk result (λ come. ComesTo export.now size flags (record { option = option; given = given.now })
+        (record { said = come.said.items; next = come.next })) }
+{
+    match option {
+        OPT_EXPORT_NAME => export_name(alloc, export, size, flags, given),
+        OPT_ABORT => Ok(Come {
+            said: reply(alloc, OPT_ABORT, REP_ACK)?,
+            next: Step::Aborted,
+        }),
+        OPT_LIST => list(alloc, export, given),
+        OPT_INFO => info(alloc, export, size, OPT_INFO, given, Step::More),
+        OPT_GO => info(alloc, export, size, OPT_GO, given, Step::Go),
+        _ => refuse(alloc, option, REP_ERR_UNSUP),
+    }
+}
+
+/// A reply with an error, after which the negotiation goes on.
+fn refuse<A: Allocator>(alloc: A, option: u32, error: u32) -> Result<Come<A>, AllocError>
+    ensures { IfOk result (λ come. record { said = come.said.items; next = come.next } ≡ refusal option error) }
+{
+    Ok(Come {
+        said: reply(alloc, option, error)?,
+        next: Step::More,
+    })
+}
+
+/// What an EXPORT_NAME with this name comes to.
+fn export_name<A: Allocator>(
+    alloc: A,
+    export: &[u8],
+    size: u64,
+    flags: u32,
+    name: &[u8],
+) -> Result<Come<A>, AllocError>
+    ensures { IfOk result (λ come. NameComesTo export.now size flags name.now
+        (record { said = come.said.items; next = come.next })) }
+{
+    if !is_known(export, name) {
+        return Ok(Come {
+            said: Vec::new(alloc),
+            next: Step::Closed(CloseCause::UnknownName),
+        });
+    }
+    Ok(Come {
+        said: export_data(alloc, size, flags)?,
+        next: Step::Go,
+    })
+}
+
+/// What a LIST with this data comes to.
+fn list<A: Allocator>(alloc: A, export: &[u8], given: &[u8]) -> Result<Come<A>, AllocError>
+    requires { length export.now ≤ MAX_NAME_BYTES }
+    ensures { IfOk result (λ come. ListComesTo export.now given.now
+        (record { said = come.said.items; next = come.next })) }
+{
+    if !given.is_empty() {
+        return refuse(alloc, OPT_LIST, REP_ERR_INVALID);
+    }
+    Ok(Come {
+        said: listing(alloc, export)?,
+        next: Step::More,
+    })
+}
+
+/// What an INFO or GO with this data comes to: `next` where it names the export.
+fn info<A: Allocator>(
     alloc: A,
     export: &[u8],
     size: u64,
     option: u32,
     given: &[u8],
+    next: Step,
 ) -> Result<Come<A>, AllocError>
-    ensures { IfOk result (λ come. ComesTo export.now size (record { option = option; given = given.now })
+    requires { length export.now ≤ MAX_NAME_BYTES }
+    ensures { IfOk result (λ come. InfoComesTo export.now size option given.now next
         (record { said = come.said.items; next = come.next })) }
 {
-    match option {
-        EXPORT_NAME => Ok(Come {
-            said: Vec::new(alloc),
-            next: Step::Closed(CloseCause::UnknownName),
-        }),
-        ABORT => Ok(Come {
-            said: reply(alloc, ABORT, ACK)?,
-            next: Step::Aborted,
-        }),
-        GO => go(alloc, export, size, given),
-        _ => Ok(Come {
-            said: reply(alloc, option, ERR_UNSUP)?,
-            next: Step::More,
-        }),
-    }
-}
-
-/// What a GO with this data comes to.
-fn go<A: Allocator>(alloc: A, export: &[u8], size: u64, given: &[u8]) -> Result<Come<A>, AllocError>
-    ensures { IfOk result (λ come. GoComesTo export.now size given.now
-        (record { said = come.said.items; next = come.next })) }
-{
-    let Some(name) = asked_name(given) else {
-        return Ok(Come {
-            said: reply(alloc, GO, ERR_INVALID)?,
-            next: Step::More,
-        });
+    let Some(query) = read_query(given) else {
+        return refuse(alloc, option, REP_ERR_INVALID);
     };
-    if !is_known(export, name) {
-        return Ok(Come {
-            said: reply(alloc, GO, ERR_UNKNOWN)?,
-            next: Step::More,
-        });
+    if !is_known(export, query.name) {
+        return refuse(alloc, option, REP_ERR_UNKNOWN);
     }
     Ok(Come {
-        said: info_reply(alloc, size)?,
-        next: Step::Go,
+        said: information(alloc, export, size, option, query.kinds)?,
+        next,
     })
 }

@@ -5,6 +5,7 @@ mod asked;
 mod judge;
 pub mod laws;
 mod nego;
+mod numbers;
 mod phase;
 mod reply;
 mod step;

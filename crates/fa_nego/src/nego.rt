@@ -32,9 +32,13 @@ impl<'a, A: Allocator> Model for Nego<'a, A> {
 
     ghost Value = { NegoState };
 
+    ghost use Rattle.std.specs.Prelude.{◌≤◌, length};
     ghost use Rattle.fa_nego.specs.View.{stage_at};
+    ghost use Rattle.fa_nego.specs.declared.nego.TheConstants.{MAX_NAME_BYTES};
 
     ghost view = { λ s. record { export = s.export.now; size = s.size; stage = stage_at s.phase s.held.items } };
+
+    ghost invariant = { λ s. length s.export.now ≤ MAX_NAME_BYTES };
 }
 
 impl<'a, A: Allocator> Nego<'a, A> {
@@ -128,6 +132,7 @@ fn hear<A: Allocator>(
 ) -> Result<(Phase, Vec<u8, A>), AllocError>
     requires wants { room ≡ wanted (stage_at phase held.old.items) }
     requires within { length piece.now ≤ room }
+    requires name { length export.now ≤ MAX_NAME_BYTES }
     ensures heard { IfOk result (λ next. Hears export.now size (stage_at phase held.old.items) piece.now next.1.items
         (stage_at next.0 held.new.items)) }
     ensures err { OnErr result (held.new.items ≡ held.old.items) }

@@ -1,5 +1,7 @@
 //! Cases of the handshake, each in every cutting, for an export `disk` of 32,768 bytes.
+use crate::spelling::spelled;
 use fa_nego::{CloseCause, Nego, Step, greeting};
+use linked_list_allocator::LocalHeap;
 use std::alloc::{AllocError, Global};
 use std::process::Abort;
 use std::test::Fail;
@@ -119,10 +121,9 @@ fn wants_the_next_item(rt: HostRuntime) -> Result<(), Fail> {
 
 #[test]
 fn go_begins_transmission(rt: HostRuntime) -> Result<(), Fail> {
-    let inputs: [&[u8]; 3] = [
+    let inputs: [&[u8]; 2] = [
         b"\x00\x00\x00\x03IHAVEOPT\x00\x00\x00\x07\x00\x00\x00\x06\x00\x00\x00\x00\x00\x00",
         b"\x00\x00\x00\x01IHAVEOPT\x00\x00\x00\x07\x00\x00\x00\x0a\x00\x00\x00\x04disk\x00\x00",
-        b"\x00\x00\x00\x00IHAVEOPT\x00\x00\x00\x07\x00\x00\x00\x0a\x00\x00\x00\x00\x00\x02\x00\x01\x00\x03",
     ];
     for input in inputs {
         let case = Case {
@@ -137,6 +138,18 @@ fn go_begins_transmission(rt: HostRuntime) -> Result<(), Fail> {
         holds(&rt, &case)?;
     }
     Ok(())
+}
+
+#[test]
+fn old_way_begins_transmission(rt: HostRuntime) -> Result<(), Fail> {
+    let case = Case {
+        input: b"\x00\x00\x00\x02IHAVEOPT\x00\x00\x00\x01\x00\x00\x00\x04disk\x25\x60",
+        output: b"\x00\x00\x00\x00\x00\x00\x80\x00\x01\x4d",
+        step: Step::Go,
+        cause: None,
+        used: 24,
+    };
+    holds(&rt, &case)
 }
 
 #[test]
@@ -194,7 +207,7 @@ fn closes_for_each_cause(rt: HostRuntime) -> Result<(), Fail> {
             20,
         ),
         closes(
-            b"\x00\x00\x00\x03IHAVEOPT\x00\x00\x00\x01\x00\x00\x00\x04disk\x00",
+            b"\x00\x00\x00\x03IHAVEOPT\x00\x00\x00\x01\x00\x00\x00\x04dusk\x00",
             CloseCause::UnknownName,
             24,
         ),
@@ -202,5 +215,58 @@ fn closes_for_each_cause(rt: HostRuntime) -> Result<(), Fail> {
     for case in cases.iter() {
         holds(&rt, case)?;
     }
+    Ok(())
+}
+
+// What the server says is put together in a small heap, which grows by little from run to run. Where it
+// refuses, the same bytes are fed again with a large one, and the answer is the whole one.
+#[test]
+fn refused_answers_are_said_later(rt: HostRuntime) -> Result<(), Fail> {
+    let input = spelled(
+        rt.alloc(),
+        "00000001 49484156454f5054 00000003 00000000
+        49484156454f5054 00000006 0000000a 00000000 0002 0001 0003
+        49484156454f5054 00000001 00000000",
+    )?;
+    let output = spelled(
+        rt.alloc(),
+        "0003e889045565a9 00000003 00000002 00000008 00000004 6469736b
+        0003e889045565a9 00000003 00000001 00000000
+        0003e889045565a9 00000006 00000003 0000000c 0000 0000000000008000 014d
+        0003e889045565a9 00000006 00000003 00000006 0001 6469736b
+        0003e889045565a9 00000006 00000003 0000000e 0003 00000001 00001000 02000000
+        0003e889045565a9 00000006 00000001 00000000
+        0000000000008000 014d 00x124",
+    )?;
+    let large = LocalHeap::new(rt.alloc(), 16_384)?;
+    let mut refused_in_all = 0u32;
+    let mut refused_last = 1u32;
+    for room in 0..64usize {
+        let small = LocalHeap::new(rt.alloc(), room * 16)?;
+        let mut nego = Nego::new(&large, "disk", 32768);
+        let mut said = Vec::new(rt.alloc());
+        let mut rest = input.as_slice();
+        let mut step = Step::More;
+        refused_last = 0;
+        for _ in 0..5 {
+            let wanted = nego.wanted();
+            let fed = match nego.feed(&small, &rest[..wanted.min(rest.len())]) {
+                Ok(fed) => fed,
+                Err(_) => {
+                    refused_last = refused_last.saturating_add(1);
+                    assert_eq!(rt; nego.wanted(), wanted, "with {room}");
+                    nego.feed(&large, &rest[..wanted.min(rest.len())])?
+                }
+            };
+            said.extend_from_slice(&fed.out)?;
+            step = fed.step;
+            rest = &rest[fed.used.min(rest.len())..];
+        }
+        assert!(rt; said.as_slice() == output.as_slice(), "with {room}");
+        assert_eq!(rt; step, Step::Go, "with {room}");
+        refused_in_all = refused_in_all.saturating_add(refused_last);
+    }
+    assert!(rt; refused_in_all > 20);
+    assert_eq!(rt; refused_last, 0);
     Ok(())
 }

@@ -151,6 +151,104 @@ fn unknown_options(rt: HostRuntime) -> Result<(), Fail> {
 }
 
 #[test]
+fn list_and_abort(rt: HostRuntime) -> Result<(), Fail> {
+    let options = "49484156454f5054 00000003 00000000 49484156454f5054 00000002 00000000";
+    let replies = "0003e889045565a9 00000003 00000002 00000008 00000004 6469736b
+        0003e889045565a9 00000003 00000001 00000000
+        0003e889045565a9 00000002 00000001 00000000";
+    converses(&rt, rt.alloc(), &[FLAGS, options], &[GREETING, replies], 2)
+}
+
+#[test]
+fn list_with_data(rt: HostRuntime) -> Result<(), Fail> {
+    let option = "49484156454f5054 00000003 00000001 00";
+    let reply = "0003e889045565a9 00000003 80000003 00000000";
+    converses(&rt, rt.alloc(), &[FLAGS, option], &[GREETING, reply], 4)
+}
+
+#[test]
+fn export_name(rt: HostRuntime) -> Result<(), Fail> {
+    let option = "49484156454f5054 00000001 00000004 6469736b";
+    let answer = "0000000000008000 014d 00x124";
+    converses(
+        &rt,
+        rt.alloc(),
+        &["00000001", option],
+        &[GREETING, answer],
+        4,
+    )
+}
+
+#[test]
+fn export_name_without_zeroes(rt: HostRuntime) -> Result<(), Fail> {
+    let option = "49484156454f5054 00000001 00000000";
+    let disconnect = "25609513 0000 0002 0000000000000001 0000000000000000 00000000";
+    for flags in ["00000002", "00000003"] {
+        converses(
+            &rt,
+            rt.alloc(),
+            &[flags, option, disconnect],
+            &[GREETING, "0000000000008000 014d"],
+            1,
+        )?;
+    }
+    Ok(())
+}
+
+#[test]
+fn export_name_of_no_export(rt: HostRuntime) -> Result<(), Fail> {
+    let option = "49484156454f5054 00000001 00000004 6469736c";
+    converses(&rt, rt.alloc(), &[FLAGS, option], &[GREETING], 3)
+}
+
+#[test]
+fn info(rt: HostRuntime) -> Result<(), Fail> {
+    let option = "49484156454f5054 00000006 00000008 00000000 0001 0003";
+    let replies = "0003e889045565a9 00000006 00000003 0000000c 0000 0000000000008000 014d
+        0003e889045565a9 00000006 00000003 0000000e 0003 00000001 00001000 02000000
+        0003e889045565a9 00000006 00000001 00000000";
+    converses(&rt, rt.alloc(), &[FLAGS, option], &[GREETING, replies], 4)
+}
+
+// Kinds that are asked for twice, in another order, and such as the server does not know.
+#[test]
+fn each_kind_once(rt: HostRuntime) -> Result<(), Fail> {
+    let kinds = "0006 0003 0002 0001 0000 0003 0001";
+    let info = "49484156454f5054 00000006 00000016 00000004 6469736b";
+    let go = "49484156454f5054 00000007 00000012 00000000";
+    let told = "0003e889045565a9 00000006 00000003 0000000c 0000 0000000000008000 014d
+        0003e889045565a9 00000006 00000003 00000006 0001 6469736b
+        0003e889045565a9 00000006 00000003 0000000e 0003 00000001 00001000 02000000
+        0003e889045565a9 00000006 00000001 00000000";
+    let gone = "0003e889045565a9 00000007 00000003 0000000c 0000 0000000000008000 014d
+        0003e889045565a9 00000007 00000003 00000006 0001 6469736b
+        0003e889045565a9 00000007 00000003 0000000e 0003 00000001 00001000 02000000
+        0003e889045565a9 00000007 00000001 00000000";
+    converses(
+        &rt,
+        rt.alloc(),
+        &[FLAGS, info, kinds, go, kinds],
+        &[GREETING, told, gone],
+        4,
+    )
+}
+
+#[test]
+fn info_that_is_refused(rt: HostRuntime) -> Result<(), Fail> {
+    let options = "49484156454f5054 00000006 00000007 00000001 78 0000
+        49484156454f5054 00000006 00000007 00000000 0001 03";
+    let replies = "0003e889045565a9 00000006 80000006 00000000
+        0003e889045565a9 00000006 80000003 00000000";
+    converses(
+        &rt,
+        rt.alloc(),
+        &[FLAGS, options, GO],
+        &[GREETING, replies, GONE],
+        4,
+    )
+}
+
+#[test]
 fn bad_client_flags(rt: HostRuntime) -> Result<(), Fail> {
     converses(&rt, rt.alloc(), &["00000004"], &[GREETING], 3)
 }

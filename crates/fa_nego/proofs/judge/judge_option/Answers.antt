@@ -1,4 +1,4 @@
-use Rattle.std.proofs.Common.{◌≡◌, drop, refl, sym, ap, ◌∙◌}
+use Rattle.std.proofs.Common.{◌≡◌, drop, refl, sym, ◌∙◌}
 use Rattle.std.proofs.lemmas.List.{append-nil}
 use Rattle.fa_nego.specs.Negotiation.{Turn}
 use Rattle.fa_nego.proofs.Stages.{magic_refused, length_refused, holds_option, passes, is_over}

@@ -3,7 +3,7 @@ use Rattle.std.proofs.lemmas.List.{take-append-drop}
 use Rattle.byteorder.specs.Endian.{big_number}
 use Rattle.fa_types.proofs.BigEndian.{AreBytes, AreBytes-take, AreBytes-drop}
 use Rattle.fa_nego.proofs.Asking.{is_spelled, asks_for}
-use Rattle.fa_nego.proofs.asked.asked_name.Goals as goal
+use Rattle.fa_nego.proofs.asked.read_query.Goals as goal
 
 pub returns-then-given-lt6-clause-none : goal.returns-then-given-lt6-clause-none
 returns-then-given-lt6-clause-none c asked asks = omega (arith, (is_spelled c.args.given.now asked asks).len)
@@ -15,16 +15,16 @@ returns-then-rest-len-clause-none c asked asks =
     c.read_u32-len.ensures ∙ ap (big_number 4) c.split_at.ensures.front in
     omega (arith, is.len, is.name_len, len, c.split_at.ensures.back_len)
 
-pub returns-then-types-read_u16-clause-none : goal.returns-then-types-read_u16-clause-none
-returns-then-types-read_u16-clause-none c asked asks =
+pub returns-then-kinds-read_u16-clause-none : goal.returns-then-kinds-read_u16-clause-none
+returns-then-kinds-read_u16-clause-none c asked asks =
     let is = is_spelled c.args.given.now asked asks in
     let len : c.read_u32-len.result ≡ length asked.name =
     c.read_u32-len.ensures ∙ ap (big_number 4) c.split_at.ensures.front ∙ is.name_len in
     let behind : c.split_at-3.result.0.now ≡ take 2 (drop (length asked.name) (drop 4 c.args.given.now)) =
     c.split_at-3.ensures.front
     ∙ ap (take 2) (c.split_at-2.ensures.back ∙ ap (λ n. drop n c.split_at.result.1.now) len ∙ ap (drop (length asked.name)) c.split_at.ensures.back) in
-    let count : c.read_u16.result ≡ length asked.types = c.read_u16.ensures ∙ ap (big_number 2) behind ∙ is.count in
-    c.if-types-read_u16.true (omega (arith, is.len, len, count, c.split_at.ensures.back_len, c.split_at-2.ensures.back_len, c.split_at-3.ensures.back_len))
+    let count : c.read_u16.result ≡ length asked.kinds = c.read_u16.ensures ∙ ap (big_number 2) behind ∙ is.count in
+    c.if-kinds-read_u16.true (omega (arith, is.len, len, count, c.split_at.ensures.back_len, c.split_at-2.ensures.back_len, c.split_at-3.ensures.back_len))
 
 pub returns-clause-some : goal.returns-clause-some
 returns-clause-some c =
@@ -46,4 +46,4 @@ returns-clause-some c =
     c.split_at.ensures.front_len
     c.split_at-3.ensures.front_len
     (sym c.read_u32-len.ensures ∙ sym c.split_at-2.ensures.front_len)
-    (omega (arith, c.if-types-read_u16.false, c.read_u16.ensures))
+    (omega (arith, c.if-kinds-read_u16.false, c.read_u16.ensures))
