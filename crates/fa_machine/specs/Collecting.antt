@@ -42,13 +42,13 @@ abbrev pub victim : MapState → ℕ → Option ℕ
 victim m die = find (λ b. may_be_victim m die b && list_all (is_no_better m die b) (below m.geometry.blocks)) (below m.geometry.blocks)
 
 -- the next step on a victim: to move its lowest current slot, and where none is left to erase it
+abbrev pub move_or_erase : ℕ → Option ℕ → CollectorStep
+move_or_erase block None = EraseBlock (record { 0 = block })
+move_or_erase block (Some slot) = MoveSlot (record { 0 = slot })
+
 abbrev pub step_on : MapState → ℕ → Option ℕ → CollectorStep
 step_on m die None = Nothing
-step_on m die (Some block) = of (find (λ slot. is_held_slot (used_at m die slot)) (slots_in m block))
-  where
-    of : Option ℕ → CollectorStep
-    of None = EraseBlock (record { 0 = block })
-    of (Some slot) = MoveSlot (record { 0 = slot })
+step_on m die (Some block) = move_or_erase block (find (λ slot. is_held_slot (used_at m die slot)) (slots_in m block))
 
 abbrev pub next_step : MapState → ℕ → CollectorStep
 next_step m die = step_on m die (victim m die)

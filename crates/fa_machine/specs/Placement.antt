@@ -1,7 +1,7 @@
 -- Where copies go: the homes of a page and its order of dies, the room of a die, the targets of a write, and the
 -- pages that want one more copy.
 use Rattle.std.specs.Prelude.{ℕ, ◌+◌, ◌-◌, ◌/◌, ◌%◌, min, Bool, not, ◌==◌, ◌&&◌, nat_lt, nat_le, if◌then◌else◌, List, [], ◌∷◌, ◌++◌}
-use Rattle.std.specs.Prelude.{Option, Some, None, is_none, option_map, length, take, reverse, find, filter, count_by}
+use Rattle.std.specs.Prelude.{Option, Some, None, is_none, is_some, option_map, option_and_then, length, take, reverse, find, filter, count_by}
 use Rattle.std.specs.FinMap.{len}
 use Rattle.fa_machine.specs.Copies.{holds_page, holders}
 use Rattle.fa_machine.specs.Maps.{below, is_one_of}
@@ -63,8 +63,5 @@ copy_place core page =
 
 -- the lowest thin page that has a place to go, and that place
 abbrev pub next_thin : Core → Option (ℕ × ℕ)
-next_thin core = lowest (find (λ page. is_thin core page && not (is_none (copy_place core page))) (below core.page_map.geometry.pages))
-  where
-    lowest : Option ℕ → Option (ℕ × ℕ)
-    lowest None = None
-    lowest (Some page) = option_map (λ die. (page, die)) (copy_place core page)
+next_thin core = option_and_then (λ page. option_map (λ die. (page, die)) (copy_place core page))
+    (find (λ page. is_thin core page && is_some (copy_place core page)) (below core.page_map.geometry.pages))

@@ -75,7 +75,7 @@ Plans m calendar asked pages (Err (Lost page)) = find (is_lost m) asked ≡ Some
 Plans m calendar asked pages (Err CalendarFull) =
     (find (is_lost m) asked ≡ None) × (is_late calendar ≡ false)
     × ((planned : Planned) × IsPlanned m calendar pages planned
-      × ((die : ℕ) × (max_closed < entries_with calendar planned.places die)))
+    × ((die : ℕ) × (max_closed < entries_with calendar planned.places die)))
 Plans m calendar asked pages (Err Spent) = (find (is_lost m) asked ≡ None) × (is_late calendar ≡ true)
 Plans m calendar asked pages (Err NoMemory) = (find (is_lost m) asked ≡ None) × (is_late calendar ≡ false)
 
@@ -83,7 +83,7 @@ Plans m calendar asked pages (Err NoMemory) = (find (is_lost m) asked ≡ None) 
 abbrev pub booked : BatchId → List Place → CalendarState → CalendarState
 booked batch places calendar = record calendar {
   bookings = fold (λ bookings x. insert bookings (x.die.0, x.round.0) (record { batch = batch; page = x.page; started = false }))
-  calendar.bookings places;
+      calendar.bookings places;
 }
 
 -- the calendar without a batch's bookings that were not started
@@ -105,7 +105,7 @@ names_batch batch flight = false
 abbrev pub is_fresh : Core → ℕ → Bool
 is_fresh core batch =
     not (contains_key core.batches batch || list_any (λ b. b.batch.0 == batch) (values core.calendar.bookings)
-      || list_any (names_batch batch) (values core.jobs))
+    || list_any (names_batch batch) (values core.jobs))
 
 -- the bytes of a page of zeros
 abbrev pub zeros : MapState → List ℕ
@@ -126,7 +126,7 @@ Admits old pages (Ok admitted) new =
     × (new ≡ record old {
       calendar = booked admitted.batch admitted.planned.places old.calendar;
       batches = insert old.batches admitted.batch.0
-      (record { pages = pages; answers = insert_all (at_once old.page_map pages) (zeros old.page_map) empty });
+          (record { pages = pages; answers = insert_all (at_once old.page_map pages) (zeros old.page_map) empty });
     })
 Admits old pages (Err refused) new =
     Plans old.page_map old.calendar pages (to_read old.page_map pages) (Err refused) × (new ≡ old)

@@ -173,7 +173,7 @@ move_ends die page version from to core =
     record core {
       page_map = record (core.page_map) {
         used = insert (insert core.page_map.used (die, from) Stale) (die, to)
-        (if kept then Held (record { 0 = page }) version else Stale);
+            (if kept then Held (record { 0 = page }) version else Stale);
       };
     }
 

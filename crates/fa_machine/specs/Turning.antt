@@ -39,17 +39,19 @@ use Rattle.fa_machine.specs.Writing.{program_at, target_on, with_targets}
 -- or it has one that has not passed.
 abbrev pub window_refusal : Core → ℕ → ℕ → Option WindowRefused
 window_refusal core die count = first_that (
-  (not (is_live core.page_map die) || nat_lt max_closed (entries_of core.calendar die + count) || is_late core.calendar, WindowBusy)
-  ∷ (contains_key core.calendar.windows die, HasOne)
-  ∷ [])
+    (not (is_live core.page_map die) || nat_lt max_closed (entries_of core.calendar die + count) || is_late core.calendar, WindowBusy)
+    ∷ (contains_key core.calendar.windows die, HasOne)
+    ∷ [])
 
 -- Window: the first run of so many open rounds after the current one is the die's window.
 abbrev pub TakesWindow : Core → ℕ → ℕ → Result Round WindowRefused → Core → Type 0
 TakesWindow old die count (Ok first) new =
     (window_refusal old die count ≡ None) × IsFirstWindow old.page_map old.calendar die count first.0
-    × (new ≡ record old { calendar = record (old.calendar) {
-      windows = insert old.calendar.windows die (record { first = first; last = record { 0 = first.0 + count - 1 } });
-    } })
+    × (new ≡ record old {
+      calendar = record (old.calendar) {
+        windows = insert old.calendar.windows die (record { first = first; last = record { 0 = first.0 + count - 1 } });
+      };
+    })
 TakesWindow old die count (Err WindowNoMemory) new = (window_refusal old die count ≡ None) × (new ≡ old)
 TakesWindow old die count (Err refused) new = (window_refusal old die count ≡ Some refused) × (new ≡ old)
 
@@ -84,10 +86,10 @@ is_round_pending core die =
 
 abbrev pub advance_refusal : Core → Option AdvanceRefused
 advance_refusal core = first_that (
-  (list_any (is_round_pending core) (dies_of core.page_map), AdvancePending)
-  ∷ (len core.calendar.bookings == 0 && len core.calendar.windows == 0, Idle)
-  ∷ (core.calendar.round == 2 ^ 56, Spent)
-  ∷ [])
+    (list_any (is_round_pending core) (dies_of core.page_map), AdvancePending)
+    ∷ (len core.calendar.bookings == 0 && len core.calendar.windows == 0, Idle)
+    ∷ (core.calendar.round == 2 ^ 56, Spent)
+    ∷ [])
 
 -- Advance: the round rises by 1. The bookings of the round that has passed go, and the windows that ended in it.
 abbrev pub Advances : Core → Result Round AdvanceRefused → Core → Type 0
@@ -121,10 +123,10 @@ has_number seq (Some version) = version.seq.0 == seq
 
 abbrev pub reserve_copy_refusal : Core → ℕ → ℕ → Option ReserveCopyRefused
 reserve_copy_refusal core page seq = first_that (
-  (not (is_thin core page && has_number seq (get core.page_map.numbers page)), Gone)
-  ∷ (is_none (copy_place core page), NoRoom)
-  ∷ (copy_open core, CopyBusy)
-  ∷ [])
+    (not (is_thin core page && has_number seq (get core.page_map.numbers page)), Gone)
+    ∷ (is_none (copy_place core page), NoRoom)
+    ∷ (copy_open core, CopyBusy)
+    ∷ [])
 
 -- the state in which one more copy of a page is under way to a die
 abbrev pub copying_to : Core → ℕ → List ℕ → Option Version → Option ℕ → Core
@@ -147,9 +149,9 @@ ReservesCopy old page seq payload (Err refused) new = (reserve_copy_refusal old 
 
 abbrev pub commit_copy_refusal : Core → Copying → Option CommitCopyRefused
 commit_copy_refusal core c = first_that (
-  (is_live core.page_map c.target.die.0 && not c.target.programmed, CopyPending)
-  ∷ (not (is_live core.page_map c.target.die.0), Failed)
-  ∷ [])
+    (is_live core.page_map c.target.die.0 && not c.target.programmed, CopyPending)
+    ∷ (not (is_live core.page_map c.target.die.0), Failed)
+    ∷ [])
 
 -- CommitCopy: the copy is current, or stale where the page has another number now. One whose die went out is over.
 abbrev pub CommitsCopyOf : Core → Option Copying → Result Copied CommitCopyRefused → Core → Type 0

@@ -154,14 +154,14 @@ with_payload claim seq payload w = record w { payloads = with_value_at (claimed_
 -- the numbers of those pages that are holes, told with zeros
 abbrev pub told_at_once : Core → List ℕ → List Told
 told_at_once core pages = filter_map
-  (λ page. option_map (λ version. record { page = page; seq = version.seq.0; bytes = zeros core.page_map }) (get core.page_map.numbers page))
-  (at_once core.page_map pages)
+    (λ page. option_map (λ version. record { page = page; seq = version.seq.0; bytes = zeros core.page_map }) (get core.page_map.numbers page))
+    (at_once core.page_map pages)
 
 -- a batch: what its pages that are answered at once are due, from this moment on
 abbrev pub with_batch : ℕ → List ℕ → World → World
 with_batch batch pages w = record w {
   values = fold (λ values page. with_value_at batch page (record { bytes = zeros w.core.page_map; since = w.moment }) values)
-  w.values (at_once w.core.page_map pages);
+      w.values (at_once w.core.page_map pages);
   told = w.told ++ told_at_once w.core pages;
   admitted = with_value batch w.moment w.admitted;
 }

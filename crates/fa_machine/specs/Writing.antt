@@ -78,10 +78,10 @@ reserved claim kind payload core =
 -- die is live, or 2^62 - 1 was given.
 abbrev pub reserve_refusal : Core → ℕ → ℕ → Option ReserveRefused
 reserve_refusal core page least = first_that (
-  (nat_lt (length (targets core page)) least, NoRoom)
-  ∷ (copies_asked core == 0, NoDie)
-  ∷ (core.last == 2 ^ 62 - 1, Spent)
-  ∷ [])
+    (nat_lt (length (targets core page)) least, NoRoom)
+    ∷ (copies_asked core == 0, NoDie)
+    ∷ (core.last == 2 ^ 62 - 1, Spent)
+    ∷ [])
 
 -- Reserve: the next number, a slot on each target, and a program for each slot.
 abbrev pub ReservesAtLeast : Core → ℕ → ℕ → Kind → List ℕ → Result Seq ReserveRefused → Core → Type 0
@@ -106,9 +106,9 @@ live_targets core places = filter (λ t. is_live core.page_map t.die.0) places
 
 abbrev pub commit_refusal : Core → List Target → Option CommitRefused
 commit_refusal core places = first_that (
-  (list_any (λ t. not t.programmed) (live_targets core places), CommitPending)
-  ∷ (not (list_any (λ t. t.programmed) (live_targets core places)), Failed)
-  ∷ [])
+    (list_any (λ t. not t.programmed) (live_targets core places), CommitPending)
+    ∷ (not (list_any (λ t. t.programmed) (live_targets core places)), Failed)
+    ∷ [])
 
 -- a slot that holds the page is stale now
 abbrev pub without_page : ℕ → Used → Used
@@ -123,7 +123,7 @@ committed claim seat r core =
     let staled = change (λ place used. without_page page used) core.page_map.used in
     with_reserved claim None (record core {
       page_map = with_targets (Held (record { 0 = page }) r.version) (live_targets core r.targets)
-      (record (core.page_map) { numbers = insert core.page_map.numbers page r.version; used = staled });
+          (record (core.page_map) { numbers = insert core.page_map.numbers page r.version; used = staled });
       history = core.history ++ CommitEntry seat (record { 0 = page }) r.version.seq ∷ [];
     })
 
@@ -144,9 +144,9 @@ is_programming flight slot = false
 
 abbrev pub abandon_refusal : Core → List Target → Option AbandonRefused
 abandon_refusal core places = first_that (
-  (list_any (λ t. is_programming (get core.jobs t.die.0) t.slot.0) places, AbandonPending)
-  ∷ (list_any (λ t. t.programmed) (live_targets core places), Programmed)
-  ∷ [])
+    (list_any (λ t. is_programming (get core.jobs t.die.0) t.slot.0) places, AbandonPending)
+    ∷ (list_any (λ t. t.programmed) (live_targets core places), Programmed)
+    ∷ [])
 
 abbrev pub is_at : List Target → WaitingProgram → Bool
 is_at places program = list_any (λ t. t.die.0 == program.die && t.slot.0 == program.slot) places

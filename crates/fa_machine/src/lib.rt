@@ -6,6 +6,7 @@
 mod answers;
 mod ids;
 mod jobs;
+pub mod laws;
 mod places;
 mod refusals;
 
