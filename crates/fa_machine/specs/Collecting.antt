@@ -1,5 +1,5 @@
 -- What the collector does: its victim, its next step, and when it wants a window.
-use Rattle.std.specs.Prelude.{ℕ, ◌+◌, ◌*◌, ◌/◌, Bool, not, ◌==◌, ◌&&◌, ◌||◌, nat_lt, nat_le, List, Option, Some, None, is_some}
+use Rattle.std.specs.Prelude.{ℕ, ◌*◌, ◌/◌, Bool, not, ◌==◌, ◌&&◌, ◌||◌, nat_lt, nat_le, List, Option, Some, None, is_some}
 use Rattle.std.specs.Prelude.{find, count_by}
 use Rattle.std.specs.List.{list_all, range_with_len}
 use Rattle.fa_machine.specs.declared.jobs.CollectorStep.{CollectorStep}

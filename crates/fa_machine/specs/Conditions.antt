@@ -1,7 +1,7 @@
 -- The tests of what is open, by which a caller keeps the conditions of the events, and the first refusal that
 -- applies. Also how a die goes out.
-use Rattle.std.specs.Prelude.{ℕ, ◌+◌, Bool, true, false, cond, not, ◌==◌, List, [], ◌∷◌, filter, Option, Some, None, is_some, option_and_then, option_map}
-use Rattle.std.specs.FinMap.{remove, contains_key, get}
+use Rattle.std.specs.Prelude.{ℕ, ◌+◌, Bool, cond, not, ◌==◌, ◌||◌, nat_lt, List, [], ◌∷◌, filter, Option, Some, None, is_some, option_and_then, option_map}
+use Rattle.std.specs.FinMap.{len, remove, contains_key, get}
 use Rattle.fa_machine.specs.declared.jobs.Flight.{Flight}
 use Rattle.fa_machine.specs.declared.jobs.Flight.TheVariants.{Header, Move, Erase, Read, Program, Sync}
 use Rattle.fa_machine.specs.declared.jobs.JobKind.{JobKind}
@@ -48,6 +48,10 @@ copy_open core = is_some core.copying
 
 abbrev pub history_full : Core → Bool
 history_full core = is_full_history core.history
+
+-- a job, a claim, a batch or a copy is open
+abbrev pub is_busy : Core → Bool
+is_busy core = nat_lt 0 (len core.jobs + len core.claims + len core.batches) || copy_open core
 
 abbrev pub kind_of : Flight → JobKind
 kind_of (Header epoch) = HeaderJob

@@ -40,3 +40,7 @@ LooksAtFlush old flush answer new = (answer ≡ flush_state old flush) × (new �
 -- Fold: the history is taken into its base.
 abbrev pub Folds : Core → Core → Type 0
 Folds old new = new ≡ record old { base = folded old.base old.history; history = [] }
+
+-- how many Commits and Starts there were since mounting; a Fold leaves them
+abbrev pub counts : Core → ℕ × ℕ
+counts core = let b = folded core.base core.history in (b.commits, b.starts)

@@ -1,6 +1,6 @@
 -- The history: a base, and the Commits and Starts since. A Commit gives a page its number. A Start is legal where
 -- the page has, at its place, the number that it names.
-use Rattle.std.specs.Prelude.{ℕ, suc, ◌+◌, Bool, true, false, ◌==◌, ◌&&◌, nat_le, List, [], ◌∷◌, length, count_by, Option, Some, None}
+use Rattle.std.specs.Prelude.{ℕ, ◌+◌, Bool, true, false, ◌==◌, ◌&&◌, nat_le, List, [], ◌∷◌, length, Option, Some, None}
 use Rattle.std.specs.Ordering.{nat_cmp}
 use Rattle.std.specs.FinMap.{FinMap, insert, get}
 use Rattle.fa_machine.specs.declared.answers.HistoryEntry.{HistoryEntry}

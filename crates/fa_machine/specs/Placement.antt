@@ -1,7 +1,7 @@
 -- Where copies go: the homes of a page and its order of dies, the room of a die, the targets of a write, and the
 -- pages that want one more copy.
-use Rattle.std.specs.Prelude.{ℕ, ◌+◌, ◌-◌, ◌/◌, ◌%◌, min, Bool, not, ◌==◌, ◌&&◌, nat_lt, nat_le, if◌then◌else◌, List, [], ◌∷◌, ◌++◌}
-use Rattle.std.specs.Prelude.{Option, Some, None, is_none, is_some, option_map, option_and_then, length, take, reverse, find, filter, count_by}
+use Rattle.std.specs.Prelude.{ℕ, ◌+◌, ◌-◌, ◌/◌, ◌%◌, min, Bool, not, ◌==◌, ◌&&◌, nat_lt, if◌then◌else◌, List, [], ◌∷◌, ◌++◌}
+use Rattle.std.specs.Prelude.{Option, is_none, is_some, option_map, option_and_then, length, take, reverse, find, filter, count_by}
 use Rattle.std.specs.FinMap.{len}
 use Rattle.fa_machine.specs.Copies.{holds_page, holders}
 use Rattle.fa_machine.specs.Maps.{below, is_one_of}

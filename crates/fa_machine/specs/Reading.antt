@@ -1,9 +1,8 @@
 -- The events of readers: Admit, Replan, EndBatch; and how a batch stands.
-use Rattle.std.specs.Prelude.{◌≡◌, ℕ, ◌+◌, ◌-◌, ◌^◌, ◌<◌, ◌≤◌, Bool, true, false, not, ◌==◌, ◌&&◌, ◌||◌, nat_lt, if◌then◌else◌, List, [], ◌∷◌}
-use Rattle.std.specs.Prelude.{Option, Some, None, is_some, option_map, unwrap_or, Result, Ok, Err, map, filter, fold, find, filter_map, count_by, replicate, All}
+use Rattle.std.specs.Prelude.{◌≡◌, ℕ, ◌+◌, ◌-◌, ◌^◌, ◌<◌, ◌≤◌, Bool, true, false, not, ◌==◌, ◌&&◌, ◌||◌, nat_lt, if◌then◌else◌, List, []}
+use Rattle.std.specs.Prelude.{Option, Some, None, option_map, unwrap_or, Result, Ok, Err, map, filter, fold, find, filter_map, count_by, replicate, All}
 use Rattle.std.specs.List.{list_any, list_all}
-use Rattle.std.specs.Ordering.{nat_cmp}
-use Rattle.std.specs.FinMap.{FinMap, empty, insert, remove, contains_key, get, values}
+use Rattle.std.specs.FinMap.{empty, insert, remove, contains_key, get, values}
 use Rattle.fa_types.specs.Open.{open_among, max_closed}
 use Rattle.fa_types.specs.declared.numbers.Page.{Page}
 use Rattle.fa_cert.specs.Batch.{Entry}

@@ -1,5 +1,5 @@
 -- Which rounds of a die are closed, how many entries its calendar has, and where its next window lies.
-use Rattle.std.specs.Prelude.{◌≡◌, ℕ, ◌+◌, ◌-◌, ◌<◌, max, Bool, true, false, not, ◌==◌, ◌&&◌, ◌||◌, nat_le, List, Option, Some, None, count_by}
+use Rattle.std.specs.Prelude.{◌≡◌, ℕ, ◌+◌, ◌-◌, ◌<◌, max, Bool, true, false, not, ◌==◌, ◌&&◌, ◌||◌, nat_le, Option, Some, None, count_by}
 use Rattle.std.specs.List.{list_all, range_with_len}
 use Rattle.std.specs.FinMap.{get, contains_key, keys}
 use Rattle.fa_machine.specs.declared.places.Window.{Window}

@@ -1,5 +1,5 @@
 -- The events of the array with their answers, the conditions under which callers may make them, and what each does.
-use Rattle.std.specs.Prelude.{◌≡◌, ℕ, Bool, true, false, not, ◌==◌, ◌&&◌, nat_lt, nat_le, IsTrue, List, [], ◌∷◌, length, Option, Some, None, Result}
+use Rattle.std.specs.Prelude.{ℕ, Bool, true, false, not, ◌==◌, ◌&&◌, nat_lt, nat_le, IsTrue, List, [], ◌∷◌, length, Option, Some, None, Result}
 use Rattle.std.specs.List.{list_all}
 use Rattle.std.specs.FinMap.{get}
 use Rattle.fa_types.specs.declared.numbers.Round.{Round}
@@ -21,7 +21,7 @@ use Rattle.fa_machine.specs.declared.refusals.ReserveCopyRefused.{ReserveCopyRef
 use Rattle.fa_machine.specs.declared.refusals.ReserveRefused.{ReserveRefused}
 use Rattle.fa_machine.specs.declared.refusals.SpareRefused.{SpareRefused}
 use Rattle.fa_machine.specs.declared.refusals.WindowRefused.{WindowRefused}
-use Rattle.fa_machine.specs.Cells.{Cell, Sealed, Outcome, DidRead, is_of_kind}
+use Rattle.fa_machine.specs.Cells.{Sealed, Outcome, DidRead, is_of_kind}
 use Rattle.fa_machine.specs.Conditions.{claim_open, is_reserved, batch_open, copy_open, history_full}
 use Rattle.fa_machine.specs.Flushing.{BeginsFlush, LooksAtFlush, Folds}
 use Rattle.fa_machine.specs.Maps.{is_one_of}

@@ -1,5 +1,5 @@
 -- The events of dies: Take hands out the first job that applies, Done ends the job in flight.
-use Rattle.std.specs.Prelude.{◌≡◌, ℕ, ◌+◌, ◌/◌, Bool, true, false, not, ◌==◌, ◌&&◌, ◌||◌, nat_lt, if◌then◌else◌, List, [], ◌∷◌, ◌++◌}
+use Rattle.std.specs.Prelude.{◌≡◌, ℕ, ◌/◌, Bool, true, not, ◌==◌, ◌&&◌, ◌||◌, nat_lt, if◌then◌else◌, List, [], ◌∷◌, ◌++◌}
 use Rattle.std.specs.Prelude.{Option, Some, None, unwrap_or, option_map, map, find}
 use Rattle.std.specs.List.{before_first, after_first}
 use Rattle.std.specs.FinMap.{insert, remove, contains_key, get}

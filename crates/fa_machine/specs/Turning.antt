@@ -1,6 +1,6 @@
 -- The events of the collector and the round, Window and Advance, and those of the rebuilder, SpareIn, ReserveCopy and
 -- CommitCopy.
-use Rattle.std.specs.Prelude.{◌≡◌, ℕ, ◌+◌, ◌-◌, ◌^◌, Bool, true, false, not, ◌==◌, ◌&&◌, ◌||◌, nat_lt, nat_le, if◌then◌else◌, List, [], ◌∷◌, ◌++◌}
+use Rattle.std.specs.Prelude.{◌≡◌, ℕ, ◌+◌, ◌-◌, ◌^◌, Bool, true, false, not, ◌==◌, ◌&&◌, ◌||◌, nat_lt, List, [], ◌∷◌, ◌++◌}
 use Rattle.std.specs.Prelude.{Option, Some, None, is_none, Result, Ok, Err}
 use Rattle.std.specs.List.{list_any}
 use Rattle.std.specs.FinMap.{empty, insert, remove, contains_key, get, len}
@@ -11,7 +11,7 @@ use Rattle.fa_machine.specs.declared.answers.Copied.TheVariants.{Current, Late}
 use Rattle.fa_machine.specs.declared.jobs.CollectorStep.{CollectorStep}
 use Rattle.fa_machine.specs.declared.jobs.CollectorStep.TheVariants.{MoveSlot, EraseBlock, Nothing}
 use Rattle.fa_machine.specs.declared.jobs.Flight.{Flight}
-use Rattle.fa_machine.specs.declared.jobs.Flight.TheVariants.{Header, Move, Erase, Read, Program, Sync}
+use Rattle.fa_machine.specs.declared.jobs.Flight.TheVariants.{Move, Erase, Read}
 use Rattle.fa_machine.specs.declared.places.Booking.{Booking}
 use Rattle.fa_machine.specs.declared.places.Copying.{Copying}
 use Rattle.fa_machine.specs.declared.places.Used.TheVariants.{Reserved, Held, Stale}

@@ -1,16 +1,15 @@
 -- The array with its images: what stands in each slot, the calls that the jobs in flight have made, and the plain array,
 -- which changes at Commit alone. A run is a list of events and of image calls, of which any may fail.
-use Rattle.std.specs.Prelude.{◌≡◌, ℕ, ◌+◌, ◌≤◌, Bool, ◌==◌, ◌&&◌, cond, if◌then◌else◌, List, [], ◌∷◌, ◌++◌, Option, Some, None, option_map, Result, Ok, Err}
+use Rattle.std.specs.Prelude.{◌≡◌, ℕ, Bool, ◌==◌, ◌&&◌, cond, if◌then◌else◌, List, [], ◌∷◌, ◌++◌, Option, Some, None, option_map, Ok}
 use Rattle.std.specs.Prelude.{Contains, filter_map, fold, slice_index_or, is_some}
 use Rattle.std.specs.FinMap.{get}
 use Rattle.fa_types.specs.Plain.{put}
 use Rattle.fa_machine.specs.declared.jobs.Flight.{Flight}
 use Rattle.fa_machine.specs.declared.jobs.Flight.TheVariants.{Header, Move, Erase, Read, Program, Sync}
-use Rattle.fa_machine.specs.declared.places.Version.{Version}
 use Rattle.fa_machine.specs.Cells.{Cell, Empty, Sealed, Outcome, DidRead, DidProgram, DidMove, DidErase, DidWriteHeader, DidSync, Fault, Wrong, payload_of}
-use Rattle.fa_machine.specs.Reading.{Admitted, at_once, zeros}
+use Rattle.fa_machine.specs.Reading.{at_once, zeros}
 use Rattle.fa_machine.specs.State.{Core}
-use Rattle.fa_machine.specs.Step.{Act, Step, Reserve, ReserveHole, ReserveFewer, Commit, Admit, Take, Done, ReserveCopy}
+use Rattle.fa_machine.specs.Step.{Act, Reserve, ReserveHole, ReserveFewer, Commit, Admit, Take, Done, ReserveCopy}
 use Rattle.fa_machine.specs.Taking.{Handed}
 use Rattle.fa_machine.specs.Writing.{claimed_page}
 
@@ -91,7 +90,7 @@ pub record DieImage : Type 0 where
   pub seen : ℕ → Cell
 
 abbrev pub with_cell : ℕ → Cell → DieImage → DieImage
-with_cell slot cell image = record { seen = λ s. if s == slot then cell else image.seen s }
+with_cell slot cell image = record image { seen = λ s. if s == slot then cell else image.seen s }
 
 -- Calls of an image that is honest. A refused program or erase may leave anything in what it was writing.
 abbrev pub Calls : (ℕ → ℕ → Bool) → JobCall → Gave → DieImage → DieImage → Type 0
@@ -100,9 +99,9 @@ Calls is_of (ReadsSlot slot) Refused before after = after ≡ before
 Calls is_of (ProgramsSlot slot cell) Accepted before after = after ≡ with_cell slot cell before
 Calls is_of (ProgramsSlot slot cell) Refused before after = (left : Cell) × (after ≡ with_cell slot left before)
 Calls is_of (ErasesBlock block) Accepted before after =
-    after ≡ record { seen = λ slot. if is_of block slot then Empty else before.seen slot }
+    after ≡ record before { seen = λ slot. if is_of block slot then Empty else before.seen slot }
 Calls is_of (ErasesBlock block) Refused before after =
-    (left : ℕ → Cell) × (after ≡ record { seen = λ slot. if is_of block slot then left slot else before.seen slot })
+    (left : ℕ → Cell) × (after ≡ record before { seen = λ slot. if is_of block slot then left slot else before.seen slot })
 Calls is_of WritesHeader Accepted before after = after ≡ before
 Calls is_of WritesHeader Refused before after = after ≡ before
 Calls is_of Syncs Accepted before after = after ≡ before

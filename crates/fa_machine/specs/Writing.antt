@@ -1,6 +1,6 @@
 -- The events of writers: Claim, Release, Reserve in its three forms, Commit, Abandon.
 use Rattle.std.specs.Prelude.{◌≡◌, ℕ, ◌+◌, ◌-◌, ◌^◌, min, Bool, true, false, not, ◌==◌, ◌&&◌, nat_lt, if◌then◌else◌, List, [], ◌∷◌, ◌++◌}
-use Rattle.std.specs.Prelude.{Option, Some, None, unwrap_or, option_map, Result, Ok, Err, length, map, filter, fold, replicate}
+use Rattle.std.specs.Prelude.{Option, Some, None, unwrap_or, option_map, Result, Ok, Err, length, map, filter}
 use Rattle.std.specs.List.{list_any}
 use Rattle.std.specs.FinMap.{insert, remove, contains_key, get, values}
 use Rattle.fa_types.specs.declared.numbers.Seq.{Seq}

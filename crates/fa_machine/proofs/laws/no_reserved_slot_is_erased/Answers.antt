@@ -1,15 +1,14 @@
-use Rattle.std.proofs.Common.{◌≡◌, ℕ, Bool, true, false, not, cond, ◌&&◌, ◌||◌, nat_lt, nat_le, List, [], ◌∷◌, Option, Some, None, refl, sym, ap, subst, ◌∙◌, arith, eqb-true}
-use Rattle.std.specs.Prelude.{◌==◌, find, count_by}
-use Rattle.std.specs.List.{list_all}
-use Rattle.std.proofs.lemmas.Bool.{and_parts, true≢false, false≢true}
+use Rattle.std.proofs.Common.{◌≡◌, ℕ, Bool, true, false, cond, ◌&&◌, nat_lt, List, [], ◌∷◌, Option, Some, None, refl, sym, ap, ◌∙◌, eqb-true}
+use Rattle.std.specs.Prelude.{◌==◌, find}
+use Rattle.std.proofs.lemmas.Bool.{and_parts, false≢true}
 use Rattle.std.proofs.lemmas.Option.{none-some, same_Some}
 use Rattle.fa_machine.specs.declared.ids.Block.{Block}
 use Rattle.fa_machine.specs.declared.jobs.CollectorStep.{CollectorStep}
 use Rattle.fa_machine.specs.declared.jobs.CollectorStep.TheVariants.{MoveSlot, EraseBlock, Nothing}
-use Rattle.fa_machine.specs.Collecting.{may_be_victim, is_no_better, victim, move_or_erase, step_on, next_step, count_in, slots_in, is_erased_outside}
-use Rattle.fa_machine.specs.Copies.{is_reserved_slot, is_held_slot, is_stale_slot}
+use Rattle.fa_machine.specs.Collecting.{may_be_victim, victim, move_or_erase, step_on, count_in}
+use Rattle.fa_machine.specs.Copies.{is_reserved_slot, is_stale_slot}
 use Rattle.fa_machine.specs.Maps.{below}
-use Rattle.fa_machine.specs.State.{MapState, used_at, slots_of}
+use Rattle.fa_machine.specs.State.{MapState}
 use Rattle.fa_machine.proofs.laws.no_reserved_slot_is_erased.Goals as goal
 
 -- what is found passes
