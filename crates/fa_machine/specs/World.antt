@@ -1,0 +1,213 @@
+-- The array with its images: what stands in each slot, the calls that the jobs in flight have made, and the plain array,
+-- which changes at Commit alone. A run is a list of events and of image calls, of which any may fail.
+use Rattle.std.specs.Prelude.{◌≡◌, ℕ, Bool, ◌==◌, ◌&&◌, cond, if◌then◌else◌, List, [], ◌∷◌, ◌++◌, Option, Some, None, option_map, Ok}
+use Rattle.std.specs.Prelude.{Contains, filter_map, fold, slice_index_or, is_some}
+use Rattle.std.specs.FinMap.{get}
+use Rattle.fa_types.specs.Plain.{put}
+use Rattle.fa_machine.specs.declared.jobs.Flight.{Flight}
+use Rattle.fa_machine.specs.declared.jobs.Flight.TheVariants.{Header, Move, Erase, Read, Program, Sync}
+use Rattle.fa_machine.specs.Cells.{Cell, Empty, Sealed, Outcome, DidRead, DidProgram, DidMove, DidErase, DidWriteHeader, DidSync, Fault, Wrong, payload_of}
+use Rattle.fa_machine.specs.Reading.{at_once, zeros}
+use Rattle.fa_machine.specs.State.{Core}
+use Rattle.fa_machine.specs.Step.{Act, Reserve, ReserveHole, ReserveFewer, Commit, Admit, Take, Done, ReserveCopy}
+use Rattle.fa_machine.specs.Taking.{Handed}
+use Rattle.fa_machine.specs.Writing.{claimed_page}
+
+-- a call that a job makes of its die's image
+pub data JobCall : Type 0 where
+  ReadsSlot : (slot : ℕ) → JobCall
+  ProgramsSlot : (slot : ℕ) (cell : Cell) → JobCall
+  ErasesBlock : (block : ℕ) → JobCall
+  WritesHeader : JobCall
+  Syncs : JobCall
+
+pub data Gave : Type 0 where
+  GaveCell : (cell : Cell) → Gave
+  Accepted : Gave
+  Refused : Gave
+
+-- the number of a call's fault
+abbrev pub number_of_call : JobCall → ℕ
+number_of_call (ReadsSlot slot) = 1
+number_of_call (ProgramsSlot slot cell) = 2
+number_of_call (ErasesBlock block) = 3
+number_of_call WritesHeader = 5
+number_of_call Syncs = 6
+
+abbrev pub first_call : ℕ → Flight → List ℕ → JobCall
+first_call die (Header epoch) payload = WritesHeader
+first_call die (Move page version from to) payload = ReadsSlot from.0
+first_call die (Erase block) payload = ErasesBlock block.0
+first_call die (Read batch page version slot) payload = ReadsSlot slot.0
+first_call die (Program page version slot) payload = ProgramsSlot slot.0 (Sealed page.0 version die slot.0 payload)
+first_call die (Sync flushes) payload = Syncs
+
+-- a move that read the slot that was asked for programs the same page, number and kind into its new slot
+abbrev pub second_call : ℕ → Flight → Cell → Option JobCall
+second_call die (Move page version from to) cell =
+    option_map (λ payload. ProgramsSlot to.0 (Sealed page.0 version die to.0 payload)) (payload_of page.0 version die from.0 cell)
+second_call die flight cell = None
+
+-- a job in flight, and what its calls gave so far
+pub record Work : Type 0 where
+  pub job : Handed
+  pub gave : List Gave
+
+abbrev pub next_call : ℕ → Handed → List Gave → Option JobCall
+next_call die job [] = Some (first_call die job.flight job.payload)
+next_call die job (GaveCell cell ∷ []) = second_call die job.flight cell
+next_call die job gave = None
+
+-- how a job ends whose one call was accepted
+abbrev pub accepted_outcome : Flight → Option Outcome
+accepted_outcome (Program page version slot) = Some DidProgram
+accepted_outcome (Erase block) = Some DidErase
+accepted_outcome (Header epoch) = Some DidWriteHeader
+accepted_outcome (Sync flushes) = Some DidSync
+accepted_outcome flight = None
+
+-- how a job ends, or goes on, whose first call gave a cell
+abbrev pub read_outcome : ℕ → Flight → Cell → Option Outcome
+read_outcome die (Read batch page version slot) cell = Some (DidRead cell)
+read_outcome die (Move page version from to) cell = cond (is_some (payload_of page.0 version die from.0 cell)) None (Some Wrong)
+read_outcome die flight cell = None
+
+-- The outcome of a job that made these calls, if it made them all.
+abbrev pub outcome_of : ℕ → Handed → List Gave → Option Outcome
+outcome_of die job (Refused ∷ []) = Some (Fault (number_of_call (first_call die job.flight job.payload)))
+outcome_of die job (Accepted ∷ []) = accepted_outcome job.flight
+outcome_of die job (GaveCell cell ∷ []) = read_outcome die job.flight cell
+outcome_of die job (GaveCell cell ∷ Accepted ∷ []) = Some DidMove
+outcome_of die job (GaveCell cell ∷ Refused ∷ []) = Some (Fault 2)
+outcome_of die job gave = None
+
+-- the outcome of a Done is what that job's calls gave
+abbrev pub HasOutcome : ℕ → Handed → List Gave → Outcome → Type 0
+HasOutcome die job gave outcome = outcome_of die job gave ≡ Some outcome
+
+-- an image: what reads of its slots give
+pub record DieImage : Type 0 where
+  pub seen : ℕ → Cell
+
+abbrev pub with_cell : ℕ → Cell → DieImage → DieImage
+with_cell slot cell image = record image { seen = λ s. if s == slot then cell else image.seen s }
+
+-- Calls of an image that is honest. A refused program or erase may leave anything in what it was writing.
+abbrev pub Calls : (ℕ → ℕ → Bool) → JobCall → Gave → DieImage → DieImage → Type 0
+Calls is_of (ReadsSlot slot) (GaveCell cell) before after = (cell ≡ before.seen slot) × (after ≡ before)
+Calls is_of (ReadsSlot slot) Refused before after = after ≡ before
+Calls is_of (ProgramsSlot slot cell) Accepted before after = after ≡ with_cell slot cell before
+Calls is_of (ProgramsSlot slot cell) Refused before after = (left : Cell) × (after ≡ with_cell slot left before)
+Calls is_of (ErasesBlock block) Accepted before after =
+    after ≡ record before { seen = λ slot. if is_of block slot then Empty else before.seen slot }
+Calls is_of (ErasesBlock block) Refused before after =
+    (left : ℕ → Cell) × (after ≡ record before { seen = λ slot. if is_of block slot then left slot else before.seen slot })
+Calls is_of WritesHeader Accepted before after = after ≡ before
+Calls is_of WritesHeader Refused before after = after ≡ before
+Calls is_of Syncs Accepted before after = after ≡ before
+Calls is_of Syncs Refused before after = after ≡ before
+Calls is_of call gave before after = ⊥
+
+-- the bytes that a read is to give, and the moment of its Take
+pub record Due : Type 0 where
+  pub bytes : List ℕ
+  pub since : ℕ
+
+-- bytes that were answered for a page by a read that started while the page had this number
+pub record Told : Type 0 where
+  pub page : ℕ
+  pub seq : ℕ
+  pub bytes : List ℕ
+
+pub record World : Type 0 where
+  pub core : Core
+  pub images : ℕ → DieImage
+  -- the job in flight of each die
+  pub works : ℕ → Option Work
+  pub plain : List (List ℕ)
+  -- what was reserved for a page with a number
+  pub payloads : ℕ → ℕ → List ℕ
+  -- what is due to the read in flight of each die
+  pub due : ℕ → Due
+  -- what was due to the answer of each page of a batch
+  pub values : ℕ → ℕ → Due
+  pub told : List Told
+  -- how many events there were, and at which of them each batch was admitted
+  pub moment : ℕ
+  pub admitted : ℕ → ℕ
+
+-- a function with one value changed
+abbrev pub with_value : {X : Type 0} → ℕ → X → (ℕ → X) → ℕ → X
+with_value n x f m = if m == n then x else f m
+
+abbrev pub with_value_at : {X : Type 0} → ℕ → ℕ → X → (ℕ → ℕ → X) → ℕ → ℕ → X
+with_value_at n k x f m j = if m == n && j == k then x else f m j
+
+-- the plain array's page
+abbrev pub plain_page : World → ℕ → List ℕ
+plain_page w page = slice_index_or w.plain page []
+
+abbrev pub with_payload : ℕ → ℕ → List ℕ → World → World
+with_payload claim seq payload w = record w { payloads = with_value_at (claimed_page w.core claim) seq payload w.payloads }
+
+-- the numbers of those pages that are holes, told with zeros
+abbrev pub told_at_once : Core → List ℕ → List Told
+told_at_once core pages = filter_map
+    (λ page. option_map (λ version. record { page = page; seq = version.seq.0; bytes = zeros core.page_map }) (get core.page_map.numbers page))
+    (at_once core.page_map pages)
+
+-- a batch: what its pages that are answered at once are due, from this moment on
+abbrev pub with_batch : ℕ → List ℕ → World → World
+with_batch batch pages w = record w {
+  values = fold (λ values page. with_value_at batch page (record { bytes = zeros w.core.page_map; since = w.moment }) values)
+      w.values (at_once w.core.page_map pages);
+  told = w.told ++ told_at_once w.core pages;
+  admitted = with_value batch w.moment w.admitted;
+}
+
+-- a job that was handed out: a read is due the plain array's page of this moment
+abbrev pub with_due : ℕ → Flight → World → World
+with_due die (Read batch page version slot) w =
+    record w { due = with_value die (record { bytes = plain_page w page.0; since = w.moment }) w.due }
+with_due die flight w = w
+
+-- an answer of a read: what was due to it is what its page is due
+abbrev pub with_told : ℕ → ℕ → ℕ → ℕ → Option (List ℕ) → World → World
+with_told die batch page seq None w = w
+with_told die batch page seq (Some bytes) w = record w {
+  values = with_value_at batch page (w.due die) w.values;
+  told = w.told ++ (record { page = page; seq = seq; bytes = bytes }) ∷ [];
+}
+
+abbrev pub with_end : ℕ → Flight → Outcome → World → World
+with_end die (Read batch page version slot) (DidRead cell) w =
+    with_told die batch.0 page.0 version.seq.0 (payload_of page.0 version die slot.0 cell) w
+with_end die flight outcome w = w
+
+abbrev pub with_done : ℕ → Option Flight → Outcome → World → World
+with_done die None outcome w = w
+with_done die (Some flight) outcome w = record (with_end die flight outcome w) { works = with_value die None w.works }
+
+-- what an event changes in the world besides the array's state
+abbrev pub followed : Act → World → World
+followed (Reserve claim payload (Ok seq)) w = with_payload claim seq.0 payload w
+followed (ReserveHole claim (Ok seq)) w = with_payload claim seq.0 (zeros w.core.page_map) w
+followed (ReserveFewer claim payload (Ok seq)) w = with_payload claim seq.0 payload w
+followed (Commit claim seat (Ok seq)) w =
+    let page = claimed_page w.core claim in record w { plain = put page (w.payloads page seq.0) w.plain }
+followed (Admit pages (Ok admitted)) w = with_batch admitted.batch.0 pages w
+followed (Take die seat (Some job)) w =
+    record (with_due die job.flight w) { works = with_value die (Some (record { job = job; gave = [] })) w.works }
+followed (Done die outcome) w = with_done die (get w.core.jobs die) outcome w
+followed act w = w
+
+abbrev pub HasWorked : ℕ → Option Work → Outcome → Type 0
+HasWorked die None outcome = ⊥
+HasWorked die (Some work) outcome = HasOutcome die work.job work.gave outcome
+
+-- What an event owes to the world: a Done tells what its job's calls gave, and one more copy has bytes that were
+-- answered by a read which started while the page had this number.
+abbrev pub IsTold : World → Act → Type 0
+IsTold w (Done die outcome) = HasWorked die (w.works die) outcome
+IsTold w (ReserveCopy page seq payload answer) = Contains w.told (record { page = page; seq = seq; bytes = payload })
+IsTold w act = Unit {0}
