@@ -23,7 +23,7 @@ pub enum CloseCause {
     WrongMagic,
     /// Cause 3: more than 65,536 bytes of data announced for an option.
     TooLong,
-    /// Cause 4: EXPORT_NAME with a name that is not the export's.
+    /// Cause 4: EXPORT_NAME with a name that is neither empty nor the export's.
     UnknownName,
 }
 
