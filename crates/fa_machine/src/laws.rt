@@ -2,12 +2,15 @@
 ghost use Rattle.std.specs.Prelude.{◌≡◌, ℕ, ◌+◌, ◌<◌, ◌≤◌, ◌⊎◌, true, false, List, Option, Some, Result, Ok};
 ghost use Rattle.std.specs.List.{list_any, list_all};
 ghost use Rattle.std.specs.FinMap.{contains_key, get};
+ghost use Rattle.fa_types.specs.declared.numbers.Page.{Page};
 ghost use Rattle.fa_types.specs.declared.numbers.Round.{Round};
 ghost use Rattle.fa_types.specs.declared.numbers.Seq.{Seq};
 ghost use Rattle.fa_machine.specs.declared.jobs.CollectorStep.TheVariants.{EraseBlock};
 ghost use Rattle.fa_machine.specs.declared.jobs.Flight.TheVariants.{Header};
 ghost use Rattle.fa_machine.specs.declared.ids.Block.{Block};
 ghost use Rattle.fa_machine.specs.declared.places.Kind.{Kind};
+ghost use Rattle.fa_machine.specs.declared.places.Used.TheVariants.{Held};
+ghost use Rattle.fa_machine.specs.declared.places.Version.{Version};
 ghost use Rattle.fa_machine.specs.declared.refusals.AbandonRefused.{AbandonRefused};
 ghost use Rattle.fa_machine.specs.declared.refusals.AdvanceRefused.{AdvanceRefused};
 ghost use Rattle.fa_machine.specs.declared.refusals.CommitCopyRefused.{CommitCopyRefused};
@@ -24,11 +27,11 @@ ghost use Rattle.fa_machine.specs.declared.answers.Flush.{Flush};
 ghost use Rattle.fa_machine.specs.declared.answers.FlushState.TheVariants.{Synced};
 ghost use Rattle.fa_machine.specs.Reading.{Admitted, Admits, EndsBatch};
 ghost use Rattle.fa_machine.specs.Leaving.{IsFatal, KeepsLive, KeepsNumbers, KeepsPlain};
-ghost use Rattle.fa_machine.specs.State.{Core, MapState, dies_of};
+ghost use Rattle.fa_machine.specs.State.{Core, MapState, dies_of, used_at};
 ghost use Rattle.fa_machine.specs.Step.{Act, Step};
 ghost use Rattle.fa_machine.specs.Taking.{Handed, Finishes, Takes};
 ghost use Rattle.fa_machine.specs.Turning.{Advances, BringsIn, CommitsCopy, TakesWindow, is_round_pending};
-ghost use Rattle.fa_machine.specs.Writing.{Abandons, Commits, ReservesAtLeast};
+ghost use Rattle.fa_machine.specs.Writing.{Abandons, Commits, ReservesAtLeast, claimed_page};
 
 /// A Reserve gives the number behind the last one given, and that is the last one then, so none is given twice.
 pub fn a_number_is_given_once()
@@ -128,4 +131,11 @@ pub fn one_answer()
         → BringsIn old die answer new → BringsIn old die second other → answer ≡ second }
     ensures copy { (old new other : Core) (answer second : Result Copied CommitCopyRefused)
         → CommitsCopy old answer new → CommitsCopy old second other → answer ≡ second }
+{}
+
+/// After a commit no slot holds its page with another number than the one that was committed.
+pub fn no_older_copy_is_left()
+    ensures { (old new : Core) (claim seat die slot : ℕ) (seq : Seq) (page : Page) (version : Version)
+        → Commits old claim seat (Ok seq) new → used_at new.page_map die slot ≡ Some (Held page version)
+        → page.0 ≡ claimed_page old claim → version.seq ≡ seq }
 {}
