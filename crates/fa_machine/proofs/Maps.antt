@@ -1,11 +1,11 @@
 -- What is found in maps that were changed: by inserting many keys at one value, and by a change of each value.
-use Rattle.std.proofs.Common.{◌≡◌, ℕ, Bool, true, false, cond, ◌⊎◌, inl, inr, List, [], ◌∷◌, map, Option, Some, None, refl, sym, ap, ◌∙◌}
+use Rattle.std.proofs.Common.{◌≡◌, ℕ, Bool, true, false, cond, ◌⊎◌, inl, inr, List, [], ◌∷◌, map, Option, Some, sym, ◌∙◌}
 use Rattle.std.proofs.lemmas.Cmp.{on_total}
 use Rattle.std.proofs.lemmas.Option.{none-some, same_Some}
 use Rattle.std.specs.declared.cmp.Ordering.{Ordering}
 use Rattle.std.specs.Cmp.{IsTotalOrder, then_total, nat_cmp_total}
 use Rattle.std.specs.Ordering.{eq_by_cmp}
-use Rattle.std.specs.FinMap.{FinMap, get, insert, entries, from_entries, find, get-insert, get-from_entries, get-entries}
+use Rattle.std.specs.FinMap.{FinMap, get, insert, entries, find, get-insert, get-from_entries}
 use Rattle.fa_machine.specs.Maps.{place_cmp, insert_all, change}
 
 pub place_cmp_total : IsTotalOrder place_cmp

@@ -1,12 +1,12 @@
 //! Laws of the definitions, each the contract of a function with no code.
-ghost use Rattle.std.specs.Prelude.{◌≡◌, ℕ, ◌+◌, ◌<◌, ◌≤◌, ◌⊎◌, true, false, List, Option, Some, Result, Ok};
+ghost use Rattle.std.specs.Prelude.{◌≡◌, ℕ, ◌+◌, ◌<◌, ◌≤◌, ◌⊎◌, true, false, List, [], ◌∷◌, map, Option, Some, Result, Ok, Err};
 ghost use Rattle.std.specs.List.{list_any, list_all};
 ghost use Rattle.std.specs.FinMap.{contains_key, get};
 ghost use Rattle.fa_types.specs.declared.numbers.Page.{Page};
 ghost use Rattle.fa_types.specs.declared.numbers.Round.{Round};
 ghost use Rattle.fa_types.specs.declared.numbers.Seq.{Seq};
 ghost use Rattle.fa_machine.specs.declared.jobs.CollectorStep.TheVariants.{EraseBlock};
-ghost use Rattle.fa_machine.specs.declared.jobs.Flight.TheVariants.{Header};
+ghost use Rattle.fa_machine.specs.declared.jobs.Flight.TheVariants.{Header, Read};
 ghost use Rattle.fa_machine.specs.declared.ids.Block.{Block};
 ghost use Rattle.fa_machine.specs.declared.places.Kind.{Kind};
 ghost use Rattle.fa_machine.specs.declared.places.Used.TheVariants.{Held};
@@ -17,7 +17,7 @@ ghost use Rattle.fa_machine.specs.declared.refusals.CommitCopyRefused.{CommitCop
 ghost use Rattle.fa_machine.specs.declared.refusals.CommitRefused.{CommitRefused};
 ghost use Rattle.fa_machine.specs.declared.refusals.SpareRefused.{SpareRefused};
 ghost use Rattle.fa_machine.specs.Collecting.{next_step, count_in};
-ghost use Rattle.fa_machine.specs.Copies.{is_lost, is_reserved_slot};
+ghost use Rattle.fa_machine.specs.Copies.{is_current, is_lost, is_reserved_slot};
 ghost use Rattle.fa_machine.specs.Flushing.{flush_state, has_synced};
 ghost use Rattle.fa_machine.specs.Run.{HappensEvent};
 ghost use Rattle.fa_machine.specs.World.{World};
@@ -25,11 +25,15 @@ ghost use Rattle.fa_machine.specs.Cells.{Outcome};
 ghost use Rattle.fa_machine.specs.declared.answers.Copied.{Copied};
 ghost use Rattle.fa_machine.specs.declared.answers.Flush.{Flush};
 ghost use Rattle.fa_machine.specs.declared.answers.FlushState.TheVariants.{Synced};
+ghost use Rattle.fa_machine.specs.Placement.{homes};
+ghost use Rattle.fa_machine.specs.declared.ids.BatchId.{BatchId};
+ghost use Rattle.fa_machine.specs.declared.refusals.AdmitRefused.TheVariants.{Lost};
+ghost use Rattle.fa_types.specs.declared.numbers.Slot.{Slot};
 ghost use Rattle.fa_machine.specs.Reading.{Admitted, Admits, EndsBatch};
-ghost use Rattle.fa_machine.specs.Leaving.{IsFatal, KeepsLive, KeepsNumbers, KeepsPlain};
+ghost use Rattle.fa_machine.specs.Kept.{IsFatal, KeepsLive, KeepsNumbers, KeepsPlain};
 ghost use Rattle.fa_machine.specs.State.{Core, MapState, dies_of, used_at};
 ghost use Rattle.fa_machine.specs.Step.{Act, Step};
-ghost use Rattle.fa_machine.specs.Taking.{Handed, Finishes, Takes};
+ghost use Rattle.fa_machine.specs.Taking.{Finishes, Handed, Takes, read_job};
 ghost use Rattle.fa_machine.specs.Turning.{Advances, BringsIn, CommitsCopy, TakesWindow, is_round_pending};
 ghost use Rattle.fa_machine.specs.Writing.{Abandons, Commits, ReservesAtLeast, claimed_page};
 
@@ -138,4 +142,24 @@ pub fn no_older_copy_is_left()
     ensures { (old new : Core) (claim seat die slot : ℕ) (seq : Seq) (page : Page) (version : Version)
         → Commits old claim seat (Ok seq) new → used_at new.page_map die slot ≡ Some (Held page version)
         → page.0 ≡ claimed_page old claim → version.seq ≡ seq }
+{}
+
+/// A batch is refused for a lost page only where the page was written and no live die holds it.
+pub fn only_lost_pages_are_refused_as_lost()
+    ensures { (old new : Core) (pages : List ℕ) (page : Page) → Admits old pages (Err (Lost page)) new
+        → is_lost old.page_map page.0 ≡ true }
+{}
+
+/// The read of a booking is of the slot that holds the page's current copy as it is taken.
+pub fn a_read_takes_the_current_slot()
+    ensures { (core : Core) (die : ℕ) (batch : BatchId) (page : Page) (version : Version) (slot : Slot)
+        → read_job core die ≡ Some (Read batch page version slot) → is_current core.page_map page.0 die slot.0 ≡ true }
+{}
+
+/// The homes of some pages, worked by hand: with two copies on three dies, and with three on four.
+pub fn homes_as_worked()
+    ensures two { map (homes 2 3) (0 ∷ 1 ∷ 2 ∷ 3 ∷ 4 ∷ 5 ∷ 6 ∷ 7 ∷ []) ≡ (0 ∷ 1 ∷ []) ∷ (1 ∷ 2 ∷ []) ∷ (2 ∷ 0 ∷ [])
+        ∷ (0 ∷ 2 ∷ []) ∷ (1 ∷ 0 ∷ []) ∷ (2 ∷ 1 ∷ []) ∷ (0 ∷ 1 ∷ []) ∷ (1 ∷ 2 ∷ []) ∷ [] }
+    ensures three { map (homes 3 4) (0 ∷ 3 ∷ 5 ∷ 8 ∷ []) ≡ (0 ∷ 1 ∷ 2 ∷ []) ∷ (3 ∷ 0 ∷ 1 ∷ []) ∷ (1 ∷ 3 ∷ 0 ∷ [])
+        ∷ (0 ∷ 3 ∷ 1 ∷ []) ∷ [] }
 {}
