@@ -1,11 +1,13 @@
 -- The tests of what is open, by which a caller keeps the conditions of the events, and the first refusal that
 -- applies. Also how a die goes out.
-use Rattle.std.specs.Prelude.{ℕ, ◌+◌, Bool, cond, not, ◌==◌, ◌||◌, nat_lt, List, [], ◌∷◌, filter, Option, Some, None, is_some, option_and_then, option_map}
+use Rattle.std.specs.Prelude.{ℕ, ◌+◌, Bool, cond, not, ◌==◌, ◌||◌, nat_lt, List}
+use Rattle.std.specs.Prelude.{[], ◌∷◌, filter, Option, Some, None, is_some, option_and_then, option_map}
 use Rattle.std.specs.FinMap.{len, remove, contains_key, get}
 use Rattle.fa_machine.specs.declared.jobs.Flight.{Flight}
 use Rattle.fa_machine.specs.declared.jobs.Flight.TheVariants.{Header, Move, Erase, Read, Program, Sync}
 use Rattle.fa_machine.specs.declared.jobs.JobKind.{JobKind}
-use Rattle.fa_machine.specs.declared.jobs.JobKind.TheVariants.{Header as HeaderJob, Move as MoveJob, Erase as EraseJob, Read as ReadJob, Program as ProgramJob, Sync as SyncJob}
+use Rattle.fa_machine.specs.declared.jobs.JobKind.TheVariants.{Header as HeaderJob, Move as MoveJob, Erase as EraseJob}
+use Rattle.fa_machine.specs.declared.jobs.JobKind.TheVariants.{Read as ReadJob, Program as ProgramJob, Sync as SyncJob}
 use Rattle.fa_machine.specs.Maps.{keep}
 use Rattle.fa_machine.specs.History.{is_full_history}
 use Rattle.fa_machine.specs.State.{Core, Reservation}

@@ -1,5 +1,6 @@
 -- The events of flushes and of the history: FlushBegin, FlushState, Fold.
-use Rattle.std.specs.Prelude.{◌≡◌, ℕ, ◌+◌, ◌^◌, Bool, true, false, not, ◌==◌, ◌&&◌, ◌||◌, nat_le, if◌then◌else◌, [], map, slice_index_or, Result, Ok, Err, unwrap_or}
+use Rattle.std.specs.Prelude.{◌≡◌, ℕ, ◌+◌, ◌^◌, Bool, true, false, not, ◌==◌, ◌&&◌}
+use Rattle.std.specs.Prelude.{◌||◌, nat_le, if◌then◌else◌, [], map, slice_index_or, Result, Ok, Err, unwrap_or}
 use Rattle.std.specs.List.{list_any, list_all}
 use Rattle.std.specs.FinMap.{get, keys}
 use Rattle.fa_machine.specs.declared.answers.Flush.{Flush}

@@ -1,5 +1,6 @@
 -- The events of the array with their answers, the conditions under which callers may make them, and what each does.
-use Rattle.std.specs.Prelude.{ℕ, Bool, true, false, not, ◌==◌, ◌&&◌, nat_lt, nat_le, IsTrue, List, [], ◌∷◌, length, Option, Some, None, Result}
+use Rattle.std.specs.Prelude.{ℕ, Bool, true, false, not, ◌==◌, ◌&&◌, nat_lt, nat_le}
+use Rattle.std.specs.Prelude.{IsTrue, List, [], ◌∷◌, length, Option, Some, None, Result}
 use Rattle.std.specs.List.{list_all}
 use Rattle.std.specs.FinMap.{get}
 use Rattle.fa_types.specs.declared.numbers.Round.{Round}

@@ -154,7 +154,9 @@ abbrev pub mark : ℕ → ℕ → Target → Target
 mark die slot t = if t.die.0 == die && t.slot.0 == slot then record t { programmed = true } else t
 
 abbrev pub mark_claim : ℕ → ℕ → OpenClaim → OpenClaim
-mark_claim die slot c = record c { reserved = option_map {T = Reservation} (λ r. record r { targets = map (mark die slot) r.targets }) c.reserved }
+mark_claim die slot c = record c {
+  reserved = option_map {T = Reservation} (λ r. record r { targets = map (mark die slot) r.targets }) c.reserved;
+}
 
 -- the reservation to which a slot belongs has its copy there
 abbrev pub program_ends : ℕ → ℕ → Core → Core
@@ -178,11 +180,12 @@ move_ends die page version from to core =
     }
 
 -- the slots of the block are erased, save those that were reserved while it was erased, which are programmed later
+abbrev pub stays : MapState → ℕ → ℕ → ℕ × ℕ → Used → Bool
+stays m die block place used = not (place.0 == die && is_in_block m block place.1) || is_reserved_slot (Some used)
+
 abbrev pub erase_ends : ℕ → ℕ → Core → Core
 erase_ends die block core = record core {
-  page_map = record (core.page_map) {
-    used = keep (λ place used. not (place.0 == die && is_in_block core.page_map block place.1) || is_reserved_slot (Some used)) core.page_map.used;
-  };
+  page_map = record (core.page_map) { used = keep (stays core.page_map die block) core.page_map.used };
 }
 
 -- the header is not behind any more, where its epoch is still the current one

@@ -6,7 +6,8 @@ use Rattle.std.specs.FinMap.{get}
 use Rattle.fa_types.specs.Plain.{put}
 use Rattle.fa_machine.specs.declared.jobs.Flight.{Flight}
 use Rattle.fa_machine.specs.declared.jobs.Flight.TheVariants.{Header, Move, Erase, Read, Program, Sync}
-use Rattle.fa_machine.specs.Cells.{Cell, Empty, Sealed, Outcome, DidRead, DidProgram, DidMove, DidErase, DidWriteHeader, DidSync, Fault, Wrong, payload_of}
+use Rattle.fa_machine.specs.Cells.{Cell, Empty, Sealed, Outcome, DidRead, DidProgram}
+use Rattle.fa_machine.specs.Cells.{DidMove, DidErase, DidWriteHeader, DidSync, Fault, Wrong, payload_of}
 use Rattle.fa_machine.specs.Reading.{at_once, zeros}
 use Rattle.fa_machine.specs.State.{Core}
 use Rattle.fa_machine.specs.Step.{Act, Reserve, ReserveHole, ReserveFewer, Commit, Admit, Take, Done, ReserveCopy}
@@ -152,9 +153,11 @@ with_payload claim seq payload w = record w { payloads = with_value_at (claimed_
 
 -- the numbers of those pages that are holes, told with zeros
 abbrev pub told_at_once : Core → List ℕ → List Told
-told_at_once core pages = filter_map
-    (λ page. option_map (λ version. record { page = page; seq = version.seq.0; bytes = zeros core.page_map }) (get core.page_map.numbers page))
-    (at_once core.page_map pages)
+told_at_once core pages = filter_map told_zeros (at_once core.page_map pages)
+  where
+    told_zeros : ℕ → Option Told
+    told_zeros page =
+        option_map (λ v. record { page = page; seq = v.seq.0; bytes = zeros core.page_map }) (get core.page_map.numbers page)
 
 -- a batch: what its pages that are answered at once are due, from this moment on
 abbrev pub with_batch : ℕ → List ℕ → World → World

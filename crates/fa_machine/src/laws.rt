@@ -1,19 +1,41 @@
 //! Laws of the definitions, each the contract of a function with no code.
-ghost use Rattle.std.specs.Prelude.{◌≡◌, ℕ, ◌+◌, ◌<◌, true, List, Some, Ok};
-ghost use Rattle.std.specs.FinMap.{contains_key};
+ghost use Rattle.std.specs.Prelude.{◌≡◌, ℕ, ◌+◌, ◌<◌, ◌≤◌, ◌⊎◌, true, false, List, [], ◌∷◌, map, Option, Some, Result, Ok, Err};
+ghost use Rattle.std.specs.List.{list_any, list_all};
+ghost use Rattle.std.specs.FinMap.{contains_key, get};
+ghost use Rattle.fa_types.specs.declared.numbers.Page.{Page};
 ghost use Rattle.fa_types.specs.declared.numbers.Round.{Round};
 ghost use Rattle.fa_types.specs.declared.numbers.Seq.{Seq};
 ghost use Rattle.fa_machine.specs.declared.jobs.CollectorStep.TheVariants.{EraseBlock};
-ghost use Rattle.fa_machine.specs.declared.jobs.Flight.TheVariants.{Header};
+ghost use Rattle.fa_machine.specs.declared.jobs.Flight.TheVariants.{Header, Read};
 ghost use Rattle.fa_machine.specs.declared.ids.Block.{Block};
 ghost use Rattle.fa_machine.specs.declared.places.Kind.{Kind};
+ghost use Rattle.fa_machine.specs.declared.places.Used.TheVariants.{Held};
+ghost use Rattle.fa_machine.specs.declared.places.Version.{Version};
+ghost use Rattle.fa_machine.specs.declared.refusals.AbandonRefused.{AbandonRefused};
+ghost use Rattle.fa_machine.specs.declared.refusals.AdvanceRefused.{AdvanceRefused};
+ghost use Rattle.fa_machine.specs.declared.refusals.CommitCopyRefused.{CommitCopyRefused};
+ghost use Rattle.fa_machine.specs.declared.refusals.CommitRefused.{CommitRefused};
+ghost use Rattle.fa_machine.specs.declared.refusals.SpareRefused.{SpareRefused};
 ghost use Rattle.fa_machine.specs.Collecting.{next_step, count_in};
-ghost use Rattle.fa_machine.specs.Copies.{is_reserved_slot};
-ghost use Rattle.fa_machine.specs.Reading.{Admitted, Admits};
-ghost use Rattle.fa_machine.specs.State.{Core, MapState};
-ghost use Rattle.fa_machine.specs.Taking.{Handed, Takes};
-ghost use Rattle.fa_machine.specs.Turning.{TakesWindow};
-ghost use Rattle.fa_machine.specs.Writing.{ReservesAtLeast};
+ghost use Rattle.fa_machine.specs.Copies.{is_current, is_lost, is_reserved_slot};
+ghost use Rattle.fa_machine.specs.Flushing.{flush_state, has_synced};
+ghost use Rattle.fa_machine.specs.Run.{HappensEvent};
+ghost use Rattle.fa_machine.specs.World.{World};
+ghost use Rattle.fa_machine.specs.Cells.{Outcome};
+ghost use Rattle.fa_machine.specs.declared.answers.Copied.{Copied};
+ghost use Rattle.fa_machine.specs.declared.answers.Flush.{Flush};
+ghost use Rattle.fa_machine.specs.declared.answers.FlushState.TheVariants.{Synced};
+ghost use Rattle.fa_machine.specs.Placement.{homes};
+ghost use Rattle.fa_machine.specs.declared.ids.BatchId.{BatchId};
+ghost use Rattle.fa_machine.specs.declared.refusals.AdmitRefused.TheVariants.{Lost};
+ghost use Rattle.fa_types.specs.declared.numbers.Slot.{Slot};
+ghost use Rattle.fa_machine.specs.Reading.{Admitted, Admits, EndsBatch};
+ghost use Rattle.fa_machine.specs.Kept.{IsFatal, KeepsLive, KeepsNumbers, KeepsPlain};
+ghost use Rattle.fa_machine.specs.State.{Core, MapState, dies_of, used_at};
+ghost use Rattle.fa_machine.specs.Step.{Act, Step};
+ghost use Rattle.fa_machine.specs.Taking.{Finishes, Handed, Takes, read_job};
+ghost use Rattle.fa_machine.specs.Turning.{Advances, BringsIn, CommitsCopy, TakesWindow, is_round_pending};
+ghost use Rattle.fa_machine.specs.Writing.{Abandons, Commits, ReservesAtLeast, claimed_page};
 
 /// A Reserve gives the number behind the last one given, and that is the last one then, so none is given twice.
 pub fn a_number_is_given_once()
@@ -46,4 +68,98 @@ pub fn a_header_that_is_behind_comes_first()
 pub fn no_reserved_slot_is_erased()
     ensures { (m : MapState) (die : ℕ) (block : Block) → next_step m die ≡ EraseBlock block
         → count_in m die block.0 is_reserved_slot ≡ 0 }
+{}
+
+/// No event lowers the last number given, so whatever Reserve gives later is greater.
+pub fn the_last_number_never_falls()
+    ensures { (old new : Core) (act : Act) → Step old act new → old.last ≤ new.last }
+{}
+
+/// Which dies are live changes by Done and SpareIn alone.
+pub fn live_dies_are_kept()
+    ensures { (old new : Core) (act : Act) → Step old act new → KeepsLive old act new }
+{}
+
+/// The numbers of pages change by Commit alone.
+pub fn numbers_are_kept()
+    ensures { (old new : Core) (act : Act) → Step old act new → KeepsNumbers old act new }
+{}
+
+/// The plain array changes by Commit alone.
+pub fn the_plain_array_is_kept()
+    ensures { (before after : World) (act : Act) → HappensEvent before act after → KeepsPlain before act after }
+{}
+
+/// The state after an event is a function of the state before and the event with its answer.
+pub fn a_step_leads_to_one_state()
+    ensures { (old new other : Core) (act : Act) → Step old act new → Step old act other → new ≡ other }
+{}
+
+/// The job of a die ends with all dies live that were, but where its outcome is one that takes it out.
+pub fn a_die_leaves_only_for_a_cause()
+    ensures { (old new : Core) (die : ℕ) (outcome : Outcome) → Finishes old die outcome new
+        → (new.page_map.live ≡ old.page_map.live) ⊎ IsFatal die (get old.jobs die) outcome }
+{}
+
+/// A page that is lost is not admitted, so it is never answered with zeros.
+pub fn no_lost_page_is_admitted()
+    ensures { (old new : Core) (pages : List ℕ) (admitted : Admitted) → Admits old pages (Ok admitted) new
+        → list_any (is_lost old.page_map) pages ≡ false }
+{}
+
+/// The round rises only where each read booked in it was started and is in flight no more.
+pub fn no_read_is_passed()
+    ensures { (old new : Core) (round : Round) → Advances old (Ok round) new
+        → list_any (is_round_pending old) (dies_of old.page_map) ≡ false }
+{}
+
+/// A flush is synced only where each die that was live when it began is out, or has ended a sync taken since.
+pub fn no_older_sync_answers_a_flush()
+    ensures { (core : Core) (flush : Flush) → flush_state core flush ≡ Synced
+        → list_all (has_synced core flush) (dies_of core.page_map) ≡ true }
+{}
+
+/// Where no memory is taken, the answer of an event is a function of the state before.
+pub fn one_answer()
+    ensures commit { (old new other : Core) (claim seat : ℕ) (answer second : Result Seq CommitRefused)
+        → Commits old claim seat answer new → Commits old claim seat second other → answer ≡ second }
+    ensures abandon { (old new other : Core) (claim : ℕ) (answer second : Result (Unit {0}) AbandonRefused)
+        → Abandons old claim answer new → Abandons old claim second other → answer ≡ second }
+    ensures end_batch { (old new other : Core) (batch : ℕ) (answer second : List (ℕ × List ℕ))
+        → EndsBatch old batch answer new → EndsBatch old batch second other → answer ≡ second }
+    ensures take { (old new other : Core) (die seat : ℕ) (answer second : Option Handed)
+        → Takes old die seat answer new → Takes old die seat second other → answer ≡ second }
+    ensures advance { (old new other : Core) (answer second : Result Round AdvanceRefused)
+        → Advances old answer new → Advances old second other → answer ≡ second }
+    ensures spare { (old new other : Core) (die : ℕ) (answer second : Result (Unit {0}) SpareRefused)
+        → BringsIn old die answer new → BringsIn old die second other → answer ≡ second }
+    ensures copy { (old new other : Core) (answer second : Result Copied CommitCopyRefused)
+        → CommitsCopy old answer new → CommitsCopy old second other → answer ≡ second }
+{}
+
+/// After a commit no slot holds its page with another number than the one that was committed.
+pub fn no_older_copy_is_left()
+    ensures { (old new : Core) (claim seat die slot : ℕ) (seq : Seq) (page : Page) (version : Version)
+        → Commits old claim seat (Ok seq) new → used_at new.page_map die slot ≡ Some (Held page version)
+        → page.0 ≡ claimed_page old claim → version.seq ≡ seq }
+{}
+
+/// A batch is refused for a lost page only where the page was written and no live die holds it.
+pub fn only_lost_pages_are_refused_as_lost()
+    ensures { (old new : Core) (pages : List ℕ) (page : Page) → Admits old pages (Err (Lost page)) new
+        → is_lost old.page_map page.0 ≡ true }
+{}
+
+/// The read of a booking is of the slot that holds the page's current copy as it is taken.
+pub fn a_read_takes_the_current_slot()
+    ensures { (core : Core) (die : ℕ) (batch : BatchId) (page : Page) (version : Version) (slot : Slot)
+        → read_job core die ≡ Some (Read batch page version slot) → is_current core.page_map page.0 die slot.0 ≡ true }
+{}
+
+/// The homes of some pages, worked by hand: with two copies on three dies, and with three on four.
+pub fn homes_as_worked()
+    ensures two { map (homes 2 3) (0 ∷ 1 ∷ 2 ∷ 3 ∷ 4 ∷ 5 ∷ 6 ∷ 7 ∷ []) ≡ (0 ∷ 1 ∷ []) ∷ (1 ∷ 2 ∷ []) ∷ (2 ∷ 0 ∷ [])
+        ∷ (0 ∷ 2 ∷ []) ∷ (1 ∷ 0 ∷ []) ∷ (2 ∷ 1 ∷ []) ∷ (0 ∷ 1 ∷ []) ∷ (1 ∷ 2 ∷ []) ∷ [] }
+    ensures three { map (homes 3 4) (0 ∷ 3 ∷ 5 ∷ 8 ∷ []) ≡ (0 ∷ 1 ∷ 2 ∷ []) ∷ (3 ∷ 0 ∷ 1 ∷ []) ∷ (1 ∷ 3 ∷ 0 ∷ [])
+        ∷ (0 ∷ 3 ∷ 1 ∷ []) ∷ [] }
 {}

@@ -1,7 +1,6 @@
-use Rattle.std.proofs.Common.{◌≡◌, ℕ, Bool, true, false, cond, ◌&&◌, nat_lt, List, [], ◌∷◌, Option, Some, None, refl, sym, ap, ◌∙◌, eqb-true}
-use Rattle.std.specs.Prelude.{◌==◌, find}
+use Rattle.std.proofs.Common.{◌≡◌, ℕ, Bool, true, false, ◌&&◌, nat_lt, Option, Some, None, refl, sym, ap, ◌∙◌, eqb-true}
+use Rattle.std.specs.Prelude.{◌==◌}
 use Rattle.std.proofs.lemmas.Bool.{and_parts, false≢true}
-use Rattle.std.proofs.lemmas.Option.{none-some, same_Some}
 use Rattle.fa_machine.specs.declared.ids.Block.{Block}
 use Rattle.fa_machine.specs.declared.jobs.CollectorStep.{CollectorStep}
 use Rattle.fa_machine.specs.declared.jobs.CollectorStep.TheVariants.{MoveSlot, EraseBlock, Nothing}
@@ -9,16 +8,8 @@ use Rattle.fa_machine.specs.Collecting.{may_be_victim, victim, move_or_erase, st
 use Rattle.fa_machine.specs.Copies.{is_reserved_slot, is_stale_slot}
 use Rattle.fa_machine.specs.Maps.{below}
 use Rattle.fa_machine.specs.State.{MapState}
+use Rattle.fa_machine.proofs.Lists.{find_passes}
 use Rattle.fa_machine.proofs.laws.no_reserved_slot_is_erased.Goals as goal
-
--- what is found passes
-find_passes : {X : Type 0} (p : X → Bool) (xs : List X) (x : X) → find p xs ≡ Some x → p x ≡ true
-find_passes p [] x e = absurd (none-some x e)
-find_passes {X} p (y ∷ ys) x e =
-    elim (p y) as (λ b. p y ≡ b → cond b (Some y) (find p ys) ≡ Some x → p x ≡ true) [
-      | true ↦ λ is same. ap p (sym (same_Some y x same)) ∙ is
-      | false ↦ λ is same. find_passes p ys x same
-    ] refl e
 
 abbrev is_erase : CollectorStep → Bool
 is_erase (MoveSlot slot) = false

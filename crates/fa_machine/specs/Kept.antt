@@ -1,0 +1,38 @@
+-- What single events keep, for the laws: how a die may go out, and which events change the live dies, the numbers of
+-- pages and the plain array.
+use Rattle.std.specs.Prelude.{◌≡◌, ℕ, Option, Some, None}
+use Rattle.std.specs.FinMap.{get}
+use Rattle.fa_machine.specs.declared.jobs.Flight.{Flight}
+use Rattle.fa_machine.specs.declared.jobs.Flight.TheVariants.{Read}
+use Rattle.fa_machine.specs.Cells.{Outcome, DidRead, Fault, Wrong, payload_of}
+use Rattle.fa_machine.specs.State.{Core}
+use Rattle.fa_machine.specs.Step.{Act, Commit, Done, SpareIn}
+use Rattle.fa_machine.specs.World.{World}
+
+-- An outcome that takes a die out: a fault, a move's wrong slot, or a read that gave anything but the page asked for.
+abbrev pub IsFatal : ℕ → Option Flight → Outcome → Type 0
+IsFatal die flight (Fault call) = Unit {0}
+IsFatal die flight Wrong = Unit {0}
+IsFatal die (Some (Read batch page version slot)) (DidRead cell) = payload_of page.0 version die slot.0 cell ≡ None
+IsFatal die flight outcome = ⊥
+
+-- the event ends the job of this die, by such an outcome
+abbrev pub IsLeaving : Core → Act → ℕ → Type 0
+IsLeaving old (Done at outcome) die = (at ≡ die) × IsFatal die (get old.jobs die) outcome
+IsLeaving old act die = ⊥
+
+-- no event but Done and SpareIn changes which dies are live
+abbrev pub KeepsLive : Core → Act → Core → Type 0
+KeepsLive old (Done die outcome) new = Unit {0}
+KeepsLive old (SpareIn die answer) new = Unit {0}
+KeepsLive old act new = new.page_map.live ≡ old.page_map.live
+
+-- none but Commit changes the number of a page
+abbrev pub KeepsNumbers : Core → Act → Core → Type 0
+KeepsNumbers old (Commit claim seat answer) new = Unit {0}
+KeepsNumbers old act new = new.page_map.numbers ≡ old.page_map.numbers
+
+-- none but Commit changes the plain array
+abbrev pub KeepsPlain : World → Act → World → Type 0
+KeepsPlain before (Commit claim seat answer) after = Unit {0}
+KeepsPlain before act after = after.plain ≡ before.plain
