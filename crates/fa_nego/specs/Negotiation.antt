@@ -54,9 +54,9 @@ err_invalid = 0x80000003
 abbrev pub err_unknown : ℕ
 err_unknown = 0x80000006
 
--- the transmission flags HAS_FLAGS, SEND_FLUSH, SEND_FUA, SEND_WRITE_ZEROES and CAN_MULTI_CONN
+-- the transmission flags HAS_FLAGS, SEND_FLUSH, SEND_FUA, SEND_TRIM, SEND_WRITE_ZEROES and CAN_MULTI_CONN
 abbrev pub transmission_flags : ℕ
-transmission_flags = 0x014d
+transmission_flags = 0x016d
 
 -- the data of an INFO_EXPORT: its type, the size and the transmission flags
 unfoldable pub export_info : ℕ → List ℕ

@@ -18,8 +18,8 @@ const REPLY_MAGIC: u64 = 0x0003_e889_0455_65a9;
 /// The server's flags FIXED_NEWSTYLE and NO_ZEROES.
 const SERVER_FLAGS: u16 = 3;
 
-/// The transmission flags HAS_FLAGS, SEND_FLUSH, SEND_FUA, SEND_WRITE_ZEROES and CAN_MULTI_CONN.
-const TRANSMISSION_FLAGS: u16 = 0x014d;
+/// The transmission flags HAS_FLAGS, SEND_FLUSH, SEND_FUA, SEND_TRIM, SEND_WRITE_ZEROES and CAN_MULTI_CONN.
+const TRANSMISSION_FLAGS: u16 = 0x016d;
 
 /// The option by which a client asks for transmission to begin.
 pub const GO: u32 = 7;
