@@ -7,7 +7,7 @@ use Rattle.fa_types.proofs.BigEndian.{append-parts}
 use Rattle.fa_cmds.specs.Requests.{request_bytes, reply_bytes, command_number, code_number, IsNamed, IsRequest}
 use Rattle.fa_cmds.specs.declared.request.Request.{Request}
 use Rattle.fa_cmds.specs.declared.request.Command.{Command}
-use Rattle.fa_cmds.specs.declared.request.Command.TheVariants.{Read, Write, Disconnect, Other}
+use Rattle.fa_cmds.specs.declared.request.Command.TheVariants.{Read, Write, Disconnect, Flush, Trim, WriteZeroes, Other}
 use Rattle.fa_cmds.specs.declared.reply.ReplyCode.{ReplyCode}
 use Rattle.fa_cmds.specs.declared.reply.ReplyCode.TheVariants.{Success, Io, NoMemory, Invalid, NoSpace}
 
@@ -29,6 +29,9 @@ one_command : (a b : Command) → IsNamed a → IsNamed b → command_number a �
 one_command Read Read a_named b_named same = refl
 one_command Write Write a_named b_named same = refl
 one_command Disconnect Disconnect a_named b_named same = refl
+one_command Flush Flush a_named b_named same = refl
+one_command Trim Trim a_named b_named same = refl
+one_command WriteZeroes WriteZeroes a_named b_named same = refl
 one_command (Other a) (Other b) a_named b_named same = ap Other same
 one_command a b a_named b_named same = absurd (omega arith)
 

@@ -1,9 +1,9 @@
 //! What is to be done with a request.
-ghost use Rattle.std.specs.Prelude.{◌≡◌, if◌then◌else◌};
-ghost use Rattle.fa_cmds.specs.Requests.{decision, is_served as served, is_past_end as past_end, is_read, IsToDo};
+ghost use Rattle.std.specs.Prelude.{◌≡◌};
+ghost use Rattle.fa_cmds.specs.Requests.{decision, kind_of, is_past_end as past_end, IsToDo};
 
 use crate::reply::ReplyCode;
-use crate::request::{Command, Request};
+use crate::request::{Command, FUA, NO_HOLE, Request};
 
 /// The longest READ or WRITE: 32 MiB.
 const MAX_LENGTH: u32 = 33_554_432;
@@ -23,11 +23,13 @@ pub enum Decision {
 /// What is to be done with a request to a store of this size, in bytes.
 ///
 /// DISC disconnects, whatever its other fields. Of other requests the first that applies:
-/// - another command than READ and WRITE is refused as `Invalid`;
-/// - a flag other than FUA is refused as `Invalid`;
+/// - another command than READ, WRITE, FLUSH, TRIM and WRITE_ZEROES is refused as `Invalid`;
+/// - a flag other than FUA, or than FUA and NO_HOLE of a WRITE_ZEROES, is refused as `Invalid`;
+/// - a FLUSH is to be done, whatever its offset and length;
 /// - a request of no bytes is answered `Success`, wherever its range begins;
-/// - one of more than 33,554,432 bytes is refused as `Invalid`;
-/// - a range with bytes past the end is refused, a READ as `Invalid` and a WRITE as `NoSpace`;
+/// - a READ or WRITE of more than 33,554,432 bytes is refused as `Invalid`;
+/// - a range with bytes past the end is refused, of a READ or TRIM as `Invalid` and of a WRITE or
+///   WRITE_ZEROES as `NoSpace`;
 /// - else the store is to be asked.
 ///
 /// NBD protocol text, "Request types", "Command flags" and "Error values".
@@ -39,13 +41,16 @@ pub fn decide(request: Request, size: u64) -> Decision
     if request.command == Command::Disconnect {
         return Decision::Disconnect;
     }
-    if !is_served(request.command) || request.flags > 1 {
+    if !is_served(request.command) || request.flags > known_flags(request.command) {
         return Decision::Refuse(ReplyCode::Invalid);
+    }
+    if !has_range(request.command) {
+        return Decision::Do;
     }
     if request.length == 0 {
         return Decision::Refuse(ReplyCode::Success);
     }
-    if request.length > MAX_LENGTH {
+    if is_limited(request.command) && request.length > MAX_LENGTH {
         return Decision::Refuse(ReplyCode::Invalid);
     }
     if is_past_end(request, size) {
@@ -54,9 +59,37 @@ pub fn decide(request: Request, size: u64) -> Decision
     Decision::Do
 }
 
-/// READ and WRITE are.
+/// The store can be asked for it.
 fn is_served(command: Command) -> bool
-    ensures { result ≡ served command }
+    ensures { result ≡ (kind_of command).is_served }
+{
+    !matches!(command, Command::Disconnect | Command::Other(_))
+}
+
+/// The flags that a command may have, all of them set.
+fn known_flags(command: Command) -> u16
+    ensures { result ≡ (kind_of command).flags }
+{
+    match command {
+        Command::Read | Command::Write | Command::Flush | Command::Trim => FUA,
+        Command::WriteZeroes => FUA | NO_HOLE,
+        Command::Disconnect | Command::Other(_) => 0,
+    }
+}
+
+/// Its offset and length name bytes of the store.
+fn has_range(command: Command) -> bool
+    ensures { result ≡ (kind_of command).has_range }
+{
+    matches!(
+        command,
+        Command::Read | Command::Write | Command::Trim | Command::WriteZeroes
+    )
+}
+
+/// READ and WRITE are, since the bytes of their range are sent.
+fn is_limited(command: Command) -> bool
+    ensures { result ≡ (kind_of command).is_limited }
 {
     matches!(command, Command::Read | Command::Write)
 }
@@ -73,10 +106,10 @@ fn is_past_end(request: Request, size: u64) -> bool
 
 /// What a range past the end is answered with.
 fn past_end_code(command: Command) -> ReplyCode
-    ensures { result ≡ (if is_read command then ReplyCode.Invalid else ReplyCode.NoSpace) }
+    ensures { result ≡ (kind_of command).past_end }
 {
     match command {
-        Command::Read => ReplyCode::Invalid,
-        _ => ReplyCode::NoSpace,
+        Command::Write | Command::WriteZeroes => ReplyCode::NoSpace,
+        _ => ReplyCode::Invalid,
     }
 }

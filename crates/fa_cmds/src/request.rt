@@ -2,6 +2,7 @@
 ghost use Rattle.std.specs.Prelude.{◌≡◌, ◌≢◌, ◌∷◌, ◌++◌, take, IfOk, IfErr};
 ghost use Rattle.byteorder.specs.Endian.{big_bytes};
 ghost use Rattle.fa_cmds.specs.Requests.{request_bytes, body_length, command_number, IsNamed, IsRequest};
+ghost use Rattle.fa_cmds.specs.Requests.{is_fua as fua, is_no_hole as no_hole};
 
 use byteorder::{BigEndian, ByteOrder};
 use thiserror::Error;
@@ -12,6 +13,12 @@ pub const REQUEST_BYTES: usize = 28;
 /// The first four bytes of a request.
 const REQUEST_MAGIC: u32 = 0x2560_9513;
 
+/// The flag that what is done is to be on its images before the reply.
+pub(crate) const FUA: u16 = 1;
+
+/// The flag that zeros are to keep bytes of their own.
+pub(crate) const NO_HOLE: u16 = 2;
+
 /// What a request asks for. NBD protocol text, "Request types".
 #[derive(Clone, Copy, Debug, PartialEq, Eq)]
 pub enum Command {
@@ -21,6 +28,12 @@ pub enum Command {
     Write,
     /// Command 2: the end of the connection.
     Disconnect,
+    /// Command 3: all that was answered before, on its images.
+    Flush,
+    /// Command 4: bytes that are no longer wanted.
+    Trim,
+    /// Command 6: zeros.
+    WriteZeroes,
     /// Another command, by its number.
     Other(u16),
 }
@@ -28,7 +41,7 @@ pub enum Command {
 /// The fields of a request. NBD protocol text, "Request message".
 #[derive(Clone, Copy, Debug, PartialEq, Eq)]
 pub struct Request {
-    /// The command's flags. Bit 0 is FUA.
+    /// The command's flags. Bit 0 is FUA, and bit 1 is NO_HOLE.
     pub flags: u16,
     /// What is asked for.
     pub command: Command,
@@ -38,6 +51,23 @@ pub struct Request {
     pub offset: u64,
     /// How many bytes the range has.
     pub length: u32,
+}
+
+impl Request {
+    /// The flag FUA: what is done is to be on its images before the reply. NBD protocol text, "Command
+    /// flags".
+    pub fn is_fua(self) -> bool
+        ensures { result ≡ fua self.flags }
+    {
+        self.flags & FUA != 0
+    }
+
+    /// The flag NO_HOLE: zeros are to keep bytes of their own. NBD protocol text, "Command flags".
+    pub fn is_no_hole(self) -> bool
+        ensures { result ≡ no_hole self.flags }
+    {
+        self.flags & NO_HOLE != 0
+    }
 }
 
 /// The bytes do not begin as a request does.
@@ -73,6 +103,9 @@ fn command_of(number: u16) -> Command
         0 => Command::Read,
         1 => Command::Write,
         2 => Command::Disconnect,
+        3 => Command::Flush,
+        4 => Command::Trim,
+        6 => Command::WriteZeroes,
         _ => Command::Other(number),
     }
 }

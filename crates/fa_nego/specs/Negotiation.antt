@@ -42,9 +42,9 @@ reply_head_bytes option type len = big_bytes 8 0x0003e889045565a9 ++ big_bytes 4
 unfoldable pub option_reply : ℕ → ℕ → List ℕ → List ℕ
 option_reply option type given = reply_head_bytes option type (length given) ++ given
 
--- the transmission flags HAS_FLAGS, SEND_FLUSH, SEND_FUA, SEND_WRITE_ZEROES and CAN_MULTI_CONN
+-- the transmission flags HAS_FLAGS, SEND_FLUSH, SEND_FUA, SEND_TRIM, SEND_WRITE_ZEROES and CAN_MULTI_CONN
 abbrev pub transmission_flags : ℕ
-transmission_flags = 0x014d
+transmission_flags = 0x016d
 
 -- the data of each kind of information: its number, and what is told
 

@@ -35,8 +35,8 @@ const REPLY_MAGIC: u64 = 0x0003_e889_0455_65a9;
 /// The server's flags FIXED_NEWSTYLE and NO_ZEROES.
 const SERVER_FLAGS: u16 = 3;
 
-/// The transmission flags HAS_FLAGS, SEND_FLUSH, SEND_FUA, SEND_WRITE_ZEROES and CAN_MULTI_CONN.
-const TRANSMISSION_FLAGS: u16 = 0x014d;
+/// The transmission flags HAS_FLAGS, SEND_FLUSH, SEND_FUA, SEND_TRIM, SEND_WRITE_ZEROES and CAN_MULTI_CONN.
+const TRANSMISSION_FLAGS: u16 = 0x016d;
 
 /// How many zeros end the answer to EXPORT_NAME.
 const ZEROES_LEN: usize = 124;

@@ -1,3 +1,4 @@
+mod Announcing
 pub mod Greeted
 pub mod OneReading
 pub mod Served

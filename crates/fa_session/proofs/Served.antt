@@ -10,10 +10,10 @@ use Rattle.fa_io.specs.declared.reading.ReadEnd.{ReadEnd}
 use Rattle.fa_io.specs.declared.reading.ReadEnd.TheVariants.{EndOfInput, Failed, TooManyReads}
 use Rattle.fa_io.specs.declared.sending.SendFailed.{SendFailed}
 use Rattle.fa_io.proofs.StreamLemmas.{between, IsNext, joined, Reads-joined, Writes-joined, missing-le}
-use Rattle.fa_types.specs.Store.{Call, Reading, Writing, Answer}
+use Rattle.fa_types.specs.Store.{Call, Reading, Answer}
 use Rattle.fa_cmds.specs.declared.request.Request.{Request}
 use Rattle.fa_cmds.specs.declared.reply.ReplyCode.{ReplyCode}
-use Rattle.fa_cmds.specs.Requests.{IsRequest, request_bytes, body_length, reply_bytes, is_fua, is_write}
+use Rattle.fa_cmds.specs.Requests.{IsRequest, request_bytes, body_length, reply_bytes, kind_of}
 use Rattle.fa_cmds.specs.declared.request.Command.TheVariants.{Read, Write}
 use Rattle.fa_session.specs.Ends.{end_of_read, end_of_stream}
 use Rattle.fa_session.specs.Exchanges.{Outcome, Exchange, call_of, MayCome, IsExchange, heard_of, reply_of, reply_to, Makes, Chain, IsPartOfRequest, EndsTransmission, Transmitted}
@@ -40,19 +40,16 @@ StopsInBody-fills r a b h body end whole fills =
     let e = length-take-le n body (omega (arith, fills.0.1)) in
     ((take n body, omega (arith, e, whole, fills.0.1), fills.0.2), fills.1, Appends-nil h)
 
--- what a READ and a WRITE ask for
+-- what a READ asks for
 pub call_of-read : (r : Request) (body : List ℕ) → r.command ≡ Read → call_of r.command r body ≡ Some (Reading r.offset r.length)
 call_of-read r body read = ap (λ command. call_of command r body) read
 
-pub call_of-write : (r : Request) (body : List ℕ) → r.command ≡ Write → call_of r.command r body ≡ Some (Writing r.offset body (is_fua r.flags))
-call_of-write r body write = ap (λ command. call_of command r body) write
-
 -- a READ has no data, and a WRITE as much as it says
 pub body_length-read : (r : Request) → r.command ≡ Read → body_length r ≡ 0
-body_length-read r read = ap (λ command. if is_write command then r.length else 0) read
+body_length-read r read = ap (λ command. if (kind_of command).has_data then r.length else 0) read
 
 pub body_length-write : (r : Request) → r.command ≡ Write → body_length r ≡ r.length
-body_length-write r write = ap (λ command. if is_write command then r.length else 0) write
+body_length-write r write = ap (λ command. if (kind_of command).has_data then r.length else 0) write
 
 module _ {S : Type 0} (made : S → Call → Answer → S → Type 0) (size : ℕ) (r : Request) where
   -- a request that is declined, and why that is right

@@ -1,3 +1,4 @@
+pub mod Announced
 pub mod Ends
 pub mod Exchanges
 pub mod Handshake

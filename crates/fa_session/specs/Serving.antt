@@ -1,5 +1,5 @@
 -- What the parts of one exchange come to: what the streams did, and the store where it is asked.
-use Rattle.std.specs.Prelude.{◌≡◌, ℕ, ◌<◌, List, [], length, Option, Result, Ok, Err}
+use Rattle.std.specs.Prelude.{◌≡◌, ℕ, ◌<◌, List, [], length, Option, Some, Result, Ok, Err}
 use Rattle.fa_io.specs.Streams.{Streams, Reads, Writes, WritesPart, Sends, EndsReading}
 use Rattle.fa_io.specs.declared.reading.ReadEnd.{ReadEnd}
 use Rattle.fa_io.specs.declared.sending.SendFailed.{SendFailed}
@@ -7,7 +7,7 @@ use Rattle.fa_types.specs.Store.{Call, Answer}
 use Rattle.fa_cmds.specs.declared.request.Request.{Request}
 use Rattle.fa_cmds.specs.declared.reply.ReplyCode.{ReplyCode}
 use Rattle.fa_cmds.specs.Requests.{body_length, reply_bytes}
-use Rattle.fa_session.specs.Exchanges.{Outcome, Exchange, MayCome, IsExchange, heard_of, reply_of, reply_to, Makes, Transmitted}
+use Rattle.fa_session.specs.Exchanges.{Outcome, Exchange, call_of, MayCome, IsExchange, heard_of, reply_of, reply_to, Makes, Transmitted}
 use Rattle.fa_session.specs.declared.stream_end.StreamEnd.{StreamEnd}
 use Rattle.fa_session.specs.declared.stream_end.StreamEnd.TheVariants.{Unread, Unsent}
 use Rattle.fa_session.specs.declared.session_end.SessionEnd.{SessionEnd}
@@ -45,6 +45,10 @@ AnswersRequest made size r streams before after (Ok done) = Follows made size r 
 AnswersRequest made size r streams before after (Err (Unsent failed)) =
     Follows made size r streams before after (WritesPart streams)
 AnswersRequest made size r streams before after (Err (Unread end)) = StopsInBody r streams end × (after ≡ before)
+
+-- The store was asked for what a request with this data wants, and this was its answer.
+abbrev pub WasAsked : {S : Type 0} → (S → Call → Answer → S → Type 0) → Request → List ℕ → Answer → S → S → Type 0
+WasAsked made r body answer before after = (call : Call) × (call_of r.command r body ≡ Some call) × made before call answer after
 
 -- The store was asked for what a request with this data wants, and the reply was sent.
 pub record AsksStore {S : Type 0} (made : S → Call → Answer → S → Type 0) (size : ℕ) (r : Request) (body : List ℕ)

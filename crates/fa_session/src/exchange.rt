@@ -1,20 +1,18 @@
 //! What is done with one request.
-ghost use Rattle.std.specs.Prelude.{◌≡◌, ◌+◌, ◌≤◌, [], length};
-ghost use Rattle.fa_cmds.specs.Requests.{decision, IsToDo};
+ghost use Rattle.std.specs.Prelude.{◌≡◌, ◌≢◌, ◌+◌, ◌≤◌, [], length, IfErr, OnOk};
+ghost use Rattle.fa_cmds.specs.Requests.{decision, body_length, IsToDo};
 ghost use Rattle.fa_io.specs.Streams.{Streams};
-ghost use Rattle.fa_session.specs.Serving.{Declines, AnswersRequest, AsksStore};
+ghost use Rattle.fa_session.specs.Serving.{Declines, AnswersRequest, AsksStore, WasAsked};
+ghost use Rattle.fa_types.specs.Store.{Done, Refused};
 ghost use Rattle.fa_cmds.specs.declared.decision.Decision.TheVariants.{Do};
 
 use crate::replies::{code_of, reply, reply_with_data};
 use crate::stream_end::StreamEnd;
 use fa_cmds::{Command, ReplyCode, Request, body_len};
 use fa_io::{Calls, SendFailed, fill, skip};
-use fa_types::Blocks;
+use fa_types::{BlockFault, Blocks};
 use std::alloc::Allocator;
 use std::io::{Read, Write};
-
-/// The flag of a request that wants its bytes on their images before the reply.
-const FUA: u16 = 1;
 
 /// Drops the data of a request, and replies with a code. The store is not asked.
 pub(crate) fn decline<R: Read, W: Write>(
@@ -37,7 +35,7 @@ pub(crate) fn decline<R: Read, W: Write>(
     Ok(reply(writer, calls, code, request.cookie)?)
 }
 
-/// Does what a READ or a WRITE asks for, and replies.
+/// Does what a request asks for, and replies.
 pub(crate) fn perform<R: Read, W: Write, B: Blocks, A: Allocator>(
     alloc: A,
     reader: &mut R,
@@ -60,14 +58,11 @@ pub(crate) fn perform<R: Read, W: Write, B: Blocks, A: Allocator>(
     ensures size { (B.view blocks.new).size ≡ (B.view blocks.old).size }
     ensures no_fewer { calls.old.reads ≤ calls.new.reads }
 {
-    if request.command == Command::Read {
-        return Ok(give(alloc, writer, calls, blocks, size, request)?);
+    match request.command {
+        Command::Read => Ok(give(alloc, writer, calls, blocks, size, request)?),
+        Command::Write => take(alloc, reader, writer, calls, blocks, size, request),
+        _ => Ok(change(writer, calls, blocks, size, request, &[])?),
     }
-    let Ok(mut body) = vec![in alloc; 0u8; request.length as usize] else {
-        return decline(reader, writer, calls, request, ReplyCode::NoMemory);
-    };
-    fill(reader, calls, body.as_mut_slice())?;
-    Ok(take(writer, calls, blocks, size, request, body.as_slice())?)
 }
 
 /// Asks the store for the bytes of a READ, and replies.
@@ -93,8 +88,39 @@ fn give<W: Write, B: Blocks, A: Allocator>(
     }
 }
 
-/// Hands the data of a WRITE to the store, and replies.
-fn take<W: Write, B: Blocks>(
+/// Reads the data of a WRITE, hands it to the store, and replies.
+fn take<R: Read, W: Write, B: Blocks, A: Allocator>(
+    alloc: A,
+    reader: &mut R,
+    writer: &mut W,
+    calls: &mut Calls,
+    blocks: &mut B,
+    size: u64,
+    request: Request,
+) -> Result<(), StreamEnd>
+    requires command { request.command ≡ Command.Write }
+    requires decided { decision request size ≡ Do }
+    requires to_do { IsToDo request size }
+    requires size { size ≡ (B.view blocks.old).size }
+    ensures answered { let streams : Streams = record {
+      left_before = R.remaining reader.old;
+      left_after = R.remaining reader.new;
+      held_before = W.contents writer.old;
+      held_after = W.contents writer.new;
+    } in
+        AnswersRequest B.made size request streams blocks.old blocks.new result }
+    ensures size { (B.view blocks.new).size ≡ (B.view blocks.old).size }
+    ensures no_fewer { calls.old.reads ≤ calls.new.reads }
+{
+    let Ok(mut body) = vec![in alloc; 0u8; request.length as usize] else {
+        return decline(reader, writer, calls, request, ReplyCode::NoMemory);
+    };
+    fill(reader, calls, body.as_mut_slice())?;
+    Ok(change(writer, calls, blocks, size, request, body.as_slice())?)
+}
+
+/// Asks the store for what a request with this data wants that is no READ, and replies.
+fn change<W: Write, B: Blocks>(
     writer: &mut W,
     calls: &mut Calls,
     blocks: &mut B,
@@ -102,16 +128,38 @@ fn take<W: Write, B: Blocks>(
     request: Request,
     body: &[u8],
 ) -> Result<(), SendFailed>
-    requires command { request.command ≡ Command.Write }
+    requires no_read { request.command ≢ Command.Read }
     requires decided { decision request size ≡ Do }
-    requires within { request.offset + length body.now ≤ (B.view blocks.old).size }
+    requires to_do { IsToDo request size }
+    requires whole { length body.now ≡ body_length request }
+    requires size { size ≡ (B.view blocks.old).size }
     ensures asks { AsksStore B.made size request body.now (W.contents writer.old) (W.contents writer.new)
         blocks.old blocks.new result }
     ensures size { (B.view blocks.new).size ≡ (B.view blocks.old).size }
     ensures reads { calls.new.reads ≡ calls.old.reads }
 {
-    match blocks.write(request.offset, body, request.flags == FUA) {
+    match ask(blocks, request, body) {
         Ok(()) => reply(writer, calls, ReplyCode::Success, request.cookie),
         Err(fault) => reply(writer, calls, code_of(fault), request.cookie),
+    }
+}
+
+/// Asks the store for what a request with this data wants that is no READ.
+fn ask<B: Blocks>(blocks: &mut B, request: Request, body: &[u8]) -> Result<(), BlockFault>
+    requires no_read { request.command ≢ Command.Read }
+    requires to_do { IsToDo request (B.view blocks.old).size }
+    requires whole { length body.now ≡ body_length request }
+    ensures done { OnOk result (WasAsked B.made request body.now Done blocks.old blocks.new) }
+    ensures refused { IfErr result (λ fault. WasAsked B.made request body.now (Refused fault) blocks.old blocks.new) }
+    ensures size { (B.view blocks.new).size ≡ (B.view blocks.old).size }
+{
+    let len = u64::from(request.length);
+    let fua = request.is_fua();
+    match request.command {
+        Command::Write => blocks.write(request.offset, body, fua),
+        Command::Flush => blocks.flush(),
+        Command::Trim => blocks.trim(request.offset, len, fua),
+        Command::WriteZeroes => blocks.zero(request.offset, len, fua, !request.is_no_hole()),
+        Command::Read | Command::Disconnect | Command::Other(_) => unreachable!(),
     }
 }

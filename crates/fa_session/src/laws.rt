@@ -1,8 +1,12 @@
 //! Laws of the definitions, each the contract of a function with no code.
-ghost use Rattle.std.specs.Prelude.{◌≡◌, ℕ, List, ◌++◌, map};
+ghost use Rattle.std.specs.Prelude.{◌≡◌, ◌↔◌, ℕ, List, ◌++◌, map};
 ghost use Rattle.std.specs.List.{flat_map, AllByRecursion};
 ghost use Rattle.fa_nego.specs.Negotiation.{Negotiates};
 ghost use Rattle.fa_nego.specs.declared.step.Step.TheVariants.{Go};
+ghost use Rattle.fa_cmds.specs.declared.request.Command.{Command};
+ghost use Rattle.fa_cmds.specs.declared.request.Command.TheVariants.{Flush, Trim, WriteZeroes};
+ghost use Rattle.fa_session.specs.Announced.{Announces, IsAnnounced, MayHave, MayBeDone};
+ghost use Rattle.fa_session.specs.Announced.{send_flush, send_fua, send_trim, send_write_zeroes};
 ghost use Rattle.fa_session.specs.Exchanges.{Exchange, IsExchange, IsRest, heard_of, asked_of};
 
 /// The bytes of a client have one reading. Behind the handshake they are the same requests with the same
@@ -21,4 +25,16 @@ pub fn one_reading()
         → IsRest size last → IsRest size rest
         → heard ++ (flat_map heard_of es ++ last) ≡ heard_again ++ (flat_map heard_of fs ++ rest)
         → (heard ≡ heard_again) × (said ≡ said_again) × (map asked_of es ≡ map asked_of fs) × (last ≡ rest) }
+{}
+
+/// The transmission flags announce exactly what may be done: SEND_FLUSH a FLUSH, SEND_TRIM a TRIM,
+/// SEND_WRITE_ZEROES a WRITE_ZEROES, and SEND_FUA the flag FUA of each of them. A command and its flags may
+/// be done where they are announced, and nothing else may be.
+pub fn flags_announce_what_may_be_done()
+    ensures flush { Announces send_flush ↔ MayBeDone Flush 0 }
+    ensures trim { Announces send_trim ↔ MayBeDone Trim 0 }
+    ensures write_zeroes { Announces send_write_zeroes ↔ MayBeDone WriteZeroes 0 }
+    ensures fua { (command : Command) → IsAnnounced command → (Announces send_fua ↔ MayBeDone command 1) }
+    ensures exactly { (command : Command) (flags : ℕ)
+        → MayBeDone command flags ↔ (IsAnnounced command × MayHave command flags) }
 {}

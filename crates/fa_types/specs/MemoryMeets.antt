@@ -2,8 +2,8 @@
 use Rattle.std.proofs.Common.{lit≤, ◌≡◌, ℕ, ◌+◌, ◌≤◌, List, length, replicate, slice_index, refl, ap, ◌∙◌, arith, length-append, length-take, length-drop}
 use Rattle.std.proofs.lemmas.List.{length-replicate}
 use Rattle.std.proofs.lemmas.Bool.{false≢true}
-use Rattle.fa_types.specs.Store.{Call, Reading, Writing, Zeroing, Flushing, Answer, Gave, Done, Refused, Meets, IsUnwritten, IsWritten, IsWhole, with_bytes, bytes_at}
-use Rattle.fa_types.specs.Memory.{memory_view, MemoryMade}
+use Rattle.fa_types.specs.Store.{Call, Reading, Writing, Zeroing, Trimming, Flushing, Answer, Gave, Done, Refused, Meets, IsUnwritten, IsWritten, IsWhole, with_bytes, bytes_at, whole_offset, whole_length}
+use Rattle.fa_types.specs.Memory.{memory_view, MemoryMade, without_pages}
 use Rattle.fa_types.specs.declared.blocks.BlockFault.TheVariants.{Lost, NoRoom, NoMemory, Spent}
 
 -- a write keeps the length
@@ -13,6 +13,10 @@ length-with_bytes offset bytes content fits = simp (length-append, length-take, 
 -- a part that lies within the bytes has its length
 pub length-bytes_at : (offset len : ℕ) (content : List ℕ) → offset + len ≤ length content → length (bytes_at offset len content) ≡ len
 length-bytes_at offset len content fits = simp (length-take, length-drop) (omega arith)
+
+-- a trim keeps the length
+pub length-without_pages : (offset len : ℕ) (content : List ℕ) → offset + len ≤ length content → length (without_pages offset len content) ≡ length content
+length-without_pages offset len content fits = simp (length-append, length-take, length-drop, length-replicate) (omega arith)
 
 -- the same bytes after as before
 unwritten : (before after : List ℕ) → after ≡ before → IsUnwritten (memory_view before) (memory_view after)
@@ -51,12 +55,19 @@ memory_meets before after (Writing offset bytes fua) Done made = record {
   gives = tt;
   served = λ alone. written before after offset bytes made.1;
 }
-memory_meets before after (Zeroing offset len fua) Done made = record {
+memory_meets before after (Zeroing offset len fua hole) Done made = record {
   size = ap length made.1 ∙ length-with_bytes offset (replicate len 0) before (rw length-replicate made.0);
   page_bytes = refl;
   alone = refl;
   gives = tt;
   served = λ alone. written before after offset (replicate len 0) made.1;
+}
+memory_meets before after (Trimming offset len fua) Done made = record {
+  size = ap length made.1 ∙ length-without_pages offset len before made.0;
+  page_bytes = refl;
+  alone = refl;
+  gives = tt;
+  served = λ alone. written before after (whole_offset 512 offset) (replicate (whole_length 512 offset len) 0) made.1;
 }
 memory_meets before after Flushing Done made = record {
   size = ap length made;
@@ -71,8 +82,10 @@ memory_meets before after (Reading offset len) (Refused NoRoom) made = absurd ma
 memory_meets before after (Reading offset len) (Refused Spent) made = absurd made
 memory_meets before after (Writing offset bytes fua) (Gave given) made = absurd made
 memory_meets before after (Writing offset bytes fua) (Refused fault) made = absurd made
-memory_meets before after (Zeroing offset len fua) (Gave given) made = absurd made
-memory_meets before after (Zeroing offset len fua) (Refused fault) made = absurd made
+memory_meets before after (Zeroing offset len fua hole) (Gave given) made = absurd made
+memory_meets before after (Zeroing offset len fua hole) (Refused fault) made = absurd made
+memory_meets before after (Trimming offset len fua) (Gave given) made = absurd made
+memory_meets before after (Trimming offset len fua) (Refused fault) made = absurd made
 memory_meets before after Flushing (Gave given) made = absurd made
 memory_meets before after Flushing (Refused fault) made = absurd made
 

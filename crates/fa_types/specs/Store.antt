@@ -1,5 +1,5 @@
 -- A block store as its callers see it, and one call of it with its answer.
-use Rattle.std.specs.Prelude.{◌≡◌, ℕ, ◌+◌, ◌/◌, ◌%◌, ◌<◌, ◌≤◌, ◌⊎◌, Bool, true, false, List, ◌++◌, length, take, drop, replicate, slice_index, IsTrue}
+use Rattle.std.specs.Prelude.{◌≡◌, ℕ, ◌+◌, ◌-◌, ◌*◌, ◌/◌, ◌%◌, ◌<◌, ◌≤◌, ◌⊎◌, Bool, true, false, List, ◌++◌, length, take, drop, replicate, slice_index, IsTrue}
 use Rattle.fa_types.specs.declared.blocks.BlockFault.{BlockFault}
 use Rattle.fa_types.specs.declared.blocks.BlockFault.TheVariants.{Lost, NoRoom, NoMemory, Spent}
 
@@ -24,10 +24,12 @@ pub record IsWhole (store : Store) : Type 0 where
   pub some_bytes : 1 ≤ store.page_bytes
   pub sized : IsTrue store.alone → length store.content ≡ store.size
 
+-- A zero with `hole` may leave its whole pages without any bytes on the dies; what is read there is the same.
 pub data Call : Type 0 where
   Reading : (offset len : ℕ) → Call
   Writing : (offset : ℕ) (bytes : List ℕ) (fua : Bool) → Call
-  Zeroing : (offset len : ℕ) (fua : Bool) → Call
+  Zeroing : (offset len : ℕ) (fua hole : Bool) → Call
+  Trimming : (offset len : ℕ) (fua : Bool) → Call
   Flushing : Call
 
 pub data Answer : Type 0 where
@@ -46,6 +48,18 @@ IsMet page_bytes offset len page = (i : ℕ) × (i / page_bytes ≡ page) × InR
 -- every byte of the page is in the range
 abbrev pub IsCovered : ℕ → ℕ → ℕ → ℕ → Type 0
 IsCovered page_bytes offset len page = (i : ℕ) → i / page_bytes ≡ page → InRange offset len i
+
+-- the first page that begins at the offset or behind it
+abbrev pub first_whole : ℕ → ℕ → ℕ
+first_whole page_bytes offset = (offset + (page_bytes - 1)) / page_bytes
+
+-- where the pages begin that lie wholly in the range of len bytes from the offset
+abbrev pub whole_offset : ℕ → ℕ → ℕ
+whole_offset page_bytes offset = first_whole page_bytes offset * page_bytes
+
+-- how many bytes these pages have together: none where there is no such page
+abbrev pub whole_length : ℕ → ℕ → ℕ → ℕ
+whole_length page_bytes offset len = ((offset + len) / page_bytes - first_whole page_bytes offset) * page_bytes
 
 -- the content with these bytes at the offset, and nothing else changed
 abbrev pub with_bytes : ℕ → List ℕ → List ℕ → List ℕ
@@ -101,15 +115,23 @@ IsAnswer (Reading offset len) (Refused NoRoom) = ⊥
 IsAnswer (Reading offset len) (Refused fault) = Unit {0}
 IsAnswer (Writing offset bytes fua) (Gave given) = ⊥
 IsAnswer (Writing offset bytes fua) answer = Unit {0}
-IsAnswer (Zeroing offset len fua) (Gave given) = ⊥
-IsAnswer (Zeroing offset len fua) answer = Unit {0}
+IsAnswer (Zeroing offset len fua hole) (Gave given) = ⊥
+IsAnswer (Zeroing offset len fua hole) answer = Unit {0}
+IsAnswer (Trimming offset len fua) (Gave given) = ⊥
+IsAnswer (Trimming offset len fua) answer = Unit {0}
 IsAnswer Flushing (Gave given) = ⊥
 IsAnswer Flushing Done = Unit {0}
 IsAnswer Flushing (Refused NoRoom) = ⊥
 IsAnswer Flushing (Refused NoMemory) = ⊥
 IsAnswer Flushing (Refused fault) = Unit {0}
 
--- What a store that is alone does.
+-- These len zeros were written at the offset, or the write of them was refused.
+abbrev pub IsZeroed : Store → ℕ → ℕ → Bool → Answer → Store → Type 0
+IsZeroed before offset len fua (Gave bytes) after = ⊥
+IsZeroed before offset len fua Done after = IsWritten before after offset (replicate len 0)
+IsZeroed before offset len fua (Refused fault) after = IsCutShort before offset (replicate len 0) fua fault after
+
+-- What a store that is alone does. A trim is a zero of the whole pages in its range.
 abbrev pub Serves : Store → Call → Answer → Store → Type 0
 Serves before (Reading offset len) (Gave bytes) after =
     (bytes ≡ bytes_at offset len before.content)
@@ -118,8 +140,9 @@ Serves before (Reading offset len) (Gave bytes) after =
 Serves before (Reading offset len) (Refused fault) after = HasCause after offset len fault × IsUnwritten before after
 Serves before (Writing offset bytes fua) Done after = IsWritten before after offset bytes
 Serves before (Writing offset bytes fua) (Refused fault) after = IsCutShort before offset bytes fua fault after
-Serves before (Zeroing offset len fua) Done after = IsWritten before after offset (replicate len 0)
-Serves before (Zeroing offset len fua) (Refused fault) after = IsCutShort before offset (replicate len 0) fua fault after
+Serves before (Zeroing offset len fua hole) answer after = IsZeroed before offset len fua answer after
+Serves before (Trimming offset len fua) answer after =
+    IsZeroed before (whole_offset before.page_bytes offset) (whole_length before.page_bytes offset len) fua answer after
 Serves before Flushing Done after = IsUnwritten before after
 Serves before Flushing (Refused fault) after = HasCause after 0 0 fault × IsUnwritten before after
 Serves before call answer after = ⊥

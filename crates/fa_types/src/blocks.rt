@@ -1,6 +1,6 @@
 //! The trait of a block store.
 ghost use Rattle.std.specs.Prelude.{◌≡◌, ◌+◌, ◌≤◌, length, IfOk, IfErr, OnOk};
-ghost use Rattle.fa_types.specs.Store.{Store, Call, Reading, Writing, Zeroing, Flushing, Answer, Gave, Done, Refused, Meets, IsWhole};
+ghost use Rattle.fa_types.specs.Store.{Store, Call, Reading, Writing, Zeroing, Trimming, Flushing, Answer, Gave, Done, Refused, Meets, IsWhole};
 
 use std::alloc::Allocator;
 use thiserror::Error;
@@ -25,7 +25,7 @@ pub enum BlockFault {
 /// A store of bytes, written by pages. Offsets and lengths are in bytes, and a range has to lie
 /// within the store.
 ///
-/// A write or zero takes its pages in rising order. One that is refused has written the pages
+/// A write, zero or trim takes its pages in rising order. One that is refused has written the pages
 /// before the refused one and no other; one that is refused in the flush that `fua` asks for has
 /// written all.
 pub trait Blocks {
@@ -39,6 +39,10 @@ pub trait Blocks {
     /// How many bytes the store has.
     fn size(&self) -> u64
         ensures { result ≡ (view self.now).size };
+
+    /// How many bytes a page has. A trim takes whole pages alone.
+    fn page_bytes(&self) -> u32
+        ensures { result ≡ (view self.now).page_bytes };
 
     /// The `len` bytes from the offset, in memory of the allocator.
     fn read<A: Allocator>(
@@ -57,11 +61,19 @@ pub trait Blocks {
         ensures done { OnOk result (made self.old (Writing offset bytes.now fua) Done self.new) }
         ensures refused { IfErr result (λ fault. made self.old (Writing offset bytes.now fua) (Refused fault) self.new) };
 
-    /// Writes `len` zeros at the offset, as `write` does.
-    fn zero(&mut self, offset: u64, len: u64, fua: bool) -> Result<(), BlockFault>
+    /// Writes `len` zeros at the offset, as `write` does. With `hole` the pages that lie wholly in the
+    /// range need no longer have bytes of their own.
+    fn zero(&mut self, offset: u64, len: u64, fua: bool, hole: bool) -> Result<(), BlockFault>
         requires { offset + len ≤ (view self.old).size }
-        ensures done { OnOk result (made self.old (Zeroing offset len fua) Done self.new) }
-        ensures refused { IfErr result (λ fault. made self.old (Zeroing offset len fua) (Refused fault) self.new) };
+        ensures done { OnOk result (made self.old (Zeroing offset len fua hole) Done self.new) }
+        ensures refused { IfErr result (λ fault. made self.old (Zeroing offset len fua hole) (Refused fault) self.new) };
+
+    /// Makes zeros of the pages that lie wholly among the `len` bytes from the offset, as `zero` with
+    /// `hole` does, and leaves all other bytes.
+    fn trim(&mut self, offset: u64, len: u64, fua: bool) -> Result<(), BlockFault>
+        requires { offset + len ≤ (view self.old).size }
+        ensures done { OnOk result (made self.old (Trimming offset len fua) Done self.new) }
+        ensures refused { IfErr result (λ fault. made self.old (Trimming offset len fua) (Refused fault) self.new) };
 
     /// Puts all that was written on its images. It is never refused for memory.
     fn flush(&mut self) -> Result<(), BlockFault>

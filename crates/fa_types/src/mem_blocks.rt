@@ -1,10 +1,14 @@
 //! The plain store: bytes in memory, with no dies.
-ghost use Rattle.std.specs.Prelude.{◌≡◌, replicate, IfOk};
+ghost use Rattle.std.specs.Prelude.{◌≡◌, ◌+◌, ◌≤◌, length, replicate, IfOk};
+ghost use Rattle.fa_types.specs.Memory.{without_pages};
 
 use crate::blocks::{BlockFault, Blocks};
 use crate::bytes::{fill, part, put};
 use std::alloc::{AllocError, Allocator, Global};
 use std::marker::Model;
+
+/// How many bytes a page of the plain store has.
+const PAGE_BYTES: usize = 512;
 
 /// A store whose bytes lie in memory. It loses nothing, and only a read can be refused, where it is out
 /// of memory.
@@ -47,6 +51,10 @@ impl<A: Allocator> Blocks for MemBlocks<A> {
         self.bytes.len() as u64
     }
 
+    fn page_bytes(&self) -> u32 {
+        PAGE_BYTES as u32
+    }
+
     fn read<B: Allocator>(
         &mut self,
         alloc: B,
@@ -62,12 +70,29 @@ impl<A: Allocator> Blocks for MemBlocks<A> {
         Ok(())
     }
 
-    fn zero(&mut self, offset: u64, len: u64, _fua: bool) -> Result<(), BlockFault> {
+    fn zero(&mut self, offset: u64, len: u64, _fua: bool, _hole: bool) -> Result<(), BlockFault> {
         fill(self.bytes.as_mut_slice(), offset as usize, len as usize, 0);
+        Ok(())
+    }
+
+    fn trim(&mut self, offset: u64, len: u64, _fua: bool) -> Result<(), BlockFault> {
+        clear_pages(self.bytes.as_mut_slice(), offset as usize, len as usize);
         Ok(())
     }
 
     fn flush(&mut self) -> Result<(), BlockFault> {
         Ok(())
+    }
+}
+
+/// Makes zeros of the pages that lie wholly among the `len` bytes from an offset.
+fn clear_pages(bytes: &mut [u8], offset: usize, len: usize)
+    requires { offset + len ≤ length bytes.old }
+    ensures { bytes.new ≡ without_pages offset len bytes.old }
+{
+    let first = offset.div_ceil(PAGE_BYTES);
+    let past = (offset + len) / PAGE_BYTES;
+    if first < past {
+        fill(bytes, first * PAGE_BYTES, (past - first) * PAGE_BYTES, 0);
     }
 }

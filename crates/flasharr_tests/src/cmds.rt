@@ -60,9 +60,11 @@ fn bytes_of_commands(rt: HostRuntime) -> Result<(), Fail> {
         (0, Command::Read, 0),
         (1, Command::Write, 512),
         (2, Command::Disconnect, 0),
-        (3, Command::Other(3), 0),
-        (4, Command::Other(4), 0),
-        (6, Command::Other(6), 0),
+        (3, Command::Flush, 0),
+        (4, Command::Trim, 0),
+        (5, Command::Other(5), 0),
+        (6, Command::WriteZeroes, 0),
+        (7, Command::Other(7), 0),
         (255, Command::Other(255), 0),
     ];
     for (number, command, body) in commands {
@@ -104,60 +106,50 @@ fn bytes_of_replies(rt: HostRuntime) {
 }
 
 #[test]
-fn decisions_by_command_and_flags(rt: HostRuntime) {
+fn flags_by_their_bits(rt: HostRuntime) {
     let cases = [
-        (
-            Command::Disconnect,
-            0xffff,
-            u64::MAX,
-            u32::MAX,
-            Decision::Disconnect,
-        ),
-        (Command::Disconnect, 0, 0, 0, Decision::Disconnect),
-        (
-            Command::Other(3),
-            0,
-            0,
-            0,
-            Decision::Refuse(ReplyCode::Invalid),
-        ),
-        (
-            Command::Other(4),
-            0,
-            0,
-            512,
-            Decision::Refuse(ReplyCode::Invalid),
-        ),
-        (
-            Command::Other(6),
-            0,
-            0,
-            512,
-            Decision::Refuse(ReplyCode::Invalid),
-        ),
+        (0, false, false),
+        (1, true, false),
+        (2, false, true),
+        (3, true, true),
+        (4, false, false),
+        (0xfffe, false, true),
+        (0xffff, true, true),
+    ];
+    for (flags, fua, no_hole) in cases {
+        let given = request(Command::WriteZeroes, flags, 0, 512);
+        assert_eq!(rt; given.is_fua(), fua, "flags {flags}");
+        assert_eq!(rt; given.is_no_hole(), no_hole, "flags {flags}");
+    }
+}
+
+#[test]
+fn decisions_by_command_and_flags(rt: HostRuntime) {
+    let invalid = Decision::Refuse(ReplyCode::Invalid);
+    let nothing = Decision::Refuse(ReplyCode::Success);
+    let leave = Decision::Disconnect;
+    let most = u64::MAX;
+    let cases = [
+        (Command::Disconnect, 0xffff, most, u32::MAX, leave),
+        (Command::Disconnect, 0, 0, 0, leave),
+        (Command::Other(5), 0, 0, 0, invalid),
+        (Command::Other(7), 0, 0, 512, invalid),
         (Command::Read, 1, 0, 512, Decision::Do),
         (Command::Write, 1, 0, 512, Decision::Do),
-        (
-            Command::Write,
-            2,
-            0,
-            512,
-            Decision::Refuse(ReplyCode::Invalid),
-        ),
-        (
-            Command::Read,
-            3,
-            0,
-            512,
-            Decision::Refuse(ReplyCode::Invalid),
-        ),
-        (
-            Command::Write,
-            0x8000,
-            0,
-            0,
-            Decision::Refuse(ReplyCode::Invalid),
-        ),
+        (Command::Flush, 0, 0, 0, Decision::Do),
+        (Command::Flush, 1, most, u32::MAX, Decision::Do),
+        (Command::Trim, 0, 0, 512, Decision::Do),
+        (Command::Trim, 1, 0, 512, Decision::Do),
+        (Command::WriteZeroes, 0, 0, 512, Decision::Do),
+        (Command::WriteZeroes, 3, 0, 512, Decision::Do),
+        (Command::WriteZeroes, 4, 0, 512, invalid),
+        (Command::Trim, 2, 0, 512, invalid),
+        (Command::Flush, 2, 0, 0, invalid),
+        (Command::Write, 2, 0, 512, invalid),
+        (Command::Read, 3, 0, 512, invalid),
+        (Command::Write, 0x8000, 0, 0, invalid),
+        (Command::Trim, 0, most, 0, nothing),
+        (Command::WriteZeroes, 2, 0, 0, nothing),
     ];
     for (command, flags, offset, length, want) in cases {
         let given = decide(request(command, flags, offset, length), SIZE);
@@ -184,6 +176,14 @@ fn decisions_by_range(rt: HostRuntime) {
         (Command::Read, u64::MAX - 511, 511, u64::MAX, Decision::Do),
         (Command::Read, u64::MAX - 511, 512, u64::MAX, invalid),
         (Command::Write, u64::MAX, 2, u64::MAX, no_space),
+        (Command::Trim, 32_257, 511, SIZE, Decision::Do),
+        (Command::Trim, 32_257, 512, SIZE, invalid),
+        (Command::Trim, u64::MAX, longest, SIZE, invalid),
+        (Command::Trim, 0, u32::MAX, u64::MAX, Decision::Do),
+        (Command::WriteZeroes, 32_257, 511, SIZE, Decision::Do),
+        (Command::WriteZeroes, 32_257, 512, SIZE, no_space),
+        (Command::WriteZeroes, 0, longest + 1, SIZE, no_space),
+        (Command::WriteZeroes, 0, u32::MAX, u64::MAX, Decision::Do),
     ];
     for (command, offset, length, size, want) in cases {
         let given = decide(request(command, 0, offset, length), size);

@@ -183,3 +183,22 @@ fn the_data_of_a_refused_write(rt: HostRuntime) -> Result<(), Fail> {
     assert!(rt; reader.calls < 260);
     Ok(())
 }
+
+// One byte more than a WRITE may have: all of it is dropped, 4,096 bytes a read.
+#[test]
+fn the_data_of_a_write_that_is_too_long(rt: HostRuntime) -> Result<(), Fail> {
+    let write = "25609513 0000 0001 0000000000000001 0000000000000000 02000001";
+    let read = "25609513 0000 0000 0000000000000002 0000000000000000 00000001";
+    let replies = "67446698 00000016 0000000000000001 67446698 00000000 0000000000000002 00";
+    let mut said = joined(rt.alloc(), &[FLAGS, GO, write])?;
+    said.resize(said.len() + 33_554_433, 0x11)?;
+    said.extend_from_slice(spelled(rt.alloc(), read)?.as_slice())?;
+    let answer = joined(rt.alloc(), &[GREETING, GONE, replies])?;
+    let mut reader = Piecewise::new(said.as_slice(), 1_000_000);
+    let mut writer = Vec::new(rt.alloc());
+    let ended = served(rt.alloc(), &mut reader, &mut writer)?;
+    assert!(rt; ended == SessionEnd::InputEnded);
+    assert!(rt; writer.as_slice() == answer.as_slice());
+    assert!(rt; reader.calls < 8_300);
+    Ok(())
+}

@@ -19,7 +19,7 @@ pub const GREETING: &str = "4e42444d41474943 49484156454f5054 0003";
 pub const GO: &str = "49484156454f5054 00000007 00000006 00000000 0000";
 
 /// The answer to it.
-pub const GONE: &str = "0003e889045565a9 00000007 00000003 0000000c 0000 0000000000008000 014d
+pub const GONE: &str = "0003e889045565a9 00000007 00000003 0000000c 0000 0000000000008000 016d
     0003e889045565a9 00000007 00000001 00000000";
 
 /// What the server says to a client's bytes over a plain store of 64 pages of 512 zeros, and how the
@@ -292,4 +292,57 @@ fn abort_and_wrong_magic(rt: HostRuntime) -> Result<(), Fail> {
     )?;
     let wrong = "25609514 0000 0000 0000000000000001 0000000000007e00 00000200";
     converses(&rt, rt.alloc(), &[FLAGS, GO, wrong], &[GREETING, GONE], 3)
+}
+
+#[test]
+fn flush_with_a_flag(rt: HostRuntime) -> Result<(), Fail> {
+    let requests = "25609513 0002 0003 0000000000000001 0000000000000000 00000000
+        25609513 0000 0003 0000000000000002 0000000000000000 00000000
+        25609513 0001 0003 0000000000000003 ffffffffffffffff ffffffff";
+    let replies = "67446698 00000016 0000000000000001
+        67446698 00000000 0000000000000002
+        67446698 00000000 0000000000000003";
+    converses(
+        &rt,
+        rt.alloc(),
+        &[FLAGS, GO, requests],
+        &[GREETING, GONE, replies],
+        4,
+    )
+}
+
+#[test]
+fn write_zeroes_with_both_flags(rt: HostRuntime) -> Result<(), Fail> {
+    let requests = "25609513 0000 0001 0000000000000001 0000000000000000 00000204 11x516
+        25609513 0003 0006 0000000000000002 0000000000000000 00000200
+        25609513 0003 0006 0000000000000003 0000000000007e01 00000200
+        25609513 0000 0000 0000000000000004 00000000000001fe 00000006";
+    let replies = "67446698 00000000 0000000000000001
+        67446698 00000000 0000000000000002
+        67446698 0000001c 0000000000000003
+        67446698 00000000 0000000000000004 0000 11x4";
+    converses(
+        &rt,
+        rt.alloc(),
+        &[FLAGS, GO, requests],
+        &[GREETING, GONE, replies],
+        4,
+    )
+}
+
+#[test]
+fn trim_over_three_pages(rt: HostRuntime) -> Result<(), Fail> {
+    let requests = "25609513 0000 0001 0000000000000005 0000000000000000 00000600 11x1536
+        25609513 0000 0004 0000000000000006 00000000000001ff 00000400
+        25609513 0000 0000 0000000000000007 0000000000000000 00000600";
+    let replies = "67446698 00000000 0000000000000005
+        67446698 00000000 0000000000000006
+        67446698 00000000 0000000000000007 11x512 00x512 11x512";
+    converses(
+        &rt,
+        rt.alloc(),
+        &[FLAGS, GO, requests],
+        &[GREETING, GONE, replies],
+        4,
+    )
 }

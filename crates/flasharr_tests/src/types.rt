@@ -1,5 +1,5 @@
 //! The limits of a geometry from both sides, and the plain store behind its trait.
-ghost use Rattle.std.specs.Prelude.{◌≤◌};
+ghost use Rattle.std.specs.Prelude.{◌+◌, ◌≤◌};
 
 use fa_types::{BlockFault, Blocks, Geometry, MemBlocks};
 use std::alloc::Global;
@@ -98,7 +98,8 @@ fn calls_of<B: Blocks>(alloc: Global, store: &mut B) -> Result<Vec<u8>, BlockFau
     requires { 8 ≤ (B.view store.old).size }
 {
     store.write(1, b"abcdef", false)?;
-    store.zero(3, 2, true)?;
+    store.zero(3, 2, true, true)?;
+    store.trim(0, 8, true)?;
     store.flush()?;
     store.read(alloc, 0, 8)
 }
@@ -121,5 +122,38 @@ fn plain_store_of_no_bytes(rt: HostRuntime) -> Result<(), Fail> {
     assert_eq!(rt; store.size(), 0);
     store.write(0, b"", true)?;
     assert_eq!(rt; store.read(rt.alloc(), 0, 0)?.len(), 0);
+    Ok(())
+}
+
+/// Whether a trim of four pages of ones leaves four pages of these bytes.
+fn trims_to(alloc: Global, offset: u64, len: u64, pages: [u8; 4]) -> Result<bool, Fail>
+    requires { offset + len ≤ 2048 }
+{
+    let mut expected = Vec::new(alloc);
+    for byte in pages {
+        for _ in 0..512 {
+            expected.push(byte)?;
+        }
+    }
+    let mut store = MemBlocks::new(alloc, 2048)?;
+    store.write(0, [1; 2048].as_slice(), false)?;
+    store.trim(offset, len, false)?;
+    let bytes = store.read(alloc, 0, 2048)?;
+    Ok(bytes.as_slice() == expected.as_slice())
+}
+
+#[test]
+fn trim_of_whole_pages(rt: HostRuntime) -> Result<(), Fail> {
+    assert_eq!(rt; MemBlocks::new(rt.alloc(), 2048)?.page_bytes(), 512);
+    assert!(rt; trims_to(rt.alloc(), 0, 2048, [0, 0, 0, 0])?);
+    assert!(rt; trims_to(rt.alloc(), 0, 512, [0, 1, 1, 1])?);
+    assert!(rt; trims_to(rt.alloc(), 0, 511, [1, 1, 1, 1])?);
+    assert!(rt; trims_to(rt.alloc(), 1, 511, [1, 1, 1, 1])?);
+    assert!(rt; trims_to(rt.alloc(), 1, 1022, [1, 1, 1, 1])?);
+    assert!(rt; trims_to(rt.alloc(), 1, 1023, [1, 0, 1, 1])?);
+    assert!(rt; trims_to(rt.alloc(), 511, 1025, [1, 0, 0, 1])?);
+    assert!(rt; trims_to(rt.alloc(), 512, 1536, [1, 0, 0, 0])?);
+    assert!(rt; trims_to(rt.alloc(), 2047, 1, [1, 1, 1, 1])?);
+    assert!(rt; trims_to(rt.alloc(), 2048, 0, [1, 1, 1, 1])?);
     Ok(())
 }
