@@ -1,7 +1,6 @@
 -- What single events keep, for the laws: how a die may go out, and which events change the live dies, the numbers of
 -- pages and the plain array.
 use Rattle.std.specs.Prelude.{◌≡◌, ℕ, Option, Some, None}
-use Rattle.std.specs.FinMap.{get}
 use Rattle.fa_machine.specs.declared.jobs.Flight.{Flight}
 use Rattle.fa_machine.specs.declared.jobs.Flight.TheVariants.{Read}
 use Rattle.fa_machine.specs.Cells.{Outcome, DidRead, Fault, Wrong, payload_of}
@@ -15,11 +14,6 @@ IsFatal die flight (Fault call) = Unit {0}
 IsFatal die flight Wrong = Unit {0}
 IsFatal die (Some (Read batch page version slot)) (DidRead cell) = payload_of page.0 version die slot.0 cell ≡ None
 IsFatal die flight outcome = ⊥
-
--- the event ends the job of this die, by such an outcome
-abbrev pub IsLeaving : Core → Act → ℕ → Type 0
-IsLeaving old (Done at outcome) die = (at ≡ die) × IsFatal die (get old.jobs die) outcome
-IsLeaving old act die = ⊥
 
 -- no event but Done and SpareIn changes which dies are live
 abbrev pub KeepsLive : Core → Act → Core → Type 0
