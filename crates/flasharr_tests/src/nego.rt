@@ -144,7 +144,7 @@ fn go_begins_transmission(rt: HostRuntime) -> Result<(), Fail> {
 fn old_way_begins_transmission(rt: HostRuntime) -> Result<(), Fail> {
     let case = Case {
         input: b"\x00\x00\x00\x02IHAVEOPT\x00\x00\x00\x01\x00\x00\x00\x04disk\x25\x60",
-        output: b"\x00\x00\x00\x00\x00\x00\x80\x00\x01\x4d",
+        output: b"\x00\x00\x00\x00\x00\x00\x80\x00\x01\x6d",
         step: Step::Go,
         cause: None,
         used: 24,
@@ -232,11 +232,11 @@ fn refused_answers_are_said_later(rt: HostRuntime) -> Result<(), Fail> {
         rt.alloc(),
         "0003e889045565a9 00000003 00000002 00000008 00000004 6469736b
         0003e889045565a9 00000003 00000001 00000000
-        0003e889045565a9 00000006 00000003 0000000c 0000 0000000000008000 014d
+        0003e889045565a9 00000006 00000003 0000000c 0000 0000000000008000 016d
         0003e889045565a9 00000006 00000003 00000006 0001 6469736b
         0003e889045565a9 00000006 00000003 0000000e 0003 00000001 00001000 02000000
         0003e889045565a9 00000006 00000001 00000000
-        0000000000008000 014d 00x124",
+        0000000000008000 016d 00x124",
     )?;
     let large = LocalHeap::new(rt.alloc(), 16_384)?;
     let mut refused_in_all = 0u32;
