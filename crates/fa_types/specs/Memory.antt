@@ -1,6 +1,7 @@
 -- The plain store in memory: its bytes are all that there is of it.
 use Rattle.std.specs.Prelude.{◌≡◌, ℕ, ◌+◌, ◌≤◌, true, false, List, length, replicate}
-use Rattle.fa_types.specs.Store.{Store, Call, Reading, Writing, Zeroing, Trimming, Flushing, Answer, Gave, Done, Refused, with_bytes, bytes_at, whole_offset, whole_length}
+use Rattle.fa_types.specs.Store.{Store, Call, Reading, Writing, Zeroing, Trimming, Flushing, Answer, Gave, Done, Refused}
+use Rattle.fa_types.specs.Store.{with_bytes, bytes_at, whole_offset, whole_length}
 use Rattle.fa_types.specs.declared.blocks.BlockFault.TheVariants.{NoMemory}
 
 -- It has pages of 512 bytes, is alone, and loses nothing.

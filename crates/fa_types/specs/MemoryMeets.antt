@@ -1,13 +1,16 @@
 -- The plain store is a block store: each call that it makes is one, and all of its bytes are seen.
-use Rattle.std.proofs.Common.{lit≤, ◌≡◌, ℕ, ◌+◌, ◌≤◌, List, length, replicate, slice_index, refl, ap, ◌∙◌, arith, length-append, length-take, length-drop}
+use Rattle.std.proofs.Common.{lit≤, ◌≡◌, ℕ, ◌+◌, ◌≤◌, List, length, replicate, slice_index, refl, ap, ◌∙◌, arith}
+use Rattle.std.proofs.Common.{length-append, length-take, length-drop}
 use Rattle.std.proofs.lemmas.List.{length-replicate}
 use Rattle.std.proofs.lemmas.Bool.{false≢true}
-use Rattle.fa_types.specs.Store.{Call, Reading, Writing, Zeroing, Trimming, Flushing, Answer, Gave, Done, Refused, Meets, IsUnwritten, IsWritten, IsWhole, with_bytes, bytes_at, whole_offset, whole_length}
+use Rattle.fa_types.specs.Store.{Call, Reading, Writing, Zeroing, Trimming, Flushing, Answer, Gave, Done, Refused}
+use Rattle.fa_types.specs.Store.{Meets, IsUnwritten, IsWritten, IsWhole, with_bytes, bytes_at, whole_offset, whole_length}
 use Rattle.fa_types.specs.Memory.{memory_view, MemoryMade, without_pages}
 use Rattle.fa_types.specs.declared.blocks.BlockFault.TheVariants.{Lost, NoRoom, NoMemory, Spent}
 
 -- a write keeps the length
-pub length-with_bytes : (offset : ℕ) (bytes content : List ℕ) → offset + length bytes ≤ length content → length (with_bytes offset bytes content) ≡ length content
+pub length-with_bytes : (offset : ℕ) (bytes content : List ℕ) → offset + length bytes ≤ length content
+    → length (with_bytes offset bytes content) ≡ length content
 length-with_bytes offset bytes content fits = simp (length-append, length-take, length-drop) (omega arith)
 
 -- a part that lies within the bytes has its length
@@ -15,7 +18,8 @@ pub length-bytes_at : (offset len : ℕ) (content : List ℕ) → offset + len �
 length-bytes_at offset len content fits = simp (length-take, length-drop) (omega arith)
 
 -- a trim keeps the length
-pub length-without_pages : (offset len : ℕ) (content : List ℕ) → offset + len ≤ length content → length (without_pages offset len content) ≡ length content
+pub length-without_pages : (offset len : ℕ) (content : List ℕ) → offset + len ≤ length content
+    → length (without_pages offset len content) ≡ length content
 length-without_pages offset len content fits = simp (length-append, length-take, length-drop, length-replicate) (omega arith)
 
 -- the same bytes after as before
@@ -26,14 +30,16 @@ unwritten before after same = record {
 }
 
 -- the bytes of a write
-written : (before after : List ℕ) (offset : ℕ) (bytes : List ℕ) → after ≡ with_bytes offset bytes before → IsWritten (memory_view before) (memory_view after) offset bytes
+written : (before after : List ℕ) (offset : ℕ) (bytes : List ℕ) → after ≡ with_bytes offset bytes before
+    → IsWritten (memory_view before) (memory_view after) offset bytes
 written before after offset bytes put = record {
   content = λ i below kept. ap (λ content. slice_index content i) put;
   lost = λ page was. absurd (false≢true was);
   whole = λ page was met. absurd (false≢true was);
 }
 
-pub memory_meets : (before after : List ℕ) (call : Call) (answer : Answer) → MemoryMade before call answer after → Meets (memory_view before) call answer (memory_view after)
+pub memory_meets : (before after : List ℕ) (call : Call) (answer : Answer) → MemoryMade before call answer after
+    → Meets (memory_view before) call answer (memory_view after)
 memory_meets before after (Reading offset len) (Gave bytes) made = record {
   size = ap length made.2;
   page_bytes = refl;

@@ -1,5 +1,6 @@
 -- A block store as its callers see it, and one call of it with its answer.
-use Rattle.std.specs.Prelude.{◌≡◌, ℕ, ◌+◌, ◌-◌, ◌*◌, ◌/◌, ◌%◌, ◌<◌, ◌≤◌, ◌⊎◌, Bool, true, false, List, ◌++◌, length, take, drop, replicate, slice_index, IsTrue}
+use Rattle.std.specs.Prelude.{◌≡◌, ℕ, ◌+◌, ◌-◌, ◌*◌, ◌/◌, ◌%◌, ◌<◌, ◌≤◌, ◌⊎◌, Bool, true, false, IsTrue}
+use Rattle.std.specs.Prelude.{List, ◌++◌, length, take, drop, replicate, slice_index}
 use Rattle.fa_types.specs.declared.blocks.BlockFault.{BlockFault}
 use Rattle.fa_types.specs.declared.blocks.BlockFault.TheVariants.{Lost, NoRoom, NoMemory, Spent}
 
@@ -84,7 +85,8 @@ pub record IsWritten (before after : Store) (offset : ℕ) (bytes : List ℕ) : 
   pub content : Holds after (with_bytes offset bytes before.content)
   pub lost : (page : ℕ) → before.lost page ≡ true → (after.lost page ≡ true) ⊎ IsCovered before.page_bytes offset (length bytes) page
   -- no page that was lost was written in part
-  pub whole : (page : ℕ) → before.lost page ≡ true → IsMet before.page_bytes offset (length bytes) page → IsCovered before.page_bytes offset (length bytes) page
+  pub whole : (page : ℕ) → before.lost page ≡ true → IsMet before.page_bytes offset (length bytes) page
+      → IsCovered before.page_bytes offset (length bytes) page
 
 -- Of len bytes from the offset the first n were written: none, those before the page that was refused,
 -- or all, where the flush that FUA asks for was refused.

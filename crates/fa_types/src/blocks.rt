@@ -1,6 +1,7 @@
 //! The trait of a block store.
 ghost use Rattle.std.specs.Prelude.{◌≡◌, ◌+◌, ◌≤◌, length, IfOk, IfErr, OnOk};
-ghost use Rattle.fa_types.specs.Store.{Store, Call, Reading, Writing, Zeroing, Trimming, Flushing, Answer, Gave, Done, Refused, Meets, IsWhole};
+ghost use Rattle.fa_types.specs.Store.{Store, Call, Reading, Writing, Zeroing, Trimming, Flushing, Answer, Gave, Done, Refused};
+ghost use Rattle.fa_types.specs.Store.{Meets, IsWhole};
 
 use std::alloc::Allocator;
 use thiserror::Error;

@@ -1,6 +1,7 @@
 //! The shape of an array, within its limits.
 ghost use Rattle.std.specs.Prelude.{◌≡◌, ◌≤◌, ◌↔◌, IfOk, IfErr, IsTrue};
-ghost use Rattle.fa_types.specs.Geometry.{AreDies, AreBlocks, AreSlotsOfBlock, ArePages, is_page_size as page_size_test, IsGeometry, IsFirstFault, geometry_fault_number};
+ghost use Rattle.fa_types.specs.Geometry.{AreDies, AreBlocks, AreSlotsOfBlock, ArePages, is_page_size as page_size_test};
+ghost use Rattle.fa_types.specs.Geometry.{IsGeometry, IsFirstFault, geometry_fault_number};
 
 use thiserror::Error;
 
