@@ -10,15 +10,19 @@ use fa_types::{Die, Page, Round, Rounds};
 use std::alloc::Global;
 use std::test::Fail;
 
+fn holders_of(alloc: Global, dies: &[u8]) -> Result<Vec<Die>, Fail> {
+    let mut holders = Vec::new(alloc);
+    for die in dies {
+        holders.push(Die(*die))?;
+    }
+    Ok(holders)
+}
+
 /// A batch of pages with their holders.
 fn batch_of(alloc: Global, entries: &[(u64, &[u8])]) -> Result<Batch, Fail> {
     let mut batch = Batch::new(alloc);
     for (page, dies) in entries {
-        let mut holders = Vec::new(alloc);
-        for die in dies.iter() {
-            holders.push(Die(*die))?;
-        }
-        batch.push(Page(*page), holders)?;
+        batch.push(Page(*page), holders_of(alloc, dies)?)?;
     }
     Ok(batch)
 }
@@ -79,54 +83,6 @@ fn verdict_of(
 }
 
 #[test]
-fn not_short(rt: HostRuntime) -> Result<(), Fail> {
-    let batch = batch_of(rt.alloc(), &[(1, &[0]), (2, &[0])])?;
-    let closed = closed_of(rt.alloc(), &[])?;
-    let plan: (u64, &[(u64, u8, u64)]) = (2, &[(1, 0, 1), (2, 0, 2)]);
-    assert_eq!(rt;
-        verdict_of(rt.alloc(), &batch, &closed, plan, &[1, 2])?,
-        Verdict::Least(2)
-    );
-    assert_eq!(rt;
-        verdict_of(rt.alloc(), &batch, &closed, plan, &[1])?,
-        Verdict::Refused(Refusal::NotShort)
-    );
-    Ok(())
-}
-
-#[test]
-fn place_taken_twice(rt: HostRuntime) -> Result<(), Fail> {
-    let batch = batch_of(rt.alloc(), &[(1, &[0]), (2, &[0])])?;
-    let closed = closed_of(rt.alloc(), &[])?;
-    let verdict = verdict_of(
-        rt.alloc(),
-        &batch,
-        &closed,
-        (2, &[(1, 0, 1), (2, 0, 1)]),
-        &[1, 2],
-    )?;
-    assert_eq!(rt; verdict, Verdict::Refused(Refusal::PlaceTwice));
-    Ok(())
-}
-
-#[test]
-fn closed_window(rt: HostRuntime) -> Result<(), Fail> {
-    let batch = batch_of(rt.alloc(), &[(1, &[0, 1]), (2, &[0, 1]), (3, &[0, 1])])?;
-    let closed = closed_of(rt.alloc(), &[(1, 1, 2)])?;
-    let good: (u64, &[(u64, u8, u64)]) = (3, &[(1, 0, 1), (2, 0, 2), (3, 0, 3)]);
-    let bad: (u64, &[(u64, u8, u64)]) = (3, &[(1, 0, 1), (2, 0, 2), (3, 1, 2)]);
-    assert_eq!(rt;
-        verdict_of(rt.alloc(), &batch, &closed, good, &[1, 2, 3])?,
-        Verdict::Least(3)
-    );
-    assert_eq!(rt;
-        verdict_of(rt.alloc(), &batch, &closed, bad, &[1, 2, 3])?,
-        Verdict::Refused(Refusal::RoundClosed)
-    );
-    Ok(())
-}
-
-#[test]
 fn each_refusal(rt: HostRuntime) -> Result<(), Fail> {
     let batch = batch_of(rt.alloc(), &[(1, &[0]), (2, &[0])])?;
     let closed = closed_of(rt.alloc(), &[])?;
@@ -153,7 +109,7 @@ fn each_refusal(rt: HostRuntime) -> Result<(), Fail> {
     ];
     for (refusal, rounds, places, pages) in cases {
         let verdict = verdict_of(rt.alloc(), &batch, &closed, (rounds, places), pages)?;
-        assert_eq!(rt; verdict, Verdict::Refused(refusal), "{refusal}");
+        ensure!(verdict == Verdict::Refused(refusal), at refusal);
     }
     Ok(())
 }
@@ -162,13 +118,10 @@ fn each_refusal(rt: HostRuntime) -> Result<(), Fail> {
 fn empty_batch(rt: HostRuntime) -> Result<(), Fail> {
     let batch = Batch::new(rt.alloc());
     let closed = closed_of(rt.alloc(), &[(0, 1, 5)])?;
-    assert_eq!(rt;
-        verdict_of(rt.alloc(), &batch, &closed, (0, &[]), &[])?,
-        Verdict::Least(0)
-    );
-    assert_eq!(rt;
-        verdict_of(rt.alloc(), &batch, &closed, (0, &[]), &[1])?,
-        Verdict::Refused(Refusal::ShortagePage)
+    ensure!(verdict_of(rt.alloc(), &batch, &closed, (0, &[]), &[])? == Verdict::Least(0));
+    ensure!(
+        verdict_of(rt.alloc(), &batch, &closed, (0, &[]), &[1])?
+            == Verdict::Refused(Refusal::ShortagePage)
     );
     Ok(())
 }
@@ -176,15 +129,12 @@ fn empty_batch(rt: HostRuntime) -> Result<(), Fail> {
 #[test]
 fn unsound_batches(rt: HostRuntime) -> Result<(), Fail> {
     let none = batch_of(rt.alloc(), &[(3, &[0]), (7, &[]), (7, &[])])?;
-    assert_eq!(rt; none.unsound(), Some(Unsound::NoHolder(Page(7))));
+    ensure!(none.unsound() == Some(Unsound::NoHolder(Page(7))));
     let twice = batch_of(rt.alloc(), &[(7, &[0]), (3, &[1]), (7, &[0, 1]), (8, &[])])?;
-    assert_eq!(rt; twice.unsound(), Some(Unsound::Twice(Page(7))));
+    ensure!(twice.unsound() == Some(Unsound::Twice(Page(7))));
     let unnamed_then_twice = batch_of(rt.alloc(), &[(7, &[0]), (7, &[])])?;
-    assert_eq!(rt;
-        unnamed_then_twice.unsound(),
-        Some(Unsound::NoHolder(Page(7)))
-    );
-    assert!(rt; !twice.is_sound());
+    ensure!(unnamed_then_twice.unsound() == Some(Unsound::NoHolder(Page(7))));
+    ensure!(!twice.is_sound());
     Ok(())
 }
 
@@ -200,63 +150,62 @@ fn overlapping_runs_count_once(rt: HostRuntime) -> Result<(), Fail> {
     ];
     // Rounds 2 to 9 of die 0 are closed.
     let closed = closed_of(rt.alloc(), &runs)?;
-    assert_eq!(rt; closed.open_count(Die(0), 1), 1);
-    assert_eq!(rt; closed.open_count(Die(0), 9), 1);
-    assert_eq!(rt; closed.open_count(Die(0), 12), 4);
-    assert_eq!(rt; closed.nth_open(Die(0), 1), Round(1));
-    assert_eq!(rt; closed.nth_open(Die(0), 2), Round(10));
-    assert_eq!(rt; closed.nth_open(Die(0), 4), Round(12));
-    assert_eq!(rt; closed.nth_open(Die(1), 1), Round(2));
-    assert!(rt; closed.is_open(Die(0), Round(10)));
-    assert!(rt; !closed.is_open(Die(0), Round(9)));
-    assert!(rt; !closed.is_open(Die(2), Round(0)));
-    assert_eq!(rt; closed.now(), Round(1));
+    for (rounds, count) in [(1, 1), (9, 1), (12, 4)] {
+        ensure!(closed.open_count(Die(0), rounds) == count, at rounds);
+    }
+    for (die, n, round) in [(0, 1, 1), (0, 2, 10), (0, 4, 12), (1, 1, 2)] {
+        ensure!(closed.nth_open(Die(die), n) == Round(round), at round);
+    }
+    for (die, round, is_open) in [(0, 10, true), (0, 9, false), (2, 0, false)] {
+        ensure!(closed.is_open(Die(die), Round(round)) == is_open, at round);
+    }
+    ensure!(closed.now() == Round(1));
     Ok(())
 }
 
-/// 1,024 pages on 64 dies with 4,096 runs of closed rounds: 64 runs of 100 rounds on each die, with a
-/// round open after each. A check that went over single rounds would take minutes.
+/// 1,024 pages that are on all of 64 dies.
+fn pages_on_all_dies(alloc: Global) -> Result<Batch, Fail> {
+    let dies: [u8; 64] = std::array::from_fn(|die| die as u8);
+    let mut batch = Batch::new(alloc);
+    for page in 0..1024u64 {
+        batch.push(Page(page), holders_of(alloc, &dies)?)?;
+    }
+    Ok(batch)
+}
+
+/// For each of 64 dies 64 runs of 100 closed rounds, with a round open after each.
+fn runs_with_gaps(alloc: Global) -> Result<Closed, Fail>
+    ensures { IfOk result (λ closed. current_of closed ≡ 1) }
+{
+    let mut runs = Vec::new(alloc);
+    for number in 0..4096u64 {
+        let first = 101 * (number / 64) + 1;
+        runs.push(((number % 64) as u8, first, first + 99))?;
+    }
+    closed_of(alloc, runs.as_slice())
+}
+
+/// The pages in their order, each die taking one in each of its first 16 open rounds.
+fn one_page_a_gap(alloc: Global) -> Result<Plan, Fail> {
+    let mut places = Vec::new(alloc);
+    for page in 0..1024u64 {
+        places.push((page, (page % 64) as u8, 101 * (page / 64 + 1)))?;
+    }
+    plan_of(alloc, 1616, places.as_slice())
+}
+
+/// 4,096 runs of closed rounds. A check that went over single rounds would take minutes.
 #[test]
 fn large_batch(rt: HostRuntime) -> Result<(), Fail> {
-    let alloc = rt.alloc();
-    let mut batch = Batch::new(alloc);
-    let mut places = Places::new(alloc);
-    let mut shortage = Shortage::new(alloc);
+    let batch = pages_on_all_dies(rt.alloc())?;
+    let closed = runs_with_gaps(rt.alloc())?;
+    let plan = one_page_a_gap(rt.alloc())?;
+    let mut shortage = Shortage::new(rt.alloc());
     for page in 0..1024u64 {
-        let mut holders = Vec::new(alloc);
-        for die in 0..64u8 {
-            holders.push(Die(die))?;
-        }
-        batch.push(Page(page), holders)?;
-        places.push(Place {
-            page: Page(page),
-            die: Die((page % 64) as u8),
-            round: Round(101 * (page / 64 + 1)),
-        })?;
         shortage.push(Page(page))?;
     }
-    let mut runs = Vec::new(alloc);
-    for turn in 0..64u64 {
-        for die in 0..64u8 {
-            runs.push(Run {
-                die: Die(die),
-                first: Round(101 * turn + 1),
-                last: Round(101 * turn + 100),
-            })?;
-        }
-    }
-    if !end_soon(Round(1), &runs) || !batch.is_sound() {
-        return Err("not what was meant")?;
-    }
-    let closed = Closed::new(alloc, Round(1), runs)?;
-    let plan = Plan {
-        rounds: 1616,
-        places,
-    };
-    assert_eq!(rt;
-        check(alloc, &batch, &closed, &plan, &shortage)?,
-        Verdict::Least(1616)
-    );
+    ensure!(batch.is_sound());
+    ensure!(check(rt.alloc(), &batch, &closed, &plan, &shortage)? == Verdict::Least(1616));
     Ok(())
 }
 
@@ -293,73 +242,25 @@ fn printed_verdicts(rt: HostRuntime) -> Result<(), Fail> {
     ];
     for (verdict, text) in words {
         let printed = format!(in rt.alloc(); "{verdict}")?;
-        assert_eq!(rt; printed.as_str(), text);
+        ensure!(printed.as_str() == text);
     }
     Ok(())
 }
 
-/// The verdict on a batch text that a certificate text follows.
-fn verify(alloc: Global, text: &str) -> Result<Verdict, Fail> {
+/// Reads a batch text that a certificate text follows.
+fn read_both(alloc: Global, text: &str) -> Result<(), TextError> {
     let batch = read_batch(alloc, text.as_bytes())?;
-    let certificate = read_certificate(alloc, batch.rest, batch.line)?;
-    if !batch.batch.is_sound() {
-        return Err("the batch is not sound")?;
-    }
-    Ok(check(
-        alloc,
-        &batch.batch,
-        &batch.closed,
-        &certificate.plan,
-        &certificate.shortage,
-    )?)
+    read_certificate(alloc, batch.rest, batch.line)?;
+    Ok(())
 }
 
 /// The first wrong line of a batch text that a certificate text follows, and 0 where all is well.
 fn wrong_line(alloc: Global, text: &str) -> Result<u64, Fail> {
-    let batch = match read_batch(alloc, text.as_bytes()) {
-        Ok(batch) => batch,
-        Err(TextError::Line(line)) => return Ok(line),
-        Err(error) => return Err(error)?,
-    };
-    match read_certificate(alloc, batch.rest, batch.line) {
-        Ok(_) => Ok(0),
+    match read_both(alloc, text) {
+        Ok(()) => Ok(0),
         Err(TextError::Line(line)) => Ok(line),
         Err(error) => Err(error)?,
     }
-}
-
-#[test]
-fn verified_texts(rt: HostRuntime) -> Result<(), Fail> {
-    let window =
-        "batch\npage 1 on 0 1\npage 2 on 0 1\npage 3 on 0 1\nclosed 1 1 2\nend\nrounds 3\nplace 1 0 1\nplace 2 0 2\n";
-    let good = format!(in rt.alloc(); "{window}place 3 0 3\nshort 1 2 3\nend\n")?;
-    let bad = format!(in rt.alloc(); "{window}place 3 1 2\nshort 1 2 3\nend")?;
-    assert_eq!(rt; verify(rt.alloc(), good.as_str())?, Verdict::Least(3));
-    assert_eq!(rt;
-        verify(rt.alloc(), bad.as_str())?,
-        Verdict::Refused(Refusal::RoundClosed)
-    );
-    let two = "batch\npage 1 on 0\npage 2 on 0\nend\nrounds 2\nplace 1 0 1\n";
-    let cases = [
-        ("place 2 0 2\nshort 1 2\nend\n", Verdict::Least(2)),
-        (
-            "place 2 0 2\nshort 1\nend\n",
-            Verdict::Refused(Refusal::NotShort),
-        ),
-        (
-            "place 2 0 1\nshort 1 2\nend\n",
-            Verdict::Refused(Refusal::PlaceTwice),
-        ),
-    ];
-    for (rest, verdict) in cases {
-        let text = format!(in rt.alloc(); "{two}{rest}")?;
-        assert_eq!(rt; verify(rt.alloc(), text.as_str())?, verdict, "{rest}");
-    }
-    assert_eq!(rt;
-        verify(rt.alloc(), "batch\nend\nrounds 0\nend")?,
-        Verdict::Least(0)
-    );
-    Ok(())
 }
 
 #[test]
@@ -411,12 +312,12 @@ fn first_wrong_lines(rt: HostRuntime) -> Result<(), Fail> {
         ("batch\nend\nrounds 0\nend\nend", 5),
     ];
     for (text, line) in cases {
-        assert_eq!(rt; wrong_line(rt.alloc(), text)?, line, "{text:?}");
+        ensure!(wrong_line(rt.alloc(), text)? == line, at text);
     }
     let bytes: [u8; 12] = [
         b'b', b'a', b't', b'c', b'h', b'\n', 255, b'\n', b'e', b'n', b'd', b'\n',
     ];
-    assert!(rt; matches!(read_batch(rt.alloc(), &bytes), Err(TextError::Line(2))));
+    ensure!(matches!(read_batch(rt.alloc(), &bytes), Err(TextError::Line(2))));
     Ok(())
 }
 
@@ -432,32 +333,41 @@ fn lines_at_their_limits(rt: HostRuntime) -> Result<(), Fail> {
             text.push_str("closed 0 1 1\n")?;
         }
         text.push_str("end\nrounds 0\nend\n")?;
-        assert_eq!(rt;
-            wrong_line(rt.alloc(), text.as_str())?,
-            line,
-            "{pages} {runs}"
-        );
+        ensure!(wrong_line(rt.alloc(), text.as_str())? == line, at pages);
     }
     Ok(())
 }
 
+/// What is printed of a plan and a shortage.
+fn printed(
+    alloc: Global,
+    rounds: u64,
+    places: &[(u64, u8, u64)],
+    pages: &[u64],
+) -> Result<String, Fail> {
+    let plan = plan_of(alloc, rounds, places)?;
+    let shortage = shortage_of(alloc, pages)?;
+    Ok(print(alloc, &plan, &shortage)?)
+}
+
+/// What is printed of what a text says.
+fn printed_again(alloc: Global, text: &str) -> Result<String, Fail> {
+    let read = read_certificate(alloc, text.as_bytes(), 1)?;
+    Ok(print(alloc, &read.plan, &read.shortage)?)
+}
+
 #[test]
 fn printed_certificate(rt: HostRuntime) -> Result<(), Fail> {
-    let plan = plan_of(rt.alloc(), 2, &[(20, 0, 2), (3, 63, 1)])?;
-    let shortage = shortage_of(rt.alloc(), &[20, 3])?;
-    let text = print(rt.alloc(), &plan, &shortage)?;
-    assert_eq!(rt;
-        text.as_str(),
-        "rounds 2\nplace 3 63 1\nplace 20 0 2\nshort 3 20\nend\n"
-    );
-    let read = read_certificate(rt.alloc(), text.as_bytes(), 1)?;
-    let again = print(rt.alloc(), &read.plan, &read.shortage)?;
-    assert_eq!(rt; again.as_str(), text.as_str());
-    let empty = print(
-        rt.alloc(),
-        &plan_of(rt.alloc(), 0, &[])?,
-        &shortage_of(rt.alloc(), &[])?,
-    )?;
-    assert_eq!(rt; empty.as_str(), "rounds 0\nend\n");
+    let text = printed(rt.alloc(), 2, &[(20, 0, 2), (3, 63, 1)], &[20, 3])?;
+    let told = "rounds 2\nplace 3 63 1\nplace 20 0 2\nshort 3 20\nend\n";
+    ensure!(text.as_str() == told);
+    ensure!(printed_again(rt.alloc(), told)?.as_str() == told);
+    Ok(())
+}
+
+#[test]
+fn printed_certificate_of_no_page(rt: HostRuntime) -> Result<(), Fail> {
+    let text = printed(rt.alloc(), 0, &[], &[])?;
+    ensure!(text.as_str() == "rounds 0\nend\n");
     Ok(())
 }

@@ -32,12 +32,12 @@ fn request(command: Command, flags: u16, offset: u64, length: u32) -> Request {
 }
 
 #[test]
-fn bytes_of_requests(rt: HostRuntime) -> Result<(), Fail> {
-    assert_eq!(rt; LAST_READ.len(), REQUEST_BYTES);
+fn bytes_of_requests() -> Result<(), Fail> {
+    ensure!(LAST_READ.len() == REQUEST_BYTES);
     let last = read_request(&LAST_READ)?;
-    assert_eq!(rt; last, request(Command::Read, 0, 32_256, 512));
-    assert_eq!(rt; body_len(last), 0);
-    assert_eq!(rt; decide(last, SIZE), Decision::Do);
+    ensure!(last == request(Command::Read, 0, 32_256, 512));
+    ensure!(body_len(last) == 0);
+    ensure!(decide(last, SIZE) == Decision::Do);
     let different = Request {
         flags: 32_769,
         command: Command::Other(6_658),
@@ -45,17 +45,17 @@ fn bytes_of_requests(rt: HostRuntime) -> Result<(), Fail> {
         offset: 0x1112_1314_1516_1718,
         length: 0x2122_2324,
     };
-    assert_eq!(rt; read_request(&ALL_DIFFERENT)?, different);
+    ensure!(read_request(&ALL_DIFFERENT)? == different);
     for at in 0..4 {
         let mut wrong = LAST_READ;
         wrong[at] ^= 1;
-        assert_eq!(rt; read_request(&wrong), Err(WrongMagic), "byte {at}");
+        ensure!(read_request(&wrong) == Err(WrongMagic), at at);
     }
     Ok(())
 }
 
 #[test]
-fn bytes_of_commands(rt: HostRuntime) -> Result<(), Fail> {
+fn bytes_of_commands() -> Result<(), Fail> {
     let commands = [
         (0, Command::Read, 0),
         (1, Command::Write, 512),
@@ -71,28 +71,25 @@ fn bytes_of_commands(rt: HostRuntime) -> Result<(), Fail> {
         let mut bytes = LAST_READ;
         bytes[7] = number;
         let request = read_request(&bytes)?;
-        assert_eq!(rt; request.command, command, "command {number}");
-        assert_eq!(rt; body_len(request), body, "command {number}");
+        ensure!(request.command == command, at number);
+        ensure!(body_len(request) == body, at number);
     }
     Ok(())
 }
 
 #[test]
-fn bytes_of_replies(rt: HostRuntime) {
+fn bytes_of_replies() -> Result<(), Fail> {
     let invalid = [
         0x67, 0x44, 0x66, 0x98, 0x00, 0x00, 0x00, 0x16, 0x00, 0x00, 0x00, 0x00, 0x00, 0x00, 0x00,
         0x02,
     ];
-    assert_eq!(rt; invalid.len(), REPLY_BYTES);
-    assert_eq!(rt; write_reply(ReplyCode::Invalid, 2), invalid);
+    ensure!(invalid.len() == REPLY_BYTES);
+    ensure!(write_reply(ReplyCode::Invalid, 2) == invalid);
     let no_space = [
         0x67, 0x44, 0x66, 0x98, 0x00, 0x00, 0x00, 0x1c, 0x01, 0x02, 0x03, 0x04, 0x05, 0x06, 0x07,
         0x08,
     ];
-    assert_eq!(rt;
-        write_reply(ReplyCode::NoSpace, 0x0102_0304_0506_0708),
-        no_space
-    );
+    ensure!(write_reply(ReplyCode::NoSpace, 0x0102_0304_0506_0708) == no_space);
     let numbers = [
         (ReplyCode::Success, 0),
         (ReplyCode::Io, 5),
@@ -101,12 +98,13 @@ fn bytes_of_replies(rt: HostRuntime) {
         (ReplyCode::NoSpace, 28),
     ];
     for (code, number) in numbers {
-        assert_eq!(rt; code.number(), number);
+        ensure!(code.number() == number);
     }
+    Ok(())
 }
 
 #[test]
-fn flags_by_their_bits(rt: HostRuntime) {
+fn flags_by_their_bits() -> Result<(), Fail> {
     let cases = [
         (0, false, false),
         (1, true, false),
@@ -118,13 +116,14 @@ fn flags_by_their_bits(rt: HostRuntime) {
     ];
     for (flags, fua, no_hole) in cases {
         let given = request(Command::WriteZeroes, flags, 0, 512);
-        assert_eq!(rt; given.is_fua(), fua, "flags {flags}");
-        assert_eq!(rt; given.is_no_hole(), no_hole, "flags {flags}");
+        ensure!(given.is_fua() == fua, at flags);
+        ensure!(given.is_no_hole() == no_hole, at flags);
     }
+    Ok(())
 }
 
 #[test]
-fn decisions_by_command_and_flags(rt: HostRuntime) {
+fn decisions_by_command_and_flags() -> Result<(), Fail> {
     let invalid = Decision::Refuse(ReplyCode::Invalid);
     let nothing = Decision::Refuse(ReplyCode::Success);
     let leave = Decision::Disconnect;
@@ -153,12 +152,13 @@ fn decisions_by_command_and_flags(rt: HostRuntime) {
     ];
     for (command, flags, offset, length, want) in cases {
         let given = decide(request(command, flags, offset, length), SIZE);
-        assert_eq!(rt; given, want, "{command:?} with flags {flags}");
+        ensure!(given == want, at command);
     }
+    Ok(())
 }
 
 #[test]
-fn decisions_by_range(rt: HostRuntime) {
+fn decisions_by_range() -> Result<(), Fail> {
     let invalid = Decision::Refuse(ReplyCode::Invalid);
     let no_space = Decision::Refuse(ReplyCode::NoSpace);
     let nothing = Decision::Refuse(ReplyCode::Success);
@@ -187,6 +187,7 @@ fn decisions_by_range(rt: HostRuntime) {
     ];
     for (command, offset, length, size, want) in cases {
         let given = decide(request(command, 0, offset, length), size);
-        assert_eq!(rt; given, want, "{command:?} of {length} from {offset}");
+        ensure!(given == want, at command);
     }
+    Ok(())
 }

@@ -38,13 +38,13 @@ fn each_read_fails(rt: HostRuntime) -> Result<(), Fail> {
         if ended == SessionEnd::Disconnected {
             break;
         }
-        assert!(rt; ended == SessionEnd::ReadFailed, "at read {calls}");
-        assert!(rt; answer.starts_with(writer.as_slice()), "at read {calls}");
-        assert_eq!(rt; reader.calls, calls);
+        ensure!(ended == SessionEnd::ReadFailed, at calls);
+        ensure!(answer.starts_with(writer.as_slice()), at calls);
+        ensure!(reader.calls == calls);
         failed = calls;
     }
-    assert!(rt; failed < 9_999);
-    assert!(rt; failed >= said.len() as u64 / 7);
+    ensure!(failed < 9_999);
+    ensure!(failed >= said.len() as u64 / 7);
     Ok(())
 }
 
@@ -60,16 +60,13 @@ fn each_write_fails(rt: HostRuntime) -> Result<(), Fail> {
         if ended == SessionEnd::Disconnected {
             break;
         }
-        assert!(rt; ended == SessionEnd::WriteFailed, "at write {calls}");
-        assert!(rt;
-            answer.starts_with(writer.inner.inner.as_slice()),
-            "at write {calls}"
-        );
-        assert_eq!(rt; writer.calls, calls);
+        ensure!(ended == SessionEnd::WriteFailed, at calls);
+        ensure!(answer.starts_with(writer.inner.inner.as_slice()), at calls);
+        ensure!(writer.calls == calls);
         failed = calls;
     }
-    assert!(rt; failed < 9_999);
-    assert!(rt; failed >= answer.len() as u64 / 5);
+    ensure!(failed < 9_999);
+    ensure!(failed >= answer.len() as u64 / 5);
     Ok(())
 }
 
@@ -78,9 +75,9 @@ fn a_writer_that_takes_nothing(rt: HostRuntime) -> Result<(), Fail> {
     let said = client(rt.alloc())?;
     let mut reader = Piecewise::new(said.as_slice(), 4096);
     let mut writer = Piecewise::new(Vec::new(rt.alloc()), 0);
-    assert!(rt; served(rt.alloc(), &mut reader, &mut writer)? == SessionEnd::WriteFailed);
-    assert_eq!(rt; writer.calls, 1);
-    assert_eq!(rt; reader.calls, 0);
+    ensure!(served(rt.alloc(), &mut reader, &mut writer)? == SessionEnd::WriteFailed);
+    ensure!(writer.calls == 1);
+    ensure!(reader.calls == 0);
     Ok(())
 }
 
@@ -118,10 +115,10 @@ fn each_allocation_fails(rt: HostRuntime) -> Result<(), Fail> {
         let taken = writer.as_slice();
         if ended == SessionEnd::NoMemory {
             in_negotiation = in_negotiation.saturating_add(1);
-            assert!(rt; begun.starts_with(taken), "with {room}");
+            ensure!(begun.starts_with(taken), at room);
             continue;
         }
-        assert!(rt; ended == SessionEnd::Disconnected, "with {room}");
+        ensure!(ended == SessionEnd::Disconnected, at room);
         if taken == answer.as_slice() {
             whole = whole.saturating_add(1);
             continue;
@@ -131,11 +128,11 @@ fn each_allocation_fails(rt: HostRuntime) -> Result<(), Fail> {
         let is_right = replies == write_refused.as_slice()
             || replies == read_refused.as_slice()
             || replies == both_refused.as_slice();
-        assert!(rt; is_right, "with {room}");
+        ensure!(is_right, at room);
     }
-    assert!(rt; in_negotiation > 1);
-    assert!(rt; of_requests > 1);
-    assert!(rt; whole > 1);
+    ensure!(in_negotiation > 1);
+    ensure!(of_requests > 1);
+    ensure!(whole > 1);
     Ok(())
 }
 
@@ -155,15 +152,15 @@ fn the_longest_read_and_write(rt: HostRuntime) -> Result<(), Fail> {
     let mut reader = Piecewise::new(said.as_slice(), 1_000_000);
     let mut writer = Piecewise::new(Vec::new(rt.alloc()), 1_000_000);
     let ended = serve_stream(rt.alloc(), &mut reader, &mut writer, &mut store, "disk");
-    assert!(rt; ended == SessionEnd::InputEnded);
+    ensure!(ended == SessionEnd::InputEnded);
 
     let replies = "67446698 00000000 0000000000000001 67446698 00000000 0000000000000002";
     let replies = spelled(rt.alloc(), replies)?;
     let front = writer.inner.strip_suffix(bytes.as_slice()).unwrap_or(&[]);
-    assert!(rt; front.ends_with(replies.as_slice()));
+    ensure!(front.ends_with(replies.as_slice()));
     // A call takes a million bytes: 33 or so for the data, and few for all else.
-    assert!(rt; reader.calls < 50);
-    assert!(rt; writer.calls < 50);
+    ensure!(reader.calls < 50);
+    ensure!(writer.calls < 50);
     Ok(())
 }
 
@@ -178,9 +175,9 @@ fn the_data_of_a_refused_write(rt: HostRuntime) -> Result<(), Fail> {
     let mut reader = Piecewise::new(said.as_slice(), 1_000_000);
     let mut writer = Vec::new(rt.alloc());
     let ended = served(rt.alloc(), &mut reader, &mut writer)?;
-    assert!(rt; ended == SessionEnd::InputEnded);
-    assert!(rt; writer.as_slice() == answer.as_slice());
-    assert!(rt; reader.calls < 260);
+    ensure!(ended == SessionEnd::InputEnded);
+    ensure!(writer.as_slice() == answer.as_slice());
+    ensure!(reader.calls < 260);
     Ok(())
 }
 
@@ -197,8 +194,8 @@ fn the_data_of_a_write_that_is_too_long(rt: HostRuntime) -> Result<(), Fail> {
     let mut reader = Piecewise::new(said.as_slice(), 1_000_000);
     let mut writer = Vec::new(rt.alloc());
     let ended = served(rt.alloc(), &mut reader, &mut writer)?;
-    assert!(rt; ended == SessionEnd::InputEnded);
-    assert!(rt; writer.as_slice() == answer.as_slice());
-    assert!(rt; reader.calls < 8_300);
+    ensure!(ended == SessionEnd::InputEnded);
+    ensure!(writer.as_slice() == answer.as_slice());
+    ensure!(reader.calls < 8_300);
     Ok(())
 }

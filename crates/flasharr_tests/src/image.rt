@@ -77,15 +77,15 @@ fn a_new_image_is_zeros(rt: HostRuntime) -> Result<(), Fail> {
     fs::write(&rt, path.as_str(), old.as_slice())?;
     let mut image = create(&rt, &path)?;
     let bytes = fs::read(&rt, path.as_str())?;
-    assert_eq!(rt; bytes.len(), 77_824);
-    assert!(rt; has(&bytes, 0, 77_824, 0));
+    ensure!(bytes.len() == 77_824);
+    ensure!(has(&bytes, 0, 77_824, 0));
     let mut slot = [1; SLOT];
     let mut header = [1; HEADER_BYTES];
-    assert_eq!(rt; read(&mut image, 127, &mut slot), Ok(()));
-    assert!(rt; has(&slot, 0, SLOT, 0));
-    assert_eq!(rt; image.read_header(&mut header), Ok(()));
-    assert!(rt; has(&header, 0, HEADER_BYTES, 0));
-    assert_eq!(rt; (image.syncs(), image.faults()), (0, 0));
+    ensure!(read(&mut image, 127, &mut slot) == Ok(()));
+    ensure!(has(&slot, 0, SLOT, 0));
+    ensure!(image.read_header(&mut header) == Ok(()));
+    ensure!(has(&header, 0, HEADER_BYTES, 0));
+    ensure!((image.syncs(), image.faults()) == (0, 0));
     fs::remove_file(&rt, path.as_str())?;
     Ok(())
 }
@@ -111,8 +111,8 @@ fn writes_touch_nothing_around(rt: HostRuntime) -> Result<(), Fail> {
     let old = vec![in rt.alloc(); 0x77u8; 78_000]?;
     fs::write(&rt, path.as_str(), old.as_slice())?;
     let mut image = open(&rt, &path)?;
-    assert_eq!(rt; program(&mut image, 17, &[0x5a; SLOT]), Ok(()));
-    assert_eq!(rt; program(&mut image, 127, &[0x33; SLOT]), Ok(()));
+    ensure!(program(&mut image, 17, &[0x5a; SLOT]) == Ok(()));
+    ensure!(program(&mut image, 127, &[0x33; SLOT]) == Ok(()));
     let parts = [
         (0, 13_888, 0x77),
         (13_888, 14_464, 0x5a),
@@ -120,7 +120,7 @@ fn writes_touch_nothing_around(rt: HostRuntime) -> Result<(), Fail> {
         (77_248, 77_824, 0x33),
         (77_824, 78_000, 0x77),
     ];
-    assert!(rt; reads_as(&rt, path.as_str(), 78_000, &parts)?);
+    ensure!(reads_as(&rt, path.as_str(), 78_000, &parts)?);
     fs::remove_file(&rt, path.as_str())?;
     Ok(())
 }
@@ -131,16 +131,16 @@ fn an_erase_and_a_header_touch_nothing_around(rt: HostRuntime) -> Result<(), Fai
     let old = vec![in rt.alloc(); 0x77u8; 78_000]?;
     fs::write(&rt, path.as_str(), old.as_slice())?;
     let mut image = open(&rt, &path)?;
-    assert_eq!(rt; erase(&mut image, 2), Ok(()));
-    assert_eq!(rt; image.write_header(&[0x11; HEADER_BYTES]), Ok(()));
-    assert_eq!(rt; (image.syncs(), image.faults()), (0, 0));
+    ensure!(erase(&mut image, 2) == Ok(()));
+    ensure!(image.write_header(&[0x11; HEADER_BYTES]) == Ok(()));
+    ensure!((image.syncs(), image.faults()) == (0, 0));
     let parts = [
         (0, 112, 0x11),
         (112, 13_312, 0x77),
         (13_312, 17_920, 0xff),
         (17_920, 78_000, 0x77),
     ];
-    assert!(rt; reads_as(&rt, path.as_str(), 78_000, &parts)?);
+    ensure!(reads_as(&rt, path.as_str(), 78_000, &parts)?);
     fs::remove_file(&rt, path.as_str())?;
     Ok(())
 }
@@ -157,15 +157,15 @@ fn each_write_is_one_call_of_the_file(rt: HostRuntime) -> Result<(), Fail> {
     let path = path_of(&rt, "calls")?;
     let mut image = create(&rt, &path)?;
     let before = writes_made(&rt);
-    assert_eq!(rt; program(&mut image, 17, &[0x5a; SLOT]), Ok(()));
+    ensure!(program(&mut image, 17, &[0x5a; SLOT]) == Ok(()));
     let programmed = writes_made(&rt);
-    assert_eq!(rt; erase(&mut image, 2), Ok(()));
+    ensure!(erase(&mut image, 2) == Ok(()));
     let erased = writes_made(&rt);
-    assert_eq!(rt; image.write_header(&[0x11; HEADER_BYTES]), Ok(()));
+    ensure!(image.write_header(&[0x11; HEADER_BYTES]) == Ok(()));
     let written = writes_made(&rt);
-    assert_eq!(rt; programmed, before.map(|count| count.wrapping_add(1)));
-    assert_eq!(rt; erased, programmed.map(|count| count.wrapping_add(1)));
-    assert_eq!(rt; written, erased.map(|count| count.wrapping_add(1)));
+    ensure!(programmed == before.map(|count| count.wrapping_add(1)));
+    ensure!(erased == programmed.map(|count| count.wrapping_add(1)));
+    ensure!(written == erased.map(|count| count.wrapping_add(1)));
     fs::remove_file(&rt, path.as_str())?;
     Ok(())
 }
@@ -181,8 +181,8 @@ fn what_was_left_is_read_again(rt: HostRuntime) -> Result<(), Fail> {
         return Err(Fail::from("another geometry"));
     }
     let (image, found) = left_and_opened(&rt, path.as_path(), geometry, Slot(5), &slot)?;
-    assert_eq!(rt; found.as_slice(), slot.as_slice());
-    assert_eq!(rt; (image.syncs(), image.faults()), (0, 0));
+    ensure!(found.as_slice() == slot.as_slice());
+    ensure!((image.syncs(), image.faults()) == (0, 0));
     fs::remove_file(&rt, path.as_str())?;
     Ok(())
 }
@@ -202,10 +202,28 @@ fn a_sealed_page_is_opened_again(rt: HostRuntime) -> Result<(), Fail> {
         slot: Slot(17),
     };
     let (image, opened) = sealed_and_opened(&rt, path.as_path(), geometry, tag, &payload)?;
-    assert_eq!(rt; opened, Opened::Good(tag));
-    assert_eq!(rt; (image.syncs(), image.faults()), (0, 0));
+    ensure!(opened == Opened::Good(tag));
+    ensure!((image.syncs(), image.faults()) == (0, 0));
     fs::remove_file(&rt, path.as_str())?;
     Ok(())
+}
+
+/// Leaves an image with a header and one slot.
+fn leave(rt: &HostRuntime, path: &PathBuf, header: &[u8; HEADER_BYTES]) -> Result<(), Fail> {
+    let mut image = create(rt, path)?;
+    image.write_header(header)?;
+    program(&mut image, 5, &[0x24; SLOT])?;
+    Ok(image.sync()?)
+}
+
+/// Whether an image is as another process left it: its header has another number.
+fn is_as_left(rt: &HostRuntime, path: &PathBuf, header: &[u8; HEADER_BYTES]) -> Result<bool, Fail> {
+    let mut image = open(rt, path)?;
+    let mut found = [0; HEADER_BYTES];
+    let mut slot = [0; SLOT];
+    image.read_header(&mut found)?;
+    read(&mut image, 5, &mut slot)?;
+    Ok(found[..4] != header[..4] && found[4..] == header[4..] && slot == [0x24; SLOT])
 }
 
 /// Leaves an image for another process, with this process's number in its header, or reads the one
@@ -217,38 +235,30 @@ fn leave_or_read(rt: &HostRuntime) -> Result<bool, Fail> {
     let own = path_of(rt, "left")?;
     let mut header = [0x42; HEADER_BYTES];
     header[..4].copy_from_slice(&process::id(rt.process()).to_be_bytes());
-    let mut image = create(rt, &own)?;
-    image.write_header(&header)?;
-    program(&mut image, 5, &[0x24; SLOT])?;
-    image.sync()?;
-    drop(image);
+    leave(rt, &own, &header)?;
     let linked = fs::hard_link(rt, own.as_str(), shared.as_str());
     fs::remove_file(rt, own.as_str())?;
-    let Err(fault) = linked else {
-        return Ok(true);
+    let is_right = match linked {
+        Ok(()) => return Ok(true),
+        Err(fault) if fault.kind() == io::ErrorKind::AlreadyExists => {
+            is_as_left(rt, &shared, &header)?
+        }
+        Err(_) => false,
     };
-    if fault.kind() != io::ErrorKind::AlreadyExists {
-        return Ok(false);
-    }
-    let mut left = open(rt, &shared)?;
-    let mut found = [0; HEADER_BYTES];
-    let mut slot = [0; SLOT];
-    left.read_header(&mut found)?;
-    read(&mut left, 5, &mut slot)?;
     fs::remove_file(rt, shared.as_str())?;
-    Ok(found[..4] != header[..4] && found[4..] == header[4..] && slot == [0x24; SLOT])
+    Ok(is_right)
 }
 
 /// Of this test and the next the later one reads what the earlier one left.
 #[test]
 fn a_header_is_read_by_the_next_process(rt: HostRuntime) -> Result<(), Fail> {
-    assert!(rt; leave_or_read(&rt)?);
+    ensure!(leave_or_read(&rt)?);
     Ok(())
 }
 
 #[test]
 fn a_header_is_left_for_the_next_process(rt: HostRuntime) -> Result<(), Fail> {
-    assert!(rt; leave_or_read(&rt)?);
+    ensure!(leave_or_read(&rt)?);
     Ok(())
 }
 
@@ -260,13 +270,13 @@ fn a_file_that_is_too_short_refuses_what_it_lacks(rt: HostRuntime) -> Result<(),
     let old = vec![in rt.alloc(); 7u8; 4096 + 3 * SLOT - 1]?;
     fs::write(&rt, path.as_str(), old.as_slice())?;
     let mut image = open(&rt, &path)?;
-    assert_eq!(rt; image.read_header(&mut header), Ok(()));
-    assert!(rt; has(&header, 0, HEADER_BYTES, 7));
-    assert_eq!(rt; read(&mut image, 1, &mut slot), Ok(()));
-    assert!(rt; has(&slot, 0, SLOT, 7));
-    assert_eq!(rt; read(&mut image, 2, &mut slot), Err(ImageFault::ReadSlot));
-    assert_eq!(rt; read(&mut image, 127, &mut slot), Err(ImageFault::ReadSlot));
-    assert_eq!(rt; (image.syncs(), image.faults()), (0, 2));
+    ensure!(image.read_header(&mut header) == Ok(()));
+    ensure!(has(&header, 0, HEADER_BYTES, 7));
+    ensure!(read(&mut image, 1, &mut slot) == Ok(()));
+    ensure!(has(&slot, 0, SLOT, 7));
+    ensure!(read(&mut image, 2, &mut slot) == Err(ImageFault::ReadSlot));
+    ensure!(read(&mut image, 127, &mut slot) == Err(ImageFault::ReadSlot));
+    ensure!((image.syncs(), image.faults()) == (0, 2));
     fs::remove_file(&rt, path.as_str())?;
     Ok(())
 }
@@ -277,8 +287,8 @@ fn an_empty_file_has_no_header(rt: HostRuntime) -> Result<(), Fail> {
     let mut header = [0; HEADER_BYTES];
     fs::write(&rt, path.as_str(), [].as_slice())?;
     let mut image = open(&rt, &path)?;
-    assert_eq!(rt; image.read_header(&mut header), Err(ImageFault::ReadHeader));
-    assert_eq!(rt; image.faults(), 1);
+    ensure!(image.read_header(&mut header) == Err(ImageFault::ReadHeader));
+    ensure!(image.faults() == 1);
     fs::remove_file(&rt, path.as_str())?;
     Ok(())
 }
@@ -295,14 +305,14 @@ fn a_file_that_shrinks_refuses_reads(rt: HostRuntime) -> Result<(), Fail> {
         path.as_str(),
         vec![in rt.alloc(); 7u8; 4096 + 3 * SLOT]?.as_slice(),
     )?;
-    assert_eq!(rt; read(&mut image, 2, &mut slot), Ok(()));
-    assert!(rt; has(&slot, 0, SLOT, 7));
-    assert_eq!(rt; read(&mut image, 3, &mut slot), Err(ImageFault::ReadSlot));
-    assert_eq!(rt; image.read_header(&mut header), Ok(()));
-    assert_eq!(rt; (image.syncs(), image.faults()), (0, 1));
+    ensure!(read(&mut image, 2, &mut slot) == Ok(()));
+    ensure!(has(&slot, 0, SLOT, 7));
+    ensure!(read(&mut image, 3, &mut slot) == Err(ImageFault::ReadSlot));
+    ensure!(image.read_header(&mut header) == Ok(()));
+    ensure!((image.syncs(), image.faults()) == (0, 1));
     fs::write(&rt, path.as_str(), [7u8; 111].as_slice())?;
-    assert_eq!(rt; image.read_header(&mut header), Err(ImageFault::ReadHeader));
-    assert_eq!(rt; image.faults(), 2);
+    ensure!(image.read_header(&mut header) == Err(ImageFault::ReadHeader));
+    ensure!(image.faults() == 2);
     fs::remove_file(&rt, path.as_str())?;
     Ok(())
 }
@@ -311,7 +321,7 @@ fn a_file_that_shrinks_refuses_reads(rt: HostRuntime) -> Result<(), Fail> {
 fn a_missing_file_is_no_image(rt: HostRuntime) -> Result<(), Fail> {
     let path = path_of(&rt, "missing")?;
     let missing = open(&rt, &path).err().ok_or("opened")?;
-    assert_eq!(rt; missing.kind(), io::ErrorKind::NotFound);
+    ensure!(missing.kind() == io::ErrorKind::NotFound);
     Ok(())
 }
 
@@ -320,8 +330,8 @@ fn a_folder_is_no_image(rt: HostRuntime) -> Result<(), Fail> {
     let path = path_of(&rt, "folder")?;
     fs::create_dir(&rt, path.as_str())?;
     let folder = open(&rt, &path).err().ok_or("opened")?;
-    assert_eq!(rt; folder.kind(), io::ErrorKind::IsADirectory);
-    assert!(rt; create(&rt, &path).is_err());
+    ensure!(folder.kind() == io::ErrorKind::IsADirectory);
+    ensure!(create(&rt, &path).is_err());
     fs::remove_dir(&rt, path.as_str())?;
     Ok(())
 }
@@ -332,17 +342,15 @@ fn a_file_that_may_not_be_written_is_refused(rt: HostRuntime) -> Result<(), Fail
     // No user may write the file of a running program, and most may not write this one anyway.
     let program = env::current_exe(&rt)?;
     let running = open(&rt, &program).err().ok_or("opened")?;
-    assert!(rt;
-        matches!(
-            running.kind(),
-            io::ErrorKind::ExecutableFileBusy | io::ErrorKind::PermissionDenied
-        )
-    );
+    ensure!(matches!(
+        running.kind(),
+        io::ErrorKind::ExecutableFileBusy | io::ErrorKind::PermissionDenied
+    ));
     drop(create(&rt, &path)?);
     fs::set_permissions(&rt, path.as_str(), Permissions::from_mode(0o444))?;
     // A user who may write all files opens this one too.
     if let Err(refused) = open(&rt, &path) {
-        assert_eq!(rt; refused.kind(), io::ErrorKind::PermissionDenied);
+        ensure!(refused.kind() == io::ErrorKind::PermissionDenied);
     }
     fs::remove_file(&rt, path.as_str())?;
     Ok(())
@@ -357,16 +365,13 @@ fn a_full_file_refuses_writes(rt: HostRuntime) -> Result<(), Fail> {
         .open(&rt, "/dev/full")?;
     let mut image = FileImage::over(rt.alloc(), file, shape()?)?;
     let mut slot = [1; SLOT];
-    assert_eq!(rt; program(&mut image, 3, &slot), Err(ImageFault::Program));
-    assert_eq!(rt; erase(&mut image, 1), Err(ImageFault::EraseBlock));
-    assert_eq!(rt;
-        image.write_header(&[1; HEADER_BYTES]),
-        Err(ImageFault::WriteHeader)
-    );
-    assert_eq!(rt; image.sync(), Err(ImageFault::Sync));
-    assert_eq!(rt; (image.syncs(), image.faults()), (0, 4));
-    assert_eq!(rt; read(&mut image, 3, &mut slot), Ok(()));
-    assert!(rt; has(&slot, 0, SLOT, 0));
+    ensure!(program(&mut image, 3, &slot) == Err(ImageFault::Program));
+    ensure!(erase(&mut image, 1) == Err(ImageFault::EraseBlock));
+    ensure!(image.write_header(&[1; HEADER_BYTES]) == Err(ImageFault::WriteHeader));
+    ensure!(image.sync() == Err(ImageFault::Sync));
+    ensure!((image.syncs(), image.faults()) == (0, 4));
+    ensure!(read(&mut image, 3, &mut slot) == Ok(()));
+    ensure!(has(&slot, 0, SLOT, 0));
     Ok(())
 }
 
@@ -378,12 +383,9 @@ fn a_header_that_is_not_synced_is_refused(rt: HostRuntime) -> Result<(), Fail> {
         .write(true)
         .open(&rt, "/dev/null")?;
     let mut image = FileImage::over(rt.alloc(), file, shape()?)?;
-    assert_eq!(rt; program(&mut image, 3, &[1; SLOT]), Ok(()));
-    assert_eq!(rt;
-        image.write_header(&[1; HEADER_BYTES]),
-        Err(ImageFault::WriteHeader)
-    );
-    assert_eq!(rt; (image.syncs(), image.faults()), (0, 1));
+    ensure!(program(&mut image, 3, &[1; SLOT]) == Ok(()));
+    ensure!(image.write_header(&[1; HEADER_BYTES]) == Err(ImageFault::WriteHeader));
+    ensure!((image.syncs(), image.faults()) == (0, 1));
     Ok(())
 }
 
@@ -407,16 +409,16 @@ fn memory_counts_what_is_overwritten(rt: HostRuntime) -> Result<(), Fail> {
         (8, Some(8), 1),
     ];
     for (number, byte, overwrites) in changes {
-        assert_eq!(rt; change(&mut image, number, byte), Ok(()));
-        assert_eq!(rt; image.sync(), Ok(()));
-        assert_eq!(rt; image.overwrites(), overwrites, "at {number}");
+        ensure!(change(&mut image, number, byte) == Ok(()));
+        ensure!(image.sync() == Ok(()));
+        ensure!(image.overwrites() == overwrites, at number);
     }
     for (number, byte) in [(15, 0xff), (16, 16), (127, 0xff)] {
         let mut slot = [0; SLOT];
-        assert_eq!(rt; read(&mut image, number, &mut slot), Ok(()));
-        assert!(rt; has(&slot, 0, SLOT, byte), "in {number}");
+        ensure!(read(&mut image, number, &mut slot) == Ok(()));
+        ensure!(has(&slot, 0, SLOT, byte), at number);
     }
-    assert_eq!(rt; (image.syncs(), image.faults()), (6, 0));
+    ensure!((image.syncs(), image.faults()) == (6, 0));
     Ok(())
 }
 
@@ -444,27 +446,19 @@ fn a_fuse_fails_the_armed_call(rt: HostRuntime) -> Result<(), Fail> {
     ];
     for (k, fault) in faults.iter().enumerate() {
         let armed = k as u32 + 1;
-        assert_eq!(rt; u32::from(fault.number()), armed);
+        ensure!(u32::from(fault.number()) == armed);
         let mut image = FuseImage::new(MemImage::new(rt.alloc(), shape()?)?);
-        assert_eq!(rt; program(&mut image, 16, &[16; SLOT]), Ok(()));
+        ensure!(program(&mut image, 16, &[16; SLOT]) == Ok(()));
         image.arm(u64::from(armed));
         for number in 1..7u32 {
             let want = if number == armed { Err(*fault) } else { Ok(()) };
-            assert_eq!(rt;
-                call(&mut image, number),
-                want,
-                "fuse at {armed}, call {number}"
-            );
+            ensure!(call(&mut image, number) == want, at armed);
         }
         for number in 1..7u32 {
-            assert_eq!(rt;
-                call(&mut image, number),
-                Ok(()),
-                "after {armed}, call {number}"
-            );
+            ensure!(call(&mut image, number) == Ok(()), at armed);
         }
-        assert_eq!(rt; image.faults(), 1);
-        assert_eq!(rt; image.inner().faults(), 0);
+        ensure!(image.faults() == 1);
+        ensure!(image.inner().faults() == 0);
     }
     Ok(())
 }
@@ -472,21 +466,21 @@ fn a_fuse_fails_the_armed_call(rt: HostRuntime) -> Result<(), Fail> {
 #[test]
 fn a_blown_fuse_leaves_the_image_alone(rt: HostRuntime) -> Result<(), Fail> {
     let mut image = FuseImage::new(MemImage::new(rt.alloc(), shape()?)?);
-    assert_eq!(rt; program(&mut image, 16, &[16; SLOT]), Ok(()));
+    ensure!(program(&mut image, 16, &[16; SLOT]) == Ok(()));
     for number in [2, 3, 5, 6] {
         image.arm(1);
-        assert!(rt; call(&mut image, number).is_err(), "call {number}");
+        ensure!(call(&mut image, number).is_err(), at number);
     }
-    assert_eq!(rt; image.faults(), 4);
+    ensure!(image.faults() == 4);
     let mut inner = image.into_inner();
     let mut slot = [0; SLOT];
-    assert_eq!(rt; read(&mut inner, 9, &mut slot), Ok(()));
-    assert!(rt; has(&slot, 0, SLOT, 0xff));
-    assert_eq!(rt; read(&mut inner, 16, &mut slot), Ok(()));
-    assert!(rt; has(&slot, 0, SLOT, 16));
+    ensure!(read(&mut inner, 9, &mut slot) == Ok(()));
+    ensure!(has(&slot, 0, SLOT, 0xff));
+    ensure!(read(&mut inner, 16, &mut slot) == Ok(()));
+    ensure!(has(&slot, 0, SLOT, 16));
     let mut header = [1; HEADER_BYTES];
-    assert_eq!(rt; inner.read_header(&mut header), Ok(()));
-    assert!(rt; has(&header, 0, HEADER_BYTES, 0));
-    assert_eq!(rt; (inner.syncs(), inner.faults()), (0, 0));
+    ensure!(inner.read_header(&mut header) == Ok(()));
+    ensure!(has(&header, 0, HEADER_BYTES, 0));
+    ensure!((inner.syncs(), inner.faults()) == (0, 0));
     Ok(())
 }

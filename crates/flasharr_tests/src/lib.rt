@@ -2,12 +2,26 @@
 //! own, since a crate with tests is proved once with them and once without.
 #![tactic(auto)]
 
+/// Ends a test with an error, unless the condition holds: `ensure!(CONDITION)`, and in a loop
+/// `ensure!(CONDITION, at WHERE)`.
+#[cfg(test)]
+macro_rules! ensure {
+    ($is_so:expr) => {
+        crate::ensure::ensured($is_so, stringify!($is_so))?
+    };
+    ($is_so:expr, at $place:expr) => {
+        crate::ensure::ensured_at($is_so, stringify!($is_so), $place)?
+    };
+}
+
 #[cfg(test)]
 mod arguments;
 #[cfg(test)]
 mod cert;
 #[cfg(test)]
 mod cmds;
+#[cfg(test)]
+mod ensure;
 #[cfg(test)]
 mod fails;
 #[cfg(test)]

@@ -6,7 +6,6 @@ use fa_session::{SessionEnd, serve_stream};
 use fa_types::MemBlocks;
 use std::alloc::Global;
 use std::io::{Read, Write};
-use std::process::Abort;
 use std::test::Fail;
 
 /// The flags of a client.
@@ -33,63 +32,93 @@ pub fn served<R: Read, W: Write>(
     Ok(serve_stream(alloc, reader, writer, &mut store, "disk"))
 }
 
-/// Tries one conversation: by the program, in pieces of each length with a writer that takes one
-/// byte a call, over streams that are interrupted at every other call, and cut after each byte.
-fn converses(
-    rt: &impl Abort,
+/// Tries one conversation by the program.
+fn converses_by_the_program(
     alloc: Global,
-    client: &[&str],
-    server: &[&str],
+    said: &[u8],
+    answer: &[u8],
     end: u8,
 ) -> Result<(), Fail> {
-    let said = joined(alloc, client)?;
-    let answer = joined(alloc, server)?;
-
-    let lines = hex::encode(alloc, said.as_slice())?;
+    let lines = hex::encode(alloc, said)?;
     let arguments = [String::from_str(alloc, "talk")?];
     let mut input = lines.as_bytes();
     let mut printed = Vec::new(alloc);
-    assert_eq!(rt; run(alloc, &arguments, &mut input, &mut printed), 0);
-    let mut expected = hex::encode(alloc, answer.as_slice())?;
-    let number = end.to_string(alloc)?;
-    expected.push_str("\nend ")?;
-    expected.push_str(number.as_str())?;
-    expected.push('\n')?;
-    assert!(rt; printed.as_slice() == expected.as_bytes());
+    ensure!(run(alloc, &arguments, &mut input, &mut printed) == 0);
+    let answer = hex::encode(alloc, answer)?;
+    let expected = format!(in alloc; "{answer}\nend {end}\n")?;
+    ensure!(printed.as_slice() == expected.as_bytes());
+    Ok(())
+}
 
-    for most in 1..=said.len() {
-        let mut reader = Piecewise::new(said.as_slice(), most);
-        let mut writer = Piecewise::new(Vec::new(alloc), 1);
-        let ended = served(alloc, &mut reader, &mut writer)?;
-        assert_eq!(rt; ended.number(), end, "in pieces of {most}");
-        assert!(rt; writer.inner.as_slice() == answer.as_slice());
-    }
+/// Tries one conversation in pieces of a length, with a writer that takes one byte a call.
+fn converses_in_pieces(
+    alloc: Global,
+    said: &[u8],
+    most: usize,
+    answer: &[u8],
+    end: u8,
+) -> Result<(), Fail> {
+    let mut reader = Piecewise::new(said, most);
+    let mut writer = Piecewise::new(Vec::new(alloc), 1);
+    let ended = served(alloc, &mut reader, &mut writer)?;
+    ensure!(ended.number() == end, at most);
+    ensure!(writer.inner.as_slice() == answer, at most);
+    Ok(())
+}
 
-    let mut reader = Interrupted::new(Piecewise::new(said.as_slice(), 7));
+/// Tries one conversation over streams that are interrupted at every other call.
+fn converses_through_interruptions(
+    alloc: Global,
+    said: &[u8],
+    answer: &[u8],
+    end: u8,
+) -> Result<(), Fail> {
+    let mut reader = Interrupted::new(Piecewise::new(said, 7));
     let mut writer = Interrupted::new(Piecewise::new(Vec::new(alloc), 5));
     let ended = served(alloc, &mut reader, &mut writer)?;
-    assert_eq!(rt; ended.number(), end);
-    assert!(rt; writer.inner.inner.as_slice() == answer.as_slice());
+    ensure!(ended.number() == end);
+    ensure!(writer.inner.inner.as_slice() == answer);
+    Ok(())
+}
 
+/// What of the answer is written where the client's bytes are cut off.
+fn answered_to_a_cut(
+    alloc: Global,
+    said: &[u8],
+    cut: usize,
+    answer: &[u8],
+    end: u8,
+) -> Result<usize, Fail> {
+    let mut reader = &said[..cut.min(said.len())];
+    let mut writer = Vec::new(alloc);
+    let ended = served(alloc, &mut reader, &mut writer)?;
+    ensure!(answer.starts_with(writer.as_slice()), at cut);
+    ensure!(ended == SessionEnd::InputEnded || ended.number() == end, at cut);
+    Ok(writer.len())
+}
+
+/// Tries one conversation: by the program, in pieces of each length, over streams that are
+/// interrupted, and cut after each byte.
+fn converses(alloc: Global, client: &[&str], server: &[&str], end: u8) -> Result<(), Fail> {
+    let said = joined(alloc, client)?;
+    let answer = joined(alloc, server)?;
+    converses_by_the_program(alloc, &said, &answer, end)?;
+    converses_through_interruptions(alloc, &said, &answer, end)?;
+    for most in 1..=said.len() {
+        converses_in_pieces(alloc, &said, most, &answer, end)?;
+    }
     let mut before = 0;
     for cut in 0..said.len() {
-        let mut reader = &said[..cut];
-        let mut writer = Vec::new(alloc);
-        let ended = served(alloc, &mut reader, &mut writer)?;
-        assert!(rt; answer.starts_with(writer.as_slice()), "cut after {cut}");
-        assert!(rt; before <= writer.len(), "cut after {cut}");
-        assert!(rt;
-            ended == SessionEnd::InputEnded || ended.number() == end,
-            "cut after {cut}"
-        );
-        before = writer.len();
+        let written = answered_to_a_cut(alloc, &said, cut, &answer, end)?;
+        ensure!(before <= written, at cut);
+        before = written;
     }
     Ok(())
 }
 
 #[test]
 fn hello(rt: HostRuntime) -> Result<(), Fail> {
-    converses(&rt, rt.alloc(), &[FLAGS, GO], &[GREETING, GONE], 4)
+    converses(rt.alloc(), &[FLAGS, GO], &[GREETING, GONE], 4)
 }
 
 #[test]
@@ -99,7 +128,6 @@ fn read_at_the_end(rt: HostRuntime) -> Result<(), Fail> {
     let replies = "67446698 00000000 0000000000000001 00x512
         67446698 00000016 0000000000000002";
     converses(
-        &rt,
         rt.alloc(),
         &[FLAGS, GO, reads],
         &[GREETING, GONE, replies],
@@ -113,7 +141,6 @@ fn write_past_the_end(rt: HostRuntime) -> Result<(), Fail> {
         25609513 0000 0002 0000000000000004 0000000000000000 00000000";
     let replies = "67446698 0000001c 0000000000000003";
     converses(
-        &rt,
         rt.alloc(),
         &[FLAGS, GO, requests],
         &[GREETING, GONE, replies],
@@ -128,7 +155,6 @@ fn unaligned_write(rt: HostRuntime) -> Result<(), Fail> {
     let replies = "67446698 00000000 0000000000000001
         67446698 00000000 0000000000000002 00x511 aabbcc 00x510";
     converses(
-        &rt,
         rt.alloc(),
         &[FLAGS, GO, requests],
         &[GREETING, GONE, replies],
@@ -142,7 +168,6 @@ fn unknown_options(rt: HostRuntime) -> Result<(), Fail> {
     let replies = "0003e889045565a9 00000008 80000001 00000000
         0003e889045565a9 00000005 80000001 00000000";
     converses(
-        &rt,
         rt.alloc(),
         &[FLAGS, options, GO],
         &[GREETING, replies, GONE],
@@ -156,27 +181,21 @@ fn list_and_abort(rt: HostRuntime) -> Result<(), Fail> {
     let replies = "0003e889045565a9 00000003 00000002 00000008 00000004 6469736b
         0003e889045565a9 00000003 00000001 00000000
         0003e889045565a9 00000002 00000001 00000000";
-    converses(&rt, rt.alloc(), &[FLAGS, options], &[GREETING, replies], 2)
+    converses(rt.alloc(), &[FLAGS, options], &[GREETING, replies], 2)
 }
 
 #[test]
 fn list_with_data(rt: HostRuntime) -> Result<(), Fail> {
     let option = "49484156454f5054 00000003 00000001 00";
     let reply = "0003e889045565a9 00000003 80000003 00000000";
-    converses(&rt, rt.alloc(), &[FLAGS, option], &[GREETING, reply], 4)
+    converses(rt.alloc(), &[FLAGS, option], &[GREETING, reply], 4)
 }
 
 #[test]
 fn export_name(rt: HostRuntime) -> Result<(), Fail> {
     let option = "49484156454f5054 00000001 00000004 6469736b";
     let answer = "0000000000008000 016d 00x124";
-    converses(
-        &rt,
-        rt.alloc(),
-        &["00000001", option],
-        &[GREETING, answer],
-        4,
-    )
+    converses(rt.alloc(), &["00000001", option], &[GREETING, answer], 4)
 }
 
 #[test]
@@ -185,7 +204,6 @@ fn export_name_without_zeroes(rt: HostRuntime) -> Result<(), Fail> {
     let disconnect = "25609513 0000 0002 0000000000000001 0000000000000000 00000000";
     for flags in ["00000002", "00000003"] {
         converses(
-            &rt,
             rt.alloc(),
             &[flags, option, disconnect],
             &[GREETING, "0000000000008000 016d"],
@@ -198,7 +216,7 @@ fn export_name_without_zeroes(rt: HostRuntime) -> Result<(), Fail> {
 #[test]
 fn export_name_of_no_export(rt: HostRuntime) -> Result<(), Fail> {
     let option = "49484156454f5054 00000001 00000004 6469736c";
-    converses(&rt, rt.alloc(), &[FLAGS, option], &[GREETING], 3)
+    converses(rt.alloc(), &[FLAGS, option], &[GREETING], 3)
 }
 
 #[test]
@@ -207,7 +225,7 @@ fn info(rt: HostRuntime) -> Result<(), Fail> {
     let replies = "0003e889045565a9 00000006 00000003 0000000c 0000 0000000000008000 016d
         0003e889045565a9 00000006 00000003 0000000e 0003 00000001 00001000 02000000
         0003e889045565a9 00000006 00000001 00000000";
-    converses(&rt, rt.alloc(), &[FLAGS, option], &[GREETING, replies], 4)
+    converses(rt.alloc(), &[FLAGS, option], &[GREETING, replies], 4)
 }
 
 // Kinds that are asked for twice, in another order, and such as the server does not know.
@@ -225,7 +243,6 @@ fn each_kind_once(rt: HostRuntime) -> Result<(), Fail> {
         0003e889045565a9 00000007 00000003 0000000e 0003 00000001 00001000 02000000
         0003e889045565a9 00000007 00000001 00000000";
     converses(
-        &rt,
         rt.alloc(),
         &[FLAGS, info, kinds, go, kinds],
         &[GREETING, told, gone],
@@ -240,7 +257,6 @@ fn info_that_is_refused(rt: HostRuntime) -> Result<(), Fail> {
     let replies = "0003e889045565a9 00000006 80000006 00000000
         0003e889045565a9 00000006 80000003 00000000";
     converses(
-        &rt,
         rt.alloc(),
         &[FLAGS, options, GO],
         &[GREETING, replies, GONE],
@@ -250,48 +266,42 @@ fn info_that_is_refused(rt: HostRuntime) -> Result<(), Fail> {
 
 #[test]
 fn bad_client_flags(rt: HostRuntime) -> Result<(), Fail> {
-    converses(&rt, rt.alloc(), &["00000004"], &[GREETING], 3)
+    converses(rt.alloc(), &["00000004"], &[GREETING], 3)
 }
 
 #[test]
 fn cut_request(rt: HostRuntime) -> Result<(), Fail> {
     let part = "25609513 0000 0000 0000000000000001 0000000000007e00 000002";
-    converses(&rt, rt.alloc(), &[FLAGS, GO, part], &[GREETING, GONE], 4)
+    converses(rt.alloc(), &[FLAGS, GO, part], &[GREETING, GONE], 4)
 }
 
 #[test]
 fn go_with_a_short_count(rt: HostRuntime) -> Result<(), Fail> {
     let option = "49484156454f5054 00000007 00000006 00000001 0000";
     let reply = "0003e889045565a9 00000007 80000003 00000000";
-    converses(&rt, rt.alloc(), &[FLAGS, option], &[GREETING, reply], 4)
+    converses(rt.alloc(), &[FLAGS, option], &[GREETING, reply], 4)
 }
 
 #[test]
 fn go_to_an_unknown_export(rt: HostRuntime) -> Result<(), Fail> {
     let option = "49484156454f5054 00000007 00000007 00000001 78 0000";
     let reply = "0003e889045565a9 00000007 80000006 00000000";
-    converses(&rt, rt.alloc(), &[FLAGS, option], &[GREETING, reply], 4)
+    converses(rt.alloc(), &[FLAGS, option], &[GREETING, reply], 4)
 }
 
 #[test]
 fn option_with_too_much_data(rt: HostRuntime) -> Result<(), Fail> {
     let option = "49484156454f5054 00000007 00010001";
-    converses(&rt, rt.alloc(), &[FLAGS, option], &[GREETING], 3)
+    converses(rt.alloc(), &[FLAGS, option], &[GREETING], 3)
 }
 
 #[test]
 fn abort_and_wrong_magic(rt: HostRuntime) -> Result<(), Fail> {
     let abort = "49484156454f5054 00000002 00000000";
     let acknowledged = "0003e889045565a9 00000002 00000001 00000000";
-    converses(
-        &rt,
-        rt.alloc(),
-        &[FLAGS, abort],
-        &[GREETING, acknowledged],
-        2,
-    )?;
+    converses(rt.alloc(), &[FLAGS, abort], &[GREETING, acknowledged], 2)?;
     let wrong = "25609514 0000 0000 0000000000000001 0000000000007e00 00000200";
-    converses(&rt, rt.alloc(), &[FLAGS, GO, wrong], &[GREETING, GONE], 3)
+    converses(rt.alloc(), &[FLAGS, GO, wrong], &[GREETING, GONE], 3)
 }
 
 #[test]
@@ -303,7 +313,6 @@ fn flush_with_a_flag(rt: HostRuntime) -> Result<(), Fail> {
         67446698 00000000 0000000000000002
         67446698 00000000 0000000000000003";
     converses(
-        &rt,
         rt.alloc(),
         &[FLAGS, GO, requests],
         &[GREETING, GONE, replies],
@@ -322,7 +331,6 @@ fn write_zeroes_with_both_flags(rt: HostRuntime) -> Result<(), Fail> {
         67446698 0000001c 0000000000000003
         67446698 00000000 0000000000000004 0000 11x4";
     converses(
-        &rt,
         rt.alloc(),
         &[FLAGS, GO, requests],
         &[GREETING, GONE, replies],
@@ -339,7 +347,6 @@ fn trim_over_three_pages(rt: HostRuntime) -> Result<(), Fail> {
         67446698 00000000 0000000000000006
         67446698 00000000 0000000000000007 11x512 00x512 11x512";
     converses(
-        &rt,
         rt.alloc(),
         &[FLAGS, GO, requests],
         &[GREETING, GONE, replies],

@@ -95,12 +95,12 @@ fn sealed_pattern() -> [u8; 576] {
 }
 
 #[test]
-fn seals_as_others_do(rt: HostRuntime) {
+fn seals_as_others_do() -> Result<(), Fail> {
     let payload = pattern();
     let slot = sealed_pattern();
-    assert!(rt; slot.starts_with(&payload));
-    assert!(rt; slot.ends_with(&TAG));
-    assert_eq!(rt; open(&slot), Opened::Good(tag()));
+    ensure!(slot.starts_with(&payload));
+    ensure!(slot.ends_with(&TAG));
+    ensure!(open(&slot) == Opened::Good(tag()));
     let last = Tag {
         page: Page(1_048_575),
         seq: Seq((1 << 62) - 1),
@@ -109,47 +109,51 @@ fn seals_as_others_do(rt: HostRuntime) {
     };
     let mut slot = [0u8; 4160];
     seal(last, &[0xff; 4096], &mut slot);
-    assert!(rt; slot.ends_with(&LAST_TAG));
-    assert_eq!(rt; open(&slot), Opened::Good(last));
+    ensure!(slot.ends_with(&LAST_TAG));
+    ensure!(open(&slot) == Opened::Good(last));
+    Ok(())
 }
 
 #[test]
-fn each_bit_of_a_slot_counts(rt: HostRuntime) {
+fn each_bit_of_a_slot_counts() -> Result<(), Fail> {
     let mut slot = sealed_pattern();
     for i in 0..576 {
         for bit in 0..8u32 {
             let was = slot[i];
             slot[i] = was ^ (1 << bit);
-            assert_eq!(rt; open(&slot), Opened::Bad, "byte {i}, bit {bit}");
+            ensure!(open(&slot) == Opened::Bad, at i);
             slot[i] = was;
         }
     }
-    assert_eq!(rt; open(&slot), Opened::Good(tag()));
+    ensure!(open(&slot) == Opened::Good(tag()));
+    Ok(())
 }
 
 #[test]
-fn each_bit_of_an_erased_slot_counts(rt: HostRuntime) {
+fn each_bit_of_an_erased_slot_counts() -> Result<(), Fail> {
     let mut slot = [0xffu8; 576];
-    assert_eq!(rt; open(&slot), Opened::Erased);
+    ensure!(open(&slot) == Opened::Erased);
     for i in 0..576 {
         for bit in 0..8u32 {
             slot[i] = 0xff ^ (1 << bit);
-            assert_eq!(rt; open(&slot), Opened::Bad, "byte {i}, bit {bit}");
+            ensure!(open(&slot) == Opened::Bad, at i);
             slot[i] = 0xff;
         }
     }
+    Ok(())
 }
 
 #[test]
-fn cut_slots_are_bad(rt: HostRuntime) {
+fn cut_slots_are_bad() -> Result<(), Fail> {
     let slot = sealed_pattern();
     for len in [1, 63, 64, 575] {
-        assert_eq!(rt; open(&slot[..len]), Opened::Bad, "{len} bytes");
+        ensure!(open(&slot[..len]) == Opened::Bad, at len);
     }
+    Ok(())
 }
 
 #[test]
-fn headers_as_others_write_them(rt: HostRuntime) -> Result<(), Fail> {
+fn headers_as_others_write_them() -> Result<(), Fail> {
     let live = Header {
         die: Die(1),
         geometry: Geometry::new(4, 0, 16, 8, 512, 64)?,
@@ -159,7 +163,7 @@ fn headers_as_others_write_them(rt: HostRuntime) -> Result<(), Fail> {
         mask: 15,
         array: ARRAY,
     };
-    assert_eq!(rt; open_header(&LIVE), Some(live));
+    ensure!(open_header(&LIVE) == Some(live));
     let spare = Header {
         die: Die(3),
         geometry: Geometry::new(4, 1, 16, 8, 512, 64)?,
@@ -169,7 +173,7 @@ fn headers_as_others_write_them(rt: HostRuntime) -> Result<(), Fail> {
         mask: 0,
         array: ARRAY,
     };
-    assert_eq!(rt; open_header(&SPARE), Some(spare));
+    ensure!(open_header(&SPARE) == Some(spare));
     let last = Header {
         die: Die(63),
         geometry: Geometry::new(64, 0, 4096, 256, 4096, 1_048_576)?,
@@ -179,31 +183,32 @@ fn headers_as_others_write_them(rt: HostRuntime) -> Result<(), Fail> {
         mask: u64::MAX,
         array: ARRAY,
     };
-    assert_eq!(rt; open_header(&LAST), Some(last));
-    assert_eq!(rt; open_header(&UNKNOWN_MARK), None);
+    ensure!(open_header(&LAST) == Some(last));
+    ensure!(open_header(&UNKNOWN_MARK) == None);
     Ok(())
 }
 
 #[test]
-fn headers_are_sealed_again(rt: HostRuntime) -> Result<(), Fail> {
+fn headers_are_sealed_again() -> Result<(), Fail> {
     for bytes in [&LIVE, &SPARE, &LAST] {
         let header = open_header(bytes).ok_or("no header")?;
-        assert_eq!(rt; seal_header(&header), *bytes);
+        ensure!(seal_header(&header) == *bytes);
     }
     Ok(())
 }
 
 #[test]
-fn each_bit_of_a_header_counts(rt: HostRuntime) {
+fn each_bit_of_a_header_counts() -> Result<(), Fail> {
     for good in [&LIVE, &SPARE, &LAST] {
         let mut header = *good;
         for i in 0..112 {
             for bit in 0..8u32 {
                 let was = header[i];
                 header[i] = was ^ (1 << bit);
-                assert_eq!(rt; open_header(&header), None, "byte {i}, bit {bit}");
+                ensure!(open_header(&header) == None, at i);
                 header[i] = was;
             }
         }
     }
+    Ok(())
 }

@@ -5,13 +5,12 @@ use fa_image::ImageFault;
 use fa_types::{BlockFault, GeometryFault};
 use std::alloc::Global;
 use std::fmt::Display;
-use std::process::Abort;
 use std::test::Fail;
 
 /// A fault has this text.
-fn tells<D: Display>(rt: &impl Abort, alloc: Global, fault: &D, text: &str) -> Result<(), Fail> {
+fn tells<D: Display>(alloc: Global, fault: &D, text: &str) -> Result<(), Fail> {
     let told = format!(in alloc; "{fault}")?;
-    assert!(rt; told.as_str() == text, "at {text:?}");
+    ensure!(told.as_str() == text, at text);
     Ok(())
 }
 
@@ -25,7 +24,7 @@ fn texts_of_faults(rt: HostRuntime) -> Result<(), Fail> {
         (GeometryFault::Pages, "pages outside their limits"),
     ];
     for (fault, text) in geometry {
-        tells(&rt, rt.alloc(), &fault, text)?;
+        tells(rt.alloc(), &fault, text)?;
     }
     let store = [
         (BlockFault::Lost, "lost"),
@@ -34,7 +33,7 @@ fn texts_of_faults(rt: HostRuntime) -> Result<(), Fail> {
         (BlockFault::Spent, "a counter is at its end"),
     ];
     for (fault, text) in store {
-        tells(&rt, rt.alloc(), &fault, text)?;
+        tells(rt.alloc(), &fault, text)?;
     }
     let image = [
         (ImageFault::ReadSlot, "a slot could not be read"),
@@ -45,9 +44,9 @@ fn texts_of_faults(rt: HostRuntime) -> Result<(), Fail> {
         (ImageFault::Sync, "the image could not be synced"),
     ];
     for (fault, text) in image {
-        tells(&rt, rt.alloc(), &fault, text)?;
+        tells(rt.alloc(), &fault, text)?;
     }
-    tells(&rt, rt.alloc(), &WrongMagic, "wrong magic")?;
-    tells(&rt, rt.alloc(), &TextError::Line(7), "line 7")?;
-    tells(&rt, rt.alloc(), &TextError::NoMemory, "no memory")
+    tells(rt.alloc(), &WrongMagic, "wrong magic")?;
+    tells(rt.alloc(), &TextError::Line(7), "line 7")?;
+    tells(rt.alloc(), &TextError::NoMemory, "no memory")
 }

@@ -14,7 +14,7 @@ fn fault_of(dies: u32, spares: u32, blocks: u32, slots: u32, page_bytes: u32, pa
 }
 
 #[test]
-fn limits_of_dies_and_spares(rt: HostRuntime) {
+fn limits_of_dies_and_spares() -> Result<(), Fail> {
     let cases = [
         (0, 0, 1),
         (1, 0, 1),
@@ -28,12 +28,13 @@ fn limits_of_dies_and_spares(rt: HostRuntime) {
     ];
     for (dies, spares, want) in cases {
         let given = fault_of(dies, spares, 16, 8, 512, 1);
-        assert_eq!(rt; given, want, "{dies} dies, {spares} spares");
+        ensure!(given == want, at dies);
     }
+    Ok(())
 }
 
 #[test]
-fn limits_of_blocks_slots_and_page_bytes(rt: HostRuntime) {
+fn limits_of_blocks_slots_and_page_bytes() -> Result<(), Fail> {
     let cases = [
         (3, 8, 512, 2),
         (4, 8, 512, 0),
@@ -54,16 +55,13 @@ fn limits_of_blocks_slots_and_page_bytes(rt: HostRuntime) {
     ];
     for (blocks, slots, page_bytes, want) in cases {
         let given = fault_of(4, 0, blocks, slots, page_bytes, 1);
-        assert_eq!(rt;
-            given,
-            want,
-            "{blocks} blocks, {slots} slots, {page_bytes} bytes"
-        );
+        ensure!(given == want, at blocks);
     }
+    Ok(())
 }
 
 #[test]
-fn limits_of_pages(rt: HostRuntime) {
+fn limits_of_pages() -> Result<(), Fail> {
     // Dies, spares, blocks, slots and pages: 4 dies of 14 usable blocks of 8 slots hold 448 copies.
     let cases = [
         (4, 0, 16, 8, 0, 5),
@@ -80,17 +78,19 @@ fn limits_of_pages(rt: HostRuntime) {
     ];
     for (dies, spares, blocks, slots, pages, want) in cases {
         let given = fault_of(dies, spares, blocks, slots, 512, pages);
-        assert_eq!(rt; given, want, "{pages} pages on {dies} dies");
+        ensure!(given == want, at pages);
     }
+    Ok(())
 }
 
 #[test]
-fn first_fault_of_several(rt: HostRuntime) {
-    assert_eq!(rt; fault_of(1, 0, 3, 3, 511, 0), 1);
-    assert_eq!(rt; fault_of(4, 0, 3, 3, 511, 0), 2);
-    assert_eq!(rt; fault_of(4, 0, 16, 3, 511, 0), 3);
-    assert_eq!(rt; fault_of(4, 0, 16, 8, 511, 0), 4);
-    assert_eq!(rt; fault_of(4, 0, 16, 8, 512, 0), 5);
+fn first_fault_of_several() -> Result<(), Fail> {
+    ensure!(fault_of(1, 0, 3, 3, 511, 0) == 1);
+    ensure!(fault_of(4, 0, 3, 3, 511, 0) == 2);
+    ensure!(fault_of(4, 0, 16, 3, 511, 0) == 3);
+    ensure!(fault_of(4, 0, 16, 8, 511, 0) == 4);
+    ensure!(fault_of(4, 0, 16, 8, 512, 0) == 5);
+    Ok(())
 }
 
 /// Makes each call of a store once. What was read comes back.
@@ -107,21 +107,21 @@ fn calls_of<B: Blocks>(alloc: Global, store: &mut B) -> Result<Vec<u8>, BlockFau
 #[test]
 fn plain_store_behind_its_trait(rt: HostRuntime) -> Result<(), Fail> {
     let mut store = MemBlocks::new(rt.alloc(), 8)?;
-    assert_eq!(rt; store.size(), 8);
-    assert_eq!(rt; store.read(rt.alloc(), 0, 8)?.as_slice(), [0; 8].as_slice());
+    ensure!(store.size() == 8);
+    ensure!(store.read(rt.alloc(), 0, 8)?.as_slice() == [0; 8].as_slice());
     let bytes = calls_of(rt.alloc(), &mut store)?;
-    assert_eq!(rt; bytes.as_slice(), b"\0ab\0\0ef\0".as_slice());
-    assert_eq!(rt; store.size(), 8);
-    assert_eq!(rt; store.read(rt.alloc(), 8, 0)?.len(), 0);
+    ensure!(bytes.as_slice() == b"\0ab\0\0ef\0".as_slice());
+    ensure!(store.size() == 8);
+    ensure!(store.read(rt.alloc(), 8, 0)?.len() == 0);
     Ok(())
 }
 
 #[test]
 fn plain_store_of_no_bytes(rt: HostRuntime) -> Result<(), Fail> {
     let mut store = MemBlocks::new(rt.alloc(), 0)?;
-    assert_eq!(rt; store.size(), 0);
+    ensure!(store.size() == 0);
     store.write(0, b"", true)?;
-    assert_eq!(rt; store.read(rt.alloc(), 0, 0)?.len(), 0);
+    ensure!(store.read(rt.alloc(), 0, 0)?.len() == 0);
     Ok(())
 }
 
@@ -144,16 +144,16 @@ fn trims_to(alloc: Global, offset: u64, len: u64, pages: [u8; 4]) -> Result<bool
 
 #[test]
 fn trim_of_whole_pages(rt: HostRuntime) -> Result<(), Fail> {
-    assert_eq!(rt; MemBlocks::new(rt.alloc(), 2048)?.page_bytes(), 512);
-    assert!(rt; trims_to(rt.alloc(), 0, 2048, [0, 0, 0, 0])?);
-    assert!(rt; trims_to(rt.alloc(), 0, 512, [0, 1, 1, 1])?);
-    assert!(rt; trims_to(rt.alloc(), 0, 511, [1, 1, 1, 1])?);
-    assert!(rt; trims_to(rt.alloc(), 1, 511, [1, 1, 1, 1])?);
-    assert!(rt; trims_to(rt.alloc(), 1, 1022, [1, 1, 1, 1])?);
-    assert!(rt; trims_to(rt.alloc(), 1, 1023, [1, 0, 1, 1])?);
-    assert!(rt; trims_to(rt.alloc(), 511, 1025, [1, 0, 0, 1])?);
-    assert!(rt; trims_to(rt.alloc(), 512, 1536, [1, 0, 0, 0])?);
-    assert!(rt; trims_to(rt.alloc(), 2047, 1, [1, 1, 1, 1])?);
-    assert!(rt; trims_to(rt.alloc(), 2048, 0, [1, 1, 1, 1])?);
+    ensure!(MemBlocks::new(rt.alloc(), 2048)?.page_bytes() == 512);
+    ensure!(trims_to(rt.alloc(), 0, 2048, [0, 0, 0, 0])?);
+    ensure!(trims_to(rt.alloc(), 0, 512, [0, 1, 1, 1])?);
+    ensure!(trims_to(rt.alloc(), 0, 511, [1, 1, 1, 1])?);
+    ensure!(trims_to(rt.alloc(), 1, 511, [1, 1, 1, 1])?);
+    ensure!(trims_to(rt.alloc(), 1, 1022, [1, 1, 1, 1])?);
+    ensure!(trims_to(rt.alloc(), 1, 1023, [1, 0, 1, 1])?);
+    ensure!(trims_to(rt.alloc(), 511, 1025, [1, 0, 0, 1])?);
+    ensure!(trims_to(rt.alloc(), 512, 1536, [1, 0, 0, 0])?);
+    ensure!(trims_to(rt.alloc(), 2047, 1, [1, 1, 1, 1])?);
+    ensure!(trims_to(rt.alloc(), 2048, 0, [1, 1, 1, 1])?);
     Ok(())
 }

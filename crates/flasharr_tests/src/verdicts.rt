@@ -3,7 +3,6 @@ use crate::arguments::printed;
 use fa_prog::run;
 use linked_list_allocator::LocalHeap;
 use std::alloc::Global;
-use std::process::Abort;
 use std::test::Fail;
 
 /// Two pages on one die, and their certificate but for its shortage.
@@ -14,20 +13,14 @@ const CLOSED_WINDOW: &str = "batch\npage 1 on 0 1\npage 2 on 0 1\npage 3 on 0 1\
 rounds 3\nplace 1 0 1\nplace 2 0 2\n";
 
 /// Tries `verify` on a text.
-fn verifies(
-    rt: &impl Abort,
-    alloc: Global,
-    text: &[&str],
-    status: u8,
-    told: &str,
-) -> Result<(), Fail> {
+fn verifies(alloc: Global, text: &[&str], status: u8, told: &str) -> Result<(), Fail> {
     let mut input = String::new(alloc);
     for part in text {
         input.push_str(part)?;
     }
     let (ended, output) = printed(alloc, &["verify"], input.as_str())?;
-    assert_eq!(rt; ended, status, "at {told:?}");
-    assert!(rt; output.as_slice() == told.as_bytes(), "at {told:?}");
+    ensure!(ended == status, at told);
+    ensure!(output.as_slice() == told.as_bytes(), at told);
     Ok(())
 }
 
@@ -35,21 +28,19 @@ fn verifies(
 fn not_short(rt: HostRuntime) -> Result<(), Fail> {
     let claim = "place 1 0 1\nplace 2 0 2\nshort 1\nend\n";
     verifies(
-        &rt,
         rt.alloc(),
         &[TWO_ON_ONE_DIE, claim],
         1,
         "refused 8 not short\n",
     )?;
     let claim = "place 1 0 1\nplace 2 0 2\nshort 1 2\nend";
-    verifies(&rt, rt.alloc(), &[TWO_ON_ONE_DIE, claim], 0, "least 2\n")
+    verifies(rt.alloc(), &[TWO_ON_ONE_DIE, claim], 0, "least 2\n")
 }
 
 #[test]
 fn place_taken_twice(rt: HostRuntime) -> Result<(), Fail> {
     let claim = "place 1 0 1\nplace 2 0 1\nshort 1 2\nend\n";
     verifies(
-        &rt,
         rt.alloc(),
         &[TWO_ON_ONE_DIE, claim],
         1,
@@ -58,24 +49,17 @@ fn place_taken_twice(rt: HostRuntime) -> Result<(), Fail> {
 }
 
 #[test]
-fn closed_rounds(rt: HostRuntime) -> Result<(), Fail> {
+fn closed_window(rt: HostRuntime) -> Result<(), Fail> {
     let claim = "place 3 0 3\nshort 1 2 3\nend\n";
-    verifies(&rt, rt.alloc(), &[CLOSED_WINDOW, claim], 0, "least 3\n")?;
+    verifies(rt.alloc(), &[CLOSED_WINDOW, claim], 0, "least 3\n")?;
     let claim = "place 3 1 2\nshort 1 2 3\nend\n";
     verifies(
-        &rt,
         rt.alloc(),
         &[CLOSED_WINDOW, claim],
         1,
         "refused 4 round closed\n",
     )?;
-    verifies(
-        &rt,
-        rt.alloc(),
-        &["batch\nend\nrounds 0\nend\n"],
-        0,
-        "least 0\n",
-    )
+    verifies(rt.alloc(), &["batch\nend\nrounds 0\nend\n"], 0, "least 0\n")
 }
 
 // The faults of the texts come before those of the batch.
@@ -103,7 +87,7 @@ fn unsound_batches(rt: HostRuntime) -> Result<(), Fail> {
         ("", "text: line 1\n"),
     ];
     for (text, told) in cases {
-        verifies(&rt, rt.alloc(), &[text], 2, told)?;
+        verifies(rt.alloc(), &[text], 2, told)?;
     }
     Ok(())
 }
@@ -127,17 +111,14 @@ rounds 2\nplace 1 0 1\nplace 2 0 2\nshort 1 2\nend\n";
         let status = run(&heap, &arguments, &mut input, &mut output);
         if status == 0 {
             whole = whole.saturating_add(1);
-            assert!(rt; output.as_slice() == b"least 2\n".as_slice(), "with {room}");
+            ensure!(output.as_slice() == b"least 2\n".as_slice(), at room);
         } else {
             refused = refused.saturating_add(1);
-            assert_eq!(rt; status, 1, "with {room}");
-            assert!(rt;
-                output.as_slice() == b"no memory\n".as_slice(),
-                "with {room}"
-            );
+            ensure!(status == 1, at room);
+            ensure!(output.as_slice() == b"no memory\n".as_slice(), at room);
         }
     }
-    assert!(rt; refused > 10);
-    assert!(rt; whole > 1);
+    ensure!(refused > 10);
+    ensure!(whole > 1);
     Ok(())
 }

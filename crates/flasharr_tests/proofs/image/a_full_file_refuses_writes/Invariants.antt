@@ -3,4 +3,4 @@ use Rattle.std.proofs.Common.{[]}
 use Rattle.flasharr_tests.proofs.image.a_full_file_refuses_writes.Given as goal
 
 abbrev pub ghost-over : goal.ghost-over
-ghost-over g a = record { bytes = []; lefts = [] }
+ghost-over a = record { bytes = []; lefts = [] }

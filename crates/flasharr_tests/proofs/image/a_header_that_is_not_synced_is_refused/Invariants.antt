@@ -3,4 +3,4 @@ use Rattle.std.proofs.Common.{[]}
 use Rattle.flasharr_tests.proofs.image.a_header_that_is_not_synced_is_refused.Given as goal
 
 abbrev pub ghost-over : goal.ghost-over
-ghost-over g a = record { bytes = []; lefts = [] }
+ghost-over a = record { bytes = []; lefts = [] }
