@@ -70,7 +70,26 @@ fn other_arguments(rt: HostRuntime) -> Result<(), Fail> {
     Ok(())
 }
 
-// Five bytes are taken before the second write fails.
+/// Tries a command with a writer that takes five bytes a call, until a call fails: so many were taken.
+fn fails_at_write(
+    alloc: Global,
+    name: &str,
+    text: &str,
+    told: &str,
+    call: u64,
+    taken: usize,
+) -> Result<(), Fail> {
+    let arguments = given(alloc, &[name])?;
+    let mut input = text.as_bytes();
+    let mut output = Failing::new(Piecewise::new(Vec::new(alloc), 5), call);
+    ensure!(run(alloc, &arguments, &mut input, &mut output) == 1, at told);
+    ensure!(output.calls == call, at told);
+    let written = output.inner.inner.as_slice();
+    ensure!(written.len() == taken, at told);
+    ensure!(told.as_bytes().starts_with(written), at told);
+    Ok(())
+}
+
 #[test]
 fn output_that_fails(rt: HostRuntime) -> Result<(), Fail> {
     let cases = [
@@ -83,16 +102,8 @@ fn output_that_fails(rt: HostRuntime) -> Result<(), Fail> {
         ("verify", "batch", "text: line 2\n"),
     ];
     for (name, text, told) in cases {
-        let arguments = given(rt.alloc(), &[name])?;
-        for (fails_at, taken) in [(1, 0), (2, 5)] {
-            let mut input = text.as_bytes();
-            let mut output = Failing::new(Piecewise::new(Vec::new(rt.alloc()), 5), fails_at);
-            ensure!(run(rt.alloc(), &arguments, &mut input, &mut output) == 1);
-            let written = output.inner.inner.as_slice();
-            ensure!(written.len() == taken, at told);
-            ensure!(told.as_bytes().starts_with(written), at told);
-            ensure!(output.calls == fails_at);
-        }
+        fails_at_write(rt.alloc(), name, text, told, 1, 0)?;
+        fails_at_write(rt.alloc(), name, text, told, 2, 5)?;
     }
     Ok(())
 }
