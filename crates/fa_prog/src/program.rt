@@ -2,6 +2,7 @@
 ghost use Rattle.std.specs.Prelude.{◌≡◌, ◌⊎◌, [], ◌∷◌, drop, map, string_bytes, IfOk, IfErr};
 ghost use Rattle.std.specs.IoError.{error_kind};
 ghost use Rattle.std.specs.Vec.Iter.{into_iter_items};
+ghost use Rattle.fa_io.specs.Streams.{between};
 ghost use Rattle.fa_prog.specs.Arguments.{subcommand_in};
 ghost use Rattle.fa_prog.specs.Output.{ShowsUsage, RefusesArguments, TellsNoMemory};
 ghost use Rattle.fa_prog.specs.Program.{Runs};
@@ -37,12 +38,7 @@ pub fn start<R: Read, W: Write, A: Allocator + Copy>(
     output: &mut W,
 ) -> Status
     ensures given { IfOk arguments (λ all. Runs (map string_bytes (drop 1 (into_iter_items all)))
-        (record {
-          left_before = R.remaining input.old;
-          left_after = R.remaining input.new;
-          held_before = W.contents output.old;
-          held_after = W.contents output.new;
-        }) result.number
+        (between (R.remaining input.old) (R.remaining input.new) (W.contents output.old) (W.contents output.new)) result.number
         ⊎ TellsNoMemory (W.contents output.old) (W.contents output.new) result.number) }
     ensures refused { IfErr arguments (λ e. RefusesArguments (error_kind e) (W.contents output.old) (W.contents output.new) result.number) }
 {
@@ -72,12 +68,8 @@ pub fn run<R: Read, W: Write, A: Allocator + Copy>(
     input: &mut R,
     output: &mut W,
 ) -> u8
-    ensures { Runs (map string_bytes arguments.now) (record {
-      left_before = R.remaining input.old;
-      left_after = R.remaining input.new;
-      held_before = W.contents output.old;
-      held_after = W.contents output.new;
-    }) result }
+    ensures { let streams = between (R.remaining input.old) (R.remaining input.new) (W.contents output.old) (W.contents output.new) in
+        Runs (map string_bytes arguments.now) streams result }
 {
     match subcommand_of(arguments) {
         Some(Subcommand::Talk) => run_talk(alloc, input, output),
