@@ -13,7 +13,7 @@ use Rattle.fa_io.proofs.StreamLemmas.{IsNext, joined, Reads-joined, Writes-joine
 use Rattle.fa_types.specs.Store.{Call, Reading, Answer}
 use Rattle.fa_cmds.specs.declared.request.Request.{Request}
 use Rattle.fa_cmds.specs.declared.reply.ReplyCode.{ReplyCode}
-use Rattle.fa_cmds.specs.Requests.{IsRequest, request_bytes, body_length, reply_bytes, kind_of}
+use Rattle.fa_cmds.specs.Requests.{IsRequest, request_bytes, body_length, reply_bytes, row_of}
 use Rattle.fa_cmds.specs.declared.request.Command.TheVariants.{Read, Write}
 use Rattle.fa_session.specs.Ends.{end_of_read, end_of_stream}
 use Rattle.fa_session.specs.Exchanges.{Outcome, Exchange, call_of, MayCome, IsExchange, heard_of, reply_of, reply_to, Makes, Chain, IsPartOfRequest, EndsTransmission, Transmitted}
@@ -43,10 +43,10 @@ call_of-read r body read = ap (λ command. call_of command r body) read
 
 -- a READ has no data, and a WRITE as much as it says
 pub body_length-read : (r : Request) → r.command ≡ Read → body_length r ≡ 0
-body_length-read r read = ap (λ command. if (kind_of command).has_data then r.length else 0) read
+body_length-read r read = ap (λ command. if (row_of command).has_data then r.length else 0) read
 
 pub body_length-write : (r : Request) → r.command ≡ Write → body_length r ≡ r.length
-body_length-write r write = ap (λ command. if (kind_of command).has_data then r.length else 0) write
+body_length-write r write = ap (λ command. if (row_of command).has_data then r.length else 0) write
 
 module _ {S : Type 0} (made : S → Call → Answer → S → Type 0) (size : ℕ) (r : Request) where
   -- a request that is declined, and why that is right

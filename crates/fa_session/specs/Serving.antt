@@ -1,5 +1,6 @@
 -- What the parts of one exchange come to: what the streams did, and the store where it is asked.
-use Rattle.std.specs.Prelude.{◌≡◌, ℕ, ◌+◌, ◌*◌, ◌<◌, ◌≤◌, max, List, [], ◌++◌, length, take, Option, Some, Result, Ok, Err}
+use Rattle.std.specs.Prelude.{◌≡◌, ℕ, ◌+◌, ◌*◌, ◌<◌, ◌≤◌, max, List, [], ◌++◌, length, take}
+use Rattle.std.specs.Prelude.{Option, Some, Result, Ok, Err}
 use Rattle.std.specs.Io.KnownBytes.{Consumes}
 use Rattle.fa_io.specs.Streams.{Streams, Reads, Writes, WritesPart, Sends, EndsReading}
 use Rattle.fa_io.specs.declared.reading.ReadEnd.{ReadEnd}
