@@ -9,6 +9,8 @@ mod cert;
 #[cfg(test)]
 mod cmds;
 #[cfg(test)]
+mod command_line;
+#[cfg(test)]
 mod fails;
 #[cfg(test)]
 mod image;
@@ -30,3 +32,5 @@ mod texts;
 mod types;
 #[cfg(test)]
 mod verdicts;
+#[cfg(test)]
+mod wire;

@@ -50,7 +50,7 @@ fn converses(
     let arguments = [String::from_str(alloc, "talk")?];
     let mut input = lines.as_bytes();
     let mut printed = Vec::new(alloc);
-    assert_eq!(rt; run(alloc, &arguments, &mut input, &mut printed), 0);
+    assert_eq!(rt; run(alloc, alloc, &arguments, &mut input, &mut printed), 0);
     let mut expected = hex::encode(alloc, answer.as_slice())?;
     let number = end.to_string(alloc)?;
     expected.push_str("\nend ")?;

@@ -1,4 +1,4 @@
-use Rattle.std.proofs.Common.{◌≡◌, ◌++◌, arith, length, take, length-append, length-take-le, length-drop}
+use Rattle.std.proofs.Common.{◌≡◌, ◌++◌, arith, length, take, length-append, length-take-le}
 use Rattle.std.proofs.KnownBytes.{Consumes-trans}
 use Rattle.std.proofs.lemmas.Grind.{common_steps}
 use Rattle.fa_io.proofs.reading.skip_through.Goals as goal

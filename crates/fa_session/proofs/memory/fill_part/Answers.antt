@@ -1,4 +1,4 @@
-use Rattle.std.proofs.Common.{◌≡◌, ℕ, ◌+◌, ◌-◌, ◌≤◌, List, ◌++◌, Option, Result, Ok, Err, arith, length, take, refl, sym, ap, ◌∙◌, subst, length-take-le}
+use Rattle.std.proofs.Common.{◌≡◌, ℕ, ◌+◌, ◌-◌, ◌≤◌, List, ◌++◌, Option, Result, Ok, Err, arith, length, take, ap, ◌∙◌, subst, length-take-le}
 use Rattle.std.proofs.lemmas.Grind.{common_steps}
 use Rattle.fa_io.specs.Streams.{Fills}
 use Rattle.fa_io.specs.declared.reading.ReadEnd.{ReadEnd}

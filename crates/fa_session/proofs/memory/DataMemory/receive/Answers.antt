@@ -1,11 +1,11 @@
-use Rattle.std.proofs.Common.{◌≡◌, ℕ, ◌+◌, ◌-◌, ◌<◌, ◌≤◌, List, ◌++◌, Option, Result, Ok, Err, arith, length, take, drop, length-append, length-take-le, refl, sym, ap, ◌∙◌}
+use Rattle.std.proofs.Common.{◌≡◌, ℕ, ◌+◌, ◌-◌, ◌<◌, ◌≤◌, List, ◌++◌, Option, Ok, Err, arith, length, take, drop, length-append, length-take-le}
 use Rattle.std.specs.Io.KnownBytes.{Consumes}
 use Rattle.std.proofs.KnownBytes.{Consumes-trans}
 use Rattle.std.proofs.lemmas.Grind.{common_steps}
 use Rattle.std.proofs.lemmas.Result.{err_from_is_err_and}
 use Rattle.fa_io.specs.Streams.{EndsReading, Skips}
 use Rattle.fa_io.specs.declared.reading.ReadEnd.{ReadEnd}
-use Rattle.fa_session.specs.Serving.{FillsPart, IsModest, Receives}
+use Rattle.fa_session.specs.Serving.{IsModest, Receives}
 use Rattle.fa_session.specs.declared.memory.Received.TheVariants.{Dropped}
 use Rattle.fa_session.proofs.memory.DataMemory.receive.Goals as goal
 
