@@ -36,8 +36,8 @@ pub record IsRequest (r : Request) : Type 0 where
   pub offset : r.offset < 2 ^ 64
   pub len : r.length < 2 ^ 32
 
--- What a command is like.
-pub record Kind : Type 0 where
+-- What a command is like: a row of the table of the commands.
+pub record CommandRow : Type 0 where
   -- the store can be asked for it
   pub is_served : Bool
   -- the flags that it may have, all of them set: FUA is bit 0, NO_HOLE bit 1
@@ -52,18 +52,18 @@ pub record Kind : Type 0 where
   pub past_end : ReplyCode
 
 -- a command that is not served
-abbrev pub no_kind : Kind
-no_kind = record { is_served = false; flags = 0; has_data = false; has_range = false; is_limited = false; past_end = Invalid }
+abbrev pub no_row : CommandRow
+no_row = record { is_served = false; flags = 0; has_data = false; has_range = false; is_limited = false; past_end = Invalid }
 
 -- the table of the commands
-abbrev pub kind_of : Command → Kind
-kind_of Read = record { is_served = true; flags = 1; has_data = false; has_range = true; is_limited = true; past_end = Invalid }
-kind_of Write = record { is_served = true; flags = 1; has_data = true; has_range = true; is_limited = true; past_end = NoSpace }
-kind_of Disconnect = no_kind
-kind_of Flush = record { is_served = true; flags = 1; has_data = false; has_range = false; is_limited = false; past_end = Invalid }
-kind_of Trim = record { is_served = true; flags = 1; has_data = false; has_range = true; is_limited = false; past_end = Invalid }
-kind_of WriteZeroes = record { is_served = true; flags = 3; has_data = false; has_range = true; is_limited = false; past_end = NoSpace }
-kind_of (Other number) = no_kind
+abbrev pub row_of : Command → CommandRow
+row_of Read = record { is_served = true; flags = 1; has_data = false; has_range = true; is_limited = true; past_end = Invalid }
+row_of Write = record { is_served = true; flags = 1; has_data = true; has_range = true; is_limited = true; past_end = NoSpace }
+row_of Disconnect = no_row
+row_of Flush = record { is_served = true; flags = 1; has_data = false; has_range = false; is_limited = false; past_end = Invalid }
+row_of Trim = record { is_served = true; flags = 1; has_data = false; has_range = true; is_limited = false; past_end = Invalid }
+row_of WriteZeroes = record { is_served = true; flags = 3; has_data = false; has_range = true; is_limited = false; past_end = NoSpace }
+row_of (Other number) = no_row
 
 abbrev pub is_disconnect : Command → Bool
 is_disconnect Disconnect = true
@@ -77,7 +77,7 @@ request_bytes r =
 
 -- how many bytes of data follow a request
 abbrev pub body_length : Request → ℕ
-body_length r = if (kind_of r.command).has_data then r.length else 0
+body_length r = if (row_of r.command).has_data then r.length else 0
 
 -- the number of a reply's error, 0 for none
 abbrev pub code_number : ReplyCode → ℕ
@@ -101,7 +101,7 @@ is_no_hole flags = bit_at flags 1 == 1
 
 -- some flag that the command may not have: those that it may have are the lowest bits
 abbrev pub has_unknown_flag : Request → Bool
-has_unknown_flag r = nat_lt (kind_of r.command).flags r.flags
+has_unknown_flag r = nat_lt (row_of r.command).flags r.flags
 
 -- 32 MiB, the longest READ or WRITE
 abbrev pub max_length : ℕ
@@ -109,7 +109,7 @@ max_length = 33554432
 
 -- more bytes than its command may send
 abbrev pub is_too_long : Request → Bool
-is_too_long r = (kind_of r.command).is_limited && nat_lt max_length r.length
+is_too_long r = (row_of r.command).is_limited && nat_lt max_length r.length
 
 -- the range has bytes past the end of a store of this size
 abbrev pub is_past_end : Request → ℕ → Bool
@@ -128,12 +128,12 @@ first_of (rule ∷ rules) otherwise = if rule.0 then rule.1 else first_of rules 
 abbrev pub rules_for : Request → ℕ → List Rule
 rules_for r size =
     (is_disconnect r.command, Leave)
-    ∷ (not (kind_of r.command).is_served, Refuse Invalid)
+    ∷ (not (row_of r.command).is_served, Refuse Invalid)
     ∷ (has_unknown_flag r, Refuse Invalid)
-    ∷ (not (kind_of r.command).has_range, Do)
+    ∷ (not (row_of r.command).has_range, Do)
     ∷ (r.length == 0, Refuse Success)
     ∷ (is_too_long r, Refuse Invalid)
-    ∷ (is_past_end r size, Refuse (kind_of r.command).past_end)
+    ∷ (is_past_end r size, Refuse (row_of r.command).past_end)
     ∷ []
 
 -- what is decided of a request to a store of this size
@@ -143,11 +143,11 @@ decision r size = first_of (rules_for r size) Do
 -- what is known of the range of a request that is to be done
 pub record IsRangeToDo (r : Request) (size : ℕ) : Type 0 where
   pub some : 0 < r.length
-  pub not_long : IsTrue (kind_of r.command).is_limited → r.length ≤ max_length
+  pub not_long : IsTrue (row_of r.command).is_limited → r.length ≤ max_length
   pub within : r.offset + r.length ≤ size
 
 -- what is known of a request that is to be done
 pub record IsToDo (r : Request) (size : ℕ) : Type 0 where
-  pub served : (kind_of r.command).is_served ≡ true
-  pub known_flags : r.flags ≤ (kind_of r.command).flags
-  pub ranged : (kind_of r.command).has_range ≡ true → IsRangeToDo r size
+  pub served : (row_of r.command).is_served ≡ true
+  pub known_flags : r.flags ≤ (row_of r.command).flags
+  pub ranged : (row_of r.command).has_range ≡ true → IsRangeToDo r size

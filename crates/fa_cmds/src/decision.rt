@@ -1,6 +1,6 @@
 //! What is to be done with a request.
 ghost use Rattle.std.specs.Prelude.{◌≡◌};
-ghost use Rattle.fa_cmds.specs.Requests.{decision, kind_of, is_past_end as past_end, IsToDo};
+ghost use Rattle.fa_cmds.specs.Requests.{decision, row_of, is_past_end as past_end, IsToDo};
 
 use crate::reply::ReplyCode;
 use crate::request::{Command, FUA, NO_HOLE, Request};
@@ -61,14 +61,14 @@ pub fn decide(request: Request, size: u64) -> Decision
 
 /// The store can be asked for it.
 fn is_served(command: Command) -> bool
-    ensures { result ≡ (kind_of command).is_served }
+    ensures { result ≡ (row_of command).is_served }
 {
     !matches!(command, Command::Disconnect | Command::Other(_))
 }
 
 /// The flags that a command may have, all of them set.
 fn known_flags(command: Command) -> u16
-    ensures { result ≡ (kind_of command).flags }
+    ensures { result ≡ (row_of command).flags }
 {
     match command {
         Command::Read | Command::Write | Command::Flush | Command::Trim => FUA,
@@ -79,7 +79,7 @@ fn known_flags(command: Command) -> u16
 
 /// Its offset and length name bytes of the store.
 fn has_range(command: Command) -> bool
-    ensures { result ≡ (kind_of command).has_range }
+    ensures { result ≡ (row_of command).has_range }
 {
     matches!(
         command,
@@ -89,7 +89,7 @@ fn has_range(command: Command) -> bool
 
 /// READ and WRITE are, since the bytes of their range are sent.
 fn is_limited(command: Command) -> bool
-    ensures { result ≡ (kind_of command).is_limited }
+    ensures { result ≡ (row_of command).is_limited }
 {
     matches!(command, Command::Read | Command::Write)
 }
@@ -106,7 +106,7 @@ fn is_past_end(request: Request, size: u64) -> bool
 
 /// What a range past the end is answered with.
 fn past_end_code(command: Command) -> ReplyCode
-    ensures { result ≡ (kind_of command).past_end }
+    ensures { result ≡ (row_of command).past_end }
 {
     match command {
         Command::Write | Command::WriteZeroes => ReplyCode::NoSpace,

@@ -21,6 +21,10 @@ pub record Streams : Type 0 where
   pub held_before : Option (List ℕ)
   pub held_after : Option (List ℕ)
 
+-- from what a reader had left to what it has, and from what a writer held to what it holds
+abbrev pub between : (left_before left_after held_before held_after : Option (List ℕ)) → Streams
+between a b h k = record { left_before = a; left_after = b; held_before = h; held_after = k }
+
 -- the reader gave these bytes
 abbrev pub Reads : Streams → List ℕ → Type 0
 Reads s bytes = Consumes s.left_before s.left_after bytes

@@ -1,8 +1,9 @@
 //! One read and one write, and what the answer to it means.
-ghost use Rattle.std.specs.Prelude.{◌≡◌, ◌<◌, length};
+ghost use Rattle.std.specs.Prelude.{◌≡◌, ◌<◌, ◌++◌, length};
 ghost use Rattle.fa_io.specs.Answers.{kind_of, meaning_of_read, meaning_of_write, fault_of_kind};
 ghost use Rattle.fa_io.specs.Streams.{ReadsOnce, WritesOnce};
 
+use crate::both::WriteBoth;
 use std::io::{self, ErrorKind, Read, Write};
 
 /// The fault of a read or a write: an error that is no interruption, or that a write took no byte. Only
@@ -64,6 +65,19 @@ pub(crate) fn write_once<W: Write>(writer: &mut W, bytes: &[u8]) -> WriteMeaning
     ensures { WritesOnce (W.contents writer.old) (W.contents writer.new) bytes.now result }
 {
     write_meaning(writer.write(bytes))
+}
+
+/// Writes once some of the first bytes and of the second, as many as are taken at once, and answers what
+/// came of it.
+pub(crate) fn write_both_once<W: WriteBoth>(
+    writer: &mut W,
+    first: &[u8],
+    second: &[u8],
+) -> WriteMeaning
+    requires { 0 < length first.now }
+    ensures { WritesOnce (W.contents writer.old) (W.contents writer.new) (first.now ++ second.now) result }
+{
+    write_meaning(writer.write_both(first, second))
 }
 
 /// What an answer of a reader to a buffer with room means.

@@ -1,6 +1,7 @@
 //! Streams that are slow or fail, for tests: each is over another reader or writer.
 ghost use Rattle.std.specs.Prelude.{◌≡◌};
 
+use crate::both::WriteBoth;
 use std::io::{self, ErrorKind, Read, Write};
 
 /// Gives or takes at most so many bytes a call. A reader gives at least one, where it has one; a writer
@@ -47,6 +48,17 @@ impl<W: Write> Write for Piecewise<W> {
 
     fn flush(&mut self) -> io::Result<()> {
         self.inner.flush()
+    }
+}
+
+impl<W: WriteBoth> WriteBoth for Piecewise<W> {
+    fn write_both(&mut self, first: &[u8], second: &[u8]) -> io::Result<usize> {
+        if first.len() >= self.max_bytes {
+            return self.write(first);
+        }
+        self.calls = self.calls.saturating_add(1);
+        let room = second.len().min(self.max_bytes - first.len());
+        self.inner.write_both(first, &second[..room])
     }
 }
 
@@ -97,6 +109,16 @@ impl<W: Write> Write for Failing<W> {
 
     fn flush(&mut self) -> io::Result<()> {
         self.inner.flush()
+    }
+}
+
+impl<W: WriteBoth> WriteBoth for Failing<W> {
+    fn write_both(&mut self, first: &[u8], second: &[u8]) -> io::Result<usize> {
+        self.calls = self.calls.saturating_add(1);
+        if self.calls >= self.fails_at {
+            return Err(io::Error::from(ErrorKind::BrokenPipe));
+        }
+        self.inner.write_both(first, second)
     }
 }
 
@@ -152,5 +174,14 @@ impl<W: Write> Write for Interrupted<W> {
 
     fn flush(&mut self) -> io::Result<()> {
         self.inner.flush()
+    }
+}
+
+impl<W: WriteBoth> WriteBoth for Interrupted<W> {
+    fn write_both(&mut self, first: &[u8], second: &[u8]) -> io::Result<usize> {
+        if self.is_interrupted() {
+            return Err(io::Error::from(ErrorKind::Interrupted));
+        }
+        self.inner.write_both(first, second)
     }
 }

@@ -3,6 +3,7 @@
 #![tactic(auto)]
 
 mod answers;
+mod both;
 mod calls;
 pub mod faulty;
 mod lines;
@@ -10,7 +11,8 @@ mod reading;
 mod sending;
 
 pub use answers::CallFault;
+pub use both::WriteBoth;
 pub use calls::Calls;
 pub use lines::{cut_line, first_index};
-pub use reading::{ReadEnd, fill, read_some, skip};
-pub use sending::{SendFailed, send, send_all};
+pub use reading::{ReadEnd, fill, read_some, skip, skip_through};
+pub use sending::{SendFailed, send, send_all, send_both};

@@ -21,7 +21,7 @@ pub enum ReadEnd {
     TooManyReads,
 }
 
-/// The most bytes that are dropped at once.
+/// The most bytes that `skip` drops at once.
 const MAX_DROPPED: usize = 4096;
 
 /// Reads at least one byte, and as many more as come with it. A read that was interrupted is made
@@ -69,9 +69,24 @@ pub fn skip<R: Read>(reader: &mut R, calls: &mut Calls, count: usize) -> Result<
     ensures no_fewer { calls.old.reads ≤ calls.new.reads }
 {
     let mut buffer = [0u8; MAX_DROPPED];
+    skip_through(reader, calls, count, &mut buffer)
+}
+
+/// Reads so many bytes into a buffer, and drops them, as many a read as the buffer has room for.
+pub fn skip_through<R: Read>(
+    reader: &mut R,
+    calls: &mut Calls,
+    count: usize,
+    buffer: &mut [u8],
+) -> Result<(), ReadEnd>
+    requires { 0 < length buffer.old }
+    ensures skipped { Skips (R.remaining reader.old) (R.remaining reader.new) count result }
+    ensures limit { result ≡ Err ReadEnd.TooManyReads → calls.new.reads ≡ 2 ^ 62 }
+    ensures no_fewer { calls.old.reads ≤ calls.new.reads }
+{
     let mut done = 0;
     while done < count {
-        let room = (count - done).min(MAX_DROPPED);
+        let room = (count - done).min(buffer.len());
         done += read_some(reader, calls, &mut buffer[..room])?;
     }
     Ok(())

@@ -3,6 +3,8 @@ use Rattle.std.specs.Prelude.{◌≡◌, ◌≢◌, ◌⊎◌, ℕ, List, [], �
 use Rattle.std.specs.Io.KnownBytes.{Appends, IsAtEnd}
 use Rattle.std.specs.declared.io.ErrorKind.{ErrorKind}
 use Rattle.std.specs.declared.io.ErrorKind.TheVariants.{Interrupted, OutOfMemory}
+use Rattle.clap.specs.declared.error.kind.ErrorKind.{ErrorKind as Finding}
+use Rattle.clap.specs.declared.error.kind.ErrorKind.TheVariants.{DisplayHelp, DisplayVersion, OutOfMemory as NoMemoryFound}
 use Rattle.fa_io.specs.Streams.{Streams, IsCut, Reads}
 
 -- What printing a text comes to: it is printed, and the run ends with the status that is meant; or a write
@@ -35,6 +37,18 @@ ShowsUsage old new status =
     (status ≡ 2)
     × (Appends old new (codes "usage: flasharr talk | verify" ++ 10 ∷ [])
     ⊎ IsCut old new (codes "usage: flasharr talk | verify" ++ 10 ∷ []))
+
+-- A text for a person was printed, or a prefix of it, and the status is 2.
+abbrev pub ShowsMistake : Option (List ℕ) → Option (List ℕ) → ℕ → Type 0
+ShowsMistake old new status = (status ≡ 2) × ((text : List ℕ) × (Appends old new text ⊎ IsCut old new text))
+
+-- What is printed of arguments that are no command: help and the version were asked for and are printed with
+-- status 0, and of a mistake is printed what it is, with status 2.
+abbrev pub ShowsText : Finding → Option (List ℕ) → Option (List ℕ) → ℕ → Type 0
+ShowsText DisplayHelp old new status = (text : List ℕ) × Prints text 0 old new status
+ShowsText DisplayVersion old new status = (text : List ℕ) × Prints text 0 old new status
+ShowsText NoMemoryFound old new status = TellsNoMemory old new status
+ShowsText kind old new status = ShowsMistake old new status
 
 -- What the program does where its arguments cannot be had, by the kind of the error: it prints that memory was
 -- refused, or the line of usage.

@@ -1,10 +1,12 @@
 -- What the program does with its arguments, its input and its output.
-use Rattle.std.specs.Prelude.{◌≡◌, ℕ, List, [], codes, Option, None, Some}
+use Rattle.std.specs.Prelude.{◌≡◌, ◌⊎◌, ℕ, List, [], codes, Option, None, Some}
+use Rattle.clap.specs.Kinds.{IsAmong}
+use Rattle.clap.specs.declared.error.kind.ErrorKind.{ErrorKind}
 use Rattle.fa_io.specs.Streams.{Streams, Reads}
-use Rattle.fa_prog.specs.declared.program.Subcommand.{Subcommand}
-use Rattle.fa_prog.specs.declared.program.Subcommand.TheVariants.{Talk, Verify}
-use Rattle.fa_prog.specs.Arguments.{subcommand_in}
-use Rattle.fa_prog.specs.Output.{ShowsUsage}
+use Rattle.fa_prog.specs.declared.command_line.Subcommand.{Subcommand}
+use Rattle.fa_prog.specs.declared.command_line.Subcommand.TheVariants.{Talk, Verify}
+use Rattle.fa_prog.specs.Arguments.{found_instead, subcommand_in}
+use Rattle.fa_prog.specs.Output.{ShowsUsage, ShowsText, TellsNoMemory}
 use Rattle.fa_prog.specs.Talk.{RunsTalk}
 use Rattle.fa_prog.specs.Verify.{RunsVerify}
 
@@ -14,6 +16,12 @@ RunsSubcommand (Some Talk) s status = RunsTalk 32768 (codes "disk") s status
 RunsSubcommand (Some Verify) s status = RunsVerify s status
 RunsSubcommand None s status = Reads s [] × ShowsUsage s.held_before s.held_after status
 
--- what the program does with these arguments, those behind its name
+-- What the program does with these arguments, those behind its name: what their command does; or, where they are
+-- none, nothing is read, and help, the version or what the mistake is are shown. There may be no memory for the
+-- arguments; then nothing is read either.
 abbrev pub Runs : List (List ℕ) → Streams → ℕ → Type 0
-Runs arguments s status = RunsSubcommand (subcommand_in arguments) s status
+Runs arguments s status =
+    ((found_instead arguments ≡ []) × RunsSubcommand (subcommand_in arguments) s status)
+    ⊎ (Reads s []
+    × (((kind : ErrorKind) × IsAmong kind (found_instead arguments) × ShowsText kind s.held_before s.held_after status)
+    ⊎ TellsNoMemory s.held_before s.held_after status))

@@ -1,8 +1,10 @@
 //! The program `flasharr`, as one call.
 #![tactic(auto)]
 
+mod command_line;
 mod hex_lines;
 mod input;
+pub mod laws;
 mod output;
 mod program;
 mod status;

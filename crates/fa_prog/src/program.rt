@@ -2,29 +2,24 @@
 ghost use Rattle.std.specs.Prelude.{◌≡◌, ◌⊎◌, [], ◌∷◌, drop, map, string_bytes, IfOk, IfErr};
 ghost use Rattle.std.specs.IoError.{error_kind};
 ghost use Rattle.std.specs.Vec.Iter.{into_iter_items};
-ghost use Rattle.fa_prog.specs.Arguments.{subcommand_in};
-ghost use Rattle.fa_prog.specs.Output.{ShowsUsage, RefusesArguments, TellsNoMemory};
+ghost use Rattle.fa_io.specs.Streams.{between};
+ghost use Rattle.clap.specs.Values.{kind_of};
+ghost use Rattle.fa_prog.specs.Output.{ShowsUsage, ShowsText, ShowsMistake, RefusesArguments, TellsNoMemory};
 ghost use Rattle.fa_prog.specs.Program.{Runs};
 
-use crate::output::{FAULTY, refuse_for_memory};
+use crate::command_line::{Subcommand, subcommand_of};
+use crate::output::{DONE, FAULTY, print, refuse_for_memory};
 use crate::status::Status;
 use crate::talk::run_talk;
 use crate::verify::run_verify;
+use clap::Error;
+use clap::error::ErrorKind as Finding;
 use fa_io::send_all;
-use std::alloc::{AllocError, Allocator};
+use std::alloc::{AllocError, Allocator, Global};
 use std::env::Args;
 use std::io::{self, ErrorKind, Read, Write};
 
-/// What the program can do.
-#[derive(Clone, Copy, Debug, PartialEq, Eq)]
-enum Subcommand {
-    /// Serves one client, whose bytes are given as text.
-    Talk,
-    /// Checks a certificate.
-    Verify,
-}
-
-/// What is printed where the arguments are no command.
+/// What is printed where the arguments cannot be had.
 const USAGE: &[u8] = b"usage: flasharr talk | verify\n";
 
 /// Runs the program with all of its arguments, of which the first is its name, as [`run`] does with
@@ -32,23 +27,20 @@ const USAGE: &[u8] = b"usage: flasharr talk | verify\n";
 /// 1, or else, as where one is no text, a line of usage, with status 2.
 pub fn start<R: Read, W: Write, A: Allocator + Copy>(
     alloc: A,
+    global: Global,
     arguments: io::Result<Args<A>>,
     input: &mut R,
     output: &mut W,
 ) -> Status
     ensures given { IfOk arguments (λ all. Runs (map string_bytes (drop 1 (into_iter_items all)))
-        (record {
-          left_before = R.remaining input.old;
-          left_after = R.remaining input.new;
-          held_before = W.contents output.old;
-          held_after = W.contents output.new;
-        }) result.number
+        (between (R.remaining input.old) (R.remaining input.new)
+        (W.contents output.old) (W.contents output.new)) result.number
         ⊎ TellsNoMemory (W.contents output.old) (W.contents output.new) result.number) }
     ensures refused { IfErr arguments (λ e. RefusesArguments (error_kind e) (W.contents output.old) (W.contents output.new) result.number) }
 {
     match arguments {
         Ok(all) => match listed(alloc, all) {
-            Ok(list) => Status::of(run(alloc, behind_name(&list), input, output)),
+            Ok(list) => Status::of(run(alloc, global, behind_name(&list), input, output)),
             Err(AllocError) => Status::of(refuse_for_memory(output)),
         },
         Err(error) => Status::of(refuse_arguments(error.kind(), output)),
@@ -65,25 +57,48 @@ pub fn start<R: Read, W: Write, A: Allocator + Copy>(
 ///
 /// `verify` reads a batch text and a certificate text, and prints `least R` or the first refusal.
 ///
-/// Other arguments print a line of usage.
+/// `--help` prints what the program or the command before it does, and `--version` the program's version, with
+/// status 0. Other arguments print what is wrong with them, with status 2. All of it goes to the output.
+///
+/// The arguments are read by `clap`, which takes its memory of the process.
 pub fn run<R: Read, W: Write, A: Allocator + Copy>(
     alloc: A,
+    global: Global,
     arguments: &[String<A>],
     input: &mut R,
     output: &mut W,
 ) -> u8
-    ensures { Runs (map string_bytes arguments.now) (record {
-      left_before = R.remaining input.old;
-      left_after = R.remaining input.new;
-      held_before = W.contents output.old;
-      held_after = W.contents output.new;
-    }) result }
+    ensures { let streams = between (R.remaining input.old) (R.remaining input.new) (W.contents output.old) (W.contents output.new) in
+        Runs (map string_bytes arguments.now) streams result }
 {
-    match subcommand_of(arguments) {
-        Some(Subcommand::Talk) => run_talk(alloc, input, output),
-        Some(Subcommand::Verify) => run_verify(alloc, input, output),
-        None => show_usage(output),
+    match subcommand_of(global, arguments) {
+        Ok(Some(Subcommand::Talk)) => run_talk(alloc, input, output),
+        Ok(Some(Subcommand::Verify)) => run_verify(alloc, input, output),
+        Ok(None) => show_usage(output),
+        Err(error) => show_text(global, &error, output),
     }
+}
+
+/// Prints help, the version or what is wrong with the arguments.
+fn show_text<W: Write>(global: Global, error: &Error, output: &mut W) -> u8
+    ensures { ShowsText (kind_of error.now) (W.contents output.old) (W.contents output.new) result
+        ⊎ TellsNoMemory (W.contents output.old) (W.contents output.new) result }
+{
+    match (error.kind(), error.to_string(global)) {
+        (Finding::OutOfMemory, _) | (_, Err(AllocError)) => refuse_for_memory(output),
+        (Finding::DisplayHelp | Finding::DisplayVersion, Ok(text)) => {
+            print(output, DONE, text.as_bytes())
+        }
+        (_, Ok(text)) => show_mistake(&text, output),
+    }
+}
+
+/// Prints what is wrong with the arguments.
+fn show_mistake<W: Write>(text: &str, output: &mut W) -> u8
+    ensures { ShowsMistake (W.contents output.old) (W.contents output.new) result }
+{
+    let _ = send_all(output, text.as_bytes());
+    FAULTY
 }
 
 /// All of the arguments, as a list.
@@ -123,25 +138,4 @@ fn show_usage<W: Write>(output: &mut W) -> u8
 {
     let _ = send_all(output, USAGE);
     FAULTY
-}
-
-/// The command that the arguments are.
-fn subcommand_of<A: Allocator>(arguments: &[String<A>]) -> Option<Subcommand>
-    ensures { result ≡ subcommand_in (map string_bytes arguments.now) }
-{
-    match arguments {
-        [name] => named(name.as_str()),
-        _ => None,
-    }
-}
-
-/// The command of this name.
-fn named(name: &str) -> Option<Subcommand>
-    ensures { result ≡ subcommand_in (name.now ∷ []) }
-{
-    match name {
-        "talk" => Some(Subcommand::Talk),
-        "verify" => Some(Subcommand::Verify),
-        _ => None,
-    }
 }

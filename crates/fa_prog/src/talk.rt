@@ -1,6 +1,7 @@
 //! The command `talk`.
 ghost use Rattle.std.specs.Prelude.{◌≡◌, ◌⊎◌, IfOk, IfErr, codes, string_bytes};
 ghost use Rattle.fa_session.specs.Ends.{end_number};
+ghost use Rattle.fa_io.specs.Streams.{between};
 ghost use Rattle.fa_prog.specs.HexLines.{bytes_of_text, IsFault};
 ghost use Rattle.fa_prog.specs.Output.{TellsNoMemory};
 ghost use Rattle.fa_prog.specs.Talk.{Talks, TellsTalk, RunsTalk, talk_text as text_of, line_text as text_of_line};
@@ -25,12 +26,8 @@ pub(crate) fn run_talk<R: Read, W: Write, A: Allocator + Copy>(
     input: &mut R,
     output: &mut W,
 ) -> u8
-    ensures { RunsTalk TALK_SIZE (codes "disk") (record {
-      left_before = R.remaining input.old;
-      left_after = R.remaining input.new;
-      held_before = W.contents output.old;
-      held_after = W.contents output.new;
-    }) result }
+    ensures { let streams = between (R.remaining input.old) (R.remaining input.new) (W.contents output.old) (W.contents output.new) in
+        RunsTalk TALK_SIZE (codes "disk") streams result }
 {
     match read_input(alloc, input) {
         Ok(text) => tell_talk(alloc, &text, output),

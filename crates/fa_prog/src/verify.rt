@@ -1,6 +1,7 @@
 //! The command `verify`.
 ghost use Rattle.std.specs.Prelude.{◌≡◌, ◌⊎◌, IfOk, IfErr, string_bytes};
 ghost use Rattle.fa_cert.specs.Text.{IsTextError, words_by_line};
+ghost use Rattle.fa_io.specs.Streams.{between};
 ghost use Rattle.fa_prog.specs.Output.{TellsNoMemory};
 ghost use Rattle.fa_prog.specs.Verify.{AreSomeTexts, IsJudged, TellsVerify, RunsVerify, judged_status, judged_text};
 
@@ -28,12 +29,8 @@ pub(crate) fn run_verify<R: Read, W: Write, A: Allocator + Copy>(
     input: &mut R,
     output: &mut W,
 ) -> u8
-    ensures { RunsVerify (record {
-      left_before = R.remaining input.old;
-      left_after = R.remaining input.new;
-      held_before = W.contents output.old;
-      held_after = W.contents output.new;
-    }) result }
+    ensures { let streams = between (R.remaining input.old) (R.remaining input.new) (W.contents output.old) (W.contents output.new) in
+        RunsVerify streams result }
 {
     match read_input(alloc, input) {
         Ok(text) => tell_verify(alloc, &text, output),

@@ -8,7 +8,7 @@ use Rattle.fa_cmds.specs.declared.request.Command.TheVariants.{Read, Write, Disc
 use Rattle.fa_cmds.specs.declared.decision.Decision.{Decision}
 use Rattle.fa_cmds.specs.declared.decision.Decision.TheVariants.{Disconnect as Leave, Do, Refuse}
 use Rattle.fa_cmds.specs.declared.reply.ReplyCode.TheVariants.{Invalid}
-use Rattle.fa_cmds.specs.Requests.{IsNamed, command_number, kind_of, is_disconnect, has_unknown_flag, first_of, rules_for, decision}
+use Rattle.fa_cmds.specs.Requests.{IsNamed, command_number, row_of, is_disconnect, has_unknown_flag, first_of, rules_for, decision}
 use Rattle.fa_session.specs.Announced.{Announces, IsAnnounced, MayHave, MayBeDone, send_fua}
 
 -- none of the first three rules holds of what is to be done
@@ -20,13 +20,13 @@ passed false false false rest is = (refl, refl)
 
 -- what is to be done is of a command that is served, with flags that it may have
 record IsKnown (command : Command) (flags : ℕ) : Type 0 where
-  served : (kind_of command).is_served ≡ true
-  few : flags ≤ (kind_of command).flags
+  served : (row_of command).is_served ≡ true
+  few : flags ≤ (row_of command).flags
 
 known : (r : Request) (size : ℕ) → decision r size ≡ Do → IsKnown r.command r.flags
 unfolding decision
 known r size is =
-    let none = passed (is_disconnect r.command) (not (kind_of r.command).is_served) (has_unknown_flag r) (first_of (drop 3 (rules_for r size)) Do) is in
+    let none = passed (is_disconnect r.command) (not (row_of r.command).is_served) (has_unknown_flag r) (first_of (drop 3 (rules_for r size)) Do) is in
     record { served = grind (arith, none.0, nat_tests); few = grind (arith, none.1, nat_tests) }
 
 -- the request of this command and with these flags, for the first byte
@@ -34,7 +34,7 @@ abbrev request_of : Command → ℕ → Request
 request_of command flags = record { flags = flags; command = command; cookie = 0; offset = 0; length = 1 }
 
 -- it is to be done
-to_do : (command : Command) (flags : ℕ) → (kind_of command).is_served ≡ true → nat_lt (kind_of command).flags flags ≡ false → decision (request_of command flags) 1 ≡ Do
+to_do : (command : Command) (flags : ℕ) → (row_of command).is_served ≡ true → nat_lt (row_of command).flags flags ≡ false → decision (request_of command flags) 1 ≡ Do
 unfolding decision
 to_do Read flags served few = rw few refl
 to_do Write flags served few = rw few refl
@@ -48,14 +48,14 @@ no_more : (most flags : ℕ) → flags ≤ most → nat_lt most flags ≡ false
 no_more most flags below = grind (arith, nat_tests)
 
 -- a command that is known may be done
-may-be : (command : Command) (flags : ℕ) → IsNamed command → command_number command < 7 → flags < 4 → (kind_of command).is_served ≡ true → flags ≤ (kind_of command).flags → MayBeDone command flags
+may-be : (command : Command) (flags : ℕ) → IsNamed command → command_number command < 7 → flags < 4 → (row_of command).is_served ≡ true → flags ≤ (row_of command).flags → MayBeDone command flags
 may-be command flags named number small served few = record {
   request = request_of command flags;
   size = 1;
   fits = record { flags = omega arith; named = named; number = omega arith; cookie = omega arith; offset = omega arith; len = omega arith };
   same_command = refl;
   same_flags = refl;
-  is_to_do = to_do command flags served (no_more (kind_of command).flags flags few);
+  is_to_do = to_do command flags served (no_more (row_of command).flags flags few);
 }
 
 may : (command : Command) (flags : ℕ) → IsKnown command flags → MayBeDone command flags
@@ -73,8 +73,8 @@ done-known command flags done =
     let r = done.request in
     let is = known r done.size done.is_to_do in
     record {
-      served = ap (λ c. (kind_of c).is_served) (sym done.same_command) ∙ is.served;
-      few = subst (λ n. n ≤ (kind_of command).flags) done.same_flags (subst (λ c. r.flags ≤ (kind_of c).flags) done.same_command is.few);
+      served = ap (λ c. (row_of c).is_served) (sym done.same_command) ∙ is.served;
+      few = subst (λ n. n ≤ (row_of command).flags) done.same_flags (subst (λ c. r.flags ≤ (row_of c).flags) done.same_command is.few);
     }
 
 -- no flag but FUA

@@ -3,9 +3,9 @@ use Rattle.std.proofs.Common.{◌≡◌, ℕ, ◌<◌, List, [], ◌++◌, Optio
 use Rattle.std.specs.Io.KnownBytes.{Appends}
 use Rattle.std.proofs.KnownBytes.{Consumes-nil}
 use Rattle.std.specs.List.{flat_map}
-use Rattle.fa_io.specs.Streams.{Streams, Reads, Writes, WritesPart, IsCut}
+use Rattle.fa_io.specs.Streams.{Streams, Reads, Writes, WritesPart, IsCut, between}
 use Rattle.fa_io.specs.declared.reading.ReadEnd.TheVariants.{EndOfInput, Failed, TooManyReads}
-use Rattle.fa_io.proofs.StreamLemmas.{between, IsNext, joined, Reads-joined, Writes-joined, missing-le}
+use Rattle.fa_io.proofs.StreamLemmas.{IsNext, joined, Reads-joined, Writes-joined, missing-le}
 use Rattle.fa_nego.specs.Negotiation.{greeting_bytes, Negotiates}
 use Rattle.fa_nego.specs.NegoState.{NegoState, new_state, IsAt, wanted, step_of}
 use Rattle.fa_nego.specs.declared.step.Step.TheVariants.{More, Go, Aborted as AbortedByClient, Closed as ClosedByServer}

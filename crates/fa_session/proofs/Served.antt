@@ -5,19 +5,19 @@ use Rattle.std.specs.Io.KnownBytes.{Consumes}
 use Rattle.std.proofs.KnownBytes.{Appends-nil, Consumes-trans, Consumes-nil}
 use Rattle.std.proofs.lemmas.List.{length-take-le}
 use Rattle.std.proofs.lemmas.List.Concat.{flat_map-append}
-use Rattle.fa_io.specs.Streams.{Streams, Reads, Writes, EndsReading, Fills, Skips}
+use Rattle.fa_io.specs.Streams.{Streams, Reads, Writes, EndsReading, Fills, Skips, between}
 use Rattle.fa_io.specs.declared.reading.ReadEnd.{ReadEnd}
 use Rattle.fa_io.specs.declared.reading.ReadEnd.TheVariants.{EndOfInput, Failed, TooManyReads}
 use Rattle.fa_io.specs.declared.sending.SendFailed.{SendFailed}
-use Rattle.fa_io.proofs.StreamLemmas.{between, IsNext, joined, Reads-joined, Writes-joined, missing-le}
+use Rattle.fa_io.proofs.StreamLemmas.{IsNext, joined, Reads-joined, Writes-joined, missing-le}
 use Rattle.fa_types.specs.Store.{Call, Reading, Answer}
 use Rattle.fa_cmds.specs.declared.request.Request.{Request}
 use Rattle.fa_cmds.specs.declared.reply.ReplyCode.{ReplyCode}
-use Rattle.fa_cmds.specs.Requests.{IsRequest, request_bytes, body_length, reply_bytes, kind_of}
+use Rattle.fa_cmds.specs.Requests.{IsRequest, request_bytes, body_length, reply_bytes, row_of}
 use Rattle.fa_cmds.specs.declared.request.Command.TheVariants.{Read, Write}
 use Rattle.fa_session.specs.Ends.{end_of_read, end_of_stream}
 use Rattle.fa_session.specs.Exchanges.{Outcome, Exchange, call_of, MayCome, IsExchange, heard_of, reply_of, reply_to, Makes, Chain, IsPartOfRequest, EndsTransmission, Transmitted}
-use Rattle.fa_session.specs.Serving.{ReadsBody, StopsInBody, Declines, AnswersRequest, AsksStore, IsServed}
+use Rattle.fa_session.specs.Serving.{Receives, ReadsBody, StopsInBody, Declines, AnswersRequest, AsksStore, IsServed}
 use Rattle.fa_session.specs.declared.stream_end.StreamEnd.{StreamEnd}
 use Rattle.fa_session.specs.declared.stream_end.StreamEnd.TheVariants.{Unread, Unsent}
 use Rattle.fa_session.specs.declared.session_end.SessionEnd.{SessionEnd}
@@ -33,12 +33,9 @@ unread size last left TooManyReads part any = (refl, part)
 pub StopsInBody-skips : (r : Request) (a b h : Option (List ℕ)) (end : ReadEnd) → Skips a b (body_length r) (Err end) → StopsInBody r (between a b h h) end
 StopsInBody-skips r a b h end skips = (skips.0, skips.1, Appends-nil h)
 
--- data whose bytes stop coming
-pub StopsInBody-fills : (r : Request) (a b h : Option (List ℕ)) (body : List ℕ) (end : ReadEnd) → length body ≡ body_length r → Fills a b body (Err end) → StopsInBody r (between a b h h) end
-StopsInBody-fills r a b h body end whole fills =
-    let n = fills.0.0 in
-    let e = length-take-le n body (omega (arith, fills.0.1)) in
-    ((take n body, omega (arith, e, whole, fills.0.1), fills.0.2), fills.1, Appends-nil h)
+-- data whose bytes stop coming while they are received
+pub StopsInBody-receives : (r : Request) (a b h : Option (List ℕ)) (count before : ℕ) (memory : List ℕ) (end : ReadEnd) → body_length r ≡ count → Receives a b count before memory (Err end) → StopsInBody r (between a b h h) end
+StopsInBody-receives r a b h count before memory end whole received = ((received.0.0, omega (arith, whole, received.0.1), received.0.2), received.1, Appends-nil h)
 
 -- what a READ asks for
 pub call_of-read : (r : Request) (body : List ℕ) → r.command ≡ Read → call_of r.command r body ≡ Some (Reading r.offset r.length)
@@ -46,10 +43,10 @@ call_of-read r body read = ap (λ command. call_of command r body) read
 
 -- a READ has no data, and a WRITE as much as it says
 pub body_length-read : (r : Request) → r.command ≡ Read → body_length r ≡ 0
-body_length-read r read = ap (λ command. if (kind_of command).has_data then r.length else 0) read
+body_length-read r read = ap (λ command. if (row_of command).has_data then r.length else 0) read
 
 pub body_length-write : (r : Request) → r.command ≡ Write → body_length r ≡ r.length
-body_length-write r write = ap (λ command. if (kind_of command).has_data then r.length else 0) write
+body_length-write r write = ap (λ command. if (row_of command).has_data then r.length else 0) write
 
 module _ {S : Type 0} (made : S → Call → Answer → S → Type 0) (size : ℕ) (r : Request) where
   -- a request that is declined, and why that is right

@@ -1,46 +1,45 @@
 //! What is done with one request.
 ghost use Rattle.std.specs.Prelude.{◌≡◌, ◌≢◌, ◌+◌, ◌≤◌, [], length, IfErr, OnOk};
 ghost use Rattle.fa_cmds.specs.Requests.{decision, body_length, IsToDo};
-ghost use Rattle.fa_io.specs.Streams.{Streams};
+ghost use Rattle.fa_io.specs.Streams.{between};
 ghost use Rattle.fa_session.specs.Serving.{Declines, AnswersRequest, AsksStore, WasAsked};
 ghost use Rattle.fa_types.specs.Store.{Done, Refused};
 ghost use Rattle.fa_cmds.specs.declared.decision.Decision.TheVariants.{Do};
 
+use crate::memory::{DataMemory, Received};
 use crate::replies::{code_of, reply, reply_with_data};
 use crate::stream_end::StreamEnd;
 use fa_cmds::{Command, ReplyCode, Request, body_len};
-use fa_io::{Calls, SendFailed, fill, skip};
+use fa_io::{Calls, SendFailed, WriteBoth};
 use fa_types::{BlockFault, Blocks};
 use std::alloc::Allocator;
 use std::io::{Read, Write};
 
 /// Drops the data of a request, and replies with a code. The store is not asked.
-pub(crate) fn decline<R: Read, W: Write>(
+pub(crate) fn decline<R: Read, W: Write, A: Allocator>(
     reader: &mut R,
     writer: &mut W,
     calls: &mut Calls,
+    memory: &mut DataMemory<A>,
     request: Request,
     code: ReplyCode,
 ) -> Result<(), StreamEnd>
-    ensures declined { let streams : Streams = record {
-      left_before = R.remaining reader.old;
-      left_after = R.remaining reader.new;
-      held_before = W.contents writer.old;
-      held_after = W.contents writer.new;
-    } in
+    ensures declined { let streams = between (R.remaining reader.old) (R.remaining reader.new)
+        (W.contents writer.old) (W.contents writer.new) in
         Declines request code streams result }
     ensures no_fewer { calls.old.reads ≤ calls.new.reads }
 {
-    skip(reader, calls, body_len(request) as usize)?;
+    memory.drop_data(reader, calls, body_len(request) as usize)?;
     Ok(reply(writer, calls, code, request.cookie)?)
 }
 
 /// Does what a request asks for, and replies.
-pub(crate) fn perform<R: Read, W: Write, B: Blocks, A: Allocator>(
+pub(crate) fn perform<R: Read, W: WriteBoth, B: Blocks, A: Allocator>(
     alloc: A,
     reader: &mut R,
     writer: &mut W,
     calls: &mut Calls,
+    memory: &mut DataMemory<A>,
     blocks: &mut B,
     size: u64,
     request: Request,
@@ -48,25 +47,21 @@ pub(crate) fn perform<R: Read, W: Write, B: Blocks, A: Allocator>(
     requires decided { decision request size ≡ Do }
     requires to_do { IsToDo request size }
     requires size { size ≡ (B.view blocks.old).size }
-    ensures answered { let streams : Streams = record {
-      left_before = R.remaining reader.old;
-      left_after = R.remaining reader.new;
-      held_before = W.contents writer.old;
-      held_after = W.contents writer.new;
-    } in
+    ensures answered { let streams = between (R.remaining reader.old) (R.remaining reader.new)
+        (W.contents writer.old) (W.contents writer.new) in
         AnswersRequest B.made size request streams blocks.old blocks.new result }
     ensures size { (B.view blocks.new).size ≡ (B.view blocks.old).size }
     ensures no_fewer { calls.old.reads ≤ calls.new.reads }
 {
     match request.command {
         Command::Read => Ok(give(alloc, writer, calls, blocks, size, request)?),
-        Command::Write => take(alloc, reader, writer, calls, blocks, size, request),
+        Command::Write => take(reader, writer, calls, memory, blocks, size, request),
         _ => Ok(change(writer, calls, blocks, size, request, &[])?),
     }
 }
 
 /// Asks the store for the bytes of a READ, and replies.
-fn give<W: Write, B: Blocks, A: Allocator>(
+fn give<W: WriteBoth, B: Blocks, A: Allocator>(
     alloc: A,
     writer: &mut W,
     calls: &mut Calls,
@@ -90,10 +85,10 @@ fn give<W: Write, B: Blocks, A: Allocator>(
 
 /// Reads the data of a WRITE, hands it to the store, and replies.
 fn take<R: Read, W: Write, B: Blocks, A: Allocator>(
-    alloc: A,
     reader: &mut R,
     writer: &mut W,
     calls: &mut Calls,
+    memory: &mut DataMemory<A>,
     blocks: &mut B,
     size: u64,
     request: Request,
@@ -102,21 +97,17 @@ fn take<R: Read, W: Write, B: Blocks, A: Allocator>(
     requires decided { decision request size ≡ Do }
     requires to_do { IsToDo request size }
     requires size { size ≡ (B.view blocks.old).size }
-    ensures answered { let streams : Streams = record {
-      left_before = R.remaining reader.old;
-      left_after = R.remaining reader.new;
-      held_before = W.contents writer.old;
-      held_after = W.contents writer.new;
-    } in
+    ensures answered { let streams = between (R.remaining reader.old) (R.remaining reader.new)
+        (W.contents writer.old) (W.contents writer.new) in
         AnswersRequest B.made size request streams blocks.old blocks.new result }
     ensures size { (B.view blocks.new).size ≡ (B.view blocks.old).size }
     ensures no_fewer { calls.old.reads ≤ calls.new.reads }
 {
-    let Ok(mut body) = vec![in alloc; 0u8; request.length as usize] else {
-        return decline(reader, writer, calls, request, ReplyCode::NoMemory);
-    };
-    fill(reader, calls, body.as_mut_slice())?;
-    Ok(change(writer, calls, blocks, size, request, body.as_slice())?)
+    let len = request.length as usize;
+    match memory.receive(reader, calls, len)? {
+        Received::Whole => Ok(change(writer, calls, blocks, size, request, memory.front(len))?),
+        Received::Dropped => Ok(reply(writer, calls, ReplyCode::NoMemory, request.cookie)?),
+    }
 }
 
 /// Asks the store for what a request with this data wants that is no READ, and replies.

@@ -1,6 +1,6 @@
 //! The handshake of a connection.
 ghost use Rattle.std.specs.Prelude.{◌≡◌, ◌<◌, ◌≤◌, length, IfOk, OnOk};
-ghost use Rattle.fa_io.specs.Streams.{Streams};
+ghost use Rattle.fa_io.specs.Streams.{between};
 ghost use Rattle.fa_nego.specs.NegoState.{wanted};
 ghost use Rattle.fa_session.specs.Handshake.{HearsOnce, Negotiated};
 
@@ -25,12 +25,8 @@ pub(crate) fn negotiate<R: Read, W: Write, A: Allocator + Copy>(
     size: u64,
 ) -> Result<(), SessionEnd>
     requires { length export.now ≤ MAX_NAME_BYTES }
-    ensures { let streams : Streams = record {
-      left_before = R.remaining reader.old;
-      left_after = R.remaining reader.new;
-      held_before = W.contents writer.old;
-      held_after = W.contents writer.new;
-    } in
+    ensures { let streams = between (R.remaining reader.old) (R.remaining reader.new)
+        (W.contents writer.old) (W.contents writer.new) in
         Negotiated export.now size streams result }
 {
     send(writer, calls, &greeting())?;
@@ -55,12 +51,8 @@ fn hear<R: Read, W: Write, A: Allocator>(
     nego: &mut Nego<'_, A>,
 ) -> Result<Step, HearEnd>
     requires { 0 < wanted nego.old.stage }
-    ensures hears { let streams : Streams = record {
-      left_before = R.remaining reader.old;
-      left_after = R.remaining reader.new;
-      held_before = W.contents writer.old;
-      held_after = W.contents writer.new;
-    } in
+    ensures hears { let streams = between (R.remaining reader.old) (R.remaining reader.new)
+        (W.contents writer.old) (W.contents writer.new) in
         HearsOnce streams nego.old nego.new result }
     ensures counted { OnOk result (calls.old.reads < calls.new.reads) }
     ensures same_export { (nego.new.export ≡ nego.old.export) × (nego.new.size ≡ nego.old.size) }

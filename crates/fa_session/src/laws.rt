@@ -1,7 +1,10 @@
 //! Laws of the definitions, each the contract of a function with no code.
 ghost use Rattle.std.specs.Prelude.{◌≡◌, ◌↔◌, ℕ, List, ◌++◌, map};
 ghost use Rattle.std.specs.List.{flat_map, AllByRecursion};
-ghost use Rattle.fa_nego.specs.Negotiation.{Negotiates};
+ghost use Rattle.byteorder.specs.Endian.{big_bytes};
+ghost use Rattle.fa_nego.specs.Negotiation.{Negotiates, block_size_info};
+ghost use Rattle.fa_nego.specs.Numbers.{info_block_size};
+ghost use Rattle.fa_cmds.specs.Requests.{max_length};
 ghost use Rattle.fa_nego.specs.declared.step.Step.TheVariants.{Go};
 ghost use Rattle.fa_cmds.specs.declared.request.Command.{Command};
 ghost use Rattle.fa_cmds.specs.declared.request.Command.TheVariants.{Flush, Trim, WriteZeroes};
@@ -37,4 +40,10 @@ pub fn flags_announce_what_may_be_done()
     ensures fua { (command : Command) → IsAnnounced command → (Announces send_fua ↔ MayBeDone command 1) }
     ensures exactly { (command : Command) (flags : ℕ)
         → MayBeDone command flags ↔ (IsAnnounced command × MayHave command flags) }
+{}
+
+/// The longest READ or WRITE that the server takes is the maximum that it announces in INFO_BLOCK_SIZE, behind
+/// the minimum of 1 byte and the preferred length of 4,096.
+pub fn longest_request_is_announced()
+    ensures { block_size_info ≡ big_bytes 2 info_block_size ++ big_bytes 4 1 ++ big_bytes 4 4096 ++ big_bytes 4 max_length }
 {}

@@ -4,6 +4,7 @@
 mod exchange;
 mod handshake;
 pub mod laws;
+mod memory;
 mod replies;
 mod session;
 mod session_end;

@@ -5,7 +5,7 @@ ghost use Rattle.fa_io.specs.Streams.{Sends};
 ghost use Rattle.fa_session.specs.Exchanges.{code_of as code_for};
 
 use fa_cmds::{ReplyCode, write_reply};
-use fa_io::{Calls, SendFailed, send};
+use fa_io::{Calls, SendFailed, WriteBoth, send, send_both};
 use fa_types::BlockFault;
 use std::io::Write;
 
@@ -33,8 +33,8 @@ pub(crate) fn reply<W: Write>(
     send(writer, calls, &write_reply(code, cookie))
 }
 
-/// Sends a reply of success and the data that it has.
-pub(crate) fn reply_with_data<W: Write>(
+/// Sends a reply of success and the data that it has, by one call of a writer that takes both.
+pub(crate) fn reply_with_data<W: WriteBoth>(
     writer: &mut W,
     calls: &mut Calls,
     cookie: u64,
@@ -44,6 +44,10 @@ pub(crate) fn reply_with_data<W: Write>(
         (reply_bytes ReplyCode.Success cookie ++ bytes.now) result }
     ensures reads { calls.new.reads ≡ calls.old.reads }
 {
-    reply(writer, calls, ReplyCode::Success, cookie)?;
-    send(writer, calls, bytes)
+    send_both(
+        writer,
+        calls,
+        &write_reply(ReplyCode::Success, cookie),
+        bytes,
+    )
 }

@@ -8,6 +8,7 @@ use std::{env, io};
 fn main(rt: HostRuntime) -> Status {
     fa_prog::start(
         rt.alloc(),
+        rt.alloc(),
         env::args(&rt),
         &mut rt.stdin(),
         &mut io::writer(&rt),

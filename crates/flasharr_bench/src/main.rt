@@ -1,6 +1,8 @@
 //! Measures, by the name of a measurement. Without a word it measures nothing and prints its usage.
 #![tactic(auto)]
 
+mod client;
+mod session;
 mod slots;
 mod words;
 
@@ -22,6 +24,7 @@ fn main(rt: HostRuntime) -> io::Result<ExitCode> {
         _ => None,
     };
     match wanted {
+        Some(Measurement::Session) => session::measure(&rt)?,
         Some(Measurement::Slots) => slots::measure(&rt)?,
         None => {
             tell_usage(&rt)?;
@@ -32,5 +35,5 @@ fn main(rt: HostRuntime) -> io::Result<ExitCode> {
 }
 
 fn tell_usage(rt: &impl Print) -> io::Result<()> {
-    println!(rt; "usage: flasharr_bench slots")
+    println!(rt; "usage: flasharr_bench session | slots")
 }

@@ -4,15 +4,19 @@ ghost use Rattle.std.specs.Prelude.{◌≡◌, ◌↔◌, Some, codes};
 /// Something that can be measured.
 #[derive(Clone, Copy, Debug, PartialEq, Eq)]
 pub enum Measurement {
+    /// READs and WRITEs are served.
+    Session,
     /// Slots are sealed and opened.
     Slots,
 }
 
 /// The measurement of this name.
 pub fn measurement_named(name: &str) -> Option<Measurement>
-    ensures { (result ≡ Some Measurement.Slots) ↔ (name.now ≡ codes "slots") }
+    ensures session { (result ≡ Some Measurement.Session) ↔ (name.now ≡ codes "session") }
+    ensures slots { (result ≡ Some Measurement.Slots) ↔ (name.now ≡ codes "slots") }
 {
     match name {
+        "session" => Some(Measurement::Session),
         "slots" => Some(Measurement::Slots),
         _ => None,
     }

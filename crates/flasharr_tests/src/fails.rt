@@ -177,11 +177,11 @@ fn the_data_of_a_refused_write(rt: HostRuntime) -> Result<(), Fail> {
     let ended = served(rt.alloc(), &mut reader, &mut writer)?;
     ensure!(ended == SessionEnd::InputEnded);
     ensure!(writer.as_slice() == answer.as_slice());
-    ensure!(reader.calls < 260);
+    ensure!(reader.calls < 40);
     Ok(())
 }
 
-// One byte more than a WRITE may have: all of it is dropped, 4,096 bytes a read.
+// One byte more than a WRITE may have: all of it is dropped, 64 KiB a read.
 #[test]
 fn the_data_of_a_write_that_is_too_long(rt: HostRuntime) -> Result<(), Fail> {
     let write = "25609513 0000 0001 0000000000000001 0000000000000000 02000001";
@@ -196,6 +196,6 @@ fn the_data_of_a_write_that_is_too_long(rt: HostRuntime) -> Result<(), Fail> {
     let ended = served(rt.alloc(), &mut reader, &mut writer)?;
     ensure!(ended == SessionEnd::InputEnded);
     ensure!(writer.as_slice() == answer.as_slice());
-    ensure!(reader.calls < 8_300);
+    ensure!(reader.calls < 540);
     Ok(())
 }

@@ -21,6 +21,8 @@ mod cert;
 #[cfg(test)]
 mod cmds;
 #[cfg(test)]
+mod command_line;
+#[cfg(test)]
 mod ensure;
 #[cfg(test)]
 mod fails;
@@ -44,3 +46,5 @@ mod texts;
 mod types;
 #[cfg(test)]
 mod verdicts;
+#[cfg(test)]
+mod wire;

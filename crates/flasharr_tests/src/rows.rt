@@ -1,11 +1,12 @@
 //! Conversations with their answers, also cut after each byte and in pieces of each length.
 use crate::spelling::joined;
+use fa_io::WriteBoth;
 use fa_io::faulty::{Interrupted, Piecewise};
 use fa_prog::run;
 use fa_session::{SessionEnd, serve_stream};
 use fa_types::MemBlocks;
 use std::alloc::Global;
-use std::io::{Read, Write};
+use std::io::Read;
 use std::test::Fail;
 
 /// The flags of a client.
@@ -23,7 +24,7 @@ pub const GONE: &str = "0003e889045565a9 00000007 00000003 0000000c 0000 0000000
 
 /// What the server says to a client's bytes over a plain store of 64 pages of 512 zeros, and how the
 /// connection ends.
-pub fn served<R: Read, W: Write>(
+pub fn served<R: Read, W: WriteBoth>(
     alloc: Global,
     reader: &mut R,
     writer: &mut W,
@@ -43,7 +44,7 @@ fn converses_by_the_program(
     let arguments = [String::from_str(alloc, "talk")?];
     let mut input = lines.as_bytes();
     let mut printed = Vec::new(alloc);
-    ensure!(run(alloc, &arguments, &mut input, &mut printed) == 0);
+    ensure!(run(alloc, alloc, &arguments, &mut input, &mut printed) == 0);
     let answer = hex::encode(alloc, answer)?;
     let expected = format!(in alloc; "{answer}\nend {end}\n")?;
     ensure!(printed.as_slice() == expected.as_bytes());

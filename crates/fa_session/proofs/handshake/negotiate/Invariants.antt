@@ -1,6 +1,6 @@
 -- The handshake so far, which goes on; each piece took a read.
 use Rattle.std.proofs.Common.{◌≡◌, ◌-◌}
-use Rattle.fa_io.proofs.StreamLemmas.{between}
+use Rattle.fa_io.specs.Streams.{between}
 use Rattle.fa_nego.specs.NegoState.{step_of}
 use Rattle.fa_nego.specs.declared.step.Step.TheVariants.{More}
 use Rattle.fa_session.proofs.Greeted.{IsHeard}

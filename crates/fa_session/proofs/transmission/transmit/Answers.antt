@@ -8,6 +8,7 @@ requests-smaller g c = let more = c.in-Ok.ensures.counted in omega (arith, more)
 pub requests-preserved : goal.requests-preserved
 requests-preserved g c = record {
   size = c.requests.invariant.size ∙ sym c.in-Ok.ensures.size;
+  little_kept = c.let_go.ensures;
   so_far = IsSoFar-more _ _ _ _ _ _ _ (refl, refl) c.requests.invariant.so_far c.in-Ok.ensures.served;
 }
 

@@ -1,11 +1,10 @@
 -- So many bytes were consumed.
 use Rattle.std.proofs.Common.{◌≡◌, ◌≤◌, ◌-◌, ℕ, List, length}
 use Rattle.std.specs.Io.KnownBytes.{Consumes}
-use Rattle.fa_io.proofs.reading.skip.Given as goal
+use Rattle.fa_io.proofs.reading.skip_through.Given as goal
 
 abbrev pub invariant-loop-done : goal.invariant-loop-done
 invariant-loop-done g l = record {
-  room : length l.buffer ≡ 4096;
   within : l.done ≤ l.count;
   bytes : List ℕ;
   as_many : length bytes ≡ l.done;
