@@ -33,8 +33,8 @@ RunsOver Tells cannot_read s status =
 abbrev pub ShowsUsage : Option (List ℕ) → Option (List ℕ) → ℕ → Type 0
 ShowsUsage old new status =
     (status ≡ 2)
-    × (Appends old new (codes "usage: flasharr talk | verify" ++ 10 ∷ [])
-    ⊎ IsCut old new (codes "usage: flasharr talk | verify" ++ 10 ∷ []))
+    × (Appends old new (codes "usage: flasharr plan | talk | verify" ++ 10 ∷ [])
+    ⊎ IsCut old new (codes "usage: flasharr plan | talk | verify" ++ 10 ∷ []))
 
 -- What the program does where its arguments cannot be had, by the kind of the error: it prints that memory was
 -- refused, or the line of usage.

@@ -1,16 +1,18 @@
 -- What the program does with its arguments, its input and its output.
-use Rattle.std.specs.Prelude.{◌≡◌, ℕ, List, [], codes, Option, None, Some}
+use Rattle.std.specs.Prelude.{ℕ, List, [], codes, Option, None, Some}
 use Rattle.fa_io.specs.Streams.{Streams, Reads}
 use Rattle.fa_prog.specs.declared.program.Subcommand.{Subcommand}
-use Rattle.fa_prog.specs.declared.program.Subcommand.TheVariants.{Talk, Verify}
+use Rattle.fa_prog.specs.declared.program.Subcommand.TheVariants.{Plan, Talk, Verify}
 use Rattle.fa_prog.specs.Arguments.{subcommand_in}
 use Rattle.fa_prog.specs.Output.{ShowsUsage}
+use Rattle.fa_prog.specs.Plan.{RunsPlan}
 use Rattle.fa_prog.specs.Talk.{RunsTalk}
 use Rattle.fa_prog.specs.Verify.{RunsVerify}
 
 -- What a command does. `talk` has a plain store of 64 pages of 512 bytes. What is no command reads nothing.
 abbrev pub RunsSubcommand : Option Subcommand → Streams → ℕ → Type 0
 RunsSubcommand (Some Talk) s status = RunsTalk 32768 (codes "disk") s status
+RunsSubcommand (Some Plan) s status = RunsPlan s status
 RunsSubcommand (Some Verify) s status = RunsVerify s status
 RunsSubcommand None s status = Reads s [] × ShowsUsage s.held_before s.held_after status
 

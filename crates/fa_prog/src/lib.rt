@@ -4,6 +4,7 @@
 mod hex_lines;
 mod input;
 mod output;
+mod plan;
 mod program;
 mod status;
 mod talk;

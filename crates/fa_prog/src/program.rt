@@ -7,6 +7,7 @@ ghost use Rattle.fa_prog.specs.Output.{ShowsUsage, RefusesArguments, TellsNoMemo
 ghost use Rattle.fa_prog.specs.Program.{Runs};
 
 use crate::output::{FAULTY, refuse_for_memory};
+use crate::plan::run_plan;
 use crate::status::Status;
 use crate::talk::run_talk;
 use crate::verify::run_verify;
@@ -20,12 +21,14 @@ use std::io::{self, ErrorKind, Read, Write};
 enum Subcommand {
     /// Serves one client, whose bytes are given as text.
     Talk,
+    /// Plans a batch.
+    Plan,
     /// Checks a certificate.
     Verify,
 }
 
 /// What is printed where the arguments are no command.
-const USAGE: &[u8] = b"usage: flasharr talk | verify\n";
+const USAGE: &[u8] = b"usage: flasharr plan | talk | verify\n";
 
 /// Runs the program with all of its arguments, of which the first is its name, as [`run`] does with
 /// those behind it. Where the arguments cannot be had, it prints that memory was refused, with status
@@ -63,6 +66,9 @@ pub fn start<R: Read, W: Write, A: Allocator + Copy>(
 /// store of 64 pages of 512 zero bytes under the name `disk`, and prints the server's bytes, in
 /// hexadecimal on one line, and then how the connection ended.
 ///
+/// `plan` reads a batch text, and prints the text of a plan of the least number of rounds with the pages
+/// that show that no plan has fewer.
+///
 /// `verify` reads a batch text and a certificate text, and prints `least R` or the first refusal.
 ///
 /// Other arguments print a line of usage.
@@ -81,6 +87,7 @@ pub fn run<R: Read, W: Write, A: Allocator + Copy>(
 {
     match subcommand_of(arguments) {
         Some(Subcommand::Talk) => run_talk(alloc, input, output),
+        Some(Subcommand::Plan) => run_plan(alloc, input, output),
         Some(Subcommand::Verify) => run_verify(alloc, input, output),
         None => show_usage(output),
     }
@@ -141,6 +148,7 @@ fn named(name: &str) -> Option<Subcommand>
 {
     match name {
         "talk" => Some(Subcommand::Talk),
+        "plan" => Some(Subcommand::Plan),
         "verify" => Some(Subcommand::Verify),
         _ => None,
     }

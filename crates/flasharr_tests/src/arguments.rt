@@ -65,7 +65,7 @@ fn other_arguments(rt: HostRuntime) -> Result<(), Fail> {
     for arguments in cases {
         let (status, output) = printed(rt.alloc(), arguments, "")?;
         assert_eq!(rt; status, 2);
-        assert!(rt; output.as_slice() == b"usage: flasharr talk | verify\n".as_slice());
+        assert!(rt; output.as_slice() == b"usage: flasharr plan | talk | verify\n".as_slice());
     }
     Ok(())
 }
@@ -146,10 +146,10 @@ fn the_program_ends_with_the_status_of_its_run(rt: HostRuntime) -> Result<(), Fa
             &["flasharr", "talk", "extra"],
             "",
             2,
-            "usage: flasharr talk | verify\n",
+            "usage: flasharr plan | talk | verify\n",
         ),
-        (&["flasharr"], "", 2, "usage: flasharr talk | verify\n"),
-        (&[], "", 2, "usage: flasharr talk | verify\n"),
+        (&["flasharr"], "", 2, "usage: flasharr plan | talk | verify\n"),
+        (&[], "", 2, "usage: flasharr plan | talk | verify\n"),
     ];
     for (all, text, status, told) in cases {
         let (ended, output) = started(rt.alloc(), all, text)?;
@@ -163,7 +163,7 @@ fn the_program_ends_with_the_status_of_its_run(rt: HostRuntime) -> Result<(), Fa
 fn arguments_that_cannot_be_had(rt: HostRuntime) -> Result<(), Fail> {
     let cases = [
         (ErrorKind::OutOfMemory, 1, "no memory\n"),
-        (ErrorKind::InvalidData, 2, "usage: flasharr talk | verify\n"),
+        (ErrorKind::InvalidData, 2, "usage: flasharr plan | talk | verify\n"),
     ];
     for (kind, status, told) in cases {
         let mut input = b"".as_slice();
