@@ -12,4 +12,5 @@ pub mod Parts
 pub mod Placed
 pub mod Printed
 pub mod Reading
+pub mod Shortages
 pub mod Windows

@@ -123,7 +123,7 @@ sum_by-same_counts f (x ∷ xs) ys same =
 
 module _ (batch : List Entry) (current : ℕ) (closed : ℕ → ℕ → Bool) (pages : List Page) (marks : List Bool) (long : length marks ≡ 256) (are : (die : ℕ) → get_or marks die false ≡ holds_any batch pages die) where
   -- the dies that are marked are the holders
-  are_the_holders : AreTheHolders batch pages (marked marks 256)
+  pub are_the_holders : AreTheHolders batch pages (marked marks 256)
   are_the_holders die =
       elim (cases_lt die 256) [
         | inl below ↦ count-at marks die 256 below ∙ ap (λ b. cond {A = ℕ} b 1 0) (are die)

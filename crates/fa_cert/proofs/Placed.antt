@@ -116,10 +116,10 @@ place_cmp x y = ordering_then (nat_cmp x.0 y.0) (nat_cmp x.1 y.1)
 abbrev pub is_at_key : ℕ × ℕ → Place → Bool
 is_at_key k x = x.die.0 == k.0 && x.round.0 == k.1
 
-key_has : (x : Place) → is_at_key (x.die.0, x.round.0) x ≡ true
+pub key_has : (x : Place) → is_at_key (x.die.0, x.round.0) x ≡ true
 key_has x = and_from (nat_eq x.die.0 x.die.0) (nat_eq x.round.0 x.round.0) (eq-eqb x.die.0 x.die.0 refl) (eq-eqb x.round.0 x.round.0 refl)
 
-key_only : (k : ℕ × ℕ) (x : Place) → is_at_key k x ≡ true → k ≡ (x.die.0, x.round.0)
+pub key_only : (k : ℕ × ℕ) (x : Place) → is_at_key k x ≡ true → k ≡ (x.die.0, x.round.0)
 key_only k x h =
     let parts = and_parts (nat_eq x.die.0 k.0) (nat_eq x.round.0 k.1) h in
     let d = sym (eqb-true x.die.0 k.0 parts.0) in

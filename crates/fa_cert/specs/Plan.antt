@@ -1,7 +1,7 @@
 -- A plan: an injective map from the pages of a batch to open places, a place being a die that holds the page
 -- and a round. It is given as the list of its places.
-use Rattle.std.specs.Prelude.{ℕ, ◌+◌, ◌-◌, ◌≤◌, max, Bool, ◌&&◌, ◌==◌, IsTrue, List, [], ◌∷◌, count_by, All}
-use Rattle.fa_types.specs.Open.{IsOpen}
+use Rattle.std.specs.Prelude.{◌≡◌, ℕ, ◌+◌, ◌-◌, ◌≤◌, max, Bool, ◌&&◌, ◌==◌, nat_lt, IsTrue, List, [], ◌∷◌, count_by, All}
+use Rattle.fa_types.specs.Open.{IsOpen, open_among}
 use Rattle.fa_cert.specs.Batch.{Entry, holds}
 use Rattle.fa_cert.specs.declared.plan.Place.{Place}
 
@@ -45,3 +45,12 @@ pub record IsPlan (batch : List Entry) (current : ℕ) (closed : ℕ → ℕ →
 abbrev pub rounds_of : ℕ → List Place → ℕ
 rounds_of current [] = 0
 rounds_of current (x ∷ places) = max (x.round.0 + 1 - current) (rounds_of current places)
+
+-- whether a plan has the other page on the same die, and lower
+abbrev pub is_earlier_page : Place → Place → Bool
+is_earlier_page x other = other.die.0 == x.die.0 && nat_lt other.page.0 x.page.0
+
+-- The pages of one die take its first open rounds, by rising page.
+abbrev pub AreFirstRounds : ℕ → (ℕ → ℕ → Bool) → List Place → Type 0
+AreFirstRounds current closed places =
+    All (λ x. open_among current closed x.die.0 (x.round.0 - current) ≡ count_by (is_earlier_page x) places) places

@@ -100,6 +100,14 @@ impl<A: Allocator> Batch<A> {
         self.entries[index].page
     }
 
+    /// The holders of the entry at an index.
+    pub fn holders_at(&self, index: usize) -> &[Die]
+        requires { index < length self.now }
+        ensures { IfSome (slice_get self.now index) (λ e. e.holders ≡ result.now) }
+    {
+        self.entries[index].holders.as_slice()
+    }
+
     /// The holders of the first entry of a page, where there is one.
     pub fn holders(&self, page: Page) -> Option<&[Die]>
         ensures { option_copied result ≡ option_map (λ e. e.holders) (find (λ e. e.page.0 == page.0) self.now) }

@@ -220,7 +220,7 @@ fn show_no_fewer<R: Rounds, A: Allocator>(
 }
 
 /// Which dies hold any of the pages, by their numbers.
-fn holders_of<A: Allocator>(batch: &Batch<A>, pages: &[Page]) -> [bool; 256]
+pub fn holders_of<A: Allocator>(batch: &Batch<A>, pages: &[Page]) -> [bool; 256]
     requires { (page : ℕ) → times_named batch.now page ≤ 1 }
     ensures long { length result ≡ 256 }
     ensures marks { (die : ℕ) → slice_index_or result die false ≡ holds_any batch.now pages.now die }
@@ -253,7 +253,7 @@ fn mark(marks: &mut [bool; 256], dies: &[Die])
 }
 
 /// Whether so many pages are more than the marked dies have open places in so many rounds.
-fn are_more<R: Rounds>(rounds: &R, number: u64, marks: &[bool; 256], pages: usize) -> bool
+pub fn are_more<R: Rounds>(rounds: &R, number: u64, marks: &[bool; 256], pages: usize) -> bool
     requires { R.current rounds.now + number < 2 ^ 64 }
     ensures { IsTrue result ↔ (open_places (R.current rounds.now) (R.closed rounds.now) (marked marks.now 256) number < pages) }
 {

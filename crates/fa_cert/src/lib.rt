@@ -13,7 +13,7 @@ mod text;
 mod verdict;
 
 pub use batch::{Batch, Unsound};
-pub use checker::check;
+pub use checker::{are_more, check, holders_of};
 pub use closed::{Closed, Run, end_soon};
 pub use listing::Listing;
 pub use plan::{Place, Places, Plan, Shortage};

@@ -1,13 +1,14 @@
 -- The events of readers: Admit, Replan, EndBatch; and how a batch stands.
 use Rattle.std.specs.Prelude.{◌≡◌, ℕ, ◌+◌, ◌-◌, ◌^◌, ◌<◌, ◌≤◌, Bool, true, false, not, ◌==◌, ◌&&◌, ◌||◌, nat_lt, if◌then◌else◌, List, []}
 use Rattle.std.specs.Prelude.{Option, Some, None, option_map, unwrap_or, Result, Ok, Err}
-use Rattle.std.specs.Prelude.{map, filter, fold, find, filter_map, count_by, replicate, All}
+use Rattle.std.specs.Prelude.{map, filter, fold, find, filter_map, count_by, replicate}
 use Rattle.std.specs.List.{list_any, list_all}
 use Rattle.std.specs.FinMap.{empty, insert, remove, contains_key, get, values}
-use Rattle.fa_types.specs.Open.{open_among, max_closed}
+use Rattle.fa_types.specs.Open.{max_closed}
 use Rattle.fa_types.specs.declared.numbers.Page.{Page}
 use Rattle.fa_cert.specs.Batch.{Entry}
 use Rattle.fa_cert.specs.Certificate.{IsCertificate}
+use Rattle.fa_cert.specs.Plan.{AreFirstRounds}
 use Rattle.fa_cert.specs.declared.plan.Place.{Place}
 use Rattle.fa_machine.specs.declared.answers.ReadState.{ReadState}
 use Rattle.fa_machine.specs.declared.answers.ReadState.TheVariants.{Waiting, Torn, Ready}
@@ -46,15 +47,6 @@ has_data (Some version) = is_data version.kind
 -- the pages that are to be read, each with its holders
 abbrev pub entries_for : MapState → List ℕ → List Entry
 entries_for m pages = map (λ page. record { page = record { 0 = page }; holders = map (λ die. record { 0 = die }) (holders m page) }) pages
-
--- whether a plan has the other page on the same die, and lower
-abbrev pub is_earlier_page : Place → Place → Bool
-is_earlier_page x other = other.die.0 == x.die.0 && nat_lt other.page.0 x.page.0
-
--- The pages of one die take its first open rounds, by rising page.
-abbrev pub AreFirstRounds : ℕ → (ℕ → ℕ → Bool) → List Place → Type 0
-AreFirstRounds round closed places =
-    All (λ x. open_among round closed x.die.0 (x.round.0 - round) ≡ count_by (is_earlier_page x) places) places
 
 -- A plan of these pages against a calendar that is least, as its shortage shows.
 pub record IsPlanned (m : MapState) (calendar : CalendarState) (pages : List ℕ) (planned : Planned) : Type 0 where

@@ -1,3 +1,4 @@
 pub mod Lines
+pub mod PlanLemmas
 pub mod TalkLemmas
 pub mod VerifyLemmas

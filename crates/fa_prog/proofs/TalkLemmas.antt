@@ -1,5 +1,5 @@
 -- From the parts of `talk` to what it prints.
-use Rattle.std.proofs.Common.{◌≡◌, ℕ, List, [], ◌++◌, length, replicate, None, Some, IfSome, Option, Ok, ap, ◌∙◌, subst, inl}
+use Rattle.std.proofs.Common.{◌≡◌, ℕ, List, [], length, replicate, Ok, ap, ◌∙◌, subst}
 use Rattle.std.proofs.lemmas.List.{length-replicate}
 use Rattle.fa_types.specs.Memory.{MemoryMade}
 use Rattle.fa_session.specs.Session.{Session}

@@ -1,5 +1,5 @@
 -- A batch text with a certificate text behind it: their first wrong line, and what they come to.
-use Rattle.std.proofs.Common.{◌≡◌, ◌≢◌, ◌⊎◌, ℕ, ◌+◌, ◌≤◌, inl, inr, Option, None, Some, IfSome, List, [], ◌∷◌, ◌++◌, length, map, codes, All, refl, sym, ap, ◌∙◌, subst, arith, append_assoc, length-append}
+use Rattle.std.proofs.Common.{◌≡◌, ◌≢◌, ◌⊎◌, ℕ, ◌+◌, ◌≤◌, inl, inr, List, [], ◌∷◌, ◌++◌, length, map, codes, All, refl, sym, ap, ◌∙◌, subst, arith, append_assoc, length-append}
 use Rattle.std.proofs.Math.Path.{fun_ext}
 use Rattle.std.proofs.lemmas.List.{length-map, map-append}
 use Rattle.std.proofs.lemmas.List.Elements.{All-nil, All-cons, All-head, All-tail, All-append, All-map}
@@ -19,11 +19,10 @@ use Rattle.fa_cert.specs.CertificateText.{HasPlaceLine, IsCertificateText, IsSom
 use Rattle.fa_cert.specs.Text.{Begins, GoesWrong, IsFirstWrongLine, IsTextError, words_by_line, words_of}
 use Rattle.fa_io.specs.Lines.{lines_of}
 use Rattle.fa_prog.specs.Verify.{AreTexts, AreSomeTexts, IsJudged}
-use Rattle.fa_prog.specs.declared.verify.Judged.{Judged}
 use Rattle.fa_prog.specs.declared.verify.Judged.TheVariants.{Verdict}
 
 -- Of two fronts of one list, the first goes on behind the second, or ends within it.
-fronts : {X : Type 0} (xs ys us vs : List X) → xs ++ ys ≡ us ++ vs → ((w : List X) × (xs ≡ us ++ w)) ⊎ ((w : List X) × (us ≡ xs ++ w))
+pub fronts : {X : Type 0} (xs ys us vs : List X) → xs ++ ys ≡ us ++ vs → ((w : List X) × (xs ≡ us ++ w)) ⊎ ((w : List X) × (us ≡ xs ++ w))
 fronts xs ys [] vs is = inl (xs, refl)
 fronts [] ys (u ∷ us) vs is = inr (u ∷ us, refl)
 fronts (x ∷ xs) ys (u ∷ us) vs is =
@@ -56,7 +55,7 @@ none_ends entries runs =
     (All-map (λ line. line ≢ end_line) closed_line runs (λ k d below is. let no = ap (λ l. length l) is in omega (arith, no)))
 
 -- What stands behind the batch text with which an input begins is one thing.
-behind_batch : (text text' rest rest' : List (List (List ℕ))) (entries entries' : List Entry) (runs runs' : List Run) → IsBatchText text entries runs → IsBatchText text' entries' runs'
+pub behind_batch : (text text' rest rest' : List (List (List ℕ))) (entries entries' : List Entry) (runs runs' : List Run) → IsBatchText text entries runs → IsBatchText text' entries' runs'
     → text ++ rest ≡ text' ++ rest' → rest ≡ rest'
 behind_batch text text' rest rest' entries entries' runs runs' is is' same =
     behind_mark end_line (lines_before entries runs) (lines_before entries' runs') rest rest' (none_ends entries runs) (none_ends entries' runs')
@@ -84,7 +83,7 @@ begins_both : (lines : List (List (List ℕ))) → AreSomeTexts lines → Starts
 begins_both lines (entries, runs, rounds, places, pages, are) = (are.first, are.second, entries, runs, are.parts, are.batch)
 
 -- Lines before a wrong line do not hold a batch text.
-none_before : (before after : List (List (List ℕ))) → GoesWrong StartsWithBatch before after → ¬ (StartsWithBatch before)
+pub none_before : (before after : List (List (List ℕ))) → GoesWrong StartsWithBatch before after → ¬ (StartsWithBatch before)
 none_before before [] wrong = wrong
 none_before before (line ∷ after) wrong = λ yes.
     wrong ([], still_begins (before ++ line ∷ []) [] (still_begins before (line ∷ []) yes))

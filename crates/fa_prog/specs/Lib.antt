@@ -1,6 +1,7 @@
 pub mod Arguments
 pub mod HexLines
 pub mod Output
+pub mod Plan
 pub mod Program
 pub mod Talk
 pub mod Verify

@@ -4,15 +4,17 @@ use Rattle.clap.specs.Kinds.{IsAmong}
 use Rattle.clap.specs.declared.error.kind.ErrorKind.{ErrorKind}
 use Rattle.fa_io.specs.Streams.{Streams, Reads}
 use Rattle.fa_prog.specs.declared.command_line.Subcommand.{Subcommand}
-use Rattle.fa_prog.specs.declared.command_line.Subcommand.TheVariants.{Talk, Verify}
+use Rattle.fa_prog.specs.declared.command_line.Subcommand.TheVariants.{Plan, Talk, Verify}
 use Rattle.fa_prog.specs.Arguments.{found_instead, subcommand_in}
 use Rattle.fa_prog.specs.Output.{ShowsUsage, ShowsText, TellsNoMemory}
+use Rattle.fa_prog.specs.Plan.{RunsPlan}
 use Rattle.fa_prog.specs.Talk.{RunsTalk}
 use Rattle.fa_prog.specs.Verify.{RunsVerify}
 
 -- What a command does. `talk` has a plain store of 64 pages of 512 bytes. What is no command reads nothing.
 abbrev pub RunsSubcommand : Option Subcommand → Streams → ℕ → Type 0
 RunsSubcommand (Some Talk) s status = RunsTalk 32768 (codes "disk") s status
+RunsSubcommand (Some Plan) s status = RunsPlan s status
 RunsSubcommand (Some Verify) s status = RunsVerify s status
 RunsSubcommand None s status = Reads s [] × ShowsUsage s.held_before s.held_after status
 

@@ -18,6 +18,15 @@ const STATUSES: &str =
     "Status: 0 where the work was done, 1 where it was refused or memory, input or output failed,
 2 at a fault of the arguments or of the input's text.";
 
+/// What help says of `plan`.
+const ABOUT_PLAN: &str =
+    "Plans a batch of reads, given as a batch text on standard input, in the least number of rounds";
+
+/// What the help of `plan` says behind that.
+const MORE_OF_PLAN: &str =
+    "Printed is the text of a certificate, which `verify` takes behind the batch text: the rounds, a place
+for each page, and the pages that show that no plan has fewer rounds.";
+
 /// What help says of `talk`.
 const ABOUT_TALK: &str =
     "Serves one NBD client, whose bytes are given on standard input as lines of hexadecimal digits";
@@ -39,6 +48,8 @@ const MORE_OF_VERIFY: &str =
 /// What the program can do.
 #[derive(Clone, Copy, Debug, PartialEq, Eq)]
 pub(crate) enum Subcommand {
+    /// Plans a batch.
+    Plan,
     /// Serves one client, whose bytes are given as text.
     Talk,
     /// Checks a certificate.
@@ -63,6 +74,10 @@ pub(crate) fn subcommand_of<A: Allocator>(
 fn command_line<'a>(global: Global) -> Result<Command<'a>, AllocError>
     ensures { IfOk result (λ command. app_of command ≡ line) }
 {
+    let plan = Command::new(global, "plan")
+        .about(ABOUT_PLAN)
+        .override_usage("flasharr plan < TEXT")
+        .after_help(MORE_OF_PLAN);
     let talk = Command::new(global, "talk")
         .about(ABOUT_TALK)
         .override_usage("flasharr talk < LINES")
@@ -78,7 +93,10 @@ fn command_line<'a>(global: Global) -> Result<Command<'a>, AllocError>
         .subcommand_required(true)
         .disable_help_subcommand(true)
         .no_binary_name(true);
-    program.subcommand(talk)?.subcommand(verify)
+    program
+        .subcommand(plan)?
+        .subcommand(talk)?
+        .subcommand(verify)
 }
 
 /// The command of this name.
@@ -86,6 +104,7 @@ fn named(name: Option<&str>) -> Option<Subcommand>
     ensures { result ≡ subcommand_named (option_map (λ text. text.now) name.entry) }
 {
     match name {
+        Some("plan") => Some(Subcommand::Plan),
         Some("talk") => Some(Subcommand::Talk),
         Some("verify") => Some(Subcommand::Verify),
         _ => None,

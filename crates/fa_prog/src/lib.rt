@@ -6,6 +6,7 @@ mod hex_lines;
 mod input;
 pub mod laws;
 mod output;
+mod plan;
 mod program;
 mod status;
 mod talk;

@@ -9,6 +9,7 @@ ghost use Rattle.fa_prog.specs.Program.{Runs};
 
 use crate::command_line::{Subcommand, subcommand_of};
 use crate::output::{DONE, FAULTY, print, refuse_for_memory};
+use crate::plan::run_plan;
 use crate::status::Status;
 use crate::talk::run_talk;
 use crate::verify::run_verify;
@@ -20,7 +21,7 @@ use std::env::Args;
 use std::io::{self, ErrorKind, Read, Write};
 
 /// What is printed where the arguments cannot be had.
-const USAGE: &[u8] = b"usage: flasharr talk | verify\n";
+const USAGE: &[u8] = b"usage: flasharr plan | talk | verify\n";
 
 /// Runs the program with all of its arguments, of which the first is its name, as [`run`] does with
 /// those behind it. Where the arguments cannot be had, it prints that memory was refused, with status
@@ -55,6 +56,9 @@ pub fn start<R: Read, W: Write, A: Allocator + Copy>(
 /// store of 64 pages of 512 zero bytes under the name `disk`, and prints the server's bytes, in
 /// hexadecimal on one line, and then how the connection ended.
 ///
+/// `plan` reads a batch text, and prints the text of a plan of the least number of rounds with the pages
+/// that show that no plan has fewer.
+///
 /// `verify` reads a batch text and a certificate text, and prints `least R` or the first refusal.
 ///
 /// `--help` prints what the program or the command before it does, and `--version` the program's version, with
@@ -72,6 +76,7 @@ pub fn run<R: Read, W: Write, A: Allocator + Copy>(
         Runs (map string_bytes arguments.now) streams result }
 {
     match subcommand_of(global, arguments) {
+        Ok(Some(Subcommand::Plan)) => run_plan(alloc, input, output),
         Ok(Some(Subcommand::Talk)) => run_talk(alloc, input, output),
         Ok(Some(Subcommand::Verify)) => run_verify(alloc, input, output),
         Ok(None) => show_usage(output),

@@ -13,7 +13,7 @@ use std::io::{Read, Write};
 
 /// What comes of a batch text with a certificate text behind it.
 #[derive(Drop)]
-enum Judged {
+pub(crate) enum Judged {
     /// This line is the first that is in neither grammar.
     Line(u64),
     /// The batch is not sound.
@@ -89,7 +89,7 @@ fn judge_texts<A: Allocator + Copy>(alloc: A, text: &[u8]) -> Result<Judged, Tex
 
 /// The line that is printed.
 #[tactic(auto, unfolding(crate::specs::Verify::judged_text))]
-fn told<A: Allocator + Copy>(alloc: A, judged: &Judged) -> Result<String<A>, AllocError>
+pub(crate) fn told<A: Allocator + Copy>(alloc: A, judged: &Judged) -> Result<String<A>, AllocError>
     ensures { IfOk result (λ line. string_bytes line ≡ judged_text judged.now) }
 {
     match judged {

@@ -8,6 +8,7 @@ const HELP: &str = "A block server over mirrored flash dies, proved before it is
 Usage: flasharr <COMMAND>
 
 Commands:
+  plan    Plans a batch of reads, given as a batch text on standard input, in the least number of rounds
   talk    Serves one NBD client, whose bytes are given on standard input as lines of hexadecimal digits
   verify  Checks a batch text and a certificate text, given one behind the other on standard input
 
@@ -17,6 +18,18 @@ Options:
 
 Status: 0 where the work was done, 1 where it was refused or memory, input or output failed,
 2 at a fault of the arguments or of the input's text.
+";
+
+const HELP_OF_PLAN: &str =
+    "Plans a batch of reads, given as a batch text on standard input, in the least number of rounds
+
+Usage: flasharr plan < TEXT
+
+Options:
+  -h, --help  Print help
+
+Printed is the text of a certificate, which `verify` takes behind the batch text: the rounds, a place
+for each page, and the pages that show that no plan has fewer rounds.
 ";
 
 const HELP_OF_TALK: &str =
@@ -44,7 +57,7 @@ Printed is `least R`, or `refused K WORDS` with status 1 for the first rule that
 ";
 
 const NO_COMMAND: &str = "error: 'flasharr' requires a subcommand but one was not provided
-  [subcommands: talk, verify]
+  [subcommands: plan, talk, verify]
 
 Usage: flasharr <COMMAND>
 
@@ -69,6 +82,7 @@ fn prints(alloc: Global, arguments: &[&str], status: u8, text: &str) -> Result<(
 #[test]
 fn help_and_version(rt: HostRuntime) -> Result<(), Fail> {
     prints(rt.alloc(), &["--help"], 0, HELP)?;
+    prints(rt.alloc(), &["plan", "--help"], 0, HELP_OF_PLAN)?;
     prints(rt.alloc(), &["talk", "--help"], 0, HELP_OF_TALK)?;
     prints(rt.alloc(), &["verify", "-h"], 0, HELP_OF_VERIFY)?;
     prints(rt.alloc(), &["--version"], 0, "flasharr 0.1.0\n")

@@ -18,12 +18,15 @@ settled a = record a {
 
 pub returns : goal.returns
 returns c =
-    let talk_is : app_of c.after_help-talk.result ≡ new_app (codes "talk") = rw (c.after_help-talk.ensures, c.override_usage.ensures, c.about.ensures) c.new.ensures.app in
-    let verify_is : app_of c.after_help-verify.result ≡ new_app (codes "verify") = rw (c.after_help-verify.ensures, c.override_usage-2.ensures, c.about-2.ensures) c.new-2.ensures.app in
+    let plan_is : app_of c.after_help-plan.result ≡ new_app (codes "plan") = rw (c.after_help-plan.ensures, c.override_usage.ensures, c.about.ensures) c.new.ensures.app in
+    let talk_is : app_of c.after_help-talk.result ≡ new_app (codes "talk") = rw (c.after_help-talk.ensures, c.override_usage-2.ensures, c.about-2.ensures) c.new-2.ensures.app in
+    let verify_is : app_of c.after_help-verify.result ≡ new_app (codes "verify") = rw (c.after_help-verify.ensures, c.override_usage-3.ensures, c.about-3.ensures) c.new-3.ensures.app in
     let program_is : app_of c.no_binary_name-program.result ≡ record { top = program; subs = [] } =
-    rw (c.no_binary_name-program.ensures, c.disable_help_subcommand.ensures, c.subcommand_required.ensures, c.version.ensures, c.after_help.ensures, c.about-3.ensures)
-    (ap settled c.new-3.ensures.app) in
-    let talk_local : (out-Command c.after_help-talk.result).has_globals ≡ false = rw (c.after_help-talk.ensures, c.override_usage.ensures, c.about.ensures) c.new.ensures.local in
-    let verify_local : (out-Command c.after_help-verify.result).has_globals ≡ false = rw (c.after_help-verify.ensures, c.override_usage-2.ensures, c.about-2.ensures) c.new-2.ensures.local in
-    let with_talk = c.in_ok-subcommand.ensures.shape talk_local ∙ ap₂ with_subcommand program_is (ap (λ (a : App). a.top) talk_is) in
-    IfOk-weaker c.subcommand-2.result _ _ (λ r adds. adds.shape verify_local ∙ ap₂ with_subcommand with_talk (ap (λ (a : App). a.top) verify_is)) c.subcommand-2.ensures
+    rw (c.no_binary_name-program.ensures, c.disable_help_subcommand.ensures, c.subcommand_required.ensures, c.version.ensures, c.after_help.ensures, c.about-4.ensures)
+    (ap settled c.new-4.ensures.app) in
+    let plan_local : (out-Command c.after_help-plan.result).has_globals ≡ false = rw (c.after_help-plan.ensures, c.override_usage.ensures, c.about.ensures) c.new.ensures.local in
+    let talk_local : (out-Command c.after_help-talk.result).has_globals ≡ false = rw (c.after_help-talk.ensures, c.override_usage-2.ensures, c.about-2.ensures) c.new-2.ensures.local in
+    let verify_local : (out-Command c.after_help-verify.result).has_globals ≡ false = rw (c.after_help-verify.ensures, c.override_usage-3.ensures, c.about-3.ensures) c.new-3.ensures.local in
+    let with_plan = c.in_ok-subcommand.ensures.shape plan_local ∙ ap₂ with_subcommand program_is (ap (λ (a : App). a.top) plan_is) in
+    let with_talk = c.in_ok-subcommand-2.ensures.shape talk_local ∙ ap₂ with_subcommand with_plan (ap (λ (a : App). a.top) talk_is) in
+    IfOk-weaker c.subcommand-3.result _ _ (λ r adds. adds.shape verify_local ∙ ap₂ with_subcommand with_talk (ap (λ (a : App). a.top) verify_is)) c.subcommand-3.ensures

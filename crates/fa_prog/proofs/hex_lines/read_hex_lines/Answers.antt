@@ -1,4 +1,4 @@
-use Rattle.std.proofs.Common.{◌+◌, arith}
+use Rattle.std.proofs.Common.{arith}
 use Rattle.std.proofs.lemmas.Result.{err_from_is_err_and}
 use Rattle.fa_prog.proofs.Lines.{lines-step, lines-end, fault-of_line}
 use Rattle.fa_prog.proofs.hex_lines.read_hex_lines.Goals as goal

@@ -1,0 +1,43 @@
+//! How many rounds are enough for some pages, by the open places of the dies that hold them.
+ghost use Rattle.std.specs.Prelude.{◌≡◌, ℕ, ◌<◌, ◌≤◌, ◌+◌, ◌^◌};
+ghost use Rattle.fa_plan.specs.Bound.{AreRooms, IsFirstEnough, IsSomeMarked, places_of};
+
+use fa_cert::are_more;
+use fa_types::{Die, Rounds};
+
+/// The rounds of a die from the current one on that may be closed.
+const MAX_CLOSED: u64 = 1_048_576;
+
+/// The first number of rounds in which the marked dies have open places for so many pages, given a
+/// number that is too low. It is found by bisection.
+pub(crate) fn first_enough<R: Rounds>(rounds: &R, dies: &[bool; 256], pages: usize, low: u64) -> u64
+    requires few { pages ≤ 1024 }
+    requires early { R.current rounds.now ≤ 2 ^ 56 }
+    requires some { IsSomeMarked dies.now }
+    requires low { places_of (R.current rounds.now) (R.closed rounds.now) dies.now low < pages }
+    ensures { IsFirstEnough (R.current rounds.now) (R.closed rounds.now) dies.now pages low result }
+{
+    let mut fewer = low;
+    let mut enough = pages as u64 + MAX_CLOSED;
+    'halves: while 1 < enough - fewer {
+        let middle = fewer + (enough - fewer) / 2;
+        if are_more(rounds, middle, dies, pages) {
+            fewer = middle;
+        } else {
+            enough = middle;
+        }
+    }
+    enough
+}
+
+/// How many of so many rounds are open for each die, by its number.
+pub(crate) fn count_rooms<R: Rounds>(rounds: &R, number: u64) -> [u64; 256]
+    requires { R.current rounds.now + number < 2 ^ 64 }
+    ensures { AreRooms (R.current rounds.now) (R.closed rounds.now) number result }
+{
+    let mut rooms = [0; 256];
+    for die in 0..256usize {
+        rooms[die] = rounds.open_count(Die(die as u8), number);
+    }
+    rooms
+}

@@ -1,0 +1,40 @@
+//! The rounds of a plan: the pages of each die take its first open rounds, by rising page.
+ghost use Rattle.std.specs.Prelude.{◌≡◌, ◌≤◌, ◌^◌, length, IfOk};
+ghost use Rattle.fa_plan.specs.Layout.{AreRising, IsLaidOut};
+
+use fa_cert::{Listing, Place, Places};
+use fa_types::{Die, Page, Rounds};
+use std::alloc::{AllocError, Allocator};
+
+/// A page with the die that reads it.
+#[derive(Clone, Copy)]
+pub(crate) struct Seat {
+    pub(crate) page: Page,
+    pub(crate) die: Die,
+}
+
+/// The places of pages that rise, each in the first open round of its die that no earlier one takes.
+pub(crate) fn lay_out<R: Rounds, A: Allocator>(
+    alloc: A,
+    rounds: &R,
+    seats: &[Seat],
+) -> Result<Places<A>, AllocError>
+    requires few { length seats.now ≤ 1024 }
+    requires early { R.current rounds.now ≤ 2 ^ 56 }
+    requires rising { AreRising seats.now }
+    ensures { IfOk result (λ places. IsLaidOut (R.current rounds.now) (R.closed rounds.now) seats.now places) }
+{
+    let mut taken = [0u64; 256];
+    let mut places = Listing::new(alloc);
+    for seat in seats {
+        let turn = taken[seat.die.0 as usize] + 1;
+        taken[seat.die.0 as usize] = turn;
+        let round = rounds.nth_open(seat.die, turn);
+        places.push(Place {
+            page: seat.page,
+            die: seat.die,
+            round,
+        })?;
+    }
+    Ok(places)
+}

@@ -1,0 +1,12 @@
+//! The planner: which die reads each page of a batch, and in which round, such that no plan has fewer
+//! rounds, with the pages that show it.
+#![tactic(auto)]
+
+mod bound;
+mod giving;
+mod layout;
+mod planner;
+mod shortage;
+mod walk;
+
+pub use planner::{Planned, plan};

@@ -1,0 +1,210 @@
+//! The plan of a batch of reads.
+ghost use Rattle.std.specs.Prelude.{◌≡◌, ℕ, ◌+◌, ◌-◌, ◌*◌, ◌<◌, ◌≤◌, ◌^◌, length, List, IfOk, OnOk};
+ghost use Rattle.fa_cert.specs.Batch.{IsSound};
+ghost use Rattle.fa_cert.specs.Certificate.{IsCertificate};
+ghost use Rattle.fa_cert.specs.Plan.{AreFirstRounds};
+ghost use Rattle.std.specs.List.Sorted.{IsPermutation};
+ghost use Rattle.fa_plan.specs.declared.layout.Seat.{Seat};
+ghost use Rattle.fa_plan.specs.Bound.{IsSimpleBound, pages_of};
+ghost use Rattle.fa_plan.specs.Layout.{AreRising};
+ghost use Rattle.fa_plan.specs.Progress.{AreSeats, IsProgress, steps_left};
+
+use crate::bound::count_rooms;
+use crate::giving::give;
+use crate::layout::{Seat, lay_out};
+use crate::shortage::{all_pages, reached_pages, rounds_for};
+use crate::walk::{Tables, Walk};
+use fa_cert::{Batch, Plan, Shortage};
+use fa_types::{Die, Rounds};
+use std::alloc::{AllocError, Allocator, Global};
+
+/// A plan that no plan beats, with what shows it.
+#[derive(Debug, Drop)]
+pub struct Planned<A: Allocator = Global> {
+    /// The number of rounds.
+    pub rounds: u64,
+    /// The plan, of so many rounds. The pages of one die take its first open rounds, by rising page.
+    pub plan: Plan<A>,
+    /// Pages that are too many for one round less; none where there is no page.
+    pub shortage: Shortage<A>,
+    /// How many times a die was searched for, for a page that had none.
+    pub searches: u64,
+    /// How many pages these searches reached.
+    pub looks: u64,
+}
+
+/// A plan in the making.
+#[derive(Drop)]
+pub(crate) struct Progress<A: Allocator> {
+    /// The dies that the first pages were given.
+    pub(crate) given: Vec<Die, A>,
+    /// What is counted by die.
+    pub(crate) tables: Tables,
+    /// What the last search reached.
+    pub(crate) walk: Walk,
+    /// A number of rounds that no plan goes below.
+    pub(crate) number: u64,
+    /// The pages that show that.
+    pub(crate) short: Shortage<A>,
+    pub(crate) searches: u64,
+    pub(crate) looks: u64,
+}
+
+/// Plans a batch in the least number of rounds, by augmenting paths. It begins with the number of rounds
+/// that the batch as a whole needs. Where no die can be found for a page, the pages that the search
+/// reached are kept as the shortage, and the next number of rounds is the first that they leave.
+pub fn plan<R: Rounds, A: Allocator + Copy>(
+    alloc: A,
+    batch: &Batch<A>,
+    rounds: &R,
+) -> Result<Planned<A>, AllocError>
+    requires sound { IsSound batch.now }
+    requires early { R.current rounds.now ≤ 2 ^ 56 - 2 ^ 24 }
+    ensures certificate { IfOk result (λ planned. IsCertificate batch.now (R.current rounds.now) (R.closed rounds.now)
+        planned.rounds planned.plan.places planned.shortage) }
+    ensures rounds { IfOk result (λ planned. planned.plan.rounds ≡ planned.rounds) }
+    ensures first { IfOk result (λ planned. AreFirstRounds (R.current rounds.now) (R.closed rounds.now) planned.plan.places) }
+    ensures searches { IfOk result (λ planned. (first : ℕ) → IsSimpleBound batch.now (R.current rounds.now) (R.closed rounds.now) first
+        → planned.searches + first ≤ length batch.now + planned.rounds) }
+    ensures counted { IfOk result (λ planned. length batch.now ≤ planned.searches) }
+    ensures whole { IfOk result (λ planned. planned.searches ≡ length batch.now → planned.shortage ≡ pages_of batch.now) }
+    ensures looks { IfOk result (λ planned. planned.looks ≤ planned.searches * length batch.now) }
+{
+    let mut progress = begin(alloc, batch, rounds)?;
+    'pages: while progress.given.len() < batch.len() {
+        step(alloc, batch, rounds, &mut progress)?;
+    }
+    finish(alloc, batch, rounds, progress)
+}
+
+/// A plan of no page yet, in the number of rounds that the batch as a whole needs.
+fn begin<R: Rounds, A: Allocator + Copy>(
+    alloc: A,
+    batch: &Batch<A>,
+    rounds: &R,
+) -> Result<Progress<A>, AllocError>
+    requires sound { IsSound batch.now }
+    requires early { R.current rounds.now ≤ 2 ^ 56 - 2 ^ 24 }
+    ensures { IfOk result (λ progress. IsProgress batch.now (R.current rounds.now) (R.closed rounds.now) progress) }
+{
+    let short = all_pages(alloc, batch)?;
+    let mut number = 0;
+    if 0 < batch.len() {
+        number = rounds_for(batch, rounds, short.as_slice(), 0);
+    }
+    let given = Vec::with_capacity(alloc, batch.len())?;
+    let tables = Tables {
+        loads: [0; 256],
+        rooms: count_rooms(rounds, number),
+    };
+    Ok(Progress {
+        given,
+        tables,
+        walk: Walk::new(),
+        number,
+        short,
+        searches: 0,
+        looks: 0,
+    })
+}
+
+/// Searches for a die for the first page that has none. Where there is one, the page has it; else there
+/// are more rounds.
+fn step<R: Rounds, A: Allocator + Copy>(
+    alloc: A,
+    batch: &Batch<A>,
+    rounds: &R,
+    progress: &mut Progress<A>,
+) -> Result<(), AllocError>
+    requires sound { IsSound batch.now }
+    requires early { R.current rounds.now ≤ 2 ^ 56 - 2 ^ 24 }
+    requires progress { IsProgress batch.now (R.current rounds.now) (R.closed rounds.now) progress.old }
+    requires next { length progress.old.given.items < length batch.now }
+    ensures progress { OnOk result (IsProgress batch.now (R.current rounds.now) (R.closed rounds.now) progress.new) }
+    ensures nearer { OnOk result (steps_left batch.now progress.new < steps_left batch.now progress.old) }
+{
+    let is_given = give(
+        &mut progress.walk,
+        batch,
+        &mut progress.given,
+        &mut progress.tables,
+    )?;
+    progress.searches += 1;
+    progress.looks += progress.walk.looks;
+    if !is_given {
+        let pages = reached_pages(alloc, batch, progress.given.as_slice(), &progress.walk)?;
+        progress.number = rounds_for(batch, rounds, pages.as_slice(), progress.number);
+        progress.tables.rooms = count_rooms(rounds, progress.number);
+        progress.short = pages;
+    }
+    Ok(())
+}
+
+/// The plan whose pages all have dies.
+fn finish<R: Rounds, A: Allocator + Copy>(
+    alloc: A,
+    batch: &Batch<A>,
+    rounds: &R,
+    progress: Progress<A>,
+) -> Result<Planned<A>, AllocError>
+    requires sound { IsSound batch.now }
+    requires early { R.current rounds.now ≤ 2 ^ 56 - 2 ^ 24 }
+    requires progress { IsProgress batch.now (R.current rounds.now) (R.closed rounds.now) progress }
+    requires done { length batch.now ≤ length progress.given.items }
+    ensures certificate { IfOk result (λ planned. IsCertificate batch.now (R.current rounds.now) (R.closed rounds.now)
+        planned.rounds planned.plan.places planned.shortage) }
+    ensures first { IfOk result (λ planned. AreFirstRounds (R.current rounds.now) (R.closed rounds.now) planned.plan.places) }
+    ensures rounds { IfOk result (λ planned. planned.rounds ≡ progress.number) }
+    ensures plan { IfOk result (λ planned. planned.plan.rounds ≡ progress.number) }
+    ensures shortage { IfOk result (λ planned. planned.shortage ≡ progress.short) }
+    ensures searches { IfOk result (λ planned. planned.searches ≡ progress.searches) }
+    ensures looks { IfOk result (λ planned. planned.looks ≡ progress.looks) }
+{
+    let seats = seats_of(alloc, batch, progress.given.as_slice())?;
+    let places = lay_out(alloc, rounds, seats.as_slice())?;
+    Ok(Planned {
+        rounds: progress.number,
+        plan: Plan {
+            rounds: progress.number,
+            places,
+        },
+        shortage: progress.short,
+        searches: progress.searches,
+        looks: progress.looks,
+    })
+}
+
+/// The pages with their dies, by rising page.
+fn seats_of<A: Allocator + Copy>(
+    alloc: A,
+    batch: &Batch<A>,
+    given: &[Die],
+) -> Result<Vec<Seat, A>, AllocError>
+    requires sound { IsSound batch.now }
+    requires all { length given.now ≡ length batch.now }
+    ensures rising { IfOk result (λ seats. AreRising seats.items) }
+    ensures same { IfOk result (λ seats. (listed : List Seat) × AreSeats batch.now given.now listed × IsPermutation listed seats.items) }
+{
+    let mut seats = list_seats(alloc, batch, given)?;
+    seats.sort_unstable_by_key(|seat| seat.page.0);
+    Ok(seats)
+}
+
+/// The pages with their dies, in the order of the batch.
+fn list_seats<A: Allocator + Copy>(
+    alloc: A,
+    batch: &Batch<A>,
+    given: &[Die],
+) -> Result<Vec<Seat, A>, AllocError>
+    requires { length given.now ≡ length batch.now }
+    ensures { IfOk result (λ seats. AreSeats batch.now given.now seats.items) }
+{
+    let mut seats = Vec::with_capacity(alloc, given.len())?;
+    for (index, die) in given.iter().enumerate() {
+        seats.push(Seat {
+            page: batch.page(index),
+            die: *die,
+        })?;
+    }
+    Ok(seats)
+}
