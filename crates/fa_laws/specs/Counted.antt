@@ -1,5 +1,5 @@
 -- What a history says of the pages, and how many Commits and Starts there are in a run.
-use Rattle.std.specs.Prelude.{◌≡◌, ℕ, Bool, true, false, if◌then◌else◌, List, Option, Some, None, option_map, Result, Ok, Err}
+use Rattle.std.specs.Prelude.{◌≡◌, ℕ, Bool, true, false, if◌then◌else◌, List, Some, option_map, Ok}
 use Rattle.std.specs.List.{sum_by}
 use Rattle.std.specs.FinMap.{get}
 use Rattle.fa_machine.specs.declared.jobs.Flight.{Flight}
@@ -7,7 +7,7 @@ use Rattle.fa_machine.specs.declared.jobs.Flight.TheVariants.{Read}
 use Rattle.fa_machine.specs.History.{replay, is_legal}
 use Rattle.fa_machine.specs.Run.{Happening, Event}
 use Rattle.fa_machine.specs.State.{Core}
-use Rattle.fa_machine.specs.Step.{Act, Commit, Take}
+use Rattle.fa_machine.specs.Step.{Commit, Take}
 
 -- The number of each page is what the replay gives it, and each Start names the number that its page had.
 pub record HasHistory (core : Core) : Type 0 where

@@ -4,3 +4,4 @@
 
 pub mod histories;
 pub mod plans;
+pub mod reads;
