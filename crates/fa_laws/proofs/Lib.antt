@@ -9,6 +9,7 @@ pub mod Admitting
 pub mod Ending
 pub mod Entering
 pub mod Events
+pub mod Failing
 pub mod Finishing
 pub mod Growth
 pub mod Handing

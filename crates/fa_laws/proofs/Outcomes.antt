@@ -11,7 +11,7 @@ use Rattle.fa_types.specs.declared.numbers.Slot.{Slot}
 use Rattle.std.proofs.Common.{Bool, List, None, Option, Some, [], ap, arith, cond, false, sym, true, ℕ, ◌∙◌, ◌∷◌, ◌≡◌}
 use Rattle.std.specs.Prelude.{is_some}
 
-abbrev tag : Option Outcome → ℕ
+abbrev pub tag : Option Outcome → ℕ
 tag None = 0
 tag (Some (DidRead cell)) = 1
 tag (Some DidProgram) = 2

@@ -4,4 +4,5 @@
 
 pub mod histories;
 pub mod plans;
+pub mod promises;
 pub mod reads;

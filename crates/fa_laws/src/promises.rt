@@ -1,0 +1,41 @@
+//! What those ask next who rely on the reads, over every run.
+ghost use Rattle.std.specs.Prelude.{◌≡◌, ℕ, List, Result, Ok, Some, true, false};
+ghost use Rattle.std.specs.List.{list_any};
+ghost use Rattle.std.specs.FinMap.{get};
+ghost use Rattle.fa_types.specs.declared.numbers.Round.{Round};
+ghost use Rattle.fa_laws.specs.Reached.{IsReached};
+ghost use Rattle.fa_laws.specs.Reading.{HasEnded, IsAnsweredLost};
+ghost use Rattle.fa_machine.specs.declared.places.Booking.{Booking};
+ghost use Rattle.fa_machine.specs.declared.refusals.AdmitRefused.{AdmitRefused};
+ghost use Rattle.fa_machine.specs.Cells.{Fault};
+ghost use Rattle.fa_machine.specs.Copies.{is_lost};
+ghost use Rattle.fa_machine.specs.Reading.{Admitted};
+ghost use Rattle.fa_machine.specs.Run.{HappensEvent};
+ghost use Rattle.fa_machine.specs.State.{is_live};
+ghost use Rattle.fa_machine.specs.Step.{Act, Admit, Advance, Done, is_die};
+ghost use Rattle.fa_machine.specs.World.{World};
+
+use fa_machine::laws::live_dies_are_kept;
+
+/// In every run a die goes out only as its job ends with a fault that its image answered. As images are honest, no read
+/// and no move finds another slot than the one that it asks for.
+pub fn a_die_leaves_only_with_a_fault()
+    ensures { (w after : World) (act : Act) (die : ℕ) → IsReached w → HappensEvent w act after
+        → is_live w.core.page_map die ≡ true → is_live after.core.page_map die ≡ false
+        → (call : ℕ) × (act ≡ Done die (Fault call)) }
+{
+    live_dies_are_kept();
+}
+
+/// A list with a page that was written and has no holder is answered Lost, with the first such page, and nothing else.
+pub fn a_lost_page_is_answered_lost()
+    ensures { (w after : World) (pages : List ℕ) (answer : Result Admitted AdmitRefused) → HappensEvent w (Admit pages answer) after
+        → list_any (is_lost w.core.page_map) pages ≡ true → IsAnsweredLost w.core pages answer }
+{}
+
+/// The round rises only where each read that is booked in it was started and has ended.
+pub fn a_round_waits_for_its_reads()
+    ensures { (w after : World) (round : Round) (die : ℕ) (booking : Booking) → HappensEvent w (Advance (Ok round)) after
+        → is_die w.core die ≡ true → get w.core.calendar.bookings (die, w.core.calendar.round) ≡ Some booking
+        → HasEnded w.core die booking }
+{}
