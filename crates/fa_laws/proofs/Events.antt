@@ -123,7 +123,7 @@ reserve_copy_case w h page seq payload within told (Some v) number (Some die) pl
     (and_parts (has_room w.core.page_map die) (not (holds_page w.core.page_map page die)) found.0).0
     (t.0 ∙ ap (w.payloads page) (sym (eqb-true v.seq.0 seq numbered)))
 
-first_refusal : {R : Type 0} (a b c : Bool) (x y z : R) → cond a (Some x) (cond b (Some y) (cond c (Some z) None)) ≡ None → a ≡ false
+pub first_refusal : {R : Type 0} (a b c : Bool) (x y z : R) → cond a (Some x) (cond b (Some y) (cond c (Some z) None)) ≡ None → a ≡ false
 first_refusal true b c x y z e = absurd (none-some x (sym e))
 first_refusal false b c x y z e = refl
 

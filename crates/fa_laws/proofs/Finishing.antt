@@ -10,9 +10,12 @@ use Rattle.fa_laws.proofs.Maps.{place_cmp_total, place_same}
 use Rattle.fa_laws.proofs.Scene.{Among, IsToCome, Owned, Stands, program_is_at, writes}
 use Rattle.fa_machine.specs.Conditions.{drop_die}
 use Rattle.fa_machine.specs.Maps.{change, keep, place_cmp}
+use Rattle.fa_machine.specs.Placement.{free, targets}
+use Rattle.fa_machine.specs.Reading.{answered}
 use Rattle.fa_machine.specs.State.{OpenClaim, Reservation, WaitingProgram}
 use Rattle.fa_machine.specs.Taking.{mark, mark_claim, program_ends}
 use Rattle.fa_machine.specs.World.{Work, World, with_value}
+use Rattle.fa_machine.specs.Writing.{reserved}
 use Rattle.fa_machine.specs.declared.jobs.Flight.{Flight}
 use Rattle.fa_machine.specs.declared.places.Copying.{Copying}
 use Rattle.fa_machine.specs.declared.places.Used.{Used}
@@ -22,9 +25,9 @@ use Rattle.std.proofs.Common.{◌<◌, ◌∙◌, ◌∷◌, ◌≡◌, ◌≤�
 use Rattle.std.proofs.lemmas.Bool.{cases_eq, false≢true, ne_eqb, not-true, not_from_false, not_from_true, true≢false}
 use Rattle.std.proofs.lemmas.Option.{none-some, same_Some}
 use Rattle.std.specs.Cmp.{nat_cmp_total}
-use Rattle.std.specs.FinMap.{FinMap, contains_key, get, remove}
+use Rattle.std.specs.FinMap.{FinMap, contains_key, get, remove, values}
 use Rattle.std.specs.Ordering.{nat_cmp}
-use Rattle.std.specs.Prelude.{filter, if◌then◌else◌, is_some, option_and_then, option_map, ◌==◌}
+use Rattle.std.specs.Prelude.{T, filter, if◌then◌else◌, is_some, option_and_then, option_map, ◌==◌}
 
 pub passed_all : {X : Type 0} (test : X → Bool) (o : Option X) → ((x : X) → o ≡ Some x → test x ≡ true) → passed test o ≡ o
 passed_all test None all = refl
@@ -189,3 +192,12 @@ program_ends_holds v h die slot page version over come stands calm = record {
   plain = h.plain;
   answered = h.answered;
 }
+
+passed_test_if : {X : Type 0} (b : Bool) (x y : X) → (if b then Some x else None) ≡ Some y → b ≡ true
+passed_test_if true x y e = refl
+passed_test_if false x y e = absurd (none-some y e)
+
+-- what passed passes
+pub passed_test : {X : Type 0} (test : X → Bool) (o : Option X) (y : X) → passed test o ≡ Some y → test y ≡ true
+passed_test test None y e = absurd (none-some y e)
+passed_test test (Some x) y e = ap test (sym (same_Some x y (passed_some_if (test x) x y e))) ∙ passed_test_if (test x) x y e

@@ -1,4 +1,5 @@
 pub mod Answering
+pub mod Booked
 pub mod Calling
 pub mod Calls
 pub mod Claiming
@@ -14,6 +15,7 @@ pub mod Finishing
 pub mod Growth
 pub mod Handing
 pub mod ImageCalls
+pub mod InTimes
 pub mod Invariant
 pub mod JobEnds
 pub mod Keeping
@@ -30,3 +32,4 @@ pub mod Settling
 pub mod Starting
 pub mod Starts
 pub mod Takes
+pub mod Timely

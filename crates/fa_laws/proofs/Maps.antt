@@ -1,10 +1,11 @@
 -- What is found in maps that were changed.
+use Rattle.fa_laws.proofs.Invariant.{later}
 use Rattle.fa_laws.proofs.Scene.{Among}
 use Rattle.fa_machine.specs.Maps.{change, insert_all, keep, place_cmp}
 use Rattle.std.proofs.Common.{Bool, List, None, Option, Some, [], ap, cond, eq-eqb, eqb-true, false, inl, inr, map, refl, sym, true, ℕ}
 use Rattle.std.proofs.Common.{◌∙◌, ◌∷◌, ◌≡◌, ◌⊎◌}
-use Rattle.std.proofs.lemmas.Bool.{and_from, and_parts, cases_Bool, cases_eq, false_from_ne_true, false≢true, ne_eqb, or_left}
-use Rattle.std.proofs.lemmas.Bool.{or_right}
+use Rattle.std.proofs.lemmas.Bool.{and_from, and_parts, cases_Bool, cases_eq, false_from_ne_true, false≢true, ne_eqb, or_cases}
+use Rattle.std.proofs.lemmas.Bool.{or_left, or_right}
 use Rattle.std.proofs.lemmas.Cmp.{on_total}
 use Rattle.std.proofs.lemmas.Option.{none-some, same_Some}
 use Rattle.std.specs.Cmp.{IsTotalOrder, nat_cmp_total, then_total, unsigned_tied}
@@ -219,3 +220,28 @@ module _ {X : Type 0} where
       ∙ ap (λ b. cond b (Some x) (get m (d', k')))
       (false_from_ne_true _ (λ tied. let parts = and_parts (d' == d) (k' == k) (sym (place_tied (d', k') (d, k)) ∙ tied) in
       apart (eqb-true d' d parts.0) (eqb-true k' k parts.1)))
+
+-- what is among the values is found at some key
+module _ {K X : Type 0} {R : K → K → Ordering} (o : IsTotalOrder R) (same : (x y : K) → R x y ≡ Equal → x ≡ y) (itself : (k : K) → R k k ≡ Equal) where
+  value_in : (passes : X → Bool) (es : List (K × X)) → T (is_sorted R es) → list_any passes (map (λ e. e.1) es) ≡ true
+      → (q : K) × (x : X) × (find_entry R q es ≡ Some x) × (passes x ≡ true)
+  value_in passes [] h e = absurd (false≢true e)
+  value_in passes (f ∷ fs) h e =
+      let parts = both_of _ _ h in
+      elim (or_cases (passes f.1) (list_any passes (map (λ e. e.1) fs)) e) [
+        | inl here ↦ (f.0, f.1, ap (λ r. cond (is_eq r) (Some f.1) (find_entry R f.0 fs)) (itself f.0), here)
+        | inr later ↦
+            let rest = value_in passes fs parts.1 later in
+            elim (cases_Bool (eq_by_cmp R rest.0 f.0)) [
+              | inr apart ↦ (rest.0, rest.1, ap (λ b. cond b (Some f.1) (find_entry R rest.0 fs)) apart ∙ rest.2, rest.3)
+              | inl tied ↦
+                  let is = same rest.0 f.0 (if_equal (R rest.0 f.0) tied) in
+                  absurd (none-some rest.1 (sym (ap (λ k. find_entry R k fs) is ∙ found_below o same f.0 fs parts.0) ∙ rest.2))
+            ]
+      ]
+
+  pub some_value : (passes : X → Bool) (m : FinMap R X) → list_any passes (values m) ≡ true
+      → (q : K) × (x : X) × (get m q ≡ Some x) × (passes x ≡ true)
+  some_value passes m e =
+      let found = value_in passes (entries m) (entries_sorted m) e in
+      (found.0, found.1, get-entries m found.0 ∙ found.2, found.3)

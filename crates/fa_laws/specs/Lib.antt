@@ -1,4 +1,6 @@
 pub mod Counted
+pub mod Formatted
+pub mod InTime
 pub mod Least
 pub mod Plain
 pub mod Reached

@@ -1,16 +1,18 @@
 //! What those ask next who rely on the reads, over every run.
-ghost use Rattle.std.specs.Prelude.{◌≡◌, ℕ, List, Result, Ok, Some, true, false};
-ghost use Rattle.std.specs.List.{list_any};
+ghost use Rattle.std.specs.Prelude.{◌≡◌, ℕ, ◌≤◌, ◌⊎◌, List, Result, Ok, Some, true, false};
+ghost use Rattle.std.specs.List.{list_any, AllByRecursion};
 ghost use Rattle.std.specs.FinMap.{get};
 ghost use Rattle.fa_types.specs.declared.numbers.Round.{Round};
+ghost use Rattle.fa_laws.specs.InTime.{IsPlannedUntil, PlansNothing};
 ghost use Rattle.fa_laws.specs.Reached.{IsReached};
 ghost use Rattle.fa_laws.specs.Reading.{HasEnded, IsAnsweredLost};
+ghost use Rattle.fa_machine.specs.declared.answers.ReadState.TheVariants.{Ready, Torn};
 ghost use Rattle.fa_machine.specs.declared.places.Booking.{Booking};
 ghost use Rattle.fa_machine.specs.declared.refusals.AdmitRefused.{AdmitRefused};
 ghost use Rattle.fa_machine.specs.Cells.{Fault};
 ghost use Rattle.fa_machine.specs.Copies.{is_lost};
-ghost use Rattle.fa_machine.specs.Reading.{Admitted};
-ghost use Rattle.fa_machine.specs.Run.{HappensEvent};
+ghost use Rattle.fa_machine.specs.Reading.{Admitted, results};
+ghost use Rattle.fa_machine.specs.Run.{Happening, HappensEvent, Run};
 ghost use Rattle.fa_machine.specs.State.{is_live};
 ghost use Rattle.fa_machine.specs.Step.{Act, Admit, Advance, Done, is_die};
 ghost use Rattle.fa_machine.specs.World.{World};
@@ -38,4 +40,13 @@ pub fn a_round_waits_for_its_reads()
     ensures { (w after : World) (round : Round) (die : ℕ) (booking : Booking) → HappensEvent w (Advance (Ok round)) after
         → is_die w.core die ≡ true → get w.core.calendar.bookings (die, w.core.calendar.round) ≡ Some booking
         → HasEnded w.core die booking }
+{}
+
+/// A batch that was planned and then not planned anew is torn, or has an answer for each of its pages, once the last round
+/// of the plan has passed.
+pub fn a_batch_is_answered_in_time()
+    ensures { (w planned_then last : World) (act : Act) (batch until : ℕ) (happenings : List Happening)
+        → IsReached w → HappensEvent w act planned_then → IsPlannedUntil w.core act batch until
+        → Run planned_then happenings last → AllByRecursion (PlansNothing batch) happenings → until ≤ last.core.calendar.round
+        → (results last.core batch ≡ Torn) ⊎ (results last.core batch ≡ Ready) }
 {}
