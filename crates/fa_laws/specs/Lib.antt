@@ -1,5 +1,6 @@
 pub mod Counted
 pub mod Formatted
+pub mod Free
 pub mod InTime
 pub mod Least
 pub mod Plain

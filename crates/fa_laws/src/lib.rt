@@ -2,6 +2,7 @@
 //! worlds are those of `fa_machine`.
 #![tactic(auto)]
 
+pub mod answers;
 pub mod beginnings;
 pub mod histories;
 pub mod plans;
