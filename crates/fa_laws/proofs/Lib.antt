@@ -24,6 +24,7 @@ pub mod Lists
 pub mod Maps
 pub mod Orders
 pub mod Outcomes
+pub mod Outlasting
 pub mod Parts
 pub mod Reserving
 pub mod Runs

@@ -1,5 +1,5 @@
 //! What those ask next who rely on the reads, over every run.
-ghost use Rattle.std.specs.Prelude.{◌≡◌, ℕ, ◌≤◌, ◌⊎◌, List, Result, Ok, Some, true, false};
+ghost use Rattle.std.specs.Prelude.{◌≡◌, ◌≢◌, ℕ, ◌<◌, ◌≤◌, ◌⊎◌, List, Result, Ok, Some, true, false};
 ghost use Rattle.std.specs.List.{list_any, AllByRecursion};
 ghost use Rattle.std.specs.FinMap.{get};
 ghost use Rattle.fa_types.specs.declared.numbers.Round.{Round};
@@ -9,8 +9,8 @@ ghost use Rattle.fa_laws.specs.Reading.{HasEnded, IsAnsweredLost};
 ghost use Rattle.fa_machine.specs.declared.answers.ReadState.TheVariants.{Ready, Torn};
 ghost use Rattle.fa_machine.specs.declared.places.Booking.{Booking};
 ghost use Rattle.fa_machine.specs.declared.refusals.AdmitRefused.{AdmitRefused};
-ghost use Rattle.fa_machine.specs.Cells.{Fault};
-ghost use Rattle.fa_machine.specs.Copies.{is_lost};
+ghost use Rattle.fa_machine.specs.Cells.{Fault, Outcome};
+ghost use Rattle.fa_machine.specs.Copies.{holds_page, is_lost};
 ghost use Rattle.fa_machine.specs.Reading.{Admitted, results};
 ghost use Rattle.fa_machine.specs.Run.{Happening, HappensEvent, Run};
 ghost use Rattle.fa_machine.specs.State.{is_live};
@@ -49,4 +49,13 @@ pub fn a_batch_is_answered_in_time()
         → IsReached w → HappensEvent w act planned_then → IsPlannedUntil w.core act batch until
         → Run planned_then happenings last → AllByRecursion (PlansNothing batch) happenings → until ≤ last.core.calendar.round
         → (results last.core batch ≡ Torn) ⊎ (results last.core batch ≡ Ready) }
+{}
+
+/// A page that two dies hold is not lost as a job of one die ends, whatever that does to the die, so its next admission is
+/// not refused as Lost for it.
+pub fn two_copies_outlast_a_die()
+    ensures { (w after : World) (out : ℕ) (outcome : Outcome) (page one two : ℕ) → HappensEvent w (Done out outcome) after
+        → holds_page w.core.page_map page one ≡ true → holds_page w.core.page_map page two ≡ true → one ≢ two
+        → one < w.core.page_map.geometry.dies → two < w.core.page_map.geometry.dies
+        → is_lost after.core.page_map page ≡ false }
 {}
