@@ -35,7 +35,7 @@ use Rattle.std.specs.FinMap.{FinMap, get, insert}
 use Rattle.std.specs.List.{list_any}
 use Rattle.std.specs.Prelude.{filter, if◌then◌else◌, is_some, option_and_then, option_map, slice_index_or, unwrap_or, ◌&&◌, ◌==◌}
 
-reserved_owned : (o : Option OpenClaim) (r : Reservation) → option_and_then {T = OpenClaim} (λ c. c.reserved) o ≡ Some r
+pub reserved_owned : (o : Option OpenClaim) (r : Reservation) → option_and_then {T = OpenClaim} (λ c. c.reserved) o ≡ Some r
     → option_and_then owned_claim o ≡ Some (record { page = unwrap_or (option_map {T = OpenClaim} (λ c. c.page) o) 0; version = r.version; targets = r.targets })
 reserved_owned None r e = absurd (none-some r e)
 reserved_owned (Some c) r e =
