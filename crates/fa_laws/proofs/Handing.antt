@@ -50,7 +50,7 @@ payload_same page page' v v' die slot (Sealed p u d s bytes) e f =
     λ i. cond (p == e i && u.seq.0 == f i && d == die && s == slot) (Some bytes) None
 
 -- what holds the last number of a page holds that page
-holds_held : (page : ℕ) (v : Version) (o : Option Used) → holds_version page v o ≡ true
+pub holds_held : (page : ℕ) (v : Version) (o : Option Used) → holds_version page v o ≡ true
     → (p : Page) × (u : Version) × (o ≡ Some (Held p u)) × (p.0 ≡ page) × (u.seq.0 ≡ v.seq.0)
 holds_held page v None e = absurd (false≢true e)
 holds_held page v (Some Reserved) e = absurd (false≢true e)
@@ -69,7 +69,7 @@ current_copy w h page die slot v number current =
     payload_same page held.0.0 v held.1 die slot ((w.images die).seen slot) (sym held.3) (sym held.4) ∙ stands.cell
     ∙ ap Some ((λ i. w.payloads (held.3 i) (held.4 i)) ∙ (h.sound.numbered page v number).right)
 
-no_state : (o : Option Used) → is_none o ≡ true → o ≡ None
+pub no_state : (o : Option Used) → is_none o ≡ true → o ≡ None
 no_state None e = refl
 no_state (Some u) e = absurd (false≢true e)
 

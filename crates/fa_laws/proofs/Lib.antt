@@ -33,5 +33,6 @@ pub mod Scene
 pub mod Settling
 pub mod Starting
 pub mod Starts
+pub mod Staying
 pub mod Takes
 pub mod Timely

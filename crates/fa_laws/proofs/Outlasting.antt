@@ -40,7 +40,7 @@ same_map old new die e = record {
   used = λ slot. ap (λ (m : MapState). get m.used (die, slot)) e;
 }
 
-dropped_other : (core : Core) (out die : ℕ) → (die ≡ out → ⊥) → SameDie core (drop_die out core) die
+pub dropped_other : (core : Core) (out die : ℕ) → (die ≡ out → ⊥) → SameDie core (drop_die out core) die
 dropped_other core out die apart = record {
   numbers = refl;
   geometry = refl;
@@ -49,7 +49,7 @@ dropped_other core out die apart = record {
       ∙ passed_all (λ used. not (die == out)) (get core.page_map.used (die, slot)) (λ u e. not_from_false (die == out) (ne_eqb die out apart));
 }
 
-moved_other : (core : Core) (out from to : ℕ) (final : Used) (die : ℕ) → (die ≡ out → ⊥) → (slot : ℕ)
+pub moved_other : (core : Core) (out from to : ℕ) (final : Used) (die : ℕ) → (die ≡ out → ⊥) → (slot : ℕ)
     → get (insert (insert core.page_map.used (out, from) Stale) (out, to) final) (die, slot) ≡ get core.page_map.used (die, slot)
 moved_other core out from to final die apart slot =
     get-place_other (insert core.page_map.used (out, from) Stale) out to final die slot (λ e f. apart e)
@@ -112,7 +112,7 @@ some_left p x (y ∷ ys) (inr rest) t = behind (p y) (some_left p x ys rest t)
     behind true h = ne_eqb _ 0 (λ z. absurd (omega (arith, z)))
     behind false h = h
 
-not_lost : (m : MapState) (page die : ℕ) → die < m.geometry.dies → holds_page m page die ≡ true → is_lost m page ≡ false
+pub not_lost : (m : MapState) (page die : ℕ) → die < m.geometry.dies → holds_page m page die ≡ true → is_lost m page ≡ false
 not_lost m page die low holds =
     and_right (is_some (get m.numbers page)) (length (holders m page) == 0)
     (some_left (holds_page m page) die (dies_of m) (among-range 0 m.geometry.dies die (omega arith) (omega (arith, low))) holds)

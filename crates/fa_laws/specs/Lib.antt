@@ -3,6 +3,7 @@ pub mod Formatted
 pub mod Free
 pub mod InTime
 pub mod Least
+pub mod Leaving
 pub mod Plain
 pub mod Reached
 pub mod Reading

@@ -1,21 +1,25 @@
 //! What those ask next who rely on the reads, over every run.
-ghost use Rattle.std.specs.Prelude.{◌≡◌, ◌≢◌, ℕ, ◌<◌, ◌≤◌, ◌⊎◌, List, Result, Ok, Some, true, false};
+ghost use Rattle.std.specs.Prelude.{◌≡◌, ◌≢◌, ◌==◌, ℕ, ◌<◌, ◌≤◌, ◌⊎◌, List, Result, Ok, Some, true, false};
 ghost use Rattle.std.specs.List.{list_any, AllByRecursion};
 ghost use Rattle.std.specs.FinMap.{get};
 ghost use Rattle.fa_types.specs.declared.numbers.Round.{Round};
+ghost use Rattle.fa_types.specs.declared.numbers.Seq.{Seq};
 ghost use Rattle.fa_laws.specs.InTime.{IsPlannedUntil, PlansNothing};
+ghost use Rattle.fa_laws.specs.Leaving.{RunLeaving};
 ghost use Rattle.fa_laws.specs.Reached.{IsReached};
 ghost use Rattle.fa_laws.specs.Reading.{HasEnded, IsAnsweredLost};
 ghost use Rattle.fa_machine.specs.declared.answers.ReadState.TheVariants.{Ready, Torn};
 ghost use Rattle.fa_machine.specs.declared.places.Booking.{Booking};
 ghost use Rattle.fa_machine.specs.declared.refusals.AdmitRefused.{AdmitRefused};
 ghost use Rattle.fa_machine.specs.Cells.{Fault, Outcome};
+ghost use Rattle.fa_machine.specs.Conditions.{reserved_under};
 ghost use Rattle.fa_machine.specs.Copies.{holds_page, is_lost};
 ghost use Rattle.fa_machine.specs.Reading.{Admitted, results};
 ghost use Rattle.fa_machine.specs.Run.{Happening, HappensEvent, Run};
-ghost use Rattle.fa_machine.specs.State.{is_live};
-ghost use Rattle.fa_machine.specs.Step.{Act, Admit, Advance, Done, is_die};
+ghost use Rattle.fa_machine.specs.State.{Reservation, is_live};
+ghost use Rattle.fa_machine.specs.Step.{Act, Admit, Advance, Commit, Done, is_die};
 ghost use Rattle.fa_machine.specs.World.{World};
+ghost use Rattle.fa_machine.specs.Writing.{claimed_page, live_targets};
 
 use fa_machine::laws::live_dies_are_kept;
 
@@ -58,4 +62,23 @@ pub fn two_copies_outlast_a_die()
         → holds_page w.core.page_map page one ≡ true → holds_page w.core.page_map page two ≡ true → one ≢ two
         → one < w.core.page_map.geometry.dies → two < w.core.page_map.geometry.dies
         → is_lost after.core.page_map page ≡ false }
+{}
+
+/// An accepted Commit leaves the page on each live die on which it was reserved.
+pub fn a_commit_is_held()
+    ensures { (w after : World) (claim seat die : ℕ) (seq : Seq) (r : Reservation) → IsReached w
+        → HappensEvent w (Commit claim seat (Ok seq)) after → reserved_under w.core claim ≡ Some r
+        → list_any (λ t. t.die.0 == die) (live_targets w.core r.targets) ≡ true
+        → holds_page after.core.page_map (claimed_page w.core claim) die ≡ true }
+{}
+
+/// A page that a die holds is held by it as long as the page is not written again and the die does not go out, whatever
+/// is moved, erased or reserved meanwhile. So of two dies that hold a page either may go out: the page is not lost.
+pub fn a_copy_stays_with_its_die()
+    ensures holds { (w last : World) (happenings : List Happening) (page die : ℕ) → IsReached w
+        → holds_page w.core.page_map page die ≡ true → RunLeaving page die w happenings last
+        → holds_page last.core.page_map page die ≡ true }
+    ensures kept { (w last : World) (happenings : List Happening) (page die : ℕ) → IsReached w
+        → holds_page w.core.page_map page die ≡ true → RunLeaving page die w happenings last → is_die last.core die ≡ true
+        → is_lost last.core.page_map page ≡ false }
 {}
