@@ -2,7 +2,6 @@
 use Rattle.fa_cert.specs.Plan.{rounds_of}
 use Rattle.fa_cert.specs.declared.plan.Place.{Place}
 use Rattle.fa_laws.proofs.Finishing.{passed_some}
-use Rattle.fa_laws.proofs.ImageCalls.{opens}
 use Rattle.fa_laws.proofs.Maps.{get-keep, get-place_other, place_cmp_total, place_same}
 use Rattle.fa_laws.proofs.Scene.{Among}
 use Rattle.fa_laws.proofs.Takes.{IsOther, IsUrgent, take_cases}
@@ -11,7 +10,7 @@ use Rattle.fa_laws.proofs.Timely.{read_timely}
 use Rattle.fa_machine.specs.Conditions.{drop_die}
 use Rattle.fa_machine.specs.Maps.{is_place, keep, place_cmp}
 use Rattle.fa_machine.specs.Placement.{free}
-use Rattle.fa_machine.specs.Reading.{IsPlanned, Planned, booked, released}
+use Rattle.fa_machine.specs.Reading.{IsPlanned, Planned, released}
 use Rattle.fa_machine.specs.Rounds.{is_closed}
 use Rattle.fa_machine.specs.State.{CalendarState, Core, MapState, is_live}
 use Rattle.fa_machine.specs.Step.{Act, Admit, Replan}
@@ -68,9 +67,11 @@ opened_at : (m : MapState) (calendar : CalendarState) (pages : List ℕ) (planne
     → (calendar.round ≤ x.round.0) × (contains_key calendar.bookings (x.die.0, x.round.0) ≡ false)
 opened_at m calendar pages planned is x among =
     let opened = all_among (λ x. IsOpen calendar.round (is_closed m calendar) x.die.0 x.round.0) planned.places
-        (recursion_from_All (λ x. IsOpen calendar.round (is_closed m calendar) x.die.0 x.round.0) planned.places is.certificate.plan.opens) x among in
-    (opened.0, (or_parts (contains_key calendar.bookings (x.die.0, x.round.0)) _
-    (or_parts (not (is_live m x.die.0)) _ opened.1).1).0)
+    (recursion_from_All (λ x. IsOpen calendar.round (is_closed m calendar) x.die.0 x.round.0) planned.places is.certificate.plan.opens) x among in (
+      opened.0,
+      (or_parts (contains_key calendar.bookings (x.die.0, x.round.0)) _
+          (or_parts (not (is_live m x.die.0)) _ opened.1).1).0,
+    )
 
 rounds_among : (current : ℕ) (places : List Place) (x : Place) → Among x places → x.round.0 + 1 - current ≤ rounds_of current places
 rounds_among current [] x i = absurd i
@@ -99,10 +100,14 @@ planned_timely m calendar pages planned batch jobs dies is t = record {
     | inr new ↦ absurd (false≢true (ap (λ (k : Booking). k.started) new.4 ∙ s))
   ];
   reads = λ d bt page version slot e.
-      let found = t.reads d bt page version slot e in
-      (found.0, booked_kept batch planned.places calendar.bookings d calendar.round found.0
-      (λ x i f g. false≢true (sym (opened_at m calendar pages planned is x i).1
-      ∙ ap is_some ((λ i. get calendar.bookings (f i, g i)) ∙ found.1))) found.1, found.2, found.3);
+      let found = t.reads d bt page version slot e in (
+        found.0,
+        booked_kept batch planned.places calendar.bookings d calendar.round found.0
+            (λ x i f g. false≢true (sym (opened_at m calendar pages planned is x i).1
+            ∙ ap is_some ((λ i. get calendar.bookings (f i, g i)) ∙ found.1))) found.1,
+        found.2,
+        found.3,
+      );
   within = t.within;
 }
 

@@ -20,7 +20,7 @@ use Rattle.std.proofs.lemmas.Bool.{and_parts, cases_eq, false≢true}
 use Rattle.std.proofs.lemmas.Option.{none-some, same_Some}
 use Rattle.std.specs.FinMap.{FinMap, contains_key, get, insert, remove}
 use Rattle.std.specs.Ordering.{nat_cmp}
-use Rattle.std.specs.Prelude.{Err, Ok, T, if◌then◌else◌, is_some, option_map, ◌==◌}
+use Rattle.std.specs.Prelude.{Err, Ok, if◌then◌else◌, is_some, option_map, ◌==◌}
 
 wrong_if : (b : Bool) → b ≡ true → tag (cond b None (Some Wrong)) ≡ 8 → ⊥
 wrong_if true e f = absurd (omega (arith, f))

@@ -10,12 +10,9 @@ use Rattle.fa_laws.proofs.Maps.{place_cmp_total, place_same}
 use Rattle.fa_laws.proofs.Scene.{Among, IsToCome, Owned, Stands, program_is_at, writes}
 use Rattle.fa_machine.specs.Conditions.{drop_die}
 use Rattle.fa_machine.specs.Maps.{change, keep, place_cmp}
-use Rattle.fa_machine.specs.Placement.{free, targets}
-use Rattle.fa_machine.specs.Reading.{answered}
 use Rattle.fa_machine.specs.State.{OpenClaim, Reservation, WaitingProgram}
 use Rattle.fa_machine.specs.Taking.{mark, mark_claim, program_ends}
 use Rattle.fa_machine.specs.World.{Work, World, with_value}
-use Rattle.fa_machine.specs.Writing.{reserved}
 use Rattle.fa_machine.specs.declared.jobs.Flight.{Flight}
 use Rattle.fa_machine.specs.declared.places.Copying.{Copying}
 use Rattle.fa_machine.specs.declared.places.Used.{Used}
@@ -25,9 +22,9 @@ use Rattle.std.proofs.Common.{◌<◌, ◌∙◌, ◌∷◌, ◌≡◌, ◌≤�
 use Rattle.std.proofs.lemmas.Bool.{cases_eq, false≢true, ne_eqb, not-true, not_from_false, not_from_true, true≢false}
 use Rattle.std.proofs.lemmas.Option.{none-some, same_Some}
 use Rattle.std.specs.Cmp.{nat_cmp_total}
-use Rattle.std.specs.FinMap.{FinMap, contains_key, get, remove, values}
+use Rattle.std.specs.FinMap.{FinMap, contains_key, get, remove}
 use Rattle.std.specs.Ordering.{nat_cmp}
-use Rattle.std.specs.Prelude.{T, filter, if◌then◌else◌, is_some, option_and_then, option_map, ◌==◌}
+use Rattle.std.specs.Prelude.{filter, if◌then◌else◌, is_some, option_and_then, option_map, ◌==◌}
 
 pub passed_all : {X : Type 0} (test : X → Bool) (o : Option X) → ((x : X) → o ≡ Some x → test x ≡ true) → passed test o ≡ o
 passed_all test None all = refl

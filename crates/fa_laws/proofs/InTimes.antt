@@ -197,6 +197,7 @@ begins_good w b = record {
   where
     no_booking : (d r : ℕ) (k : Booking) → get w.core.calendar.bookings (d, r) ≡ Some k → ⊥
     no_booking d r k e = none-some k (sym (ap (λ (c : Core). get c.calendar.bookings (d, r)) b.fresh ∙ get-empty place_cmp (d, r)) ∙ e)
+
     no_job : (d : ℕ) (flight : Flight) → get w.core.jobs d ≡ Some flight → ⊥
     no_job d flight e = none-some flight (sym (ap (λ (c : Core). get c.jobs d) b.fresh ∙ get-empty nat_cmp d) ∙ e)
 
@@ -333,6 +334,7 @@ ready_in_time core batch until g passed_by =
   where
     answered_all : Bool
     answered_all = list_all (λ page. contains_key (batch_at core batch).answers page) (batch_at core batch).pages
+
     answered_page : torn_test core batch ≡ false → (page : ℕ) → Among page (batch_at core batch).pages → contains_key (batch_at core batch).answers page ≡ true
     answered_page whole page among =
         elim (cases_Bool (contains_key (batch_at core batch).answers page)) [
@@ -340,6 +342,6 @@ ready_in_time core batch until g passed_by =
           | inr open_one ↦
               let none = (or_parts (not (contains_key core.batches batch)) _ whole).1 in
               let left = among-filter-intro (λ p. not (contains_key (batch_at core batch).answers p || is_read_in_flight core batch p)) page (batch_at core batch).pages among
-                  (not_from_false _ (or_from _ _ open_one (none_read core batch until g passed_by page))) in
+              (not_from_false _ (or_from _ _ open_one (none_read core batch until g passed_by page))) in
               absurd (true≢false (sym (not_from_false _ (none_booked core batch until g passed_by page)) ∙ any_none (λ p. not (is_booked core batch p)) (left_of core batch) none page left))
         ]

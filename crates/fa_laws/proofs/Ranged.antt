@@ -57,7 +57,7 @@ use Rattle.std.proofs.lemmas.Bool.{and_parts, cases_eq, false≢true, ltb-true, 
 use Rattle.std.proofs.lemmas.Option.{none-some, same_Some}
 use Rattle.std.specs.FinMap.{FinMap, get, insert, remove}
 use Rattle.std.specs.List.{range_with_len}
-use Rattle.std.specs.Prelude.{Err, Ok, Result, T, filter, if◌then◌else◌, is_some, option_map, unwrap_or, ◌&&◌, ◌==◌}
+use Rattle.std.specs.Prelude.{Err, Ok, Result, filter, if◌then◌else◌, is_some, option_map, unwrap_or, ◌&&◌, ◌==◌}
 
 abbrev pub slots_total : Core → ℕ
 slots_total core = core.page_map.geometry.blocks * core.page_map.geometry.slots

@@ -22,7 +22,7 @@ use Rattle.fa_machine.specs.Collecting.{is_erased_outside, is_in_block}
 use Rattle.fa_machine.specs.Conditions.{drop_die, reserved_under}
 use Rattle.fa_machine.specs.Copies.{copy_on, holds_last, holds_page, is_current, is_held_slot, is_reserved_slot}
 use Rattle.fa_machine.specs.Maps.{change, insert_all, place_cmp}
-use Rattle.fa_machine.specs.Placement.{copies_asked, copy_place, has_room, is_erased_slot, order_of, room, targets}
+use Rattle.fa_machine.specs.Placement.{copies_asked, copy_place, has_room, is_erased_slot, order_of, targets}
 use Rattle.fa_machine.specs.Run.{Event, Happening, Happens, HappensEvent, ImageCall}
 use Rattle.fa_machine.specs.State.{Core, MapState, OpenBatch, Reservation, is_live, slots_of, used_at}
 use Rattle.fa_machine.specs.Step.{Abandon, Act, Admit, Advance, Claim, Commit, CommitCopy, Does, Done, EndBatch, FlushBegin}
@@ -65,7 +65,7 @@ use Rattle.std.proofs.lemmas.Option.{cond_some, none-some, same_Some}
 use Rattle.std.specs.FinMap.{FinMap, get, insert, remove}
 use Rattle.std.specs.List.{list_any}
 use Rattle.std.specs.Ordering.{nat_cmp}
-use Rattle.std.specs.Prelude.{Err, Ok, Result, T, filter, find, if◌then◌else◌, is_some, option_map, ◌&&◌, ◌==◌}
+use Rattle.std.specs.Prelude.{Err, Ok, Result, filter, find, if◌then◌else◌, is_some, option_map, ◌&&◌, ◌==◌}
 
 -- a slot of a live die that holds the page with its number
 pub record HasCopy (core : Core) (page die : ℕ) : Type 0 where
@@ -86,6 +86,7 @@ copy_from_holds core page die holds = at_slot (copy_on core.page_map page die) r
     of_number slot (Some v) e is =
         let found = holds_held page v (used_at core.page_map die slot) is in
         record { version = v; number = e; slot = slot; tag_page = found.0; tag_version = found.1; held = found.2; page_is = found.3; seq_is = found.4 }
+
     at_slot : (s : Option ℕ) → copy_on core.page_map page die ≡ s → is_some s ≡ true → HasCopy core page die
     at_slot None e is = absurd (false≢true is)
     at_slot (Some slot) e is =
@@ -441,25 +442,28 @@ commit_has : (w : World) (claim seat die : ℕ) (seq : Seq) (r : Reservation) (c
 commit_has w claim seat die seq r core d one =
     let page : ℕ = claimed_page w.core claim in
     let t = die_among die (live_targets w.core r.targets) one in
-    subst (λ (k : Core). HasCopy k page die × (is_live k.page_map die ≡ true)) (sym d.2) (record {
-      version = r.version;
-      number = get-insert_same w.core.page_map.numbers page r.version;
-      slot = t.0.slot.0;
-      tag_page = record { 0 = page };
-      tag_version = r.version;
-      held = ap (λ (n : ℕ). get (insert_all (map (λ (t : Target). (t.die.0, t.slot.0)) (live_targets w.core r.targets)) (Held (record { 0 = page }) r.version)
-          (change (λ place used. without_page page used) w.core.page_map.used)) (n, t.0.slot.0)) (sym t.2)
-          ∙ get-insert_all_among place_cmp_total place_same (map (λ (t : Target). (t.die.0, t.slot.0)) (live_targets w.core r.targets)) _ _ (t.0.die.0, t.0.slot.0)
-          (place_itself (t.0.die.0, t.0.slot.0)) (among-map-intro (λ (t : Target). (t.die.0, t.slot.0)) t.0 (live_targets w.core r.targets) t.1);
-      page_is = refl;
-      seq_is = refl;
-    }, sym (ap (is_live w.core.page_map) t.2) ∙ (among-filter (λ (t : Target). is_live w.core.page_map t.die.0) t.0 r.targets t.1).1)
+    subst (λ (k : Core). HasCopy k page die × (is_live k.page_map die ≡ true)) (sym d.2) (
+      record {
+        version = r.version;
+        number = get-insert_same w.core.page_map.numbers page r.version;
+        slot = t.0.slot.0;
+        tag_page = record { 0 = page };
+        tag_version = r.version;
+        held = ap (λ (n : ℕ). get (insert_all (map (λ (t : Target). (t.die.0, t.slot.0)) (live_targets w.core r.targets)) (Held (record { 0 = page }) r.version)
+            (change (λ place used. without_page page used) w.core.page_map.used)) (n, t.0.slot.0)) (sym t.2)
+            ∙ get-insert_all_among place_cmp_total place_same (map (λ (t : Target). (t.die.0, t.slot.0)) (live_targets w.core r.targets)) _ _ (t.0.die.0, t.0.slot.0)
+            (place_itself (t.0.die.0, t.0.slot.0)) (among-map-intro (λ (t : Target). (t.die.0, t.slot.0)) t.0 (live_targets w.core r.targets) t.1);
+        page_is = refl;
+        seq_is = refl;
+      },
+      sym (ap (is_live w.core.page_map) t.2) ∙ (among-filter (λ (t : Target). is_live w.core.page_map t.die.0) t.0 r.targets t.1).1,
+    )
 
 pub commit_is_held : (w after : World) (claim seat die : ℕ) (seq : Seq) (r : Reservation) → IsReached w → HappensEvent w (Commit claim seat (Ok seq)) after
     → reserved_under w.core claim ≡ Some r → list_any (λ (t : Target). t.die.0 == die) (live_targets w.core r.targets) ≡ true
     → holds_page after.core.page_map (claimed_page w.core claim) die ≡ true
 commit_is_held w after claim seat die seq r reached happens is one =
     let has = commit_has w claim seat die seq r after.core
-        (subst (λ o. CommitsReserved w.core claim seat o (Ok seq) after.core) is happens.step.does) one in
+    (subst (λ o. CommitsReserved w.core claim seat o (Ok seq) after.core) is happens.step.does) one in
     holds_from_copy after.core (claimed_page w.core claim) die has.0
     (happens_ranged w (Event (Commit claim seat (Ok seq))) after (reached_ranged w reached) happens).ranged has.1

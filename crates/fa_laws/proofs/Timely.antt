@@ -50,8 +50,10 @@ kept_timely bookings round jobs dies test keeps t = record {
   where
     at : (d r : ℕ) → get (keep test bookings) (d, r) ≡ passed (test (d, r)) (get bookings (d, r))
     at d r = get-keep place_cmp_total place_same test bookings (d, r)
+
     was : (d r : ℕ) (b : Booking) → get (keep test bookings) (d, r) ≡ Some b → get bookings (d, r) ≡ Some b
     was d r b e = passed_some (test (d, r)) (get bookings (d, r)) b (sym (at d r) ∙ e)
+
     kept : (d r : ℕ) (b : Booking) → get bookings (d, r) ≡ Some b → b.started ≡ true → get (keep test bookings) (d, r) ≡ Some b
     kept d r b e s = at d r ∙ ap (passed (test (d, r))) e ∙ ap (λ t. if t then Some b else None) (keeps (d, r) b s)
 
@@ -78,14 +80,19 @@ dropped_timely bookings round jobs dies die t = record {
   begun_now = λ d r b e s. t.begun_now d r b (was d r b e) s;
   reads = λ d batch page version slot e.
       let left = get-remove_some jobs die d _ e in
-      let found = t.reads d batch page version slot left.0 in
-      (found.0, at d round ∙ ap (passed (λ b. not (d == die))) found.1
-      ∙ ap (λ t. if t then Some found.0 else None) (not_from_false (d == die) (ne_eqb d die left.1)), found.2, found.3);
+      let found = t.reads d batch page version slot left.0 in (
+        found.0,
+        at d round ∙ ap (passed (λ b. not (d == die))) found.1
+            ∙ ap (λ t. if t then Some found.0 else None) (not_from_false (d == die) (ne_eqb d die left.1)),
+        found.2,
+        found.3,
+      );
   within = λ d flight e. t.within d flight (get-remove_some jobs die d flight e).0;
 }
   where
     at : (d r : ℕ) → get (keep (λ place b. not (place.0 == die)) bookings) (d, r) ≡ passed (λ b. not (d == die)) (get bookings (d, r))
     at d r = get-keep place_cmp_total place_same (λ place b. not (place.0 == die)) bookings (d, r)
+
     was : (d r : ℕ) (b : Booking) → get (keep (λ place b. not (place.0 == die)) bookings) (d, r) ≡ Some b → get bookings (d, r) ≡ Some b
     was d r b e = passed_some (λ b. not (d == die)) (get bookings (d, r)) b (sym (at d r) ∙ e)
 
@@ -139,8 +146,12 @@ read_timely bookings round jobs dies die batch page version slot low t = record 
     | inr was ↦ t.begun_now d r b was s
   ];
   reads = λ d bt p v k e. elim (get-insert_cases jobs die (Read batch page version slot) d (Read bt p v k) e) [
-    | inl made ↦ (started_one, (ap (λ (n : ℕ). get (insert bookings (die, round) started_one) (n, round)) made.0 ∙ get-place_same bookings die round started_one),
-      batch_of batch bt page p version v slot k made.1, refl)
+    | inl made ↦ (
+      started_one,
+      (ap (λ (n : ℕ). get (insert bookings (die, round) started_one) (n, round)) made.0 ∙ get-place_same bookings die round started_one),
+      batch_of batch bt page p version v slot k made.1,
+      refl,
+    )
     | inr was ↦
         let found = t.reads d bt p v k was.0 in
         (found.0, get-place_other bookings die round started_one d round (λ same here. was.1 same) ∙ found.1, found.2, found.3)
@@ -153,9 +164,11 @@ read_timely bookings round jobs dies die batch page version slot low t = record 
   where
     started_one : Booking
     started_one = record { batch = batch; page = page; started = true }
+
     read_batch : BatchId → Flight → BatchId
     read_batch other (Read b p v k) = b
     read_batch other flight = other
+
     batch_of : (b b' : BatchId) (p p' : Page) (v v' : Version) (k k' : Slot) → Read b p v k ≡ Read b' p' v' k' → b ≡ b'
     batch_of b b' p p' v v' k k' e = ap (read_batch b) e
 
@@ -174,11 +187,14 @@ advanced_timely bookings round jobs dies none t = record {
   where
     at : (d r : ℕ) → get (keep (λ place b. nat_lt round place.1) bookings) (d, r) ≡ passed (λ b. nat_lt round r) (get bookings (d, r))
     at d r = get-keep place_cmp_total place_same (λ place b. nat_lt round place.1) bookings (d, r)
+
     was : (d r : ℕ) (b : Booking) → get (keep (λ place b. nat_lt round place.1) bookings) (d, r) ≡ Some b → get bookings (d, r) ≡ Some b
     was d r b e = passed_some (λ b. nat_lt round r) (get bookings (d, r)) b (sym (at d r) ∙ e)
+
     test_of : (t : Bool) (o : Option Booking) (b : Booking) → passed (λ b. t) o ≡ Some b → t ≡ true
     test_of true o b e = refl
     test_of false None b e = absurd (none-some b e)
     test_of false (Some c) b e = absurd (none-some b e)
+
     later_round : (d r : ℕ) (b : Booking) → get (keep (λ place b. nat_lt round place.1) bookings) (d, r) ≡ Some b → round < r
     later_round d r b e = ltb-true round r (test_of (nat_lt round r) (get bookings (d, r)) b (sym (at d r) ∙ e))

@@ -1,6 +1,5 @@
 -- By when a batch has its answers: each page that was planned is read by the plan's last round.
 use Rattle.std.specs.Prelude.{◌≡◌, ℕ, ◌+◌, max, Ok}
-use Rattle.fa_machine.specs.Reading.{Planned}
 use Rattle.fa_machine.specs.Run.{Happening, Event}
 use Rattle.fa_machine.specs.State.{Core}
 use Rattle.fa_machine.specs.Step.{Act, Admit, Replan}

@@ -2,7 +2,7 @@
 use Rattle.std.specs.Prelude.{◌≡◌, ℕ, true, List, [], ◌∷◌, Ok}
 use Rattle.fa_machine.specs.Run.{Happening, Event, Happens}
 use Rattle.fa_machine.specs.State.{is_live}
-use Rattle.fa_machine.specs.Step.{Act, Commit}
+use Rattle.fa_machine.specs.Step.{Commit}
 use Rattle.fa_machine.specs.World.{World}
 use Rattle.fa_machine.specs.Writing.{claimed_page}
 

@@ -17,7 +17,7 @@ use Rattle.std.proofs.lemmas.Option.{none-some}
 use Rattle.std.specs.FinMap.{contains_key, empty, get, get-empty, insert}
 use Rattle.std.specs.List.{AllByRecursion}
 use Rattle.std.specs.Ordering.{nat_cmp}
-use Rattle.std.specs.Prelude.{T, is_some, option_map, replicate, slice_index_or}
+use Rattle.std.specs.Prelude.{is_some, option_map, replicate, slice_index_or}
 use Rattle.fa_laws.proofs.beginnings.a_formatted_array_is_a_beginning.Goals as goal
 
 none_number : (page : ℕ) → get (empty {X = Version} {R = nat_cmp}) page ≡ None

@@ -1,4 +1,3 @@
-use Rattle.fa_cert.specs.Batch.{holds}
 use Rattle.fa_laws.proofs.Outlasting.{not_lost}
 use Rattle.fa_laws.proofs.Staying.{copy_stays_over}
 use Rattle.std.proofs.lemmas.Bool.{ltb-true}

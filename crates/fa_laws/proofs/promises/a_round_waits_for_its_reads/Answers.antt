@@ -31,9 +31,9 @@ ended_read flight (Some a) b e pending =
 pub returns : goal.returns
 returns c w after round die booking happens within booked =
     let none = first_of_three (list_any (is_round_pending w.core) (dies_of w.core.page_map))
-        (len w.core.calendar.bookings == 0 && len w.core.calendar.windows == 0) (w.core.calendar.round == 2 ^ 56) AdvancePending Idle AdvanceSpent
-        happens.step.does.0 in
+    (len w.core.calendar.bookings == 0 && len w.core.calendar.windows == 0) (w.core.calendar.round == 2 ^ 56) AdvancePending Idle AdvanceSpent
+    happens.step.does.0 in
     let here = any_none (is_round_pending w.core) (dies_of w.core.page_map) none die
-        (among-range 0 w.core.page_map.geometry.dies die (omega arith) (let n = ltb-true die w.core.page_map.geometry.dies within in omega (arith, n))) in
+    (among-range 0 w.core.page_map.geometry.dies die (omega arith) (let n = ltb-true die w.core.page_map.geometry.dies within in omega (arith, n))) in
     ended_read (get w.core.jobs die) (get w.core.calendar.bookings (die, w.core.calendar.round)) booking booked
     (or_parts (is_read_pending (get w.core.jobs die) (get w.core.calendar.bookings (die, w.core.calendar.round))) (is_step_pending w.core die) here).0
