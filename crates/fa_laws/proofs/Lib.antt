@@ -26,6 +26,7 @@ pub mod Orders
 pub mod Outcomes
 pub mod Outlasting
 pub mod Parts
+pub mod Pending
 pub mod Ranged
 pub mod Reserving
 pub mod Runs

@@ -7,3 +7,4 @@ pub mod Leaving
 pub mod Plain
 pub mod Reached
 pub mod Reading
+pub mod Untouched
