@@ -1,10 +1,11 @@
 -- The array as it is formatted: two dies, nothing written, all slots erased, and a plain array of zeros.
-use Rattle.std.specs.Prelude.{[], None, replicate}
+use Rattle.std.specs.Prelude.{ℕ, [], ◌∷◌, None, Ok, replicate}
 use Rattle.std.specs.FinMap.{empty, insert}
 use Rattle.fa_types.specs.declared.geometry.Geometry.{Geometry}
 use Rattle.fa_machine.specs.Beginning.{mounted}
 use Rattle.fa_machine.specs.Cells.{Empty}
 use Rattle.fa_machine.specs.State.{MapState}
+use Rattle.fa_machine.specs.Step.{Act, Admit}
 use Rattle.fa_machine.specs.World.{World}
 
 -- both dies of an array of two are live
@@ -24,3 +25,8 @@ formatted geometry = record {
   moment = 0;
   admitted = λ batch. 0;
 }
+
+-- the admission of one page that was never written: nothing is planned, in no round
+abbrev pub admits_one : Geometry → ℕ → Act
+admits_one geometry page =
+    Admit (page ∷ []) (Ok (record { batch = record { 0 = 0 }; planned = record { rounds = 0; places = []; shortage = [] } }))
