@@ -40,15 +40,8 @@ abbrev is_held_here : Option Used → Bool
 is_held_here (Some (Held page version)) = true
 is_held_here used = false
 
-abbrev is_none_here : Option Used → Bool
-is_none_here None = true
-is_none_here used = false
-
 pub kept≢held : (o : Option Used) (page : Page) (v : Version) → o ≡ Some Reserved → o ≡ Some (Held page v) → ⊥
 kept≢held o page v a b = true≢false (ap is_kept (sym a ∙ b))
-
-pub kept≢stale : (o : Option Used) → o ≡ Some Reserved → o ≡ Some Stale → ⊥
-kept≢stale o a b = true≢false (ap is_kept (sym a ∙ b))
 
 pub kept≢none : (o : Option Used) → o ≡ Some Reserved → o ≡ None → ⊥
 kept≢none o a b = true≢false (ap is_kept (sym a ∙ b))

@@ -1,5 +1,4 @@
 -- A read in flight is due what it was due as it was taken.
-use Rattle.fa_cert.specs.Batch.{holds}
 use Rattle.fa_laws.proofs.Admitting.{one_value_other, one_value_same}
 use Rattle.fa_laws.proofs.Answering.{reached_holds}
 use Rattle.fa_laws.proofs.Events.{happens_holds}
@@ -54,7 +53,7 @@ use Rattle.std.proofs.lemmas.Option.{none-some, same_Some}
 use Rattle.std.specs.FinMap.{FinMap, get, remove}
 use Rattle.std.specs.List.{AllByRecursion}
 use Rattle.std.specs.Ordering.{nat_cmp}
-use Rattle.std.specs.Prelude.{Err, Ok, Result, T, if◌then◌else◌, is_some, option_map, ◌==◌}
+use Rattle.std.specs.Prelude.{Err, Ok, Result, if◌then◌else◌, is_some, option_map, ◌==◌}
 
 module _ (die : ℕ) (flight : Flight) where
   abbrev pub At : Core → Type 0
@@ -124,6 +123,7 @@ module _ (die : ℕ) (flight : Flight) where
       answer_at : (bytes : List ℕ) (b : Option OpenBatch) → At (with_answer batch.0 page.0 bytes b core)
       answer_at bytes None = at
       answer_at bytes (Some b) = at
+
       read_at : (o : Option (List ℕ)) → At (read_ends out batch.0 page.0 o core)
       read_at None = get-remove_other core.jobs out die apart ∙ at
       read_at (Some bytes) = answer_at bytes (get core.batches batch.0)
@@ -195,6 +195,7 @@ module _ (die : ℕ) (flight : Flight) where
       told_due : (batch page seq : ℕ) (o : Option (List ℕ)) → (with_told out batch page seq o w).due ≡ w.due
       told_due batch page seq None = refl
       told_due batch page seq (Some bytes) = refl
+
       end_due : (f : Flight) (outcome : Outcome) → (with_end out f outcome w).due ≡ w.due
       end_due (Read batch page version slot) (DidRead cell) = told_due batch.0 page.0 version.seq.0 _
       end_due f outcome = refl

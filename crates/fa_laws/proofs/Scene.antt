@@ -62,9 +62,6 @@ is_settled used = false
 abbrev pub program_is_at : ℕ → ℕ → WaitingProgram → Bool
 program_is_at die slot p = p.die == die && p.slot == slot
 
-abbrev pub target_is_at : ℕ → ℕ → Target → Bool
-target_is_at die slot t = t.die.0 == die && t.slot.0 == slot
-
 -- how many elements pass
 abbrev pub tally : {X : Type 0} → (X → Bool) → List X → ℕ
 tally passes [] = 0

@@ -145,9 +145,6 @@ module _ (w : World) (h : Holds w) (page die : ℕ) (c : HasCopy w.core page die
   to_stays : (x core : Core) → core ≡ x → Stays x → Stays core
   to_stays x core e s = subst Stays (sym e) s
 
-  here : Stays w.core
-  here = c
-
   same_stays : (x core : Core) → core ≡ x → x.page_map.numbers ≡ w.core.page_map.numbers → x.page_map.used ≡ w.core.page_map.used → Stays core
   same_stays x core e numbers used = to_stays x core e (stays_map w.core x page die c numbers used)
 

@@ -28,10 +28,6 @@ pub record Timely (bookings : FinMap place_cmp Booking) (round : ℕ) (jobs : Fi
       → (b : Booking) × (get bookings (d, round) ≡ Some b) × (b.batch ≡ batch) × (b.started ≡ true)
   pub within : (d : ℕ) (flight : Flight) → get jobs d ≡ Some flight → d < dies
 
--- each booking of the batch is before that round
-abbrev pub AreBefore : ℕ → ℕ → FinMap place_cmp Booking → Type 0
-AreBefore batch until bookings = (d r : ℕ) (b : Booking) → get bookings (d, r) ≡ Some b → b.batch.0 ≡ batch → r < until
-
 abbrev pub TimelyCore : Core → Type 0
 TimelyCore core = Timely core.calendar.bookings core.calendar.round core.jobs core.page_map.geometry.dies
 
@@ -56,11 +52,6 @@ kept_timely bookings round jobs dies test keeps t = record {
 
     kept : (d r : ℕ) (b : Booking) → get bookings (d, r) ≡ Some b → b.started ≡ true → get (keep test bookings) (d, r) ≡ Some b
     kept d r b e s = at d r ∙ ap (passed (test (d, r))) e ∙ ap (λ t. if t then Some b else None) (keeps (d, r) b s)
-
-pub kept_before : (batch until : ℕ) (bookings : FinMap place_cmp Booking) (test : ℕ × ℕ → Booking → Bool) → AreBefore batch until bookings
-    → AreBefore batch until (keep test bookings)
-kept_before batch until bookings test before d r b e is =
-    before d r b (passed_some (test (d, r)) (get bookings (d, r)) b (sym (get-keep place_cmp_total place_same test bookings (d, r)) ∙ e)) is
 
 -- fewer jobs
 pub ended_timely : (bookings : FinMap place_cmp Booking) (round : ℕ) (jobs : FinMap nat_cmp Flight) (dies die : ℕ)

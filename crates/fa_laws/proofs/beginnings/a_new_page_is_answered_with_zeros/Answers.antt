@@ -1,4 +1,3 @@
-use Rattle.fa_laws.proofs.ImageCalls.{opens}
 use Rattle.fa_laws.proofs.Invariant.{next}
 use Rattle.fa_laws.proofs.Maps.{get-insert_all_among, get-insert_same, nat_same}
 use Rattle.fa_laws.proofs.Scene.{Among}
@@ -98,9 +97,16 @@ module _ (geometry : Geometry) (page : ℕ) (low : page < geometry.pages) where
   admitted = record {
     step = record {
       allows = and_from _ _ (and_from _ _ refl (and_from _ _ (lt-ltb page geometry.pages low) refl)) refl;
-      does = ((ap (λ o. cond (is_some o && length (holders m page) == 0) (Some page) None) never, refl,
-        subst (λ ps. IsPlanned m w.core.calendar ps (record { rounds = 0; places = []; shortage = [] })) (sym none_read) (no_plan_needed m w.core.calendar), few),
-        fresh_id, refl);
+      does = (
+        (
+          ap (λ o. cond (is_some o && length (holders m page) == 0) (Some page) None) never,
+          refl,
+          subst (λ ps. IsPlanned m w.core.calendar ps (record { rounds = 0; places = []; shortage = [] })) (sym none_read) (no_plan_needed m w.core.calendar),
+          few,
+        ),
+        fresh_id,
+        refl,
+      );
     };
     told = tt;
     follows = refl;
@@ -114,6 +120,7 @@ module _ (geometry : Geometry) (page : ℕ) (low : page < geometry.pages) where
       equal_of Less h = absurd (false≢true h)
       equal_of Equal h = refl
       equal_of Greater h = absurd (false≢true h)
+
       same_cmp : (n : ℕ) → nat_cmp n n ≡ Equal
       same_cmp n = equal_of (nat_cmp n n) (unsigned_tied n n ∙ eq-eqb n n refl)
 
@@ -134,6 +141,9 @@ module _ (geometry : Geometry) (page : ℕ) (low : page < geometry.pages) where
   }
 
 pub returns : goal.returns
-returns c geometry page low =
-    (middle geometry page low, next (EndBatch 0 ((page, replicate geometry.page_bytes 0) ∷ [])) (core_last geometry page low) (middle geometry page low),
-    admitted geometry page low, ended geometry page low)
+returns c geometry page low = (
+  middle geometry page low,
+  next (EndBatch 0 ((page, replicate geometry.page_bytes 0) ∷ [])) (core_last geometry page low) (middle geometry page low),
+  admitted geometry page low,
+  ended geometry page low,
+)
