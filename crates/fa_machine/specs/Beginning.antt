@@ -1,5 +1,5 @@
 -- The array as it is mounted: what its images hold, and nothing under way.
-use Rattle.std.specs.Prelude.{◌≡◌, ℕ, ◌*◌, ◌^◌, ◌<◌, ◌≤◌, ◌⊎◌, true, false, ◌||◌, [], length, Option, Some, None, is_some, option_map}
+use Rattle.std.specs.Prelude.{◌≡◌, ℕ, ◌-◌, ◌*◌, ◌^◌, ◌<◌, ◌≤◌, ◌⊎◌, true, false, ◌||◌, [], length, Option, Some, None, is_some, option_map}
 use Rattle.std.specs.Ordering.{nat_cmp}
 use Rattle.std.specs.FinMap.{FinMap, empty, get, contains_key}
 use Rattle.fa_types.specs.Plain.{HasPages}
@@ -59,6 +59,8 @@ StandsAt w die slot (Some Stale) = Unit {0}
 pub record IsBeginning (w : World) : Type 0 where
   pub fresh : w.core ≡ mounted w.core.copies w.core.epoch w.core.last w.core.page_map w.core.spares w.core.base.numbers
   pub copies : (w.core.copies ≡ 2) ⊎ (w.core.copies ≡ 3)
+  -- so that the homes of a page are as many dies
+  pub enough : w.core.copies ≤ w.core.page_map.geometry.dies - w.core.page_map.geometry.spares
   pub based : (page : ℕ) → get w.core.base.numbers page ≡ option_map (λ version. version.seq.0) (get w.core.page_map.numbers page)
   pub last : w.core.last < 2 ^ 62
   -- live dies and spares are dies of the array, and no die is both

@@ -1,0 +1,10 @@
+pub mod Counted
+pub mod Formatted
+pub mod Free
+pub mod InTime
+pub mod Least
+pub mod Leaving
+pub mod Plain
+pub mod Reached
+pub mod Reading
+pub mod Untouched
