@@ -1,6 +1,7 @@
 //! Measures, by the name of a measurement. Without a word it measures nothing and prints its usage.
 #![tactic(auto)]
 
+mod plans;
 mod slots;
 mod words;
 
@@ -22,6 +23,7 @@ fn main(rt: HostRuntime) -> io::Result<ExitCode> {
         _ => None,
     };
     match wanted {
+        Some(Measurement::Plan) => plans::measure(&rt)?,
         Some(Measurement::Slots) => slots::measure(&rt)?,
         None => {
             tell_usage(&rt)?;
@@ -32,5 +34,5 @@ fn main(rt: HostRuntime) -> io::Result<ExitCode> {
 }
 
 fn tell_usage(rt: &impl Print) -> io::Result<()> {
-    println!(rt; "usage: flasharr_bench slots")
+    println!(rt; "usage: flasharr_bench plan | slots")
 }

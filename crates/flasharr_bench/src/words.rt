@@ -4,15 +4,19 @@ ghost use Rattle.std.specs.Prelude.{◌≡◌, ◌↔◌, Some, codes};
 /// Something that can be measured.
 #[derive(Clone, Copy, Debug, PartialEq, Eq)]
 pub enum Measurement {
+    /// A batch is planned, and the plan is checked.
+    Plan,
     /// Slots are sealed and opened.
     Slots,
 }
 
 /// The measurement of this name.
 pub fn measurement_named(name: &str) -> Option<Measurement>
-    ensures { (result ≡ Some Measurement.Slots) ↔ (name.now ≡ codes "slots") }
+    ensures plan { (result ≡ Some Measurement.Plan) ↔ (name.now ≡ codes "plan") }
+    ensures slots { (result ≡ Some Measurement.Slots) ↔ (name.now ≡ codes "slots") }
 {
     match name {
+        "plan" => Some(Measurement::Plan),
         "slots" => Some(Measurement::Slots),
         _ => None,
     }
