@@ -2,6 +2,7 @@
 #![tactic(auto)]
 
 mod client;
+mod plans;
 mod session;
 mod slots;
 mod words;
@@ -24,6 +25,7 @@ fn main(rt: HostRuntime) -> io::Result<ExitCode> {
         _ => None,
     };
     match wanted {
+        Some(Measurement::Plan) => plans::measure(&rt)?,
         Some(Measurement::Session) => session::measure(&rt)?,
         Some(Measurement::Slots) => slots::measure(&rt)?,
         None => {
@@ -35,5 +37,5 @@ fn main(rt: HostRuntime) -> io::Result<ExitCode> {
 }
 
 fn tell_usage(rt: &impl Print) -> io::Result<()> {
-    println!(rt; "usage: flasharr_bench session | slots")
+    println!(rt; "usage: flasharr_bench plan | session | slots")
 }

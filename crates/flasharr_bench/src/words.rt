@@ -4,6 +4,8 @@ ghost use Rattle.std.specs.Prelude.{◌≡◌, ◌↔◌, Some, codes};
 /// Something that can be measured.
 #[derive(Clone, Copy, Debug, PartialEq, Eq)]
 pub enum Measurement {
+    /// A batch is planned, and the plan is checked.
+    Plan,
     /// READs and WRITEs are served.
     Session,
     /// Slots are sealed and opened.
@@ -12,10 +14,12 @@ pub enum Measurement {
 
 /// The measurement of this name.
 pub fn measurement_named(name: &str) -> Option<Measurement>
+    ensures plan { (result ≡ Some Measurement.Plan) ↔ (name.now ≡ codes "plan") }
     ensures session { (result ≡ Some Measurement.Session) ↔ (name.now ≡ codes "session") }
     ensures slots { (result ≡ Some Measurement.Slots) ↔ (name.now ≡ codes "slots") }
 {
     match name {
+        "plan" => Some(Measurement::Plan),
         "session" => Some(Measurement::Session),
         "slots" => Some(Measurement::Slots),
         _ => None,

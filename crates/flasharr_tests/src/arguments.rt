@@ -166,7 +166,11 @@ fn the_program_ends_with_the_status_of_its_run(rt: HostRuntime) -> Result<(), Fa
 fn arguments_that_cannot_be_had(rt: HostRuntime) -> Result<(), Fail> {
     let cases = [
         (ErrorKind::OutOfMemory, 1, "no memory\n"),
-        (ErrorKind::InvalidData, 2, "usage: flasharr plan | talk | verify\n"),
+        (
+            ErrorKind::InvalidData,
+            2,
+            "usage: flasharr plan | talk | verify\n",
+        ),
     ];
     for (kind, status, told) in cases {
         let mut input = b"".as_slice();

@@ -33,6 +33,8 @@ mod io;
 #[cfg(test)]
 mod nego;
 #[cfg(test)]
+mod plans;
+#[cfg(test)]
 mod reopened;
 #[cfg(test)]
 mod rows;

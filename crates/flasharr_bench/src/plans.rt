@@ -1,0 +1,83 @@
+//! How long it takes to plan a batch, and to check the plan.
+ghost use Rattle.std.specs.Prelude.{◌-◌, ◌^◌, ◌≤◌};
+ghost use Rattle.fa_cert.specs.Batch.{IsSound};
+
+use fa_cert::{Batch, Verdict, check, read_batch};
+use fa_plan::plan;
+use fa_types::Rounds;
+use std::alloc::Global;
+use std::io::{self, Read};
+use std::rt::Clock;
+use std::time::{Duration, Instant};
+
+/// How often the batch is planned.
+const TURNS: u32 = 20;
+
+/// The least times of all turns, and what came of the last.
+#[derive(Clone, Copy, Debug)]
+struct Times {
+    planning: Duration,
+    checking: Duration,
+    searches: u64,
+    looks: u64,
+    verdict: Option<Verdict>,
+}
+
+/// Plans the batch of the text on standard input again and again, and prints a line for the verdict on the
+/// last plan and four lines that are each a name and a number: the searches, the looks, and the least
+/// nanoseconds that planning and checking took.
+pub fn measure(rt: &(impl Clock + Print + Input + AllocGlobal)) -> io::Result<()> {
+    let mut text = Vec::new(rt.alloc());
+    rt.reader().read_to_end(&mut text)?;
+    let Ok(found) = read_batch(rt.alloc(), text.as_slice()) else {
+        return println!(rt; "no batch text");
+    };
+    if !found.batch.is_sound() {
+        return println!(rt; "not sound");
+    }
+    let times = times_of(rt, rt.alloc(), &found.batch, &found.closed)?;
+    let planning = times.planning.as_nanos();
+    let checking = times.checking.as_nanos();
+    let searches = times.searches;
+    let looks = times.looks;
+    match times.verdict {
+        Some(verdict) => println!(rt; "{verdict}")?,
+        None => println!(rt; "nothing")?,
+    }
+    println!(rt; "searches {searches}")?;
+    println!(rt; "looks {looks}")?;
+    println!(rt; "plan_nanoseconds {planning}")?;
+    println!(rt; "check_nanoseconds {checking}")
+}
+
+/// Plans and checks the batch turn by turn.
+fn times_of<R: Rounds>(
+    rt: &impl Clock,
+    alloc: Global,
+    batch: &Batch,
+    rounds: &R,
+) -> io::Result<Times>
+    requires sound { IsSound batch.now }
+    requires early { R.current rounds.now ≤ 2 ^ 56 - 2 ^ 24 }
+{
+    let mut times = Times {
+        planning: Duration::MAX,
+        checking: Duration::MAX,
+        searches: 0,
+        looks: 0,
+        verdict: None,
+    };
+    for _ in 0..TURNS {
+        let start = Instant::now(rt)?;
+        let planned = plan(alloc, batch, rounds)?;
+        let made = Instant::now(rt)?;
+        let verdict = check(alloc, batch, rounds, &planned.plan, &planned.shortage)?;
+        let checked = Instant::now(rt)?;
+        times.planning = times.planning.min(made.duration_since(start));
+        times.checking = times.checking.min(checked.duration_since(made));
+        times.searches = planned.searches;
+        times.looks = planned.looks;
+        times.verdict = Some(verdict);
+    }
+    Ok(times)
+}
