@@ -66,6 +66,7 @@ pub fn plan<R: Rounds, A: Allocator + Copy>(
     ensures first { IfOk result (λ planned. AreFirstRounds (R.current rounds.now) (R.closed rounds.now) planned.plan.places) }
     ensures searches { IfOk result (λ planned. (first : ℕ) → IsSimpleBound batch.now (R.current rounds.now) (R.closed rounds.now) first
         → planned.searches + first ≤ length batch.now + planned.rounds) }
+    ensures most { IfOk result (λ planned. planned.searches ≤ length batch.now + planned.rounds) }
     ensures counted { IfOk result (λ planned. length batch.now ≤ planned.searches) }
     ensures whole { IfOk result (λ planned. planned.searches ≡ length batch.now → planned.shortage ≡ pages_of batch.now) }
     ensures looks { IfOk result (λ planned. planned.looks ≤ planned.searches * length batch.now) }
