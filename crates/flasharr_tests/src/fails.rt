@@ -1,7 +1,7 @@
 //! Connections whose memory, reader or writer fails.
 use crate::rows::{FLAGS, GO, GONE, GREETING, served};
 use crate::spelling::{joined, spelled};
-use fa_io::faulty::{Failing, Piecewise};
+use fa_io::faulty::Piecewise;
 use fa_session::{SessionEnd, serve_stream};
 use fa_types::MemBlocks;
 use linked_list_allocator::LocalHeap;
@@ -23,51 +23,6 @@ fn client(alloc: Global) -> Result<Vec<u8>, Fail> {
 
 fn server(alloc: Global) -> Result<Vec<u8>, Fail> {
     joined(alloc, &[GREETING, GONE, REPLIES])
-}
-
-// The calls from the failing one on fail, so that one which is made again is seen too.
-#[test]
-fn each_read_fails(rt: HostRuntime) -> Result<(), Fail> {
-    let said = client(rt.alloc())?;
-    let answer = server(rt.alloc())?;
-    let mut failed = 0u64;
-    for calls in 1..10_000u64 {
-        let mut reader = Failing::new(Piecewise::new(said.as_slice(), 7), calls);
-        let mut writer = Vec::new(rt.alloc());
-        let ended = served(rt.alloc(), &mut reader, &mut writer)?;
-        if ended == SessionEnd::Disconnected {
-            break;
-        }
-        ensure!(ended == SessionEnd::ReadFailed, at calls);
-        ensure!(answer.starts_with(writer.as_slice()), at calls);
-        ensure!(reader.calls == calls);
-        failed = calls;
-    }
-    ensure!(failed < 9_999);
-    ensure!(failed >= said.len() as u64 / 7);
-    Ok(())
-}
-
-#[test]
-fn each_write_fails(rt: HostRuntime) -> Result<(), Fail> {
-    let said = client(rt.alloc())?;
-    let answer = server(rt.alloc())?;
-    let mut failed = 0u64;
-    for calls in 1..10_000u64 {
-        let mut reader = said.as_slice();
-        let mut writer = Failing::new(Piecewise::new(Vec::new(rt.alloc()), 5), calls);
-        let ended = served(rt.alloc(), &mut reader, &mut writer)?;
-        if ended == SessionEnd::Disconnected {
-            break;
-        }
-        ensure!(ended == SessionEnd::WriteFailed, at calls);
-        ensure!(answer.starts_with(writer.inner.inner.as_slice()), at calls);
-        ensure!(writer.calls == calls);
-        failed = calls;
-    }
-    ensure!(failed < 9_999);
-    ensure!(failed >= answer.len() as u64 / 5);
-    Ok(())
 }
 
 #[test]

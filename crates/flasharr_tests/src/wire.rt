@@ -94,6 +94,9 @@ fn failing(
     let mut reader = Failing::new(Piecewise::new(said, 50), read);
     let mut writer = Failing::new(Piecewise::new(Vec::new(alloc), 50), write);
     let ended = served(alloc, &mut reader, &mut writer)?;
+    // No call is made behind one that failed.
+    ensure!(reader.calls <= read, at read);
+    ensure!(writer.calls <= write, at write);
     Ok((ended, writer.inner.inner))
 }
 
