@@ -15,6 +15,12 @@ pub const FLAGS: &str = "00000003";
 /// The greeting.
 pub const GREETING: &str = "4e42444d41474943 49484156454f5054 0003";
 
+/// What an option begins with.
+const OPTION_MAGIC: &[u8] = b"IHAVEOPT";
+
+/// What a request begins with.
+const REQUEST_MAGIC: &[u8] = b"\x25\x60\x95\x13";
+
 /// A client that asks for transmission, by an empty name.
 pub const GO: &str = "49484156454f5054 00000007 00000006 00000000 0000";
 
@@ -98,13 +104,48 @@ fn answered_to_a_cut(
     Ok(writer.len())
 }
 
+/// Tries one conversation with a byte of a magic number changed: the connection is closed there, or had
+/// ended before.
+fn closes_at(alloc: Global, said: &[u8], at: usize, answer: &[u8], end: u8) -> Result<(), Fail> {
+    let mut changed = Vec::from_slice(alloc, said)?;
+    if let Some(byte) = changed.get_mut(at) {
+        *byte ^= 0x20;
+    }
+    let mut reader = changed.as_slice();
+    let mut writer = Vec::new(alloc);
+    let ended = served(alloc, &mut reader, &mut writer)?;
+    let is_whole = ended.number() == end && writer.as_slice() == answer;
+    ensure!(ended == SessionEnd::Closed || is_whole, at at);
+    ensure!(answer.starts_with(writer.as_slice()), at at);
+    Ok(())
+}
+
+/// Tries one conversation with each byte of each magic number changed.
+fn closes_at_each_magic(alloc: Global, said: &[u8], answer: &[u8], end: u8) -> Result<(), Fail> {
+    for at in 0..said.len() {
+        let rest = &said[at..];
+        let len = if rest.starts_with(OPTION_MAGIC) {
+            OPTION_MAGIC.len()
+        } else if rest.starts_with(REQUEST_MAGIC) {
+            REQUEST_MAGIC.len()
+        } else {
+            0
+        };
+        for offset in 0..len {
+            closes_at(alloc, said, at.saturating_add(offset), answer, end)?;
+        }
+    }
+    Ok(())
+}
+
 /// Tries one conversation: by the program, in pieces of each length, over streams that are
-/// interrupted, and cut after each byte.
+/// interrupted, cut after each byte, and with each byte of each magic number changed.
 fn converses(alloc: Global, client: &[&str], server: &[&str], end: u8) -> Result<(), Fail> {
     let said = joined(alloc, client)?;
     let answer = joined(alloc, server)?;
     converses_by_the_program(alloc, &said, &answer, end)?;
     converses_through_interruptions(alloc, &said, &answer, end)?;
+    closes_at_each_magic(alloc, &said, &answer, end)?;
     for most in 1..=said.len() {
         converses_in_pieces(alloc, &said, most, &answer, end)?;
     }
