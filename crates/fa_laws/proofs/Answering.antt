@@ -6,7 +6,7 @@ use Rattle.fa_laws.proofs.Starts.{beginning_holds}
 use Rattle.fa_laws.specs.Plain.{ChangesPlain}
 use Rattle.fa_laws.specs.Reached.{IsReached}
 use Rattle.fa_machine.specs.Cells.{DidRead, Outcome}
-use Rattle.fa_machine.specs.Reading.{answered, no_batch}
+use Rattle.fa_machine.specs.Reading.{answered}
 use Rattle.fa_machine.specs.Run.{CallsNext, Event, Happening, Happens, HappensCall, ImageCall, IsRightAnswer, ReadsRight}
 use Rattle.fa_machine.specs.State.{Core, OpenBatch}
 use Rattle.fa_machine.specs.Step.{Act, Admit, Commit, Does, Done, EndBatch, Reserve, ReserveFewer, ReserveHole, Take, allowed}
@@ -15,7 +15,7 @@ use Rattle.fa_machine.specs.declared.jobs.Flight.{Flight}
 use Rattle.fa_machine.specs.declared.jobs.Flight.TheVariants.{Read}
 use Rattle.std.proofs.Common.{List, None, Option, Some, [], ap, refl, subst, sym, true, ℕ, ◌∙◌, ◌∷◌, ◌≡◌}
 use Rattle.std.proofs.lemmas.Bool.{false≢true}
-use Rattle.std.specs.FinMap.{get}
+use Rattle.std.specs.FinMap.{empty, get}
 use Rattle.std.specs.List.{AllByRecursion, cons_option}
 use Rattle.std.specs.Prelude.{Err, Ok, filter_map, is_some, option_map, unwrap_or}
 
@@ -36,7 +36,7 @@ answers_right w h batch b opened (page ∷ pages) =
     answer_right w h batch b opened page (get b.answers page) refl _ (answers_right w h batch b opened pages)
 
 end_right : (w : World) → Holds w → (batch : ℕ) (answer : List (ℕ × List ℕ)) (o : Option OpenBatch) → get w.core.batches batch ≡ o → is_some o ≡ true
-    → answer ≡ answered (unwrap_or o no_batch) → AllByRecursion (IsRightAnswer w batch) answer
+    → answer ≡ answered (unwrap_or o (record { pages = []; answers = empty })) → AllByRecursion (IsRightAnswer w batch) answer
 end_right w h batch answer None is opened e = absurd (false≢true opened)
 end_right w h batch answer (Some b) is opened e = subst (AllByRecursion (IsRightAnswer w batch)) (sym e) (answers_right w h batch b is b.pages)
 

@@ -8,7 +8,7 @@ use Rattle.fa_laws.proofs.Takes.{IsOther, IsUrgent, take_cases}
 use Rattle.fa_laws.proofs.Timely.{Timely, TimelyCore, begun_timely, booked_cases, dropped_timely, ended_timely, kept_timely}
 use Rattle.fa_laws.proofs.Timely.{read_timely}
 use Rattle.fa_machine.specs.Conditions.{drop_die}
-use Rattle.fa_machine.specs.Maps.{is_place, keep, place_cmp}
+use Rattle.fa_machine.specs.Maps.{keep, place_cmp}
 use Rattle.fa_machine.specs.Placement.{free}
 use Rattle.fa_machine.specs.Reading.{IsPlanned, Planned, released}
 use Rattle.fa_machine.specs.Rounds.{is_closed}
@@ -27,7 +27,7 @@ use Rattle.std.proofs.lemmas.List.Elements.{recursion_from_All}
 use Rattle.std.specs.FinMap.{FinMap, contains_key, get, insert, remove}
 use Rattle.std.specs.List.{AllByRecursion}
 use Rattle.std.specs.Ordering.{nat_cmp}
-use Rattle.std.specs.Prelude.{Ok, fold, is_some, ◌==◌}
+use Rattle.std.specs.Prelude.{Ok, fold, is_some, ◌==◌, ◌&&◌}
 
 abbrev booking_of : BatchId → Place → Booking
 booking_of batch x = record { batch = batch; page = x.page; started = false }
@@ -188,8 +188,8 @@ module _ (K : ℕ → BatchId → Type 0) where
   stale_good : (core : Core) → Good K core → (die : ℕ) → Good K (without_stale_booking die core)
   stale_good core g die = record {
     timely = kept_timely core.calendar.bookings core.calendar.round core.jobs core.page_map.geometry.dies
-        (λ place b. not (is_place die core.calendar.round place) || b.started) (λ place b s. or_right (not (is_place die core.calendar.round place)) b.started s) g.timely;
-    all = kept_all core.calendar.bookings (λ place b. not (is_place die core.calendar.round place) || b.started) g.all;
+        (λ place b. not (place.0 == die && place.1 == core.calendar.round) || b.started) (λ place b s. or_right (not (place.0 == die && place.1 == core.calendar.round)) b.started s) g.timely;
+    all = kept_all core.calendar.bookings (λ place b. not (place.0 == die && place.1 == core.calendar.round) || b.started) g.all;
   }
 
   other_good : (core : Core) → Good K core → (die seat : ℕ) (job : Option Handed) → die < core.page_map.geometry.dies → IsOther core die job

@@ -12,7 +12,7 @@ use Rattle.fa_machine.specs.Conditions.{reserved_under}
 use Rattle.fa_machine.specs.Maps.{change, insert_all, place_cmp}
 use Rattle.fa_machine.specs.State.{OpenClaim, Reservation, WaitingProgram, is_live}
 use Rattle.fa_machine.specs.World.{Work, World}
-use Rattle.fa_machine.specs.Writing.{abandon_refusal, claimed_page, commit_refusal, committed, is_at, is_programming, live_targets}
+use Rattle.fa_machine.specs.Writing.{abandon_refusal, claimed_page, commit_refusal, committed, is_programming, live_targets}
 use Rattle.fa_machine.specs.Writing.{with_reserved, with_targets, without_page}
 use Rattle.fa_machine.specs.declared.jobs.Flight.TheVariants.{Program}
 use Rattle.fa_machine.specs.declared.places.Target.{Target}
@@ -34,6 +34,10 @@ use Rattle.std.proofs.lemmas.Option.{none-some}
 use Rattle.std.specs.FinMap.{FinMap, get, insert}
 use Rattle.std.specs.List.{list_any}
 use Rattle.std.specs.Prelude.{filter, if◌then◌else◌, is_some, option_and_then, option_map, slice_index_or, unwrap_or, ◌&&◌, ◌==◌}
+
+-- whether a program waits for one of these slots
+abbrev is_at : List Target → WaitingProgram → Bool
+is_at places program = list_any (λ t. t.die.0 == program.die && t.slot.0 == program.slot) places
 
 pub reserved_owned : (o : Option OpenClaim) (r : Reservation) → option_and_then {T = OpenClaim} (λ c. c.reserved) o ≡ Some r
     → option_and_then owned_claim o ≡ Some (record { page = unwrap_or (option_map {T = OpenClaim} (λ c. c.page) o) 0; version = r.version; targets = r.targets })

@@ -19,9 +19,9 @@ use Rattle.fa_machine.specs.State.{Core, Reservation, is_live}
 use Rattle.fa_machine.specs.Step.{Abandon, Act, Admit, Advance, Claim, Commit, CommitCopy, Does, Done, EndBatch, FlushBegin}
 use Rattle.fa_machine.specs.Step.{FlushState, Fold, Release, Replan, Reserve, ReserveCopy, ReserveFewer, ReserveHole, SpareIn, Take}
 use Rattle.fa_machine.specs.Step.{Window, allowed, is_page}
-use Rattle.fa_machine.specs.Turning.{CommitsCopyOf, copying_to, has_number}
+use Rattle.fa_machine.specs.Turning.{CommitsCopy, copying_to, has_number}
 use Rattle.fa_machine.specs.World.{IsTold, World, with_payload}
-use Rattle.fa_machine.specs.Writing.{AbandonsReserved, CommitsReserved, ReservesAtLeast, committed, reserved}
+use Rattle.fa_machine.specs.Writing.{Abandons, Commits, Reserves, committed, reserved}
 use Rattle.fa_machine.specs.declared.answers.Copied.{Copied}
 use Rattle.fa_machine.specs.declared.answers.Copied.TheVariants.{Current, Late}
 use Rattle.fa_machine.specs.declared.places.Copying.{Copying}
@@ -69,7 +69,7 @@ to_next w act x core e h = subst (λ (c : Core). Holds (next act c w)) (sym e) h
 
 reserve_answer : (w : World) → Holds w → (claim least : ℕ) (kind : Kind) (payload : List ℕ) → claim_open w.core claim ≡ true
     → (kind ≡ Hole → payload ≡ zeros w.core.page_map) → (seq : Seq) (core : Core)
-    → ReservesAtLeast w.core claim least kind payload (Ok seq) core
+    → Reserves w.core claim least kind payload (Ok seq) core
     → Holds (record (with_payload claim seq.0 payload w) { core = core; moment = suc w.moment })
 reserve_answer w h claim least kind payload opened hole seq core d =
     subst (λ (c : Core). Holds (record (with_payload claim seq.0 payload w) { core = c; moment = suc w.moment })) (sym d.2)
@@ -77,7 +77,7 @@ reserve_answer w h claim least kind payload opened hole seq core d =
     (reserve_holds w h claim kind payload opened hole))
 
 reserve_refused : (w : World) → Holds w → (claim least : ℕ) (kind : Kind) (payload : List ℕ) (refused : ReserveRefused) (core : Core)
-    → ReservesAtLeast w.core claim least kind payload (Err refused) core → Holds (record w { core = core; moment = suc w.moment })
+    → Reserves w.core claim least kind payload (Err refused) core → Holds (record w { core = core; moment = suc w.moment })
 reserve_refused w h claim least kind payload ReserveNoMemory core d = subst (λ (c : Core). Holds (record w { core = c; moment = suc w.moment })) (sym d.1) (still w h)
 reserve_refused w h claim least kind payload refused core d = subst (λ (c : Core). Holds (record w { core = c; moment = suc w.moment })) (sym d.1) (still w h)
 
@@ -85,19 +85,19 @@ data_no_hole : (p q : List ℕ) → Data ≡ Hole → p ≡ q
 data_no_hole p q e = absurd (true≢false (ap is_data e))
 
 commit_case : (w : World) → Holds w → (claim seat : ℕ) (o : Option Reservation) → reserved_under w.core claim ≡ o → (answer : Result Seq CommitRefused) (core : Core)
-    → CommitsReserved w.core claim seat o answer core → Holds (next (Commit claim seat answer) core w)
+    → Commits w.core claim seat o answer core → Holds (next (Commit claim seat answer) core w)
 commit_case w h claim seat None is answer core d = absurd d
 commit_case w h claim seat (Some r) is (Ok seq) core d = to_next w (Commit claim seat (Ok seq)) (committed claim seat r w.core) core d.2 (commit_holds w h claim r is seq seat d.0 d.1)
 commit_case w h claim seat (Some r) is (Err refused) core d = to_next w (Commit claim seat (Err refused)) w.core core d.1 (still w h)
 
 abandon_case : (w : World) → Holds w → (claim : ℕ) (o : Option Reservation) → reserved_under w.core claim ≡ o → (answer : Result (Unit {0}) AbandonRefused) (core : Core)
-    → AbandonsReserved w.core claim o answer core → Holds (next (Abandon claim answer) core w)
+    → Abandons w.core claim o answer core → Holds (next (Abandon claim answer) core w)
 abandon_case w h claim None is answer core d = absurd d
 abandon_case w h claim (Some r) is (Ok made) core d = to_next w (Abandon claim (Ok made)) _ core d.1 (abandon_holds w h claim r is d.0)
 abandon_case w h claim (Some r) is (Err refused) core d = to_next w (Abandon claim (Err refused)) w.core core d.1 (still w h)
 
 copy_case : (w : World) → Holds w → (o : Option Copying) → w.core.copying ≡ o → (answer : Result Copied CommitCopyRefused) (core : Core)
-    → CommitsCopyOf w.core o answer core → Holds (next (CommitCopy answer) core w)
+    → CommitsCopy w.core o answer core → Holds (next (CommitCopy answer) core w)
 copy_case w h None is answer core d = absurd d
 copy_case w h (Some c) is (Ok Current) core d =
     let none = no_refusal (is_live w.core.page_map c.target.die.0 && not c.target.programmed) (not (is_live w.core.page_map c.target.die.0)) CopyPending CopyFailed d.0 in

@@ -5,12 +5,12 @@ use Rattle.fa_laws.proofs.Outcomes.{gave_read, tag}
 use Rattle.fa_laws.proofs.Scene.{Bytes, GaveFits, JobFits}
 use Rattle.fa_machine.specs.Cells.{DidErase, DidMove, DidProgram, DidRead, DidSync, DidWriteHeader, Fault, Outcome, Wrong, is_of_kind}
 use Rattle.fa_machine.specs.Cells.{payload_of}
-use Rattle.fa_machine.specs.Kept.{KeepsLive}
+use Rattle.fa_laws.specs.Kept.{KeepsLive}
 use Rattle.fa_machine.specs.Run.{HappensEvent}
 use Rattle.fa_machine.specs.State.{Core, OpenBatch, is_live}
 use Rattle.fa_machine.specs.Step.{Act, Done, SpareIn, Step, is_sized_read, may_end}
 use Rattle.fa_machine.specs.Taking.{EndsJob, finished, read_ends, with_answer}
-use Rattle.fa_machine.specs.World.{Accepted, Gave, GaveCell, HasWorked, IsTold, Refused, Work, World, outcome_of}
+use Rattle.fa_machine.specs.World.{Accepted, Gave, GaveCell, HasOutcome, IsTold, Refused, Work, World, outcome_of}
 use Rattle.fa_machine.specs.declared.jobs.Flight.{Flight}
 use Rattle.fa_machine.specs.declared.jobs.Flight.TheVariants.{Erase, Header, Move, Program, Read, Sync}
 use Rattle.fa_machine.specs.declared.refusals.SpareRefused.TheVariants.{NotSpare}
@@ -86,7 +86,7 @@ gone live die out was is =
     ]
 
 done_leaves : (w : World) (h : Holds w) (out : ℕ) (flight : Option Flight) (work : Option Work) (outcome : Outcome) (core : Core) (die : ℕ)
-    → get w.core.jobs out ≡ flight → w.works out ≡ work → may_end w.core flight outcome ≡ true → HasWorked out work outcome
+    → get w.core.jobs out ≡ flight → w.works out ≡ work → may_end w.core flight outcome ≡ true → HasOutcome out work outcome
     → EndsJob w.core out flight outcome core → contains_key w.core.page_map.live die ≡ true → contains_key core.page_map.live die ≡ false
     → (call : ℕ) × (Done out outcome ≡ Done die (Fault call))
 done_leaves w h out None work outcome core die job works may worked ends was is = absurd ends

@@ -14,9 +14,9 @@ use Rattle.fa_machine.specs.Step.{FlushState, Fold, Release, Replan, Reserve, Re
 use Rattle.fa_machine.specs.Step.{Window}
 use Rattle.fa_machine.specs.Taking.{EndsJob, Handed, Takes, begins, begun, finished, handed, read_ends, with_answer}
 use Rattle.fa_machine.specs.Taking.{without_stale_booking}
-use Rattle.fa_machine.specs.Turning.{CommitsCopyOf, copying_to}
+use Rattle.fa_machine.specs.Turning.{CommitsCopy, copying_to}
 use Rattle.fa_machine.specs.World.{Gave, JobCall, Work, World, next_call}
-use Rattle.fa_machine.specs.Writing.{AbandonsReserved, CommitsReserved, ReservesAtLeast, claimed_page}
+use Rattle.fa_machine.specs.Writing.{Abandons, Commits, Reserves, claimed_page}
 use Rattle.fa_machine.specs.declared.answers.Copied.{Copied}
 use Rattle.fa_machine.specs.declared.answers.Copied.TheVariants.{Current, Late}
 use Rattle.fa_machine.specs.declared.answers.HistoryEntry.{HistoryEntry}
@@ -147,20 +147,20 @@ leaves : (old new x : Core) → new ≡ x → three x ≡ three old → Grows (t
 leaves old new x e same = grows_nothing (three old) (three new) (ap three e ∙ same)
 
 commit_reserved : (old new : Core) (claim seat : ℕ) (r : Option Reservation) (answer : Result Seq CommitRefused)
-    → CommitsReserved old claim seat r answer new → Grows (three old) (three new) (commits_of (Event (Commit claim seat answer))) 0
+    → Commits old claim seat r answer new → Grows (three old) (three new) (commits_of (Event (Commit claim seat answer))) 0
 commit_reserved old new claim seat None answer d = absurd d
 commit_reserved old new claim seat (Some r) (Ok seq) d =
     subst (λ x. Grows (three old) x 1 0) (sym (ap three d.2)) (commit_grows (three old) seat (claimed_page old claim) r.version)
 commit_reserved old new claim seat (Some r) (Err refused) d = leaves old new old d.1 refl
 
 abandon_reserved : (old new : Core) (claim : ℕ) (r : Option Reservation) (answer : Result (Unit {0}) AbandonRefused)
-    → AbandonsReserved old claim r answer new → Grows (three old) (three new) 0 0
+    → Abandons old claim r answer new → Grows (three old) (three new) 0 0
 abandon_reserved old new claim None answer d = absurd d
 abandon_reserved old new claim (Some r) (Ok done) d = leaves old new _ d.1 refl
 abandon_reserved old new claim (Some r) (Err refused) d = leaves old new old d.1 refl
 
 reserve_at_least : (old new : Core) (claim least : ℕ) (kind : Kind) (payload : List ℕ) (answer : Result Seq ReserveRefused)
-    → ReservesAtLeast old claim least kind payload answer new → Grows (three old) (three new) 0 0
+    → Reserves old claim least kind payload answer new → Grows (three old) (three new) 0 0
 reserve_at_least old new claim least kind payload (Ok seq) d = leaves old new _ d.2 refl
 reserve_at_least old new claim least kind payload (Err ReserveNoMemory) d = leaves old new old d.1 refl
 reserve_at_least old new claim least kind payload (Err refused) d = leaves old new old d.1 refl
@@ -228,7 +228,7 @@ copying_three : (core : Core) (page : ℕ) (payload : List ℕ) (v : Option Vers
 copying_three core page payload (Some v) (Some die) = refl
 copying_three core page payload v die = refl
 
-commit_copy : (old new : Core) (c : Option Copying) (answer : Result Copied CommitCopyRefused) → CommitsCopyOf old c answer new
+commit_copy : (old new : Core) (c : Option Copying) (answer : Result Copied CommitCopyRefused) → CommitsCopy old c answer new
     → Grows (three old) (three new) 0 0
 commit_copy old new None answer d = absurd d
 commit_copy old new (Some c) (Ok Current) d = leaves old new _ d.2 refl

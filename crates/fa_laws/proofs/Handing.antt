@@ -13,7 +13,7 @@ use Rattle.fa_laws.specs.Counted.{is_read}
 use Rattle.fa_machine.specs.Cells.{Broken, Cell, Empty, Sealed, payload_of}
 use Rattle.fa_machine.specs.Collecting.{count_in, is_erased_outside, may_be_victim, move_or_erase, move_place, next_step, slots_in}
 use Rattle.fa_machine.specs.Collecting.{step_on, victim}
-use Rattle.fa_machine.specs.Copies.{copy_on, holds_last, holds_version, is_current, is_held_slot, is_reserved_slot, is_stale_slot}
+use Rattle.fa_machine.specs.Copies.{copy_on, holds_last, is_current, is_held_slot, is_reserved_slot, is_stale_slot}
 use Rattle.fa_machine.specs.Maps.{below, place_cmp}
 use Rattle.fa_machine.specs.Placement.{is_erased_slot}
 use Rattle.fa_machine.specs.State.{CalendarState, Core, MapState, WaitingProgram, is_live, slots_of, used_at}
@@ -50,7 +50,7 @@ payload_same page page' v v' die slot (Sealed p u d s bytes) e f =
     λ i. cond (p == e i && u.seq.0 == f i && d == die && s == slot) (Some bytes) None
 
 -- what holds the last number of a page holds that page
-pub holds_held : (page : ℕ) (v : Version) (o : Option Used) → holds_version page v o ≡ true
+pub holds_held : (page : ℕ) (v : Version) (o : Option Used) → holds_last page (Some v) o ≡ true
     → (p : Page) × (u : Version) × (o ≡ Some (Held p u)) × (p.0 ≡ page) × (u.seq.0 ≡ v.seq.0)
 holds_held page v None e = absurd (false≢true e)
 holds_held page v (Some Reserved) e = absurd (false≢true e)

@@ -15,16 +15,16 @@ use Rattle.fa_machine.specs.Cells.{DidErase, DidMove, DidProgram, DidRead, DidSy
 use Rattle.fa_machine.specs.Conditions.{reserved_under}
 use Rattle.fa_machine.specs.Maps.{place_cmp}
 use Rattle.fa_machine.specs.Placement.{copy_place}
-use Rattle.fa_machine.specs.Reading.{batch_at, is_booked, is_read_for, is_read_in_flight, left_of, released, results}
+use Rattle.fa_machine.specs.Reading.{batch_at, is_booked, is_read_for, left_of, released, results}
 use Rattle.fa_machine.specs.Run.{CallsNext, Event, Happening, Happens, HappensCall, ImageCall, Run}
 use Rattle.fa_machine.specs.State.{Core, OpenBatch, Reservation, dies_of}
 use Rattle.fa_machine.specs.Step.{Abandon, Act, Admit, Advance, Claim, Commit, CommitCopy, Does, Done, EndBatch, FlushBegin}
 use Rattle.fa_machine.specs.Step.{FlushState, Fold, Release, Replan, Reserve, ReserveCopy, ReserveFewer, ReserveHole, SpareIn, Take}
 use Rattle.fa_machine.specs.Step.{Window, allowed, is_die}
 use Rattle.fa_machine.specs.Taking.{EndsJob, finished, read_ends, with_answer}
-use Rattle.fa_machine.specs.Turning.{CommitsCopyOf, advance_refusal, copying_to, is_read_pending, is_round_pending, is_step_pending}
+use Rattle.fa_machine.specs.Turning.{CommitsCopy, advance_refusal, copying_to, is_read_pending, is_round_pending, is_step_pending}
 use Rattle.fa_machine.specs.World.{Gave, JobCall, Work, World, next_call}
-use Rattle.fa_machine.specs.Writing.{AbandonsReserved, CommitsReserved, ReservesAtLeast}
+use Rattle.fa_machine.specs.Writing.{Abandons, Commits, Reserves}
 use Rattle.fa_machine.specs.declared.answers.Copied.{Copied}
 use Rattle.fa_machine.specs.declared.answers.Copied.TheVariants.{Current, Late}
 use Rattle.fa_machine.specs.declared.answers.ReadState.TheVariants.{Ready, Torn, Waiting}
@@ -90,19 +90,19 @@ module _ (K : ℕ → BatchId → Type 0) where
   done_good old new g die (Some flight) outcome e = to_good K new _ e (finished_good _ (ended_good K old g die) die flight outcome)
 
   reserve_good : (old new : Core) → Good K old → (claim least : ℕ) (kind : Kind) (payload : List ℕ) (answer : Result Seq ReserveRefused)
-      → ReservesAtLeast old claim least kind payload answer new → Good K new
+      → Reserves old claim least kind payload answer new → Good K new
   reserve_good old new g claim least kind payload (Ok seq) d = same_after K old new _ d.2 g refl refl refl refl
   reserve_good old new g claim least kind payload (Err ReserveNoMemory) d = to_good K new old d.1 g
   reserve_good old new g claim least kind payload (Err refused) d = to_good K new old d.1 g
 
   commit_good : (old new : Core) → Good K old → (claim seat : ℕ) (r : Option Reservation) (answer : Result Seq CommitRefused)
-      → CommitsReserved old claim seat r answer new → Good K new
+      → Commits old claim seat r answer new → Good K new
   commit_good old new g claim seat None answer d = absurd d
   commit_good old new g claim seat (Some r) (Ok seq) d = same_after K old new _ d.2 g refl refl refl refl
   commit_good old new g claim seat (Some r) (Err refused) d = to_good K new old d.1 g
 
   abandon_good : (old new : Core) → Good K old → (claim : ℕ) (r : Option Reservation) (answer : Result (Unit {0}) AbandonRefused)
-      → AbandonsReserved old claim r answer new → Good K new
+      → Abandons old claim r answer new → Good K new
   abandon_good old new g claim None answer d = absurd d
   abandon_good old new g claim (Some r) (Ok made) d = same_after K old new _ d.1 g refl refl refl refl
   abandon_good old new g claim (Some r) (Err refused) d = to_good K new old d.1 g
@@ -111,7 +111,7 @@ module _ (K : ℕ → BatchId → Type 0) where
   copying_good old g page payload (Some v) (Some die) = good_same K old g _ refl refl refl refl
   copying_good old g page payload v die = g
 
-  copy_good : (old new : Core) → Good K old → (c : Option Copying) (answer : Result Copied CommitCopyRefused) → CommitsCopyOf old c answer new → Good K new
+  copy_good : (old new : Core) → Good K old → (c : Option Copying) (answer : Result Copied CommitCopyRefused) → CommitsCopy old c answer new → Good K new
   copy_good old new g None answer d = absurd d
   copy_good old new g (Some c) (Ok Current) d = same_after K old new _ d.2 g refl refl refl refl
   copy_good old new g (Some c) (Ok Late) d = same_after K old new _ d.2 g refl refl refl refl
@@ -296,9 +296,9 @@ none_booked core batch until g passed_by page =
     omega (arith, low, high, passed_by))
 
 -- no read in flight is of the batch
-none_read : (core : Core) (batch until : ℕ) → Good (Until batch until) core → until ≤ core.calendar.round → (page : ℕ) → is_read_in_flight core batch page ≡ false
+none_read : (core : Core) (batch until : ℕ) → Good (Until batch until) core → until ≤ core.calendar.round → (page : ℕ) → list_any (is_read_for batch page) (values core.jobs) ≡ false
 none_read core batch until g passed_by page =
-    false_from_ne_true (is_read_in_flight core batch page) (λ reading.
+    false_from_ne_true (list_any (is_read_for batch page) (values core.jobs)) (λ reading.
     let found = some_value nat_cmp_total nat_same nat_itself (is_read_for batch page) core.jobs reading in
     of_flight found.0 found.1 found.2 found.3)
   where
@@ -341,7 +341,7 @@ ready_in_time core batch until g passed_by =
           | inl answered_one ↦ answered_one
           | inr open_one ↦
               let none = (or_parts (not (contains_key core.batches batch)) _ whole).1 in
-              let left = among-filter-intro (λ p. not (contains_key (batch_at core batch).answers p || is_read_in_flight core batch p)) page (batch_at core batch).pages among
+              let left = among-filter-intro (λ p. not (contains_key (batch_at core batch).answers p || list_any (is_read_for batch p) (values core.jobs))) page (batch_at core batch).pages among
               (not_from_false _ (or_from _ _ open_one (none_read core batch until g passed_by page))) in
               absurd (true≢false (sym (not_from_false _ (none_booked core batch until g passed_by page)) ∙ any_none (λ p. not (is_booked core batch p)) (left_of core batch) none page left))
         ]

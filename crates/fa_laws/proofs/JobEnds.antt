@@ -11,8 +11,8 @@ use Rattle.fa_machine.specs.Cells.{is_of_kind, payload_of}
 use Rattle.fa_machine.specs.Maps.{Numbers}
 use Rattle.fa_machine.specs.State.{Core, OpenBatch}
 use Rattle.fa_machine.specs.Step.{Done, allowed, is_sized_read, may_end}
-use Rattle.fa_machine.specs.Taking.{EndsJob, Finishes, finished, read_ends}
-use Rattle.fa_machine.specs.World.{Gave, HasWorked, Work, World, outcome_of, with_done, with_end, with_told, with_value}
+use Rattle.fa_machine.specs.Taking.{EndsJob, finished, read_ends}
+use Rattle.fa_machine.specs.World.{Gave, HasOutcome, Work, World, outcome_of, with_done, with_end, with_told, with_value}
 use Rattle.fa_machine.specs.declared.ids.BatchId.{BatchId}
 use Rattle.fa_machine.specs.declared.jobs.Flight.{Flight}
 use Rattle.fa_machine.specs.declared.jobs.Flight.TheVariants.{Erase, Header, Move, Program, Read, Sync}
@@ -101,7 +101,7 @@ job_ends w h die flight payload gave outcome fits g out kind once since = absurd
 
 -- the job of the state and that of the world are one
 done_case : (w : World) (h : Holds w) (die : ℕ) (flight : Option Flight) (work : Option Work) (outcome : Outcome) (core : Core)
-    → get w.core.jobs die ≡ flight → w.works die ≡ work → may_end w.core flight outcome ≡ true → HasWorked die work outcome
+    → get w.core.jobs die ≡ flight → w.works die ≡ work → may_end w.core flight outcome ≡ true → HasOutcome die work outcome
     → EndsJob w.core die flight outcome core → Holds (record (with_done die flight outcome w) { core = core; moment = suc w.moment })
 done_case w h die None work outcome core job works may worked ends = absurd ends
 done_case w h die (Some flight) None outcome core job works may worked ends = absurd worked
@@ -118,6 +118,6 @@ done_case w h die (Some flight) (Some work) outcome core job works may worked en
     (λ batch page version slot b e o. h.answered.reading die work batch page version slot b works (is ∙ e) o))
 
 pub done_holds : (w : World) → Holds w → (die : ℕ) (outcome : Outcome) (core : Core) → allowed w.core (Done die outcome) ≡ true
-    → HasWorked die (w.works die) outcome → Finishes w.core die outcome core → Holds (next (Done die outcome) core w)
+    → HasOutcome die (w.works die) outcome → EndsJob w.core die (get w.core.jobs die) outcome core → Holds (next (Done die outcome) core w)
 done_holds w h die outcome core may worked ends =
     done_case w h die (get w.core.jobs die) (w.works die) outcome core refl refl may worked ends

@@ -10,7 +10,7 @@ use Rattle.fa_machine.specs.Conditions.{drop_die}
 use Rattle.fa_machine.specs.Copies.{holders, holds_last, holds_page, is_current, is_lost, is_reserved_slot}
 use Rattle.fa_machine.specs.Maps.{below, keep}
 use Rattle.fa_machine.specs.State.{Core, MapState, OpenBatch, dies_of, slots_of}
-use Rattle.fa_machine.specs.Taking.{EndsJob, Finishes, finished, read_ends, stays, with_answer}
+use Rattle.fa_machine.specs.Taking.{EndsJob, finished, read_ends, stays, with_answer}
 use Rattle.fa_machine.specs.declared.jobs.Flight.{Flight}
 use Rattle.fa_machine.specs.declared.jobs.Flight.TheVariants.{Erase, Header, Move, Program, Read, Sync}
 use Rattle.fa_machine.specs.declared.places.Used.{Used}
@@ -123,13 +123,13 @@ ends_other old new out (Some flight) outcome die apart e =
     let same = finished_other (record old { jobs = remove old.jobs out }) out flight outcome die apart in
     subst (λ (c : Core). SameDie old c die) (sym e) (record { numbers = same.numbers; geometry = same.geometry; live = same.live; used = same.used })
 
-one_outlasts : (old new : Core) (out : ℕ) (outcome : Outcome) (page die : ℕ) → (die ≡ out → ⊥) → Finishes old out outcome new → die < old.page_map.geometry.dies
+one_outlasts : (old new : Core) (out : ℕ) (outcome : Outcome) (page die : ℕ) → (die ≡ out → ⊥) → EndsJob old out (get old.jobs out) outcome new → die < old.page_map.geometry.dies
     → holds_page old.page_map page die ≡ true → is_lost new.page_map page ≡ false
 one_outlasts old new out outcome page die apart e low holds =
     let same = ends_other old new out (get old.jobs out) outcome die apart e in
     not_lost new.page_map page die (subst (λ (g : Geometry). die < g.dies) (sym same.geometry) low) (holds_still old new page die same holds)
 
-pub outlasts : (old new : Core) (out : ℕ) (outcome : Outcome) (page one two : ℕ) → Finishes old out outcome new
+pub outlasts : (old new : Core) (out : ℕ) (outcome : Outcome) (page one two : ℕ) → EndsJob old out (get old.jobs out) outcome new
     → holds_page old.page_map page one ≡ true → holds_page old.page_map page two ≡ true → (one ≡ two → ⊥)
     → one < old.page_map.geometry.dies → two < old.page_map.geometry.dies → is_lost new.page_map page ≡ false
 outlasts old new out outcome page one two e first second apart low_one low_two =

@@ -21,10 +21,10 @@ use Rattle.fa_machine.specs.Step.{FlushState, Fold, Release, Replan, Reserve, Re
 use Rattle.fa_machine.specs.Step.{Window}
 use Rattle.fa_machine.specs.Taking.{EndsJob, Handed, Takes, begins, begun, finished, handed, is_idle, read_ends, with_answer}
 use Rattle.fa_machine.specs.Taking.{without_stale_booking}
-use Rattle.fa_machine.specs.Turning.{CommitsCopyOf, copying_to}
-use Rattle.fa_machine.specs.World.{Due, Gave, HasWorked, JobCall, Work, World, followed, next_call, outcome_of, plain_page, with_done}
+use Rattle.fa_machine.specs.Turning.{CommitsCopy, copying_to}
+use Rattle.fa_machine.specs.World.{Due, Gave, HasOutcome, JobCall, Work, World, followed, next_call, outcome_of, plain_page, with_done}
 use Rattle.fa_machine.specs.World.{with_due, with_end, with_told}
-use Rattle.fa_machine.specs.Writing.{AbandonsReserved, CommitsReserved, ReservesAtLeast}
+use Rattle.fa_machine.specs.Writing.{Abandons, Commits, Reserves}
 use Rattle.fa_machine.specs.declared.answers.Copied.{Copied}
 use Rattle.fa_machine.specs.declared.answers.Copied.TheVariants.{Current, Late}
 use Rattle.fa_machine.specs.declared.ids.BatchId.{BatchId}
@@ -63,17 +63,17 @@ module _ (die : ℕ) (flight : Flight) where
   same_jobs old new x e j at = ap (λ (c : Core). get c.jobs die) e ∙ ap (λ (m : FinMap nat_cmp Flight). get m die) j ∙ at
 
   reserve_at : (old new : Core) (claim least : ℕ) (kind : Kind) (payload : List ℕ) (answer : Result Seq ReserveRefused)
-      → ReservesAtLeast old claim least kind payload answer new → At old → At new
+      → Reserves old claim least kind payload answer new → At old → At new
   reserve_at old new claim least kind payload (Ok seq) d at = same_jobs old new _ d.2 refl at
   reserve_at old new claim least kind payload (Err ReserveNoMemory) d at = same_jobs old new _ d.1 refl at
   reserve_at old new claim least kind payload (Err refused) d at = same_jobs old new _ d.1 refl at
 
-  commit_at : (old new : Core) (claim seat : ℕ) (r : Option Reservation) (answer : Result Seq CommitRefused) → CommitsReserved old claim seat r answer new → At old → At new
+  commit_at : (old new : Core) (claim seat : ℕ) (r : Option Reservation) (answer : Result Seq CommitRefused) → Commits old claim seat r answer new → At old → At new
   commit_at old new claim seat None answer d at = absurd d
   commit_at old new claim seat (Some r) (Ok seq) d at = same_jobs old new _ d.2 refl at
   commit_at old new claim seat (Some r) (Err refused) d at = same_jobs old new _ d.1 refl at
 
-  abandon_at : (old new : Core) (claim : ℕ) (r : Option Reservation) (answer : Result (Unit {0}) AbandonRefused) → AbandonsReserved old claim r answer new → At old → At new
+  abandon_at : (old new : Core) (claim : ℕ) (r : Option Reservation) (answer : Result (Unit {0}) AbandonRefused) → Abandons old claim r answer new → At old → At new
   abandon_at old new claim None answer d at = absurd d
   abandon_at old new claim (Some r) (Ok made) d at = same_jobs old new _ d.1 refl at
   abandon_at old new claim (Some r) (Err refused) d at = same_jobs old new _ d.1 refl at
@@ -83,7 +83,7 @@ module _ (die : ℕ) (flight : Flight) where
   copying_at old page payload (Some v) None at = at
   copying_at old page payload None d at = at
 
-  copy_at : (old new : Core) (c : Option Copying) (answer : Result Copied CommitCopyRefused) → CommitsCopyOf old c answer new → At old → At new
+  copy_at : (old new : Core) (c : Option Copying) (answer : Result Copied CommitCopyRefused) → CommitsCopy old c answer new → At old → At new
   copy_at old new None answer d at = absurd d
   copy_at old new (Some c) (Ok Current) d at = same_jobs old new _ d.2 refl at
   copy_at old new (Some c) (Ok Late) d at = same_jobs old new _ d.2 refl at
@@ -267,7 +267,7 @@ with_due_here die w flight batch page version slot is =
     ap (λ (f : Flight). (with_due die f w).due die) is ∙ one_value_same die (record { bytes = plain_page w page.0; since = w.moment }) w.due die refl
 
 gave_right : (w : World) (h : Holds w) (die : ℕ) (batch : BatchId) (page : Page) (version : Version) (slot : Slot) (cell : Cell) (work : Option Work)
-    → get w.core.jobs die ≡ Some (Read batch page version slot) → w.works die ≡ work → HasWorked die work (DidRead cell)
+    → get w.core.jobs die ≡ Some (Read batch page version slot) → w.works die ≡ work → HasOutcome die work (DidRead cell)
     → payload_of page.0 version die slot.0 cell ≡ Some (w.due die).bytes
 gave_right w h die batch page version slot cell None job works worked = absurd worked
 gave_right w h die batch page version slot cell (Some work) job works worked =

@@ -25,9 +25,9 @@ use Rattle.fa_machine.specs.Step.{FlushState, Fold, Release, Replan, Reserve, Re
 use Rattle.fa_machine.specs.Step.{Window}
 use Rattle.fa_machine.specs.Taking.{EndsJob, Handed, Takes, begins, begun, finished, read_ends, stays, with_answer}
 use Rattle.fa_machine.specs.Taking.{without_stale_booking}
-use Rattle.fa_machine.specs.Turning.{CommitsCopyOf, copying_to}
-use Rattle.fa_machine.specs.World.{Gave, HasWorked, IsTold, JobCall, Work, World, next_call}
-use Rattle.fa_machine.specs.Writing.{AbandonsReserved, CommitsReserved, ReservesAtLeast, claimed_page, live_targets, target_on}
+use Rattle.fa_machine.specs.Turning.{CommitsCopy, copying_to}
+use Rattle.fa_machine.specs.World.{Gave, HasOutcome, IsTold, JobCall, Work, World, next_call}
+use Rattle.fa_machine.specs.Writing.{Abandons, Commits, Reserves, claimed_page, live_targets, target_on}
 use Rattle.fa_machine.specs.Writing.{without_page}
 use Rattle.fa_machine.specs.declared.answers.Copied.{Copied}
 use Rattle.fa_machine.specs.declared.answers.Copied.TheVariants.{Current, Late}
@@ -129,7 +129,7 @@ module _ (w : World) (h : Holds w) (ranged : Ranged w.core) where
       subst (λ (u : Target). u.slot.0 < slots_total w.core) found.2 (room_low w.core.page_map found.0 room)
 
   reserve_ranged : (claim least : ℕ) (kind : Kind) (payload : List ℕ) (answer : Result Seq ReserveRefused) (core : Core)
-      → ReservesAtLeast w.core claim least kind payload answer core → Ranged core
+      → Reserves w.core claim least kind payload answer core → Ranged core
   reserve_ranged claim least kind payload (Ok seq) core d =
       subst Ranged (sym d.2) (ranged_all (slots_total w.core) (map (target_on w.core.page_map) (targets w.core (claimed_page w.core claim))) Reserved
       w.core.page_map.used ranged (new_low (claimed_page w.core claim)))
@@ -143,7 +143,7 @@ module _ (w : World) (h : Holds w) (ranged : Ranged w.core) where
       owned_low w h ranged (Some claim) _ (reserved_owned (get w.core.claims claim) r is) t kept.0 kept.1
 
   commit_ranged : (claim seat : ℕ) (o : Option Reservation) → reserved_under w.core claim ≡ o → (answer : Result Seq CommitRefused) (core : Core)
-      → CommitsReserved w.core claim seat o answer core → Ranged core
+      → Commits w.core claim seat o answer core → Ranged core
   commit_ranged claim seat None is answer core d = absurd d
   commit_ranged claim seat (Some r) is (Ok seq) core d =
       subst Ranged (sym d.2) (ranged_all (slots_total w.core) (live_targets w.core r.targets) _ _
@@ -151,7 +151,7 @@ module _ (w : World) (h : Holds w) (ranged : Ranged w.core) where
   commit_ranged claim seat (Some r) is (Err refused) core d = subst Ranged (sym d.1) ranged
 
   abandon_ranged : (claim : ℕ) (o : Option Reservation) → reserved_under w.core claim ≡ o → (answer : Result (Unit {0}) AbandonRefused) (core : Core)
-      → AbandonsReserved w.core claim o answer core → Ranged core
+      → Abandons w.core claim o answer core → Ranged core
   abandon_ranged claim None is answer core d = absurd d
   abandon_ranged claim (Some r) is (Ok made) core d =
       subst Ranged (sym d.1) (ranged_all (slots_total w.core) (live_targets w.core r.targets) Stale w.core.page_map.used ranged (live_low claim r is))
@@ -165,7 +165,7 @@ module _ (w : World) (h : Holds w) (ranged : Ranged w.core) where
       (not-false (is_live w.core.page_map c.target.die.0) none.1))
   copy_low c is none t (inr rest) = absurd rest
 
-  commit_copy_ranged : (o : Option Copying) → w.core.copying ≡ o → (answer : Result Copied CommitCopyRefused) (core : Core) → CommitsCopyOf w.core o answer core → Ranged core
+  commit_copy_ranged : (o : Option Copying) → w.core.copying ≡ o → (answer : Result Copied CommitCopyRefused) (core : Core) → CommitsCopy w.core o answer core → Ranged core
   commit_copy_ranged None is answer core d = absurd d
   commit_copy_ranged (Some c) is (Ok Current) core d =
       subst Ranged (sym d.2) (ranged_all (slots_total w.core) (c.target ∷ []) (Held c.page c.version) w.core.page_map.used ranged
@@ -245,7 +245,7 @@ module _ (w : World) (h : Holds w) (ranged : Ranged w.core) where
   finished_ranged die flight payload outcome fits = ranged
 
   done_ranged : (die : ℕ) (flight : Option Flight) (work : Option Work) (outcome : Outcome) (core : Core) → get w.core.jobs die ≡ flight → w.works die ≡ work
-      → HasWorked die work outcome → EndsJob w.core die flight outcome core → Ranged core
+      → HasOutcome die work outcome → EndsJob w.core die flight outcome core → Ranged core
   done_ranged die None work outcome core job works worked e = absurd e
   done_ranged die (Some flight) None outcome core job works worked e = absurd worked
   done_ranged die (Some flight) (Some work) outcome core job works worked e =

@@ -30,9 +30,9 @@ use Rattle.fa_machine.specs.Step.{FlushState, Fold, Release, Replan, Reserve, Re
 use Rattle.fa_machine.specs.Step.{Window}
 use Rattle.fa_machine.specs.Taking.{EndsJob, Handed, Takes, begins, begun, erase_ends, finished, move_ends, read_ends, stays}
 use Rattle.fa_machine.specs.Taking.{stepped_on, with_answer, without_stale_booking}
-use Rattle.fa_machine.specs.Turning.{CommitsCopyOf, copying_to}
-use Rattle.fa_machine.specs.World.{HasWorked, IsTold, Work, World}
-use Rattle.fa_machine.specs.Writing.{AbandonsReserved, CommitsReserved, ReservesAtLeast, claimed_page, live_targets, target_on}
+use Rattle.fa_machine.specs.Turning.{CommitsCopy, copying_to}
+use Rattle.fa_machine.specs.World.{HasOutcome, IsTold, Work, World}
+use Rattle.fa_machine.specs.Writing.{Abandons, Commits, Reserves, claimed_page, live_targets, target_on}
 use Rattle.fa_machine.specs.Writing.{without_page}
 use Rattle.fa_machine.specs.declared.answers.Copied.{Copied}
 use Rattle.fa_machine.specs.declared.answers.Copied.TheVariants.{Current, Late}
@@ -156,7 +156,7 @@ module _ (w : World) (h : Holds w) (page die : ℕ) (c : HasCopy w.core page die
       subst (λ (u : Target). get w.core.page_map.used (u.die.0, u.slot.0) ≡ None) found.2 (room_erased w.core.page_map found.0 room).1
 
   reserve_stays : (claim least : ℕ) (kind : Kind) (payload : List ℕ) (answer : Result Seq ReserveRefused) (core : Core)
-      → ReservesAtLeast w.core claim least kind payload answer core → Stays core
+      → Reserves w.core claim least kind payload answer core → Stays core
   reserve_stays claim least kind payload (Ok seq) core d =
       to_stays _ core d.2 (stays_same w.core _ page die c refl
       (stays_all (map (target_on w.core.page_map) (targets w.core (claimed_page w.core claim))) Reserved w.core.page_map.used die c.slot c.tag_page c.tag_version c.held
@@ -171,7 +171,7 @@ module _ (w : World) (h : Holds w) (page die : ℕ) (c : HasCopy w.core page die
       ((h.sound.owned (Some claim) _ (reserved_owned (get w.core.claims claim) r is)).targets t kept.0).kept kept.1
 
   commit_stays : (claim seat : ℕ) (o : Option Reservation) → reserved_under w.core claim ≡ o → (answer : Result Seq CommitRefused) (core : Core)
-      → CommitsReserved w.core claim seat o answer core → LeavesPage page w (Event (Commit claim seat answer)) → Stays core
+      → Commits w.core claim seat o answer core → LeavesPage page w (Event (Commit claim seat answer)) → Stays core
   commit_stays claim seat None is answer core d leaves = absurd d
   commit_stays claim seat (Some r) is (Err refused) core d leaves = to_stays w.core core d.1 c
   commit_stays claim seat (Some r) is (Ok seq) core d leaves =
@@ -187,7 +187,7 @@ module _ (w : World) (h : Holds w) (page die : ℕ) (c : HasCopy w.core page die
       ∙ kept ∙ sym c.held))
 
   abandon_stays : (claim : ℕ) (o : Option Reservation) → reserved_under w.core claim ≡ o → (answer : Result (Unit {0}) AbandonRefused) (core : Core)
-      → AbandonsReserved w.core claim o answer core → Stays core
+      → Abandons w.core claim o answer core → Stays core
   abandon_stays claim None is answer core d = absurd d
   abandon_stays claim (Some r) is (Ok made) core d =
       to_stays _ core d.1 (stays_same w.core _ page die c refl
@@ -203,7 +203,7 @@ module _ (w : World) (h : Holds w) (page die : ℕ) (c : HasCopy w.core page die
       (not-false (is_live w.core.page_map k.target.die.0) alive))
   copy_kept k is alive t (inr rest) = absurd rest
 
-  copy_stays : (o : Option Copying) → w.core.copying ≡ o → (answer : Result Copied CommitCopyRefused) (core : Core) → CommitsCopyOf w.core o answer core → Stays core
+  copy_stays : (o : Option Copying) → w.core.copying ≡ o → (answer : Result Copied CommitCopyRefused) (core : Core) → CommitsCopy w.core o answer core → Stays core
   copy_stays None is answer core d = absurd d
   copy_stays (Some k) is (Ok Current) core d =
       to_stays _ core d.2 (stays_same w.core _ page die c refl
@@ -353,7 +353,7 @@ module _ (w : World) (h : Holds w) (page die : ℕ) (c : HasCopy w.core page die
   finished_stays d flight payload outcome was fits alive = stays_map w.core _ page die c refl refl
 
   done_stays : (d : ℕ) (flight : Option Flight) (work : Option Work) (outcome : Outcome) (core : Core) → is_live w.core.page_map die ≡ true
-      → get w.core.jobs d ≡ flight → w.works d ≡ work → HasWorked d work outcome → EndsJob w.core d flight outcome core → is_live core.page_map die ≡ true → Stays core
+      → get w.core.jobs d ≡ flight → w.works d ≡ work → HasOutcome d work outcome → EndsJob w.core d flight outcome core → is_live core.page_map die ≡ true → Stays core
   done_stays d None work outcome core was job works worked e alive = absurd e
   done_stays d (Some flight) None outcome core was job works worked e alive = absurd worked
   done_stays d (Some flight) (Some work) outcome core was job works worked e alive =
@@ -434,7 +434,7 @@ die_among die (t ∷ ts) e =
       | inr rest ↦ let found = die_among die ts rest in (found.0, inr found.1, found.2)
     ]
 
-commit_has : (w : World) (claim seat die : ℕ) (seq : Seq) (r : Reservation) (core : Core) → CommitsReserved w.core claim seat (Some r) (Ok seq) core
+commit_has : (w : World) (claim seat die : ℕ) (seq : Seq) (r : Reservation) (core : Core) → Commits w.core claim seat (Some r) (Ok seq) core
     → list_any (λ (t : Target). t.die.0 == die) (live_targets w.core r.targets) ≡ true → HasCopy core (claimed_page w.core claim) die × (is_live core.page_map die ≡ true)
 commit_has w claim seat die seq r core d one =
     let page : ℕ = claimed_page w.core claim in
@@ -461,6 +461,6 @@ pub commit_is_held : (w after : World) (claim seat die : ℕ) (seq : Seq) (r : R
     → holds_page after.core.page_map (claimed_page w.core claim) die ≡ true
 commit_is_held w after claim seat die seq r reached happens is one =
     let has = commit_has w claim seat die seq r after.core
-    (subst (λ o. CommitsReserved w.core claim seat o (Ok seq) after.core) is happens.step.does) one in
+    (subst (λ o. Commits w.core claim seat o (Ok seq) after.core) is happens.step.does) one in
     holds_from_copy after.core (claimed_page w.core claim) die has.0
     (happens_ranged w (Event (Commit claim seat (Ok seq))) after (reached_ranged w reached) happens).ranged has.1

@@ -2,6 +2,7 @@ pub mod Counted
 pub mod Formatted
 pub mod Free
 pub mod InTime
+pub mod Kept
 pub mod Least
 pub mod Leaving
 pub mod Plain

@@ -14,7 +14,7 @@ ghost use Rattle.fa_machine.specs.declared.refusals.WindowRefused.{WindowRefused
 ghost use Rattle.fa_machine.specs.Reading.{Admits, Admitted, Planned, Replans};
 ghost use Rattle.fa_machine.specs.State.{Core};
 ghost use Rattle.fa_machine.specs.Turning.{ReservesCopy, TakesWindow};
-ghost use Rattle.fa_machine.specs.Writing.{Claims, ReservesAtLeast};
+ghost use Rattle.fa_machine.specs.Writing.{Claims, Reserves};
 
 use fa_cert::laws::certificate_is_least;
 
@@ -24,7 +24,7 @@ pub fn one_answer_but_for_what_is_free()
     ensures claim { (old new other : Core) (page : ℕ) (answer second : Result ClaimId ClaimRefused)
         → Claims old page answer new → Claims old page second other → AreAlike is_free_claim (λ a b. Unit {0}) answer second }
     ensures reserve { (old new other : Core) (claim least : ℕ) (kind : Kind) (payload : List ℕ) (answer second : Result Seq ReserveRefused)
-        → ReservesAtLeast old claim least kind payload answer new → ReservesAtLeast old claim least kind payload second other
+        → Reserves old claim least kind payload answer new → Reserves old claim least kind payload second other
         → AreAlike is_free_reserve (λ a b. a.0 ≡ b.0) answer second }
     ensures admit { (old new other : Core) (pages : List ℕ) (answer second : Result Admitted AdmitRefused)
         → Admits old pages answer new → Admits old pages second other → AreAlike is_free_admit HasSamePlan answer second }

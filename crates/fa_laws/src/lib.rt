@@ -8,3 +8,4 @@ pub mod histories;
 pub mod plans;
 pub mod promises;
 pub mod reads;
+pub mod steps;

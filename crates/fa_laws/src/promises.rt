@@ -21,7 +21,7 @@ ghost use Rattle.fa_machine.specs.Step.{Act, Admit, Advance, Commit, Done, is_di
 ghost use Rattle.fa_machine.specs.World.{World};
 ghost use Rattle.fa_machine.specs.Writing.{claimed_page, live_targets};
 
-use fa_machine::laws::live_dies_are_kept;
+use crate::steps::live_dies_are_kept;
 
 /// In every run a die goes out only as its job ends with a fault that its image answered. As images are honest, no read
 /// and no move finds another slot than the one that it asks for.

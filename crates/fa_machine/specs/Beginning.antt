@@ -17,32 +17,16 @@ use Rattle.fa_machine.specs.World.{World, plain_page}
 -- The state over what the images hold, with nothing under way: round 1, each live header behind, an empty history.
 abbrev pub mounted : (copies epoch last : ℕ) (m : MapState) (spares : Numbers) (numbers : FinMap nat_cmp ℕ) → Core
 mounted copies epoch last m spares numbers = record {
-  copies = copies;
-  page_map = m;
-  calendar = record { round = 1; bookings = empty; windows = empty };
-  epoch = epoch;
-  behind = m.live;
-  spares = spares;
-  stepped = empty;
-  last = last;
-  waiting = [];
-  jobs = empty;
-  copying = None;
-  claims = empty;
-  batches = empty;
-  flushes = 0;
-  asked = empty;
-  synced = empty;
-  base = record { numbers = numbers; commits = 0; starts = 0 };
-  history = [];
+  copies = copies; page_map = m; calendar = record { round = 1; bookings = empty; windows = empty }; epoch = epoch; behind = m.live;
+  spares = spares; stepped = empty; last = last; waiting = []; jobs = empty; copying = None; claims = empty; batches = empty; flushes = 0;
+  asked = empty; synced = empty; base = record { numbers = numbers; commits = 0; starts = 0 }; history = [];
 }
 
 -- what the plain array has of a page that was never written, or of a hole, is zeros
 abbrev pub IsPlainOf : World → ℕ → Option Version → Type 0
 IsPlainOf w page None = plain_page w page ≡ zeros w.core.page_map
 IsPlainOf w page (Some version) =
-    (w.payloads page version.seq.0 ≡ plain_page w page)
-    × (version.kind ≡ Hole → plain_page w page ≡ zeros w.core.page_map)
+    (w.payloads page version.seq.0 ≡ plain_page w page) × (version.kind ≡ Hole → plain_page w page ≡ zeros w.core.page_map)
     × (1 ≤ version.seq.0) × (version.seq.0 ≤ w.core.last)
 
 -- What stands in a slot in such a state: in one that holds a page, the plain array's page with its number.
@@ -50,8 +34,7 @@ abbrev pub StandsAt : World → ℕ → ℕ → Option Used → Type 0
 StandsAt w die slot None = (w.images die).seen slot ≡ Empty
 StandsAt w die slot (Some Reserved) = ⊥
 StandsAt w die slot (Some (Held page version)) =
-    (get w.core.page_map.numbers page.0 ≡ Some version)
-    × ((w.images die).seen slot ≡ Sealed page.0 version die slot (plain_page w page.0))
+    (get w.core.page_map.numbers page.0 ≡ Some version) × ((w.images die).seen slot ≡ Sealed page.0 version die slot (plain_page w page.0))
 StandsAt w die slot (Some Stale) = Unit {0}
 
 -- A world that was just mounted. A page that was written and has no copy is lost, and what the plain array has of it is

@@ -34,8 +34,7 @@ may_be_victim m die block =
 
 -- whether a block has no more stale slots than b, where it may be the victim at all
 abbrev pub is_no_better : MapState → ℕ → ℕ → ℕ → Bool
-is_no_better m die b block =
-    not (may_be_victim m die block) || nat_le (count_in m die block is_stale_slot) (count_in m die b is_stale_slot)
+is_no_better m die b block = not (may_be_victim m die block) || nat_le (count_in m die block is_stale_slot) (count_in m die b is_stale_slot)
 
 -- The victim: among those blocks the one with most stale slots, the lowest on ties.
 abbrev pub victim : MapState → ℕ → Option ℕ

@@ -1,7 +1,7 @@
 -- The tests of what is open, by which a caller keeps the conditions of the events, and the first refusal that
 -- applies. Also how a die goes out.
 use Rattle.std.specs.Prelude.{ℕ, ◌+◌, Bool, cond, not, ◌==◌, ◌||◌, nat_lt, List}
-use Rattle.std.specs.Prelude.{[], ◌∷◌, filter, Option, Some, None, is_some, option_and_then, option_map}
+use Rattle.std.specs.Prelude.{[], ◌∷◌, length, nat_le, filter, Option, Some, None, is_some, option_and_then, option_map}
 use Rattle.std.specs.FinMap.{len, remove, contains_key, get}
 use Rattle.fa_machine.specs.declared.jobs.Flight.{Flight}
 use Rattle.fa_machine.specs.declared.jobs.Flight.TheVariants.{Header, Move, Erase, Read, Program, Sync}
@@ -9,28 +9,19 @@ use Rattle.fa_machine.specs.declared.jobs.JobKind.{JobKind}
 use Rattle.fa_machine.specs.declared.jobs.JobKind.TheVariants.{Header as HeaderJob, Move as MoveJob, Erase as EraseJob}
 use Rattle.fa_machine.specs.declared.jobs.JobKind.TheVariants.{Read as ReadJob, Program as ProgramJob, Sync as SyncJob}
 use Rattle.fa_machine.specs.Maps.{keep}
-use Rattle.fa_machine.specs.History.{is_full_history}
 use Rattle.fa_machine.specs.State.{Core, Reservation}
 
 -- A die goes out: what it held, its bookings, its window, its job and its waiting programs are dropped, the epoch
 -- rises by 1, and the header of each die that is left is behind.
 abbrev pub drop_die : ℕ → Core → Core
 drop_die die core =
-    let left = remove core.page_map.live die in
-    record core {
+    let left = remove core.page_map.live die in record core {
       page_map = record (core.page_map) { live = left; used = keep (λ place used. not (place.0 == die)) core.page_map.used };
       calendar = record (core.calendar) {
-        bookings = keep (λ place booking. not (place.0 == die)) core.calendar.bookings;
-        windows = remove core.calendar.windows die;
-      };
-      epoch = core.epoch + 1;
-      behind = left;
-      stepped = remove core.stepped die;
-      waiting = filter (λ program. not (program.die == die)) core.waiting;
-      jobs = remove core.jobs die;
-      asked = remove core.asked die;
-      synced = remove core.synced die;
-    }
+        bookings = keep (λ place booking. not (place.0 == die)) core.calendar.bookings; windows = remove core.calendar.windows die };
+      epoch = core.epoch + 1; behind = left; stepped = remove core.stepped die;
+      waiting = filter (λ program. not (program.die == die)) core.waiting; jobs = remove core.jobs die; asked = remove core.asked die;
+      synced = remove core.synced die }
 
 -- what is reserved under a claim
 abbrev pub reserved_under : Core → ℕ → Option Reservation
@@ -48,8 +39,9 @@ batch_open core batch = contains_key core.batches batch
 abbrev pub copy_open : Core → Bool
 copy_open core = is_some core.copying
 
+-- 65,536 entries are the most between two folds
 abbrev pub history_full : Core → Bool
-history_full core = is_full_history core.history
+history_full core = nat_le 65536 (length core.history)
 
 -- a job, a claim, a batch or a copy is open
 abbrev pub is_busy : Core → Bool

@@ -19,15 +19,10 @@ abbrev pub is_stale_slot : Option Used → Bool
 is_stale_slot (Some Stale) = true
 is_stale_slot used = false
 
--- whether a slot in this state holds the page with this number
-abbrev pub holds_version : ℕ → Version → Option Used → Bool
-holds_version page number (Some (Held p version)) = p.0 == page && version.seq.0 == number.seq.0
-holds_version page number used = false
-
 -- whether a slot in this state holds the page with the number that it has, if it was ever written
 abbrev pub holds_last : ℕ → Option Version → Option Used → Bool
-holds_last page None used = false
-holds_last page (Some number) used = holds_version page number used
+holds_last page (Some number) (Some (Held p version)) = p.0 == page && version.seq.0 == number.seq.0
+holds_last page number used = false
 
 -- whether a current copy of the page stands in the slot
 abbrev pub is_current : MapState → ℕ → ℕ → ℕ → Bool

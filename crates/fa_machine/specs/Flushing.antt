@@ -19,24 +19,16 @@ BeginsFlush old (Ok flush) new =
     × (new ≡ record old { flushes = old.flushes + 1; asked = insert_all (keys old.page_map.live) (old.flushes + 1) old.asked })
 BeginsFlush old (Err Spent) new = ((old.flushes == 2 ^ 62) ≡ true) × (new ≡ old)
 
--- whether a die was live when the flush began
-abbrev pub was_live : Flush → ℕ → Bool
-was_live flush die = slice_index_or flush.live die false
-
 -- whether a flush no longer waits for a die: it was not live then, is out, or has ended a sync taken since
 abbrev pub has_synced : Core → Flush → ℕ → Bool
 has_synced core flush die =
-    not (was_live flush die) || not (is_live core.page_map die) || nat_le flush.number (unwrap_or (get core.synced die) 0)
+    not (slice_index_or flush.live die false) || not (is_live core.page_map die) || nat_le flush.number (unwrap_or (get core.synced die) 0)
 
 -- How a flush stands. It is synced only where a die that was live when it began is live still.
 abbrev pub flush_state : Core → Flush → FlushState
 flush_state core flush =
-    if not (list_any (λ die. was_live flush die && is_live core.page_map die) (dies_of core.page_map)) then NoDie
+    if not (list_any (λ die. slice_index_or flush.live die false && is_live core.page_map die) (dies_of core.page_map)) then NoDie
     else (if list_all (has_synced core flush) (dies_of core.page_map) then Synced else Waiting)
-
--- FlushState: a look that changes nothing.
-abbrev pub LooksAtFlush : Core → Flush → FlushState → Core → Type 0
-LooksAtFlush old flush answer new = (answer ≡ flush_state old flush) × (new ≡ old)
 
 -- Fold: the history is taken into its base.
 abbrev pub Folds : Core → Core → Type 0

@@ -36,11 +36,5 @@ starts_in (Start seat page seq ∷ entries) = 1 + starts_in entries
 -- the base with the history taken into it
 abbrev pub folded : Base → List HistoryEntry → Base
 folded base entries = record {
-  numbers = replay base.numbers entries;
-  commits = base.commits + commits_in entries;
-  starts = base.starts + starts_in entries;
+  numbers = replay base.numbers entries; commits = base.commits + commits_in entries; starts = base.starts + starts_in entries;
 }
-
--- 65,536 entries are the most between two folds
-abbrev pub is_full_history : List HistoryEntry → Bool
-is_full_history entries = nat_le 65536 (length entries)

@@ -5,7 +5,6 @@ pub mod Conditions
 pub mod Copies
 pub mod Flushing
 pub mod History
-pub mod Kept
 pub mod Maps
 pub mod Placement
 pub mod Reading

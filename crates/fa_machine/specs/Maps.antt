@@ -9,9 +9,6 @@ use Rattle.std.specs.FinMap.{FinMap, insert, entries, from_entries}
 abbrev pub place_cmp : ℕ × ℕ → ℕ × ℕ → Ordering
 place_cmp = then_cmp (on (λ place. place.0) nat_cmp) (on (λ place. place.1) nat_cmp)
 
-abbrev pub is_place : ℕ → ℕ → ℕ × ℕ → Bool
-is_place first second place = place.0 == first && place.1 == second
-
 -- a finite set of numbers
 abbrev pub Numbers : Type 0
 Numbers = FinMap nat_cmp (Unit {0})

@@ -58,8 +58,7 @@ is_thin core page = let n = length (holders core.page_map page) in nat_lt 0 n &&
 
 -- where one more copy goes: the first live die with room in the page's order that does not hold it
 abbrev pub copy_place : Core → ℕ → Option ℕ
-copy_place core page =
-    find (λ die. has_room core.page_map die && not (holds_page core.page_map page die)) (order_of core page)
+copy_place core page = find (λ die. has_room core.page_map die && not (holds_page core.page_map page die)) (order_of core page)
 
 -- the lowest thin page that has a place to go, and that place
 abbrev pub next_thin : Core → Option (ℕ × ℕ)

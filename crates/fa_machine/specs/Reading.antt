@@ -69,8 +69,7 @@ Plans m calendar asked pages (Ok planned) =
     × ((die : ℕ) → entries_with calendar planned.places die ≤ max_closed)
 Plans m calendar asked pages (Err (Lost page)) = find (is_lost m) asked ≡ Some page.0
 Plans m calendar asked pages (Err CalendarFull) =
-    (find (is_lost m) asked ≡ None) × (is_late calendar ≡ false)
-    × ((planned : Planned) × IsPlanned m calendar pages planned
+    (find (is_lost m) asked ≡ None) × (is_late calendar ≡ false) × ((planned : Planned) × IsPlanned m calendar pages planned
     × ((die : ℕ) × (max_closed < entries_with calendar planned.places die)))
 Plans m calendar asked pages (Err Spent) = (find (is_lost m) asked ≡ None) × (is_late calendar ≡ true)
 Plans m calendar asked pages (Err NoMemory) = (find (is_lost m) asked ≡ None) × (is_late calendar ≡ false)
@@ -117,30 +116,20 @@ at_once m pages = filter (λ page. not (has_data (get m.numbers page))) pages
 -- Admit: a new batch, with a booking for each page that has bytes. Pages never written and holes are answered here.
 abbrev pub Admits : Core → List ℕ → Result Admitted AdmitRefused → Core → Type 0
 Admits old pages (Ok admitted) new =
-    Plans old.page_map old.calendar pages (to_read old.page_map pages) (Ok admitted.planned)
-    × (is_fresh old admitted.batch.0 ≡ true)
-    × (new ≡ record old {
-      calendar = booked admitted.batch admitted.planned.places old.calendar;
+    Plans old.page_map old.calendar pages (to_read old.page_map pages) (Ok admitted.planned) × (is_fresh old admitted.batch.0 ≡ true)
+    × (new ≡ record old { calendar = booked admitted.batch admitted.planned.places old.calendar;
       batches = insert old.batches admitted.batch.0
-          (record { pages = pages; answers = insert_all (at_once old.page_map pages) (zeros old.page_map) empty });
-    })
-Admits old pages (Err refused) new =
-    Plans old.page_map old.calendar pages (to_read old.page_map pages) (Err refused) × (new ≡ old)
-
-abbrev pub no_batch : OpenBatch
-no_batch = record { pages = []; answers = empty }
+          (record { pages = pages; answers = insert_all (at_once old.page_map pages) (zeros old.page_map) empty }) })
+Admits old pages (Err refused) new = Plans old.page_map old.calendar pages (to_read old.page_map pages) (Err refused) × (new ≡ old)
 
 abbrev pub batch_at : Core → ℕ → OpenBatch
-batch_at core batch = unwrap_or (get core.batches batch) no_batch
-
-abbrev pub is_read_in_flight : Core → ℕ → ℕ → Bool
-is_read_in_flight core batch page = list_any (is_read_for batch page) (values core.jobs)
+batch_at core batch = unwrap_or (get core.batches batch) (record { pages = []; answers = empty })
 
 -- the pages of a batch that have no answer and no read in flight
 abbrev pub left_of : Core → ℕ → List ℕ
 left_of core batch =
-    let b = batch_at core batch in
-    filter (λ page. not (contains_key b.answers page || is_read_in_flight core batch page)) b.pages
+    filter (λ page. not (contains_key (batch_at core batch).answers page || list_any (is_read_for batch page) (values core.jobs)))
+        (batch_at core batch).pages
 
 -- Replan: the batch's bookings that were not started are released, and what is left of it is planned anew.
 abbrev pub Replans : Core → ℕ → Result Planned AdmitRefused → Core → Type 0

@@ -20,11 +20,9 @@ pub record HappensEvent (before : World) (act : Act) (after : World) : Type 0 wh
 abbrev pub CallsNext : World → ℕ → Work → Option JobCall → Gave → World → Type 0
 CallsNext before die work None gave after = ⊥
 CallsNext before die work (Some call) gave after =
-    (image : DieImage) × Calls (is_in_block before.core.page_map) call gave (before.images die) image
-    × (after ≡ record before {
+    (image : DieImage) × Calls (is_in_block before.core.page_map) call gave (before.images die) image × (after ≡ record before {
       images = with_value die image before.images;
-      works = with_value die (Some (record work { gave = work.gave ++ gave ∷ [] })) before.works;
-    })
+      works = with_value die (Some (record work { gave = work.gave ++ gave ∷ [] })) before.works })
 
 abbrev pub HappensCall : World → ℕ → Option Work → Gave → World → Type 0
 HappensCall before die None gave after = ⊥
@@ -36,14 +34,12 @@ Happens before (ImageCall die gave) after = HappensCall before die (before.works
 
 abbrev pub Run : World → List Happening → World → Type 0
 Run before [] after = after ≡ before
-Run before (happening ∷ happenings) after =
-    (middle : World) × Happens before happening middle × Run middle happenings after
+Run before (happening ∷ happenings) after = (middle : World) × Happens before happening middle × Run middle happenings after
 
 -- An answer of a page is what was due to it: the plain array's page at the Take of the read that gave it, or zeros
 -- where it was answered at its admission. Neither was before the batch's admission.
 abbrev pub IsRightAnswer : World → ℕ → ℕ × List ℕ → Type 0
-IsRightAnswer w batch answer =
-    (answer.1 ≡ (w.values batch answer.0).bytes) × (w.admitted batch ≤ (w.values batch answer.0).since)
+IsRightAnswer w batch answer = (answer.1 ≡ (w.values batch answer.0).bytes) × (w.admitted batch ≤ (w.values batch answer.0).since)
 
 abbrev pub ReadsRight : World → Act → Type 0
 ReadsRight w (EndBatch batch answer) = AllByRecursion (IsRightAnswer w batch) answer

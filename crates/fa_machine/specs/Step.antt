@@ -1,8 +1,8 @@
 -- The events of the array with their answers, the conditions under which callers may make them, and what each does.
-use Rattle.std.specs.Prelude.{ℕ, Bool, true, false, not, ◌==◌, ◌&&◌, nat_lt, nat_le}
+use Rattle.std.specs.Prelude.{◌≡◌, ℕ, min, Bool, true, false, not, ◌==◌, ◌&&◌, nat_lt, nat_le}
 use Rattle.std.specs.Prelude.{IsTrue, List, [], ◌∷◌, length, Option, Some, None, Result}
 use Rattle.std.specs.List.{list_all}
-use Rattle.std.specs.FinMap.{get}
+use Rattle.std.specs.FinMap.{get, remove}
 use Rattle.fa_types.specs.declared.numbers.Round.{Round}
 use Rattle.fa_types.specs.declared.numbers.Seq.{Seq}
 use Rattle.fa_machine.specs.declared.answers.Copied.{Copied}
@@ -23,14 +23,15 @@ use Rattle.fa_machine.specs.declared.refusals.ReserveRefused.{ReserveRefused}
 use Rattle.fa_machine.specs.declared.refusals.SpareRefused.{SpareRefused}
 use Rattle.fa_machine.specs.declared.refusals.WindowRefused.{WindowRefused}
 use Rattle.fa_machine.specs.Cells.{Sealed, Outcome, DidRead, is_of_kind}
-use Rattle.fa_machine.specs.Conditions.{claim_open, is_reserved, batch_open, copy_open, history_full}
-use Rattle.fa_machine.specs.Flushing.{BeginsFlush, LooksAtFlush, Folds}
+use Rattle.fa_machine.specs.Conditions.{claim_open, is_reserved, reserved_under, batch_open, copy_open, history_full}
+use Rattle.fa_machine.specs.Flushing.{BeginsFlush, flush_state, Folds}
 use Rattle.fa_machine.specs.Maps.{is_one_of}
 use Rattle.fa_machine.specs.Reading.{Admitted, Planned, Admits, Replans, EndsBatch, zeros}
 use Rattle.fa_machine.specs.State.{Core}
-use Rattle.fa_machine.specs.Taking.{Handed, Takes, Finishes}
+use Rattle.fa_machine.specs.Placement.{copies_asked}
+use Rattle.fa_machine.specs.Taking.{Handed, Takes, EndsJob}
 use Rattle.fa_machine.specs.Turning.{TakesWindow, Advances, BringsIn, ReservesCopy, CommitsCopy}
-use Rattle.fa_machine.specs.Writing.{Claims, Releases, Reserves, ReservesFewer, Commits, Abandons}
+use Rattle.fa_machine.specs.Writing.{Claims, Reserves, Commits, Abandons}
 
 -- an event, with its arguments and its answer
 pub data Act : Type 0 where
@@ -78,7 +79,7 @@ abbrev pub may_end : Core → Option Flight → Outcome → Bool
 may_end core None outcome = false
 may_end core (Some flight) outcome = is_of_kind flight outcome && is_sized_read core outcome
 
--- The conditions of each event. A caller can test them.
+-- The conditions of each event, which a caller can test. Those that are not named have none.
 abbrev pub allowed : Core → Act → Bool
 allowed core (Claim page answer) = is_page core page
 allowed core (Release claim) = claim_open core claim && not (is_reserved core claim)
@@ -93,35 +94,33 @@ allowed core (EndBatch batch answer) = batch_open core batch
 allowed core (Take die seat answer) = is_die core die && not (history_full core)
 allowed core (Done die outcome) = may_end core (get core.jobs die) outcome
 allowed core (Window die count answer) = is_die core die && nat_le 1 count && nat_le count 64
-allowed core (Advance answer) = true
 allowed core (SpareIn die answer) = is_die core die
 allowed core (ReserveCopy page seq payload answer) = is_page core page && is_sized core payload
 allowed core (CommitCopy answer) = copy_open core
-allowed core (FlushBegin answer) = true
-allowed core (FlushState flush answer) = true
-allowed core Fold = true
+allowed core act = true
 
--- What each event does: which answers it may have, and the state after.
+-- What each event does: which answers it may have, and the state after. A write wants a slot on each die that it asks for; on
+-- fewer dies one is enough, where a die is live.
 abbrev pub Does : Core → Act → Core → Type 0
 Does old (Claim page answer) new = Claims old page answer new
-Does old (Release claim) new = Releases old claim new
-Does old (Reserve claim payload answer) new = Reserves old claim Data payload answer new
-Does old (ReserveHole claim answer) new = Reserves old claim Hole (zeros old.page_map) answer new
-Does old (ReserveFewer claim payload answer) new = ReservesFewer old claim Data payload answer new
-Does old (Commit claim seat answer) new = Commits old claim seat answer new
-Does old (Abandon claim answer) new = Abandons old claim answer new
+Does old (Release claim) new = new ≡ record old { claims = remove old.claims claim }
+Does old (Reserve claim payload answer) new = Reserves old claim (copies_asked old) Data payload answer new
+Does old (ReserveHole claim answer) new = Reserves old claim (copies_asked old) Hole (zeros old.page_map) answer new
+Does old (ReserveFewer claim payload answer) new = Reserves old claim (min 1 (copies_asked old)) Data payload answer new
+Does old (Commit claim seat answer) new = Commits old claim seat (reserved_under old claim) answer new
+Does old (Abandon claim answer) new = Abandons old claim (reserved_under old claim) answer new
 Does old (Admit pages answer) new = Admits old pages answer new
 Does old (Replan batch answer) new = Replans old batch answer new
 Does old (EndBatch batch answer) new = EndsBatch old batch answer new
 Does old (Take die seat answer) new = Takes old die seat answer new
-Does old (Done die outcome) new = Finishes old die outcome new
+Does old (Done die outcome) new = EndsJob old die (get old.jobs die) outcome new
 Does old (Window die count answer) new = TakesWindow old die count answer new
 Does old (Advance answer) new = Advances old answer new
 Does old (SpareIn die answer) new = BringsIn old die answer new
 Does old (ReserveCopy page seq payload answer) new = ReservesCopy old page seq payload answer new
-Does old (CommitCopy answer) new = CommitsCopy old answer new
+Does old (CommitCopy answer) new = CommitsCopy old old.copying answer new
 Does old (FlushBegin answer) new = BeginsFlush old answer new
-Does old (FlushState flush answer) new = LooksAtFlush old flush answer new
+Does old (FlushState flush answer) new = (answer ≡ flush_state old flush) × (new ≡ old)
 Does old Fold new = Folds old new
 
 pub record Step (old : Core) (act : Act) (new : Core) : Type 0 where

@@ -18,7 +18,7 @@ use Rattle.fa_machine.specs.Cells.{Outcome, DidRead, DidProgram, DidMove, DidEra
 use Rattle.fa_machine.specs.Collecting.{is_in_block, next_step, move_place}
 use Rattle.fa_machine.specs.Conditions.{drop_die}
 use Rattle.fa_machine.specs.Copies.{copy_on, is_current, is_reserved_slot}
-use Rattle.fa_machine.specs.Maps.{is_place, keep, change}
+use Rattle.fa_machine.specs.Maps.{keep, change}
 use Rattle.fa_machine.specs.Rounds.{is_in_window}
 use Rattle.fa_machine.specs.State.{Core, MapState, OpenBatch, OpenClaim, Reservation, WaitingProgram, is_live, used_at}
 
@@ -70,13 +70,9 @@ program_of p = record { flight = Program (record { 0 = p.page }) p.version (reco
 abbrev pub is_for : ℕ → WaitingProgram → Bool
 is_for die p = p.die == die
 
-abbrev pub program_job : Core → ℕ → Option Handed
-program_job core die = option_map program_of (find (is_for die) core.waiting)
-
 -- a sync, where a flush asked for one that was not taken since
 abbrev pub sync_job : Core → ℕ → Option Flight
-sync_job core die =
-    if nat_lt (unwrap_or (get core.synced die) 0) (unwrap_or (get core.asked die) 0) then Some (Sync core.flushes) else None
+sync_job core die = if nat_lt (unwrap_or (get core.synced die) 0) (unwrap_or (get core.asked die) 0) then Some (Sync core.flushes) else None
 
 abbrev pub or_else : {A : Type 0} → Option A → Option A → Option A
 or_else None b = b
@@ -87,24 +83,20 @@ abbrev pub urgent_job : Core → ℕ → Option Flight
 urgent_job core die = or_else (header_job core die) (or_else (step_job core die) (read_job core die))
 
 abbrev pub other_job : Core → ℕ → Option Handed
-other_job core die = or_else (program_job core die) (option_map handed (sync_job core die))
+other_job core die = or_else (option_map program_of (find (is_for die) core.waiting)) (option_map handed (sync_job core die))
 
 -- The state in which a job is in flight: a move has reserved its new slot, a read has started and is in the history,
 -- a program no longer waits.
 abbrev pub begun : ℕ → ℕ → Flight → Core → Core
-begun die seat (Move page version from to) core = record core {
-  jobs = insert core.jobs die (Move page version from to);
+begun die seat (Move page version from to) core = record core { jobs = insert core.jobs die (Move page version from to);
   page_map = record (core.page_map) { used = insert core.page_map.used (die, to.0) Reserved };
 }
-begun die seat (Read batch page version slot) core = record core {
-  jobs = insert core.jobs die (Read batch page version slot);
+begun die seat (Read batch page version slot) core = record core { jobs = insert core.jobs die (Read batch page version slot);
   calendar = record (core.calendar) {
-    bookings = insert core.calendar.bookings (die, core.calendar.round) (record { batch = batch; page = page; started = true });
-  };
+    bookings = insert core.calendar.bookings (die, core.calendar.round) (record { batch = batch; page = page; started = true }) };
   history = core.history ++ Start seat page version.seq ∷ [];
 }
-begun die seat (Program page version slot) core = record core {
-  jobs = insert core.jobs die (Program page version slot);
+begun die seat (Program page version slot) core = record core { jobs = insert core.jobs die (Program page version slot);
   waiting = before_first (is_for die) core.waiting ++ after_first (is_for die) core.waiting;
 }
 begun die seat flight core = record core { jobs = insert core.jobs die flight }
@@ -112,10 +104,8 @@ begun die seat flight core = record core { jobs = insert core.jobs die flight }
 -- The state without the booking of this round, where it was not started: its die holds no current copy of its page,
 -- and its batch is torn.
 abbrev pub without_stale_booking : ℕ → Core → Core
-without_stale_booking die core = record core {
-  calendar = record (core.calendar) {
-    bookings = keep (λ place b. not (is_place die core.calendar.round place) || b.started) core.calendar.bookings;
-  };
+without_stale_booking die core = record core { calendar = record (core.calendar) {
+    bookings = keep (λ place b. not (place.0 == die && place.1 == core.calendar.round) || b.started) core.calendar.bookings };
 }
 
 -- A job that is handed out, or none, with the state after.
@@ -125,9 +115,7 @@ begins die seat core (Some job) = (Some job, begun die seat job.flight core)
 
 abbrev pub after_urgent : ℕ → ℕ → Core → Option Flight → Option Handed × Core
 after_urgent die seat core (Some flight) = begins die seat core (Some (handed flight))
-after_urgent die seat core None =
-    let left = without_stale_booking die core in
-    begins die seat left (other_job left die)
+after_urgent die seat core None = let left = without_stale_booking die core in begins die seat left (other_job left die)
 
 abbrev pub is_idle : Core → ℕ → Bool
 is_idle core die = is_live core.page_map die && not (contains_key core.jobs die)
@@ -160,8 +148,7 @@ mark_claim die slot c = record c {
 
 -- the reservation to which a slot belongs has its copy there
 abbrev pub program_ends : ℕ → ℕ → Core → Core
-program_ends die slot core = record core {
-  claims = change (λ id c. mark_claim die slot c) core.claims;
+program_ends die slot core = record core { claims = change (λ id c. mark_claim die slot c) core.claims;
   copying = option_map {T = Copying} (λ c. record c { target = mark die slot c.target }) core.copying;
 }
 
@@ -171,13 +158,9 @@ stepped_on die core = record core { stepped = insert core.stepped die tt }
 -- The new slot is current and the old one stale where the copy still has the page's number, else both are stale.
 abbrev pub move_ends : ℕ → ℕ → Version → ℕ → ℕ → Core → Core
 move_ends die page version from to core =
-    let kept = is_current core.page_map page die from in
-    record core {
-      page_map = record (core.page_map) {
+    let kept = is_current core.page_map page die from in record core { page_map = record (core.page_map) {
         used = insert (insert core.page_map.used (die, from) Stale) (die, to)
-            (if kept then Held (record { 0 = page }) version else Stale);
-      };
-    }
+            (if kept then Held (record { 0 = page }) version else Stale) } }
 
 -- the slots of the block are erased, save those that were reserved while it was erased, which are programmed later
 abbrev pub stays : MapState → ℕ → ℕ → ℕ × ℕ → Used → Bool
@@ -188,18 +171,15 @@ erase_ends die block core = record core {
   page_map = record (core.page_map) { used = keep (stays core.page_map die block) core.page_map.used };
 }
 
--- the header is not behind any more, where its epoch is still the current one
-abbrev pub header_ends : ℕ → ℕ → Core → Core
-header_ends die epoch core = if epoch == core.epoch then record core { behind = remove core.behind die } else core
-
--- Done: the job of a die has ended. A fault takes the die out, and so does a slot that is not the one asked for.
+-- Done: the job of a die has ended. A header is not behind any more where its epoch is still the current one. A fault takes
+-- the die out, and so does a slot that is not the one asked for.
 abbrev pub finished : ℕ → Flight → Outcome → Core → Core
 finished die (Read batch page version slot) (DidRead cell) core =
     read_ends die batch.0 page.0 (payload_of page.0 version die slot.0 cell) core
 finished die (Program page version slot) DidProgram core = program_ends die slot.0 core
 finished die (Move page version from to) DidMove core = stepped_on die (move_ends die page.0 version from.0 to.0 core)
 finished die (Erase block) DidErase core = stepped_on die (erase_ends die block.0 core)
-finished die (Header epoch) DidWriteHeader core = header_ends die epoch core
+finished die (Header epoch) DidWriteHeader core = if epoch == core.epoch then record core { behind = remove core.behind die } else core
 finished die (Sync flushes) DidSync core = record core { synced = insert core.synced die flushes }
 finished die flight (Fault call) core = drop_die die core
 finished die flight Wrong core = drop_die die core
@@ -208,6 +188,3 @@ finished die flight outcome core = core
 abbrev pub EndsJob : Core → ℕ → Option Flight → Outcome → Core → Type 0
 EndsJob old die None outcome new = ⊥
 EndsJob old die (Some flight) outcome new = new ≡ finished die flight outcome (record old { jobs = remove old.jobs die })
-
-abbrev pub Finishes : Core → ℕ → Outcome → Core → Type 0
-Finishes old die outcome new = EndsJob old die (get old.jobs die) outcome new

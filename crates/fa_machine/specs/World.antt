@@ -82,10 +82,6 @@ outcome_of die job (GaveCell cell ∷ Accepted ∷ []) = Some DidMove
 outcome_of die job (GaveCell cell ∷ Refused ∷ []) = Some (Fault 2)
 outcome_of die job gave = None
 
--- the outcome of a Done is what that job's calls gave
-abbrev pub HasOutcome : ℕ → Handed → List Gave → Outcome → Type 0
-HasOutcome die job gave outcome = outcome_of die job gave ≡ Some outcome
-
 -- an image: what reads of its slots give
 pub record DieImage : Type 0 where
   pub seen : ℕ → Cell
@@ -153,19 +149,16 @@ with_payload claim seq payload w = record w { payloads = with_value_at (claimed_
 
 -- the numbers of those pages that are holes, told with zeros
 abbrev pub told_at_once : Core → List ℕ → List Told
-told_at_once core pages = filter_map told_zeros (at_once core.page_map pages)
-  where
-    told_zeros : ℕ → Option Told
-    told_zeros page =
-        option_map (λ v. record { page = page; seq = v.seq.0; bytes = zeros core.page_map }) (get core.page_map.numbers page)
+told_at_once core pages = filter_map
+    (λ page. option_map (λ v. record { page = page; seq = v.seq.0; bytes = zeros core.page_map }) (get core.page_map.numbers page))
+    (at_once core.page_map pages)
 
 -- a batch: what its pages that are answered at once are due, from this moment on
 abbrev pub with_batch : ℕ → List ℕ → World → World
 with_batch batch pages w = record w {
   values = fold (λ values page. with_value_at batch page (record { bytes = zeros w.core.page_map; since = w.moment }) values)
       w.values (at_once w.core.page_map pages);
-  told = w.told ++ told_at_once w.core pages;
-  admitted = with_value batch w.moment w.admitted;
+  told = w.told ++ told_at_once w.core pages; admitted = with_value batch w.moment w.admitted;
 }
 
 -- a job that was handed out: a read is due the plain array's page of this moment
@@ -178,8 +171,7 @@ with_due die flight w = w
 abbrev pub with_told : ℕ → ℕ → ℕ → ℕ → Option (List ℕ) → World → World
 with_told die batch page seq None w = w
 with_told die batch page seq (Some bytes) w = record w {
-  values = with_value_at batch page (w.due die) w.values;
-  told = w.told ++ (record { page = page; seq = seq; bytes = bytes }) ∷ [];
+  values = with_value_at batch page (w.due die) w.values; told = w.told ++ (record { page = page; seq = seq; bytes = bytes }) ∷ [];
 }
 
 abbrev pub with_end : ℕ → Flight → Outcome → World → World
@@ -204,13 +196,14 @@ followed (Take die seat (Some job)) w =
 followed (Done die outcome) w = with_done die (get w.core.jobs die) outcome w
 followed act w = w
 
-abbrev pub HasWorked : ℕ → Option Work → Outcome → Type 0
-HasWorked die None outcome = ⊥
-HasWorked die (Some work) outcome = HasOutcome die work.job work.gave outcome
+-- the outcome of a Done is what its job's calls gave
+abbrev pub HasOutcome : ℕ → Option Work → Outcome → Type 0
+HasOutcome die None outcome = ⊥
+HasOutcome die (Some work) outcome = outcome_of die work.job work.gave ≡ Some outcome
 
 -- What an event owes to the world: a Done tells what its job's calls gave, and one more copy has bytes that were
 -- answered by a read which started while the page had this number.
 abbrev pub IsTold : World → Act → Type 0
-IsTold w (Done die outcome) = HasWorked die (w.works die) outcome
+IsTold w (Done die outcome) = HasOutcome die (w.works die) outcome
 IsTold w (ReserveCopy page seq payload answer) = Contains w.told (record { page = page; seq = seq; bytes = payload })
 IsTold w act = Unit {0}

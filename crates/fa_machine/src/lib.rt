@@ -6,7 +6,6 @@
 mod answers;
 mod ids;
 mod jobs;
-pub mod laws;
 mod places;
 mod refusals;
 

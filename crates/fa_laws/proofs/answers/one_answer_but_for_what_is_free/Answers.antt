@@ -8,7 +8,7 @@ use Rattle.fa_machine.specs.Placement.{free}
 use Rattle.fa_machine.specs.Reading.{Admits, Admitted, IsPlanned, Planned, Plans, Replans, is_late, left_of, released, to_read}
 use Rattle.fa_machine.specs.State.{CalendarState, Core, MapState}
 use Rattle.fa_machine.specs.Turning.{ReservesCopy, TakesWindow, reserve_copy_refusal, window_refusal}
-use Rattle.fa_machine.specs.Writing.{Claims, ReservesAtLeast, claimed_page, reserve_refusal}
+use Rattle.fa_machine.specs.Writing.{Claims, Reserves, claimed_page, reserve_refusal}
 use Rattle.fa_machine.specs.declared.ids.ClaimId.{ClaimId}
 use Rattle.fa_machine.specs.declared.places.Kind.{Kind}
 use Rattle.fa_machine.specs.declared.refusals.AdmitRefused.{AdmitRefused}
@@ -66,14 +66,14 @@ alike free agree o (Err r) (Err s) (inr refused) (inl memory) both = absurd (non
 alike free agree o (Err r) (Err s) (inr refused) (inr other) both = inl (same_Some r s (sym refused ∙ other))
 
 reserve_says : (old new : Core) (claim least : ℕ) (kind : Kind) (payload : List ℕ) (a : Result Seq ReserveRefused)
-    → ReservesAtLeast old claim least kind payload a new → Says is_free_reserve (reserve_refusal old (claimed_page old claim) least) a
+    → Reserves old claim least kind payload a new → Says is_free_reserve (reserve_refusal old (claimed_page old claim) least) a
 reserve_says old new claim least kind payload (Ok seq) d = d.0
 reserve_says old new claim least kind payload (Err ReserveNoMemory) d = inl (refl, d.0)
 reserve_says old new claim least kind payload (Err refused) d = inr d.0
 
 given_next : (old new : Core) (claim least : ℕ) (kind : Kind) (payload : List ℕ) (a : Result Seq ReserveRefused) (seq : Seq)
-    → ReservesAtLeast old claim least kind payload a new → a ≡ Ok seq → seq.0 ≡ old.last + 1
-given_next old new claim least kind payload a seq d is = (subst (λ b. ReservesAtLeast old claim least kind payload b new) is d).1
+    → Reserves old claim least kind payload a new → a ≡ Ok seq → seq.0 ≡ old.last + 1
+given_next old new claim least kind payload a seq d is = (subst (λ b. Reserves old claim least kind payload b new) is d).1
 
 window_says : (old new : Core) (die count : ℕ) (a : Result Round WindowRefused) → TakesWindow old die count a new
     → Says is_free_window (window_refusal old die count) a

@@ -4,7 +4,7 @@ use Rattle.fa_laws.proofs.Scene.{Among}
 use Rattle.fa_laws.specs.Formatted.{admits_one, formatted, new_map}
 use Rattle.fa_machine.specs.Copies.{holders}
 use Rattle.fa_machine.specs.Maps.{insert_all, place_cmp}
-use Rattle.fa_machine.specs.Reading.{IsPlanned, answered, at_once, booked, entries_with, has_data, is_fresh, names_batch, no_batch}
+use Rattle.fa_machine.specs.Reading.{IsPlanned, answered, at_once, booked, entries_with, has_data, is_fresh, names_batch}
 use Rattle.fa_machine.specs.Reading.{released, to_read, zeros}
 use Rattle.fa_machine.specs.Rounds.{window_rounds}
 use Rattle.fa_machine.specs.Run.{HappensEvent}
@@ -134,7 +134,7 @@ module _ (geometry : Geometry) (page : ℕ) (low : page < geometry.pages) where
   ended = record {
     step = record {
       allows = ap is_some there;
-      does = (sym (ap (λ o. answered (unwrap_or o no_batch)) there ∙ ap (λ o. cons_option (option_map (λ bytes. (page, bytes)) o) []) zeros_there), refl);
+      does = (sym (ap (λ o. answered (unwrap_or o (record { pages = []; answers = empty }))) there ∙ ap (λ o. cons_option (option_map (λ bytes. (page, bytes)) o) []) zeros_there), refl);
     };
     told = tt;
     follows = refl;

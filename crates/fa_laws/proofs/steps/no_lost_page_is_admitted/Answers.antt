@@ -3,7 +3,7 @@ use Rattle.std.specs.Prelude.{find}
 use Rattle.std.specs.List.{list_any}
 use Rattle.std.proofs.lemmas.Option.{none-some}
 use Rattle.fa_machine.specs.Copies.{is_lost}
-use Rattle.fa_machine.proofs.laws.no_lost_page_is_admitted.Goals as goal
+use Rattle.fa_laws.proofs.steps.no_lost_page_is_admitted.Goals as goal
 
 -- where nothing is found, nothing passes
 nothing_passes : {X : Type 0} (p : X → Bool) (xs : List X) → find p xs ≡ None → list_any p xs ≡ false

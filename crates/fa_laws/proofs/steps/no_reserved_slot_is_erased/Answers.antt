@@ -8,8 +8,8 @@ use Rattle.fa_machine.specs.Collecting.{may_be_victim, victim, move_or_erase, st
 use Rattle.fa_machine.specs.Copies.{is_reserved_slot, is_stale_slot}
 use Rattle.fa_machine.specs.Maps.{below}
 use Rattle.fa_machine.specs.State.{MapState}
-use Rattle.fa_machine.proofs.Lists.{find_passes}
-use Rattle.fa_machine.proofs.laws.no_reserved_slot_is_erased.Goals as goal
+use Rattle.fa_laws.proofs.Lists.{found_passes}
+use Rattle.fa_laws.proofs.steps.no_reserved_slot_is_erased.Goals as goal
 
 abbrev is_erase : CollectorStep → Bool
 is_erase (MoveSlot slot) = false
@@ -31,7 +31,7 @@ no_reserved : (m : MapState) (die : ℕ) (block : Block) (v : Option ℕ) → vi
 no_reserved m die block None is e = absurd (false≢true (ap is_erase e))
 no_reserved m die block (Some b) is e =
     let same : b ≡ block.0 = the_victim b _ block e in
-    let passes = find_passes _ (below m.geometry.blocks) b is in
+    let passes = (found_passes _ (below m.geometry.blocks) b is).0 in
     let may : may_be_victim m die b ≡ true = (and_parts (may_be_victim m die b) _ passes).0 in
     let stale : Bool = nat_lt 0 (count_in m die b is_stale_slot) in
     let unreserved : Bool = count_in m die b is_reserved_slot == 0 in

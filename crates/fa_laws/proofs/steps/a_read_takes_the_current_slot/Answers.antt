@@ -8,8 +8,8 @@ use Rattle.fa_machine.specs.declared.places.Version.{Version}
 use Rattle.fa_machine.specs.Copies.{copy_on, is_current}
 use Rattle.fa_machine.specs.State.{MapState, slots_of}
 use Rattle.fa_machine.specs.Taking.{read_from, read_of}
-use Rattle.fa_machine.proofs.Lists.{find_passes}
-use Rattle.fa_machine.proofs.laws.a_read_takes_the_current_slot.Goals as goal
+use Rattle.fa_laws.proofs.Lists.{found_passes}
+use Rattle.fa_laws.proofs.steps.a_read_takes_the_current_slot.Goals as goal
 
 abbrev slot_of : Flight → ℕ
 slot_of (Read batch page version slot) = slot.0
@@ -25,7 +25,7 @@ from_booking m die b None s is flight e = absurd (none-some flight e)
 from_booking m die b (Some version) None is flight e = absurd (none-some flight e)
 from_booking m die b (Some version) (Some slot) is flight e =
     let same = same_Some _ flight e in
-    ap (λ (f : Flight). is_current m (page_of f) die (slot_of f)) (sym same) ∙ find_passes (is_current m b.page.0 die) (slots_of m) slot is
+    ap (λ (f : Flight). is_current m (page_of f) die (slot_of f)) (sym same) ∙ (found_passes (is_current m b.page.0 die) (slots_of m) slot is).0
 
 current : (m : MapState) (die : ℕ) (booking : Option Booking) (flight : Flight) → read_of m die booking ≡ Some flight
     → is_current m (page_of flight) die (slot_of flight) ≡ true

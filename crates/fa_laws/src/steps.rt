@@ -1,4 +1,4 @@
-//! Laws of the definitions, each the contract of a function with no code.
+//! Laws of single events, each the contract of a function with no code.
 ghost use Rattle.std.specs.Prelude.{◌≡◌, ℕ, ◌+◌, ◌<◌, ◌≤◌, ◌⊎◌, true, false, List, [], ◌∷◌, map, Option, Some, Result, Ok, Err};
 ghost use Rattle.std.specs.List.{list_any, list_all};
 ghost use Rattle.std.specs.FinMap.{contains_key, get};
@@ -30,17 +30,17 @@ ghost use Rattle.fa_machine.specs.declared.ids.BatchId.{BatchId};
 ghost use Rattle.fa_machine.specs.declared.refusals.AdmitRefused.TheVariants.{Lost};
 ghost use Rattle.fa_types.specs.declared.numbers.Slot.{Slot};
 ghost use Rattle.fa_machine.specs.Reading.{Admitted, Admits, EndsBatch};
-ghost use Rattle.fa_machine.specs.Kept.{IsFatal, KeepsLive, KeepsNumbers, KeepsPlain};
+ghost use Rattle.fa_laws.specs.Kept.{IsFatal, KeepsLive, KeepsNumbers, KeepsPlain};
 ghost use Rattle.fa_machine.specs.State.{Core, MapState, dies_of, used_at};
-ghost use Rattle.fa_machine.specs.Step.{Act, Step};
-ghost use Rattle.fa_machine.specs.Taking.{Finishes, Handed, Takes, read_job};
-ghost use Rattle.fa_machine.specs.Turning.{Advances, BringsIn, CommitsCopy, TakesWindow, is_round_pending};
-ghost use Rattle.fa_machine.specs.Writing.{Abandons, Commits, ReservesAtLeast, claimed_page};
+ghost use Rattle.fa_machine.specs.Step.{Abandon, Act, Commit, CommitCopy, Does, Done, Step};
+ghost use Rattle.fa_machine.specs.Taking.{Handed, Takes, read_job};
+ghost use Rattle.fa_machine.specs.Turning.{Advances, BringsIn, TakesWindow, is_round_pending};
+ghost use Rattle.fa_machine.specs.Writing.{Reserves, claimed_page};
 
 /// A Reserve gives the number behind the last one given, and that is the last one then, so none is given twice.
 pub fn a_number_is_given_once()
     ensures { (old new : Core) (claim least : ℕ) (kind : Kind) (payload : List ℕ) (seq : Seq)
-        → ReservesAtLeast old claim least kind payload (Ok seq) new → (seq.0 ≡ old.last + 1) × (new.last ≡ seq.0) }
+        → Reserves old claim least kind payload (Ok seq) new → (seq.0 ≡ old.last + 1) × (new.last ≡ seq.0) }
 {}
 
 /// An admission changes bookings and batches alone.
@@ -97,7 +97,7 @@ pub fn a_step_leads_to_one_state()
 
 /// The job of a die ends with all dies live that were, but where its outcome is one that takes it out.
 pub fn a_die_leaves_only_for_a_cause()
-    ensures { (old new : Core) (die : ℕ) (outcome : Outcome) → Finishes old die outcome new
+    ensures { (old new : Core) (die : ℕ) (outcome : Outcome) → Does old (Done die outcome) new
         → (new.page_map.live ≡ old.page_map.live) ⊎ IsFatal die (get old.jobs die) outcome }
 {}
 
@@ -122,9 +122,9 @@ pub fn no_older_sync_answers_a_flush()
 /// Where no memory is taken, the answer of an event is a function of the state before.
 pub fn one_answer()
     ensures commit { (old new other : Core) (claim seat : ℕ) (answer second : Result Seq CommitRefused)
-        → Commits old claim seat answer new → Commits old claim seat second other → answer ≡ second }
+        → Does old (Commit claim seat answer) new → Does old (Commit claim seat second) other → answer ≡ second }
     ensures abandon { (old new other : Core) (claim : ℕ) (answer second : Result (Unit {0}) AbandonRefused)
-        → Abandons old claim answer new → Abandons old claim second other → answer ≡ second }
+        → Does old (Abandon claim answer) new → Does old (Abandon claim second) other → answer ≡ second }
     ensures end_batch { (old new other : Core) (batch : ℕ) (answer second : List (ℕ × List ℕ))
         → EndsBatch old batch answer new → EndsBatch old batch second other → answer ≡ second }
     ensures take { (old new other : Core) (die seat : ℕ) (answer second : Option Handed)
@@ -134,13 +134,13 @@ pub fn one_answer()
     ensures spare { (old new other : Core) (die : ℕ) (answer second : Result (Unit {0}) SpareRefused)
         → BringsIn old die answer new → BringsIn old die second other → answer ≡ second }
     ensures copy { (old new other : Core) (answer second : Result Copied CommitCopyRefused)
-        → CommitsCopy old answer new → CommitsCopy old second other → answer ≡ second }
+        → Does old (CommitCopy answer) new → Does old (CommitCopy second) other → answer ≡ second }
 {}
 
 /// After a commit no slot holds its page with another number than the one that was committed.
 pub fn no_older_copy_is_left()
     ensures { (old new : Core) (claim seat die slot : ℕ) (seq : Seq) (page : Page) (version : Version)
-        → Commits old claim seat (Ok seq) new → used_at new.page_map die slot ≡ Some (Held page version)
+        → Does old (Commit claim seat (Ok seq)) new → used_at new.page_map die slot ≡ Some (Held page version)
         → page.0 ≡ claimed_page old claim → version.seq ≡ seq }
 {}
 
