@@ -29,6 +29,7 @@ pub mod Parts
 pub mod Pending
 pub mod Ranged
 pub mod Reserving
+pub mod Returning
 pub mod Runs
 pub mod Scene
 pub mod Settling

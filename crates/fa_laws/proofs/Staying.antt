@@ -12,6 +12,7 @@ use Rattle.fa_laws.proofs.Maps.{get-place_other, get-place_same, get-remove_same
 use Rattle.fa_laws.proofs.Outlasting.{dropped_other, moved_other}
 use Rattle.fa_laws.proofs.Parts.{kept≢held}
 use Rattle.fa_laws.proofs.Ranged.{HoldsRanged, Ranged, calls_core, happens_ranged, reached_ranged, slots_total}
+use Rattle.fa_laws.proofs.Returning.{OutLaw, SparesLaw, spareless}
 use Rattle.fa_laws.proofs.Scene.{Among, IsErasing, IsMoving, JobFits}
 use Rattle.fa_laws.proofs.Takes.{IsOther, IsUrgent, take_cases}
 use Rattle.fa_laws.specs.Leaving.{LeavesPage, RunLeaving}
@@ -23,7 +24,7 @@ use Rattle.fa_machine.specs.Conditions.{drop_die, reserved_under}
 use Rattle.fa_machine.specs.Copies.{copy_on, holds_last, holds_page, is_current, is_held_slot, is_reserved_slot}
 use Rattle.fa_machine.specs.Maps.{change, insert_all, place_cmp}
 use Rattle.fa_machine.specs.Placement.{copies_asked, copy_place, has_room, is_erased_slot, order_of, targets}
-use Rattle.fa_machine.specs.Run.{Event, Happening, Happens, HappensEvent, ImageCall}
+use Rattle.fa_machine.specs.Run.{Event, Happening, Happens, HappensEvent, ImageCall, Run}
 use Rattle.fa_machine.specs.State.{Core, MapState, OpenBatch, Reservation, is_live, slots_of, used_at}
 use Rattle.fa_machine.specs.Step.{Abandon, Act, Admit, Advance, Claim, Commit, CommitCopy, Does, Done, EndBatch, FlushBegin}
 use Rattle.fa_machine.specs.Step.{FlushState, Fold, Release, Replan, Reserve, ReserveCopy, ReserveFewer, ReserveHole, SpareIn, Take}
@@ -59,10 +60,10 @@ use Rattle.fa_types.specs.declared.numbers.Page.{Page}
 use Rattle.fa_types.specs.declared.numbers.Seq.{Seq}
 use Rattle.std.proofs.Common.{Bool, List, None, Option, Some, [], ap, arith, eq-eqb, eqb-true, false, inl, inr, map, not, refl, subst}
 use Rattle.std.proofs.Common.{sym, true, ℕ, ◌/◌, ◌∙◌, ◌∷◌, ◌≡◌}
-use Rattle.std.proofs.lemmas.Bool.{and_from, and_parts, cases_eq, false_from_ne_true, false≢true, ne_eqb, not-false, not_from_false}
+use Rattle.std.proofs.lemmas.Bool.{and_from, and_parts, cases_Bool, cases_eq, false_from_ne_true, false≢true, ne_eqb, not-false, not_from_false}
 use Rattle.std.proofs.lemmas.Bool.{or_cases, or_left, true≢false}
 use Rattle.std.proofs.lemmas.Option.{cond_some, none-some, same_Some}
-use Rattle.std.specs.FinMap.{FinMap, get, insert, remove}
+use Rattle.std.specs.FinMap.{FinMap, contains_key, get, insert, remove}
 use Rattle.std.specs.List.{list_any}
 use Rattle.std.specs.Ordering.{nat_cmp}
 use Rattle.std.specs.Prelude.{Err, Ok, Result, filter, find, if◌then◌else◌, is_some, option_map, ◌&&◌, ◌==◌}
@@ -412,19 +413,42 @@ holds_live m page die holds = at_slot (copy_on m page die) refl holds
     at_slot None e is = absurd (false≢true is)
     at_slot (Some slot) e is = (and_parts (is_live m die) _ (found_passes (is_current m page die) (slots_of m) slot e).0).0
 
-run_stays : (page die : ℕ) (before : World) (happenings : List Happening) (after : World) → HoldsRanged before → HasCopy before.core page die
-    → is_live before.core.page_map die ≡ true → RunLeaving page die before happenings after
-    → holds_page after.core.page_map page die ≡ true
-run_stays page die before [] after h c was run =
-    subst (λ (v : World). holds_page v.core.page_map page die ≡ true) (sym run) (holds_from_copy before.core page die c h.ranged was)
-run_stays page die before (happening ∷ happenings) after h c was run =
-    run_stays page die run.0 happenings after (happens_ranged before happening run.0 h run.1)
-    (happening_stays before happening run.0 page die h c run.1 run.2 was run.3) run.3 run.4
+-- the run of one that leaves a page
+pub run_of : (page : ℕ) (before : World) (happenings : List Happening) (after : World) → RunLeaving page before happenings after
+    → Run before happenings after
+run_of page before [] after run = run
+run_of page before (happening ∷ happenings) after run = (run.0, run.1, run_of page run.0 happenings after run.3)
 
-pub copy_stays_over : (w last : World) (happenings : List Happening) (page die : ℕ) → IsReached w → holds_page w.core.page_map page die ≡ true
-    → RunLeaving page die w happenings last → holds_page last.core.page_map page die ≡ true
-copy_stays_over w last happenings page die reached holds run =
-    run_stays page die w happenings last (reached_ranged w reached) (copy_from_holds w.core page die holds) (holds_live w.core.page_map page die holds) run
+-- a die that is live later, and is no spare, is live now
+live_before : OutLaw → (page die : ℕ) (before after : World) (happenings : List Happening) → RunLeaving page before happenings after
+    → contains_key before.core.spares die ≡ false → is_live after.core.page_map die ≡ true → is_live before.core.page_map die ≡ true
+live_before law page die before after happenings run no_spare alive =
+    elim (cases_Bool (is_live before.core.page_map die)) [
+      | inl now ↦ now
+      | inr not_now ↦ absurd (false≢true (sym (law before after happenings die (run_of page before happenings after run) not_now no_spare) ∙ alive))
+    ]
+
+-- a live die is no spare
+no_spare_live : (w : World) → Holds w → (die : ℕ) → is_live w.core.page_map die ≡ true → contains_key w.core.spares die ≡ false
+no_spare_live w h die alive = false_from_ne_true (contains_key w.core.spares die) (λ spare. false≢true (sym (h.sound.spares die spare) ∙ alive))
+
+run_stays : OutLaw → SparesLaw → (page die : ℕ) (before : World) (happenings : List Happening) (after : World) → HoldsRanged before
+    → HasCopy before.core page die → is_live before.core.page_map die ≡ true → RunLeaving page before happenings after
+    → is_live after.core.page_map die ≡ true → holds_page after.core.page_map page die ≡ true
+run_stays law spares page die before [] after h c was run alive =
+    subst (λ (v : World). holds_page v.core.page_map page die ≡ true) (sym run) (holds_from_copy before.core page die c h.ranged was)
+run_stays law spares page die before (happening ∷ happenings) after h c was run alive =
+    let none = spareless spares die before happening run.0 run.1 (no_spare_live before h.holds die was) in
+    let now = live_before law page die run.0 after happenings run.3 none alive in
+    run_stays law spares page die run.0 happenings after (happens_ranged before happening run.0 h run.1)
+    (happening_stays before happening run.0 page die h c run.1 run.2 was now) now run.3 alive
+
+pub copy_stays_over : OutLaw → SparesLaw → (w last : World) (happenings : List Happening) (page die : ℕ) → IsReached w
+    → holds_page w.core.page_map page die ≡ true → RunLeaving page w happenings last → is_live last.core.page_map die ≡ true
+    → holds_page last.core.page_map page die ≡ true
+copy_stays_over law spares w last happenings page die reached holds run alive =
+    run_stays law spares page die w happenings last (reached_ranged w reached) (copy_from_holds w.core page die holds)
+    (holds_live w.core.page_map page die holds) run alive
 
 die_among : (die : ℕ) (ts : List Target) → list_any (λ (t : Target). t.die.0 == die) ts ≡ true → (t : Target) × Among t ts × (t.die.0 ≡ die)
 die_among die [] e = absurd (false≢true e)

@@ -21,6 +21,11 @@ KeepsLive old (Done die outcome) new = Unit {0}
 KeepsLive old (SpareIn die answer) new = Unit {0}
 KeepsLive old act new = new.page_map.live ≡ old.page_map.live
 
+-- none but SpareIn changes which spares there are
+abbrev pub KeepsSpares : Core → Act → Core → Type 0
+KeepsSpares old (SpareIn die answer) new = Unit {0}
+KeepsSpares old act new = new.spares ≡ old.spares
+
 -- none but Commit changes the number of a page
 abbrev pub KeepsNumbers : Core → Act → Core → Type 0
 KeepsNumbers old (Commit claim seat answer) new = Unit {0}

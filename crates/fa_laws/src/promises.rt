@@ -1,7 +1,7 @@
 //! What those ask next who rely on the reads, over every run.
 ghost use Rattle.std.specs.Prelude.{◌≡◌, ◌≢◌, ◌==◌, ℕ, ◌<◌, ◌≤◌, ◌⊎◌, List, Result, Ok, Some, true, false};
 ghost use Rattle.std.specs.List.{list_any, AllByRecursion};
-ghost use Rattle.std.specs.FinMap.{get};
+ghost use Rattle.std.specs.FinMap.{contains_key, get};
 ghost use Rattle.fa_types.specs.declared.numbers.Round.{Round};
 ghost use Rattle.fa_types.specs.declared.numbers.Seq.{Seq};
 ghost use Rattle.fa_laws.specs.InTime.{IsPlannedUntil, PlansNothing};
@@ -21,7 +21,7 @@ ghost use Rattle.fa_machine.specs.Step.{Act, Admit, Advance, Commit, Done, is_di
 ghost use Rattle.fa_machine.specs.World.{World};
 ghost use Rattle.fa_machine.specs.Writing.{claimed_page, live_targets};
 
-use crate::steps::live_dies_are_kept;
+use crate::steps::{live_dies_are_kept, spares_are_kept};
 
 /// In every run a die goes out only as its job ends with a fault that its image answered. As images are honest, no read
 /// and no move finds another slot than the one that it asks for.
@@ -72,13 +72,25 @@ pub fn a_commit_is_held()
         → holds_page after.core.page_map (claimed_page w.core claim) die ≡ true }
 {}
 
-/// A page that a die holds is held by it as long as the page is not written again and the die does not go out, whatever
-/// is moved, erased or reserved meanwhile. So of two dies that hold a page either may go out: the page is not lost.
+/// A die that is neither live nor a spare stays so in every run: one that went out does not come back.
+pub fn a_die_that_went_out_stays_out()
+    ensures { (w last : World) (happenings : List Happening) (die : ℕ) → Run w happenings last
+        → is_live w.core.page_map die ≡ false → contains_key w.core.spares die ≡ false → is_live last.core.page_map die ≡ false }
+{
+    live_dies_are_kept();
+    spares_are_kept();
+}
+
+/// A page that a live die holds is held by it as long as the page is not written again and the die is live, whatever is
+/// moved, erased or reserved meanwhile. So of two dies that hold a page either may go out: the page is not lost.
 pub fn a_copy_stays_with_its_die()
     ensures holds { (w last : World) (happenings : List Happening) (page die : ℕ) → IsReached w
-        → holds_page w.core.page_map page die ≡ true → RunLeaving page die w happenings last
+        → holds_page w.core.page_map page die ≡ true → RunLeaving page w happenings last → is_live last.core.page_map die ≡ true
         → holds_page last.core.page_map page die ≡ true }
     ensures kept { (w last : World) (happenings : List Happening) (page die : ℕ) → IsReached w
-        → holds_page w.core.page_map page die ≡ true → RunLeaving page die w happenings last → is_die last.core die ≡ true
-        → is_lost last.core.page_map page ≡ false }
-{}
+        → holds_page w.core.page_map page die ≡ true → RunLeaving page w happenings last → is_live last.core.page_map die ≡ true
+        → is_die last.core die ≡ true → is_lost last.core.page_map page ≡ false }
+{
+    spares_are_kept();
+    a_die_that_went_out_stays_out();
+}

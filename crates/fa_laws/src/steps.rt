@@ -30,7 +30,7 @@ ghost use Rattle.fa_machine.specs.declared.ids.BatchId.{BatchId};
 ghost use Rattle.fa_machine.specs.declared.refusals.AdmitRefused.TheVariants.{Lost};
 ghost use Rattle.fa_types.specs.declared.numbers.Slot.{Slot};
 ghost use Rattle.fa_machine.specs.Reading.{Admitted, Admits, EndsBatch};
-ghost use Rattle.fa_laws.specs.Kept.{IsFatal, KeepsLive, KeepsNumbers, KeepsPlain};
+ghost use Rattle.fa_laws.specs.Kept.{IsFatal, KeepsLive, KeepsNumbers, KeepsPlain, KeepsSpares};
 ghost use Rattle.fa_machine.specs.State.{Core, MapState, dies_of, used_at};
 ghost use Rattle.fa_machine.specs.Step.{Abandon, Act, Commit, CommitCopy, Does, Done, Step};
 ghost use Rattle.fa_machine.specs.Taking.{Handed, Takes, read_job};
@@ -78,6 +78,11 @@ pub fn the_last_number_never_falls()
 /// Which dies are live changes by Done and SpareIn alone.
 pub fn live_dies_are_kept()
     ensures { (old new : Core) (act : Act) → Step old act new → KeepsLive old act new }
+{}
+
+/// Which spares there are changes by SpareIn alone.
+pub fn spares_are_kept()
+    ensures { (old new : Core) (act : Act) → Step old act new → KeepsSpares old act new }
 {}
 
 /// The numbers of pages change by Commit alone.

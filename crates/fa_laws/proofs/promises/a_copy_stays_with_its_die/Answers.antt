@@ -4,9 +4,12 @@ use Rattle.std.proofs.lemmas.Bool.{ltb-true}
 use Rattle.fa_laws.proofs.promises.a_copy_stays_with_its_die.Goals as goal
 
 pub returns : goal.returns
-returns c = record {
-  holds = copy_stays_over;
-  kept = λ w last happenings page die reached holds run within.
-      not_lost last.core.page_map page die (ltb-true die last.core.page_map.geometry.dies within)
-      (copy_stays_over w last happenings page die reached holds run);
-}
+returns c =
+    let out = c.a_die_that_went_out_stays_out.ensures in
+    let spares = c.spares_are_kept.ensures in
+    record {
+      holds = copy_stays_over out spares;
+      kept = λ w last happenings page die reached holds run alive within.
+          not_lost last.core.page_map page die (ltb-true die last.core.page_map.geometry.dies within)
+          (copy_stays_over out spares w last happenings page die reached holds run alive);
+    }
