@@ -22,7 +22,7 @@ use Rattle.fa_machine.specs.declared.places.Booking.{Booking}
 use Rattle.fa_types.specs.Open.{IsOpen}
 use Rattle.std.proofs.Common.{Bool, List, None, Option, Some, [], ap, arith, false, inl, inr, not, refl, subst, sym, true, ℕ, ◌+◌, ◌-◌}
 use Rattle.std.proofs.Common.{◌<◌, ◌||◌, ◌∙◌, ◌∷◌, ◌≡◌, ◌≤◌, ◌⊎◌}
-use Rattle.std.proofs.lemmas.Bool.{false≢true, or_left, or_parts, or_right}
+use Rattle.std.proofs.lemmas.Bool.{false≢true, not-false, or_left, or_parts, or_right}
 use Rattle.std.proofs.lemmas.List.Elements.{recursion_from_All}
 use Rattle.std.specs.FinMap.{FinMap, contains_key, get, insert, remove}
 use Rattle.std.specs.List.{AllByRecursion}
@@ -73,6 +73,14 @@ opened_at m calendar pages planned is x among =
           (or_parts (not (is_live m x.die.0)) _ opened.1).1).0,
     )
 
+-- and their dies are live
+pub opened_live : (m : MapState) (calendar : CalendarState) (pages : List ℕ) (planned : Planned) → IsPlanned m calendar pages planned
+    → (x : Place) → Among x planned.places → is_live m x.die.0 ≡ true
+opened_live m calendar pages planned is x among =
+    let opened = all_among (λ x. IsOpen calendar.round (is_closed m calendar) x.die.0 x.round.0) planned.places
+    (recursion_from_All (λ x. IsOpen calendar.round (is_closed m calendar) x.die.0 x.round.0) planned.places is.certificate.plan.opens) x among in
+    not-false (is_live m x.die.0) (or_parts (not (is_live m x.die.0)) _ opened.1).0
+
 rounds_among : (current : ℕ) (places : List Place) (x : Place) → Among x places → x.round.0 + 1 - current ≤ rounds_of current places
 rounds_among current [] x i = absurd i
 rounds_among current (y ∷ ys) x (inl same) = let e = ap (λ (z : Place). z.round.0) same in omega (arith, e)
@@ -112,21 +120,21 @@ planned_timely m calendar pages planned batch jobs dies is t = record {
 }
 
 -- the bookings of a state, each of which is as K has it
-pub record Good (K : ℕ → BatchId → Type 0) (core : Core) : Type 0 where
+pub record Good (K : ℕ → ℕ → BatchId → Type 0) (core : Core) : Type 0 where
   pub timely : TimelyCore core
-  pub all : (d r : ℕ) (b : Booking) → get core.calendar.bookings (d, r) ≡ Some b → K r b.batch
+  pub all : (d r : ℕ) (b : Booking) → get core.calendar.bookings (d, r) ≡ Some b → K d r b.batch
 
-abbrev pub MayPlan : (ℕ → BatchId → Type 0) → Act → Type 0
-MayPlan K (Admit pages (Ok admitted)) = (x : Place) → Among x admitted.planned.places → K x.round.0 admitted.batch
-MayPlan K (Replan b (Ok planned)) = (x : Place) → Among x planned.places → K x.round.0 (record { 0 = b })
+abbrev pub MayPlan : (ℕ → ℕ → BatchId → Type 0) → Act → Type 0
+MayPlan K (Admit pages (Ok admitted)) = (x : Place) → Among x admitted.planned.places → K x.die.0 x.round.0 admitted.batch
+MayPlan K (Replan b (Ok planned)) = (x : Place) → Among x planned.places → K x.die.0 x.round.0 (record { 0 = b })
 MayPlan K act = Unit {0}
 
-module _ (K : ℕ → BatchId → Type 0) where
+module _ (K : ℕ → ℕ → BatchId → Type 0) where
   pub to_good : (core x : Core) → core ≡ x → Good K x → Good K core
   to_good core x e g = subst (Good K) (sym e) g
 
-  pub kept_all : (bookings : FinMap place_cmp Booking) (test : ℕ × ℕ → Booking → Bool) → ((d r : ℕ) (b : Booking) → get bookings (d, r) ≡ Some b → K r b.batch)
-      → (d r : ℕ) (b : Booking) → get (keep test bookings) (d, r) ≡ Some b → K r b.batch
+  pub kept_all : (bookings : FinMap place_cmp Booking) (test : ℕ × ℕ → Booking → Bool) → ((d r : ℕ) (b : Booking) → get bookings (d, r) ≡ Some b → K d r b.batch)
+      → (d r : ℕ) (b : Booking) → get (keep test bookings) (d, r) ≡ Some b → K d r b.batch
   kept_all bookings test all d r b e =
       all d r b (passed_some (test (d, r)) (get bookings (d, r)) b (sym (get-keep place_cmp_total place_same test bookings (d, r)) ∙ e))
 
@@ -140,7 +148,7 @@ module _ (K : ℕ → BatchId → Type 0) where
       λ i. (sym a i, sym b i, sym c i, (sym d i).dies) in
       record {
         timely = subst (λ t. Timely t.0 t.1 t.2 t.3) path g.timely;
-        all = subst (λ m. (d r : ℕ) (b : Booking) → get m (d, r) ≡ Some b → K r b.batch) (sym a) g.all;
+        all = subst (λ m. (d r : ℕ) (b : Booking) → get m (d, r) ≡ Some b → K d r b.batch) (sym a) g.all;
       }
 
   pub same_after : (old core x : Core) → core ≡ x → Good K old → x.calendar.bookings ≡ old.calendar.bookings → x.calendar.round ≡ old.calendar.round
@@ -148,13 +156,14 @@ module _ (K : ℕ → BatchId → Type 0) where
   same_after old core x e g a b c d = to_good core x e (good_same old g x a b c d)
 
   pub planned_all : (m : MapState) (calendar : CalendarState) (batch : BatchId) (places : List Place)
-      → ((d r : ℕ) (b : Booking) → get calendar.bookings (d, r) ≡ Some b → K r b.batch)
-      → ((x : Place) → Among x places → K x.round.0 batch)
-      → (d r : ℕ) (b : Booking) → get (with_places batch places calendar.bookings) (d, r) ≡ Some b → K r b.batch
+      → ((d r : ℕ) (b : Booking) → get calendar.bookings (d, r) ≡ Some b → K d r b.batch)
+      → ((x : Place) → Among x places → K x.die.0 x.round.0 batch)
+      → (d r : ℕ) (b : Booking) → get (with_places batch places calendar.bookings) (d, r) ≡ Some b → K d r b.batch
   planned_all m calendar batch places all may d r b e =
       elim (booked_found batch places calendar.bookings d r b e) [
         | inl was ↦ all d r b was
-        | inr new ↦ subst (λ (t : ℕ × Booking). K t.0 t.1.batch) {x = (new.0.round.0, booking_of batch new.0)} {y = (r, b)} (λ i. (new.3 i, new.4 i)) (may new.0 new.1)
+        | inr new ↦ subst (λ (t : ℕ × ℕ × Booking). K t.0 t.1 t.2.batch) {x = (new.0.die.0, new.0.round.0, booking_of batch new.0)} {y = (d, r, b)}
+            (λ i. (new.2 i, new.3 i, new.4 i)) (may new.0 new.1)
       ]
 
   pub released_good : (core : Core) → Good K core → (batch : ℕ) → Good K (record core { calendar = released batch core.calendar })
@@ -177,9 +186,9 @@ module _ (K : ℕ → BatchId → Type 0) where
     all = λ d r b e. elim (booked_cases core.calendar.bookings die core.calendar.round (record { batch = batch; page = page; started = true }) d r b e) [
       | inr was ↦ g.all d r b was
       | inl here ↦
-          let before : K core.calendar.round u.booking.batch = g.all die core.calendar.round u.booking u.booked in
-          subst (λ (t : ℕ × BatchId). K t.0 t.1) {x = (core.calendar.round, u.booking.batch)} {y = (r, b.batch)}
-          (λ i. (sym here.1 i, ((λ j. record { 0 = u.batch_is j }) ∙ ap (λ (k : Booking). k.batch) here.2) i)) before
+          let before : K die core.calendar.round u.booking.batch = g.all die core.calendar.round u.booking u.booked in
+          subst (λ (t : ℕ × ℕ × BatchId). K t.0 t.1 t.2) {x = (die, core.calendar.round, u.booking.batch)} {y = (d, r, b.batch)}
+          (λ i. (sym here.0 i, sym here.1 i, ((λ j. record { 0 = u.batch_is j }) ∙ ap (λ (k : Booking). k.batch) here.2) i)) before
     ];
   }
   begun_good core g die seat (Program page version slot) low u = absurd u

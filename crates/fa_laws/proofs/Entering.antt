@@ -1,17 +1,13 @@
 -- SpareIn keeps what holds.
 use Rattle.fa_laws.proofs.Invariant.{Holds, later, scene_of}
 use Rattle.fa_laws.proofs.Leaving.{entered_is_sound}
-use Rattle.fa_laws.proofs.Maps.{get-insert_other, get-remove_some}
+use Rattle.fa_laws.proofs.Maps.{get-insert_other, get-remove_some, has_some}
 use Rattle.fa_machine.specs.Maps.{Numbers}
 use Rattle.fa_machine.specs.World.{World}
 use Rattle.std.proofs.Common.{None, Option, Some, ap, inl, inr, refl, suc, sym, true, ℕ, ◌∙◌, ◌≡◌, ◌⊎◌}
 use Rattle.std.proofs.lemmas.Bool.{cases_eq, false≢true}
 use Rattle.std.specs.FinMap.{contains_key, get, insert, remove}
 use Rattle.std.specs.Prelude.{is_some}
-
-has_some : {X : Type 0} (o : Option X) → is_some o ≡ true → (x : X) × (o ≡ Some x)
-has_some None e = absurd (false≢true e)
-has_some (Some x) e = (x, refl)
 
 module _ (w : World) (h : Holds w) (die : ℕ) (was_spare : contains_key w.core.spares die ≡ true) (epoch : ℕ) (behind : Numbers) where
   alive : (d : ℕ) → contains_key (insert w.core.page_map.live die tt) d ≡ true → (contains_key w.core.page_map.live d ≡ true) ⊎ (d ≡ die)

@@ -5,7 +5,7 @@ use Rattle.fa_laws.proofs.Invariant.{AreAt, AreInside, Holds, later, owned_claim
 use Rattle.fa_laws.proofs.Keeping.{worked_is_sound}
 use Rattle.fa_laws.proofs.Leaving.{Drops, dropped_is_sound}
 use Rattle.fa_laws.proofs.Lists.{among-filter, tally-filter-le}
-use Rattle.fa_laws.proofs.Maps.{get-change, get-keep, get-remove_other, get-remove_same, get-remove_some, nat_same, passed}
+use Rattle.fa_laws.proofs.Maps.{get-change, get-keep, get-remove_other, get-remove_same, get-remove_some, has_some, nat_same, passed}
 use Rattle.fa_laws.proofs.Maps.{place_cmp_total, place_same}
 use Rattle.fa_laws.proofs.Scene.{Among, IsToCome, Owned, Stands, program_is_at, writes}
 use Rattle.fa_machine.specs.Conditions.{drop_die}
@@ -41,10 +41,6 @@ passed_some_if false x y e = absurd (none-some y e)
 pub passed_some : {X : Type 0} (test : X → Bool) (o : Option X) (y : X) → passed test o ≡ Some y → o ≡ Some y
 passed_some test None y e = e
 passed_some test (Some x) y e = passed_some_if (test x) x y e
-
-has_some : {X : Type 0} (o : Option X) → is_some o ≡ true → (x : X) × (o ≡ Some x)
-has_some None e = absurd (false≢true e)
-has_some (Some x) e = (x, refl)
 
 some_has : {X : Type 0} (o : Option X) (x : X) → o ≡ Some x → is_some o ≡ true
 some_has o x e = ap is_some e

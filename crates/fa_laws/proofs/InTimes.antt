@@ -61,7 +61,7 @@ use Rattle.std.specs.Prelude.{Err, Ok, Result, if◌then◌else◌, ◌&&◌, �
 use Rattle.std.specs.declared.cmp.Ordering.{Ordering}
 use Rattle.std.specs.declared.cmp.Ordering.TheVariants.{Equal, Greater, Less}
 
-module _ (K : ℕ → BatchId → Type 0) where
+module _ (K : ℕ → ℕ → BatchId → Type 0) where
   answer_good : (core : Core) → Good K core → (batch page : ℕ) (bytes : List ℕ) (b : Option OpenBatch) → Good K (with_answer batch page bytes b core)
   answer_good core g batch page bytes None = g
   answer_good core g batch page bytes (Some b) = good_same K core g _ refl refl refl refl
@@ -128,7 +128,7 @@ module _ (K : ℕ → BatchId → Type 0) where
       (old.calendar.round == 2 ^ 56) AdvancePending Idle AdvanceSpent none) d
       (among-range 0 old.page_map.geometry.dies d (omega arith) (omega (arith, low))))).0
 
-  event_good : (old : Core) (act : Act) (new : Core) → allowed old act ≡ true → Does old act new → Good K old → MayPlan K act → Good K new
+  pub event_good : (old : Core) (act : Act) (new : Core) → allowed old act ≡ true → Does old act new → Good K old → MayPlan K act → Good K new
   event_good old (Claim page (Ok id)) new may d g k = same_after K old new _ d.2 g refl refl refl refl
   event_good old (Claim page (Err Claimed)) new may d g k = to_good K new old d.1 g
   event_good old (Claim page (Err ClaimNoMemory)) new may d g k = to_good K new old d.1 g
@@ -175,7 +175,7 @@ module _ (K : ℕ → BatchId → Type 0) where
   event_good old (FlushState flush answer) new may d g k = to_good K new old d.1 g
   event_good old Fold new may d g k = same_after K old new _ d g refl refl refl refl
 
-  call_good : (before after : World) (die : ℕ) (work : Option Work) (gave : Gave) → HappensCall before die work gave after → Good K before.core → Good K after.core
+  pub call_good : (before after : World) (die : ℕ) (work : Option Work) (gave : Gave) → HappensCall before die work gave after → Good K before.core → Good K after.core
   call_good before after die None gave c g = absurd c
   call_good before after die (Some work) gave c g = next_good (next_call die work.job work.gave) c
     where
@@ -184,15 +184,15 @@ module _ (K : ℕ → BatchId → Type 0) where
       next_good (Some call) c = to_good K after.core before.core (ap (λ (v : World). v.core) c.2) g
 
 -- a state at a beginning has no booking and no job
-begins_good : (w : World) → IsBeginning w → Good (λ r batch. Unit {0}) w.core
-begins_good w b = record {
+pub begins_good : (K : ℕ → ℕ → BatchId → Type 0) (w : World) → IsBeginning w → Good K w.core
+begins_good K w b = record {
   timely = record {
     ahead = λ d r k e. absurd (no_booking d r k e);
     begun_now = λ d r k e s. absurd (no_booking d r k e);
     reads = λ d batch page version slot e. absurd (no_job d (Read batch page version slot) e);
     within = λ d flight e. absurd (no_job d flight e);
   };
-  all = λ d r k e. tt;
+  all = λ d r k e. absurd (no_booking d r k e);
 }
   where
     no_booking : (d r : ℕ) (k : Booking) → get w.core.calendar.bookings (d, r) ≡ Some k → ⊥
@@ -201,24 +201,24 @@ begins_good w b = record {
     no_job : (d : ℕ) (flight : Flight) → get w.core.jobs d ≡ Some flight → ⊥
     no_job d flight e = none-some flight (sym (ap (λ (c : Core). get c.jobs d) b.fresh ∙ get-empty nat_cmp d) ∙ e)
 
-no_plan : (act : Act) → MayPlan (λ r batch. Unit {0}) act
+no_plan : (act : Act) → MayPlan (λ d r batch. Unit {0}) act
 no_plan (Admit pages (Ok admitted)) = λ x i. tt
 no_plan (Replan b (Ok planned)) = λ x i. tt
 no_plan act = tt
 
-happens_good : (before : World) (happening : Happening) (after : World) → Good (λ r batch. Unit {0}) before.core → Happens before happening after
-    → Good (λ r batch. Unit {0}) after.core
-happens_good before (Event act) after g h = event_good (λ r batch. Unit {0}) before.core act after.core h.step.allows h.step.does g (no_plan act)
-happens_good before (ImageCall die gave) after g h = call_good (λ r batch. Unit {0}) before after die (before.works die) gave h g
+happens_good : (before : World) (happening : Happening) (after : World) → Good (λ d r batch. Unit {0}) before.core → Happens before happening after
+    → Good (λ d r batch. Unit {0}) after.core
+happens_good before (Event act) after g h = event_good (λ d r batch. Unit {0}) before.core act after.core h.step.allows h.step.does g (no_plan act)
+happens_good before (ImageCall die gave) after g h = call_good (λ d r batch. Unit {0}) before after die (before.works die) gave h g
 
 pub reached_timely : (w : World) → IsReached w → TimelyCore w.core
 reached_timely w r =
-    (run_keeps (λ (v : World). Good (λ r batch. Unit {0}) v.core) (λ before happening after g h. happens_good before happening after g h)
-    r.first r.happenings w (begins_good r.first r.beginning) r.run).timely
+    (run_keeps (λ (v : World). Good (λ d r batch. Unit {0}) v.core) (λ before happening after g h. happens_good before happening after g h)
+    r.first r.happenings w (begins_good (λ d r batch. Unit {0}) r.first r.beginning) r.run).timely
 
 -- a booking of the batch is before that round
-abbrev pub Until : ℕ → ℕ → ℕ → BatchId → Type 0
-Until batch until r b = b.0 ≡ batch → r < until
+abbrev pub Until : ℕ → ℕ → ℕ → ℕ → BatchId → Type 0
+Until batch until d r b = b.0 ≡ batch → r < until
 
 no_plan_until : (batch until : ℕ) (act : Act) → PlansNothing batch (Event act) → MayPlan (Until batch until) act
 no_plan_until batch until (Admit pages (Ok admitted)) none = λ x i same. absurd (none same)
@@ -274,7 +274,7 @@ planned_until old new (Admit pages (Ok admitted)) batch until d may t is =
     })
     (λ x i same. let n = planned_before old.page_map old.calendar _ admitted.planned d.0.2 x i in let u = is.1 in omega (arith, n, u))
 planned_until old new (Replan b (Ok planned)) batch until d may t is =
-    let left = (released_good (λ r k. Unit {0}) old (record { timely = t; all = λ x r k e. tt }) b).timely in
+    let left = (released_good (λ d r k. Unit {0}) old (record { timely = t; all = λ x r k e. tt }) b).timely in
     to_good (Until batch until) new _ d.1 (record {
       timely = planned_timely old.page_map (released b old.calendar) _ planned (record { 0 = b }) old.jobs old.page_map.geometry.dies d.0.2 left;
       all = planned_all (Until batch until) old.page_map (released b old.calendar) (record { 0 = b }) planned.places

@@ -38,3 +38,4 @@ pub mod Starts
 pub mod Staying
 pub mod Takes
 pub mod Timely
+pub mod Within

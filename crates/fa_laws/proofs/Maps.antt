@@ -13,13 +13,17 @@ use Rattle.std.specs.FinMap.{FinMap, entries, entries_sorted, find as find_entry
 use Rattle.std.specs.FinMap.{get-remove, insert, is_sorted, remove, values}
 use Rattle.std.specs.List.{list_any}
 use Rattle.std.specs.Ordering.{eq_by_cmp, is_eq, is_lt, nat_cmp, ordering_then}
-use Rattle.std.specs.Prelude.{T, filter, if◌then◌else◌, option_map, ◌&&◌, ◌==◌}
+use Rattle.std.specs.Prelude.{T, filter, if◌then◌else◌, is_some, option_map, ◌&&◌, ◌==◌}
 use Rattle.std.specs.declared.cmp.Ordering.{Ordering}
 use Rattle.std.specs.declared.cmp.Ordering.TheVariants.{Equal, Greater, Less}
 use Rattle.std.specs.FinMap.Entries.{below_all}
 
 pub place_cmp_total : IsTotalOrder place_cmp
 place_cmp_total = then_total (on_total (λ (place : ℕ × ℕ). place.0) nat_cmp_total) (on_total (λ (place : ℕ × ℕ). place.1) nat_cmp_total)
+
+pub has_some : {X : Type 0} (o : Option X) → is_some o ≡ true → (x : X) × (o ≡ Some x)
+has_some None e = absurd (false≢true e)
+has_some (Some x) e = (x, refl)
 
 both_of : (a b : Bool) → T (a && b) → T a × T b
 both_of true b h = (tt, h)

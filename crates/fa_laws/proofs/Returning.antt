@@ -42,7 +42,7 @@ header_live : (is : Bool) (die : ℕ) (other core : Core) → other.page_map.liv
 header_live true die other core same = inl same
 header_live false die other core same = inl refl
 
-finished_live : (die : ℕ) (flight : Flight) (outcome : Outcome) (core : Core) → LivesOn die core (finished die flight outcome core)
+pub finished_live : (die : ℕ) (flight : Flight) (outcome : Outcome) (core : Core) → LivesOn die core (finished die flight outcome core)
 finished_live die (Read batch page version slot) (DidRead cell) core =
     read_live die batch.0 page.0 (payload_of page.0 version die slot.0 cell) core
 finished_live die (Program page version slot) DidProgram core = inl refl

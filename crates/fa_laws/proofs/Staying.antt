@@ -13,6 +13,7 @@ use Rattle.fa_laws.proofs.Outlasting.{dropped_other, moved_other}
 use Rattle.fa_laws.proofs.Parts.{kept≢held}
 use Rattle.fa_laws.proofs.Ranged.{HoldsRanged, Ranged, calls_core, happens_ranged, reached_ranged, slots_total}
 use Rattle.fa_laws.proofs.Returning.{OutLaw, SparesLaw, spareless}
+use Rattle.fa_laws.proofs.Runs.{runs_on}
 use Rattle.fa_laws.proofs.Scene.{Among, IsErasing, IsMoving, JobFits}
 use Rattle.fa_laws.proofs.Takes.{IsOther, IsUrgent, take_cases}
 use Rattle.fa_laws.specs.Leaving.{LeavesPage, RunLeaving}
@@ -66,7 +67,7 @@ use Rattle.std.proofs.lemmas.Option.{cond_some, none-some, same_Some}
 use Rattle.std.specs.FinMap.{FinMap, contains_key, get, insert, remove}
 use Rattle.std.specs.List.{list_any}
 use Rattle.std.specs.Ordering.{nat_cmp}
-use Rattle.std.specs.Prelude.{Err, Ok, Result, filter, find, if◌then◌else◌, is_some, option_map, ◌&&◌, ◌==◌}
+use Rattle.std.specs.Prelude.{Err, Ok, Result, filter, find, if◌then◌else◌, is_some, option_map, ◌&&◌, ◌==◌, ◌++◌}
 
 -- a slot of a live die that holds the page with its number
 pub record HasCopy (core : Core) (page die : ℕ) : Type 0 where
@@ -406,7 +407,7 @@ happening_stays before (Event act) after page die h c happens leaves was alive =
 happening_stays before (ImageCall out gave) after page die h c happens leaves was alive =
     subst (λ (k : Core). HasCopy k page die) (sym (calls_core before after out (before.works out) gave happens)) c
 
-holds_live : (m : MapState) (page die : ℕ) → holds_page m page die ≡ true → is_live m die ≡ true
+pub holds_live : (m : MapState) (page die : ℕ) → holds_page m page die ≡ true → is_live m die ≡ true
 holds_live m page die holds = at_slot (copy_on m page die) refl holds
   where
     at_slot : (s : Option ℕ) → copy_on m page die ≡ s → is_some s ≡ true → is_live m die ≡ true
@@ -418,6 +419,15 @@ pub run_of : (page : ℕ) (before : World) (happenings : List Happening) (after 
     → Run before happenings after
 run_of page before [] after run = run
 run_of page before (happening ∷ happenings) after run = (run.0, run.1, run_of page run.0 happenings after run.3)
+
+-- where that run leads is reached
+pub reached_over : (w last : World) (happenings : List Happening) (page : ℕ) → IsReached w → RunLeaving page w happenings last → IsReached last
+reached_over w last happenings page r run = record {
+  first = r.first;
+  happenings = r.happenings ++ happenings;
+  beginning = r.beginning;
+  run = runs_on r.first r.happenings w happenings last r.run (run_of page w happenings last run);
+}
 
 -- a die that is live later, and is no spare, is live now
 live_before : OutLaw → (page die : ℕ) (before after : World) (happenings : List Happening) → RunLeaving page before happenings after

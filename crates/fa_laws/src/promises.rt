@@ -17,11 +17,11 @@ ghost use Rattle.fa_machine.specs.Copies.{holds_page, is_lost};
 ghost use Rattle.fa_machine.specs.Reading.{Admitted, results};
 ghost use Rattle.fa_machine.specs.Run.{Happening, HappensEvent, Run};
 ghost use Rattle.fa_machine.specs.State.{Reservation, is_live};
-ghost use Rattle.fa_machine.specs.Step.{Act, Admit, Advance, Commit, Done, is_die};
+ghost use Rattle.fa_machine.specs.Step.{Act, Admit, Advance, Commit, Done};
 ghost use Rattle.fa_machine.specs.World.{World};
 ghost use Rattle.fa_machine.specs.Writing.{claimed_page, live_targets};
 
-use crate::steps::{live_dies_are_kept, spares_are_kept};
+use crate::steps::{live_dies_are_kept, spares_are_kept, the_geometry_is_kept};
 
 /// In every run a die goes out only as its job ends with a fault that its image answered. As images are honest, no read
 /// and no move finds another slot than the one that it asks for.
@@ -41,10 +41,13 @@ pub fn a_lost_page_is_answered_lost()
 
 /// The round rises only where each read that is booked in it was started and has ended.
 pub fn a_round_waits_for_its_reads()
-    ensures { (w after : World) (round : Round) (die : ℕ) (booking : Booking) → HappensEvent w (Advance (Ok round)) after
-        → is_die w.core die ≡ true → get w.core.calendar.bookings (die, w.core.calendar.round) ≡ Some booking
+    ensures { (w after : World) (round : Round) (die : ℕ) (booking : Booking) → IsReached w
+        → HappensEvent w (Advance (Ok round)) after → get w.core.calendar.bookings (die, w.core.calendar.round) ≡ Some booking
         → HasEnded w.core die booking }
-{}
+{
+    live_dies_are_kept();
+    the_geometry_is_kept();
+}
 
 /// A batch that was planned and then not planned anew is torn, or has an answer for each of its pages, once the last round
 /// of the plan has passed.
@@ -58,11 +61,13 @@ pub fn a_batch_is_answered_in_time()
 /// A page that two dies hold is not lost as a job of one die ends, whatever that does to the die, so its next admission is
 /// not refused as Lost for it.
 pub fn two_copies_outlast_a_die()
-    ensures { (w after : World) (out : ℕ) (outcome : Outcome) (page one two : ℕ) → HappensEvent w (Done out outcome) after
+    ensures { (w after : World) (out : ℕ) (outcome : Outcome) (page one two : ℕ) → IsReached w → HappensEvent w (Done out outcome) after
         → holds_page w.core.page_map page one ≡ true → holds_page w.core.page_map page two ≡ true → one ≢ two
-        → one < w.core.page_map.geometry.dies → two < w.core.page_map.geometry.dies
         → is_lost after.core.page_map page ≡ false }
-{}
+{
+    live_dies_are_kept();
+    the_geometry_is_kept();
+}
 
 /// An accepted Commit leaves the page on each live die on which it was reserved.
 pub fn a_commit_is_held()
@@ -89,8 +94,10 @@ pub fn a_copy_stays_with_its_die()
         → holds_page last.core.page_map page die ≡ true }
     ensures kept { (w last : World) (happenings : List Happening) (page die : ℕ) → IsReached w
         → holds_page w.core.page_map page die ≡ true → RunLeaving page w happenings last → is_live last.core.page_map die ≡ true
-        → is_die last.core die ≡ true → is_lost last.core.page_map page ≡ false }
+        → is_lost last.core.page_map page ≡ false }
 {
+    live_dies_are_kept();
     spares_are_kept();
+    the_geometry_is_kept();
     a_die_that_went_out_stays_out();
 }

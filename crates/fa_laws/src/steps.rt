@@ -80,6 +80,11 @@ pub fn live_dies_are_kept()
     ensures { (old new : Core) (act : Act) → Step old act new → KeepsLive old act new }
 {}
 
+/// No event changes the geometry.
+pub fn the_geometry_is_kept()
+    ensures { (old new : Core) (act : Act) → Step old act new → new.page_map.geometry ≡ old.page_map.geometry }
+{}
+
 /// Which spares there are changes by SpareIn alone.
 pub fn spares_are_kept()
     ensures { (old new : Core) (act : Act) → Step old act new → KeepsSpares old act new }

@@ -3,6 +3,7 @@ use crate::arguments::printed;
 use fa_prog::run;
 use linked_list_allocator::LocalHeap;
 use std::alloc::Global;
+use std::slice;
 use std::test::Fail;
 
 /// Two pages on one die, and their certificate but for its shortage.
@@ -105,10 +106,9 @@ rounds 2\nplace 1 0 1\nplace 2 0 2\nshort 1 2\nend\n";
         let Ok(name) = String::from_str(&heap, "verify") else {
             continue;
         };
-        let arguments = [name];
         let mut input = text.as_bytes();
         let mut output = Vec::new(rt.alloc());
-        let status = run(&heap, rt.alloc(), &arguments, &mut input, &mut output);
+        let status = run(&heap, rt.alloc(), slice::from_ref(&name), &mut input, &mut output);
         if status == 0 {
             whole = whole.saturating_add(1);
             ensure!(output.as_slice() == b"least 2\n".as_slice(), at room);

@@ -1,4 +1,5 @@
 use Rattle.fa_laws.proofs.Lists.{among-range, any_none}
+use Rattle.fa_laws.proofs.Within.{reached_booked}
 use Rattle.fa_machine.specs.Reading.{booked}
 use Rattle.fa_machine.specs.State.{dies_of}
 use Rattle.fa_machine.specs.Turning.{is_read_pending, is_reading, is_round_pending, is_step_pending}
@@ -6,7 +7,7 @@ use Rattle.fa_machine.specs.declared.jobs.Flight.{Flight}
 use Rattle.fa_machine.specs.declared.places.Booking.{Booking}
 use Rattle.fa_machine.specs.declared.refusals.AdvanceRefused.TheVariants.{Idle, Pending as AdvancePending, Spent as AdvanceSpent}
 use Rattle.std.proofs.Common.{Bool, None, Option, Some, ap, arith, cond, false, not, refl, sym, true, ◌^◌, ◌∙◌, ◌≡◌}
-use Rattle.std.proofs.lemmas.Bool.{ltb-true, or_parts, true≢false}
+use Rattle.std.proofs.lemmas.Bool.{or_parts, true≢false}
 use Rattle.std.proofs.lemmas.Option.{none-some, same_Some}
 use Rattle.std.specs.FinMap.{get, len}
 use Rattle.std.specs.List.{list_any}
@@ -29,11 +30,12 @@ ended_read flight (Some a) b e pending =
     not_false_is false e = absurd (true≢false e)
 
 pub returns : goal.returns
-returns c w after round die booking happens within booked =
+returns c w after round die booking reached happens booked =
+    let within = reached_booked c.live_dies_are_kept.ensures c.the_geometry_is_kept.ensures w reached die w.core.calendar.round booking booked in
     let none = first_of_three (list_any (is_round_pending w.core) (dies_of w.core.page_map))
     (len w.core.calendar.bookings == 0 && len w.core.calendar.windows == 0) (w.core.calendar.round == 2 ^ 56) AdvancePending Idle AdvanceSpent
     happens.step.does.0 in
     let here = any_none (is_round_pending w.core) (dies_of w.core.page_map) none die
-    (among-range 0 w.core.page_map.geometry.dies die (omega arith) (let n = ltb-true die w.core.page_map.geometry.dies within in omega (arith, n))) in
+    (among-range 0 w.core.page_map.geometry.dies die (omega arith) (omega (arith, within))) in
     ended_read (get w.core.jobs die) (get w.core.calendar.bookings (die, w.core.calendar.round)) booking booked
     (or_parts (is_read_pending (get w.core.jobs die) (get w.core.calendar.bookings (die, w.core.calendar.round))) (is_step_pending w.core die) here).0
