@@ -4,6 +4,7 @@ pub mod CertificateTexts
 pub mod Counting
 pub mod Covered
 pub mod Cuts
+pub mod Entries
 pub mod Indexed
 pub mod LinesRead
 pub mod Marked

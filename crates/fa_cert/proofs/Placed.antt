@@ -1,22 +1,23 @@
 -- The places of a plan, gone through one after the other.
-use Rattle.std.proofs.Common.{◌≡◌, ℕ, zero, suc, ◌+◌, ◌-◌, ◌<◌, ◌≤◌, inl, inr, Bool, true, false, cond, not, ◌&&◌, ◌||◌, IsTrue, List, [], ◌∷◌, ◌++◌, length, take, get_or, replicate, nat_eq, ◌==◌, nat_cmp, max, refl, sym, ap, ◌∙◌, subst, arith, eq-eqb, eqb-true}
+use Rattle.std.proofs.Common.{◌≡◌, ℕ, zero, suc, ◌+◌, ◌-◌, ◌<◌, ◌≤◌, inl, inr, Bool, true, false, cond, not, ◌&&◌, ◌||◌, IsTrue, ◌↔◌, Some, List, [], ◌∷◌, ◌++◌, length, take, set, get_or, replicate, nat_eq, ◌==◌, nat_cmp, max, refl, sym, ap, ◌∙◌, subst, arith, eq-eqb, eqb-true}
 use Rattle.std.specs.List.{list_any, count_by, fold, All}
 use Rattle.std.proofs.Common.{Ordering, Less, Equal, Greater}
 use Rattle.std.specs.Ordering.{is_eq, ordering_then}
 use Rattle.std.specs.BTreeMap.{is_at}
 use Rattle.std.specs.BTreeSet.{BTreeSet, contains}
-use Rattle.std.proofs.lemmas.Bool.{not-true, not-false, cases_eq, cases_order, and_from, and_parts, ne_eqb, cond-true, cond-false}
+use Rattle.std.proofs.lemmas.Bool.{not-true, not-false, false_from_ne_true, cases_eq, cases_order, and_from, and_parts, ne_eqb, cond-true, cond-false}
 use Rattle.std.proofs.lemmas.Bool.Decides.{nat_tests}
 use Rattle.std.proofs.Math.Bool.{or-false, or-true}
-use Rattle.std.proofs.lemmas.List.{take_more}
-use Rattle.std.proofs.lemmas.List.Elements.{All-more, All-weaker}
+use Rattle.std.proofs.lemmas.List.{take_more, get_or-take, get_or-set_same, get_or-set_other, length-take-le, get_or_default}
+use Rattle.std.proofs.lemmas.List.Elements.{All-more, All-pop, All-weaker, recursion_from_All}
 use Rattle.std.proofs.lemmas.List.Folds.{list_any_more}
 use Rattle.fa_types.specs.declared.numbers.Page.{Page}
 use Rattle.fa_cert.specs.declared.plan.Place.{Place}
-use Rattle.fa_cert.specs.Batch.{Entry, times_named}
+use Rattle.fa_cert.specs.Batch.{Entry, holds, times_named}
 use Rattle.fa_cert.specs.Certificate.{AreNamed}
-use Rattle.fa_cert.specs.Plan.{ArePlaced, ArePlacedOnce, AreApart, rounds_of, times_placed}
-use Rattle.fa_cert.proofs.Counting.{any-from-count, count-from-any, once-push, twice-push, once-front, once-whole}
+use Rattle.fa_cert.specs.Marks.{AreMarks}
+use Rattle.fa_cert.specs.Plan.{ArePlaced, ArePlacedOnce, AreHeld, AreApart, rounds_of}
+use Rattle.fa_cert.proofs.Counting.{AllByRecursion-weaker, count_by-none, any-from-count, count-from-any, once-push, twice-push, once-whole}
 
 cond-or : (b c : Bool) → cond b true c ≡ (c || b)
 cond-or true true = refl
@@ -36,6 +37,10 @@ met-more a b page key is =
           cond-false (is_at (nat_cmp key) page) true a no ∙ sym (ap (λ v. a || v) (is ∙ ne_eqb key page other) ∙ or-false a))
     ]
 
+-- what stands for a place past the end
+abbrev pub no_place : Place
+no_place = record { page = record { 0 = 0 }; die = record { 0 = 0 }; round = record { 0 = 0 } }
+
 -- the page of a place as its key
 abbrev has_page : ℕ → Place → Bool
 has_page page x = x.page.0 == page
@@ -52,18 +57,26 @@ module _ (places : List Place) (i : ℕ) (d : Place) (below : i < length places)
   next_is : take (i + 1) places ≡ take i places ++ get_or places i d ∷ []
   next_is = take_more places i d below
 
-  pub page_once_more : (set : BTreeSet ℕ) (once fresh : Bool) → ((page : ℕ) → contains nat_cmp set page ≡ list_any (λ x. x.page.0 == page) (take i places))
-      → fresh ≡ not (contains nat_cmp set (get_or places i d).page.0)
-      → (once ≡ true → ArePlacedOnce (take i places)) → (once ≡ false → ArePlacedOnce (take i places) → ⊥)
-      → ((once && fresh) ≡ true → ArePlacedOnce (take (i + 1) places)) × ((once && fresh) ≡ false → ArePlacedOnce (take (i + 1) places) → ⊥)
-  page_once_more set true true is new so not_so =
-      let unmet : list_any (has_page (get_or places i d).page.0) (take i places) ≡ false = sym (is (get_or places i d).page.0) ∙ not-true (contains nat_cmp set (get_or places i d).page.0) (sym new) in
-      (λ _. subst ArePlacedOnce (sym next_is) (once-push has_page (λ x. x.page.0) (λ x. eq-eqb x.page.0 x.page.0 refl) (λ k x e. sym (eqb-true x.page.0 k e)) (take i places) (get_or places i d) unmet (so refl)), λ no. cc)
-  page_once_more set true false is new so not_so =
-      let met : list_any (has_page (get_or places i d).page.0) (take i places) ≡ true = sym (is (get_or places i d).page.0) ∙ not-false (contains nat_cmp set (get_or places i d).page.0) (sym new) in
-      (λ no. cc, λ _ all. twice-push has_page (λ x. x.page.0) (λ x. eq-eqb x.page.0 x.page.0 refl) (λ k x e. sym (eqb-true x.page.0 k e)) (take i places) (get_or places i d) met (subst ArePlacedOnce next_is all))
-  page_once_more set false fresh is new so not_so =
-      (λ no. cc, λ _ all. not_so refl (once-front has_page (λ x. x.page.0) (λ x. eq-eqb x.page.0 x.page.0 refl) (λ k x e. sym (eqb-true x.page.0 k e)) (take i places) (get_or places i d) (subst ArePlacedOnce next_is all)))
+  -- a place whose page did not come before, and one whose page did
+  pub page_once_more : list_any (has_page (get_or places i d).page.0) (take i places) ≡ false → ArePlacedOnce (take i places) → ArePlacedOnce (take (i + 1) places)
+  page_once_more unmet so = subst ArePlacedOnce (sym next_is) (once-push has_page (λ x. x.page.0) (λ x. eq-eqb x.page.0 x.page.0 refl) (λ k x e. sym (eqb-true x.page.0 k e)) (take i places) (get_or places i d) unmet so)
+
+  pub page_twice : list_any (has_page (get_or places i d).page.0) (take i places) ≡ true → ArePlacedOnce places → ⊥
+  page_twice met all =
+      twice-push has_page (λ x. x.page.0) (λ x. eq-eqb x.page.0 x.page.0 refl) (λ k x e. sym (eqb-true x.page.0 k e)) (take i places) (get_or places i d) met
+      (subst ArePlacedOnce next_is (once-whole has_page (λ x. x.page.0) (λ x. eq-eqb x.page.0 x.page.0 refl) (λ k x e. sym (eqb-true x.page.0 k e)) places (i + 1) all))
+
+  -- whether the dies so far hold their pages, with one more
+  pub held_more : (batch : List Entry) (held here : Bool) → IsTrue held ↔ AreHeld batch (take i places) → here ≡ holds batch (get_or places i d).page.0 (get_or places i d).die.0
+      → IsTrue (held && here) ↔ AreHeld batch (take (i + 1) places)
+  held_more batch held here so is = (
+    λ yes.
+        let parts = and_parts held here yes in
+        All-more (λ (x : Place). IsTrue (holds batch x.page.0 x.die.0)) places i d below (so.0 parts.0) (sym is ∙ parts.1),
+    λ all.
+        let parts = All-pop (λ (x : Place). IsTrue (holds batch x.page.0 x.die.0)) (take (i + 1) places) (take i places) (Some (get_or places i d)) next_is all in
+        and_from held here (so.1 parts.0) (is ∙ parts.1),
+  )
 
 -- Pages that are named, one after the other.
 abbrev is_page : ℕ → Page → Bool
@@ -169,13 +182,59 @@ module _ (places : List Place) (i : ℕ) (d : Place) (below : i < length places)
       (subst (λ xs. (k : ℕ × ℕ) → count_by (is_at_key k) xs ≤ 1) (take_more places i d below)
       (once-whole is_at_key (λ x. (x.die.0, x.round.0)) key_has key_only places (i + 1) (λ k. all k.0 k.1)))
 
--- the pages of the batch are in the set of the plan's pages exactly where each has a place
-pub placed_from : (batch : List Entry) (places : List Place) (set : BTreeSet ℕ) → ((page : ℕ) → contains nat_cmp set page ≡ list_any (λ x. x.page.0 == page) places)
-    → All (λ e. IsTrue (contains nat_cmp set e.page.0)) batch → ArePlaced batch places
-placed_from batch places set is all = All-weaker (λ (e : Entry). IsTrue (contains nat_cmp set e.page.0)) (λ e. 1 ≤ times_placed places e.page.0)
-    (λ e here. count-from-any (λ (x : Place). x.page.0 == e.page.0) places (sym (is e.page.0) ∙ here)) batch all
+-- the entries of the batch are all marked exactly where each has a place
+module _ (batch : List Entry) (places : List Place) (marks front : List Bool) (are : AreMarks batch (λ page. list_any (λ x. x.page.0 == page) places) marks)
+    (long : length batch ≤ length marks) (front_is : front ≡ take (length batch) marks) where
+  front_long : length front ≡ length batch
+  front_long = ap (λ v. length v) front_is ∙ length-take-le (length batch) marks long
 
-pub placed_to : (batch : List Entry) (places : List Place) (set : BTreeSet ℕ) → ((page : ℕ) → contains nat_cmp set page ≡ list_any (λ x. x.page.0 == page) places)
-    → ArePlaced batch places → All (λ e. IsTrue (contains nat_cmp set e.page.0)) batch
-placed_to batch places set is all = All-weaker (λ (e : Entry). 1 ≤ times_placed places e.page.0) (λ e. IsTrue (contains nat_cmp set e.page.0))
-    (λ e here. is e.page.0 ∙ any-from-count (λ (x : Place). x.page.0 == e.page.0) places here) batch all
+  front_at : (k : ℕ) → k < length batch → get_or front k false ≡ get_or marks k false
+  front_at k below = ap (λ v. get_or v k false) front_is ∙ get_or-take (length batch) marks k false below
+
+  pub placed_from : All (λ mark. IsTrue mark) front → ArePlaced batch places
+  placed_from all k e below =
+      count-from-any (λ (x : Place). x.page.0 == (get_or batch k e).page.0) places (sym (are k e below) ∙ sym (front_at k below) ∙ all k false (omega (arith, front_long, below)))
+
+  pub placed_to : ArePlaced batch places → All (λ mark. IsTrue mark) front
+  placed_to all k d below =
+      let e : Entry = record { page = record { 0 = 0 }; holders = [] } in
+      let under : k < length batch = omega (arith, front_long, below) in
+      get_or_default front k d false below ∙ front_at k under ∙ are k e under
+      ∙ any-from-count (λ (x : Place). x.page.0 == (get_or batch k e).page.0) places (all k e under)
+
+-- The rounds of each die rise: each place so far is below the first round that is free at its die.
+module _ (places : List Place) (i : ℕ) (d : Place) (below : i < length places) (free : List ℕ) (under : All (λ x. x.round.0 < get_or free x.die.0 0) (take i places)) where
+  pub none_there : get_or free (get_or places i d).die.0 0 ≤ (get_or places i d).round.0
+      → list_any (is_at_key ((get_or places i d).die.0, (get_or places i d).round.0)) (take i places) ≡ false
+  none_there later =
+      let y : Place = get_or places i d in
+      let none = count_by-none (is_at_key (y.die.0, y.round.0)) (take i places)
+      (AllByRecursion-weaker (λ (x : Place). x.round.0 < get_or free x.die.0 0) (λ x. is_at_key (y.die.0, y.round.0) x ≡ false)
+      (λ x lower. false_from_ne_true (is_at_key (y.die.0, y.round.0) x) (λ at.
+      let parts = and_parts (nat_eq x.die.0 y.die.0) (nat_eq x.round.0 y.round.0) at in
+      let die = eqb-true x.die.0 y.die.0 parts.0 in
+      let round = eqb-true x.round.0 y.round.0 parts.1 in
+      let same = ap (λ n. get_or free n 0) die in
+      let no : ⊥ = omega (arith, lower, round, same, later) in no))
+      (take i places) (recursion_from_All (λ (x : Place). x.round.0 < get_or free x.die.0 0) (take i places) under)) in
+      false_from_ne_true (list_any (is_at_key (y.die.0, y.round.0)) (take i places)) (λ any.
+      let one = count-from-any (is_at_key (y.die.0, y.round.0)) (take i places) any in
+      let no : ⊥ = omega (arith, none, one) in no)
+
+  pub rise_more : (next : ℕ) → next ≡ (get_or places i d).round.0 + 1 → get_or free (get_or places i d).die.0 0 < next → (get_or places i d).die.0 < length free → AreApart (take i places)
+      → All (λ x. x.round.0 < get_or (set free (get_or places i d).die.0 next) x.die.0 0) (take (i + 1) places) × AreApart (take (i + 1) places)
+  rise_more next is higher inside so =
+      let y : Place = get_or places i d in
+      let free' : List ℕ = set free y.die.0 next in
+      let P : Place → Type 0 = λ x. x.round.0 < get_or free' x.die.0 0 in
+      let later : get_or free y.die.0 0 ≤ y.round.0 = omega (arith, is, higher) in
+      let here : get_or free' y.die.0 0 ≡ next = get_or-set_same free y.die.0 next 0 inside in (
+        All-more P places i d below
+            (All-weaker (λ (x : Place). x.round.0 < get_or free x.die.0 0) P (λ x lower. elim (cases_eq x.die.0 y.die.0) [
+              | inl same ↦ (let old = ap (λ n. get_or free n 0) same in let new = ap (λ n. get_or free' n 0) same in omega (arith, lower, old, new, here, later, is))
+              | inr other ↦ (let new = get_or-set_other free y.die.0 x.die.0 next 0 other in omega (arith, lower, new))
+            ]) (take i places) under)
+            (omega (arith, here, is)),
+        λ die round. subst AreApart (sym (take_more places i d below))
+            (λ e q. once-push is_at_key (λ x. (x.die.0, x.round.0)) key_has key_only (take i places) y (none_there later) (λ k. so k.0 k.1) (e, q)) die round,
+      )

@@ -1,7 +1,20 @@
--- Dies that are marked in a table by their numbers.
-use Rattle.std.specs.Prelude.{ℕ, zero, suc, Bool, false, if◌then◌else◌, List, [], ◌∷◌, slice_index_or}
+-- Tables of marks: of dies by their numbers, and of the entries of a batch by their indices.
+use Rattle.std.specs.Prelude.{◌≡◌, ℕ, zero, suc, ◌<◌, Bool, false, if◌then◌else◌, List, [], ◌∷◌, length, slice_index_or}
+use Rattle.fa_types.specs.declared.numbers.Page.{Page}
+use Rattle.fa_cert.specs.Batch.{Entry}
+use Rattle.fa_cert.specs.Certificate.{holds_any}
 
 -- the dies below a number that are marked, each once
 unfoldable pub marked : List Bool → ℕ → List ℕ
 marked marks zero = []
 marked marks (suc n) = if slice_index_or marks n false then n ∷ marked marks n else marked marks n
+
+-- a table marks the dies that hold any of the pages
+pub record AreHoldersMarked (batch : List Entry) (pages : List Page) (marks : List Bool) : Type 0 where
+  pub long : length marks ≡ 256
+  pub marks_are : (die : ℕ) → slice_index_or marks die false ≡ holds_any batch pages die
+
+-- a table marks the entries of a batch whose pages pass a test
+abbrev pub AreMarks : List Entry → (ℕ → Bool) → List Bool → Type 0
+AreMarks batch test marks =
+    (index : ℕ) (e : Entry) → index < length batch → slice_index_or marks index false ≡ test (slice_index_or batch index e).page.0

@@ -83,7 +83,8 @@ impl<A: Allocator + Copy> Batch<A> {
 }
 
 impl<A: Allocator> Batch<A> {
-    ghost use Rattle.fa_cert.specs.Batch.{IsSound, holds, times_named};
+    ghost use Rattle.fa_cert.specs.Batch.{IsSound, times_named};
+    ghost use Rattle.fa_cert.specs.Index.{entry_index};
 
     /// The number of entries.
     pub fn len(&self) -> usize
@@ -108,6 +109,18 @@ impl<A: Allocator> Batch<A> {
         self.entries[index].holders.as_slice()
     }
 
+    /// The index of the entry of a page, where there is one. It is found at once where it is the index at
+    /// which the page is likely to stand.
+    pub fn index_of(&self, page: Page, likely: usize) -> Option<usize>
+        requires { times_named self.now page.0 ≤ 1 }
+        ensures { result ≡ entry_index self.now page.0 }
+    {
+        if likely < self.entries.len() && self.entries[likely].page.0 == page.0 {
+            return Some(likely);
+        }
+        self.first.get(&page.0).copied()
+    }
+
     /// The holders of the first entry of a page, where there is one.
     pub fn holders(&self, page: Page) -> Option<&[Die]>
         ensures { option_copied result ≡ option_map (λ e. e.holders) (find (λ e. e.page.0 == page.0) self.now) }
@@ -118,22 +131,12 @@ impl<A: Allocator> Batch<A> {
         }
     }
 
-    /// Whether the batch names the page.
-    pub fn names(&self, page: Page) -> bool
-        ensures { IsTrue result ↔ (1 ≤ times_named self.now page.0) }
+    /// Whether the die is a holder in the entry at an index.
+    pub fn holds_at(&self, index: usize, die: Die) -> bool
+        requires { index < length self.now }
+        ensures { IfSome (slice_get self.now index) (λ e. result ≡ is_among e.holders die.0) }
     {
-        self.holders(page).is_some()
-    }
-
-    /// Whether the die is a holder of the page.
-    pub fn holds(&self, page: Page, die: Die) -> bool
-        requires { times_named self.now page.0 ≤ 1 }
-        ensures { result ≡ holds self.now page.0 die.0 }
-    {
-        match self.holders(page) {
-            Some(holders) => is_one_of(holders, die),
-            None => false,
-        }
+        is_one_of(self.holders_at(index), die)
     }
 
     /// The first page, in their order, that has no holder or was named before; nothing where all is

@@ -7,7 +7,7 @@ ghost use Rattle.std.specs.BTreeSet.{contains};
 ghost use Rattle.fa_types.specs.declared.numbers.Page.{Page};
 ghost use Rattle.fa_cert.specs.Batch.{IsSound, holds, is_among, times_named};
 ghost use Rattle.fa_cert.specs.Certificate.{IsCertificate, AreNamed, AreTooMany, ShowsNoFewer, holds_any, open_places};
-ghost use Rattle.fa_cert.specs.Marks.{marked};
+ghost use Rattle.fa_cert.specs.Marks.{AreHoldersMarked, AreMarks, marked};
 ghost use Rattle.fa_cert.specs.Plan.{IsPlan, ArePlaced, ArePlacedOnce, AreHeld, AreOpen, AreApart, rounds_of};
 ghost use Rattle.fa_cert.specs.Verdict.{IsVerdict, IsRefused};
 
@@ -18,9 +18,21 @@ use fa_types::{Die, Page, Round, Rounds};
 use std::alloc::{AllocError, Allocator};
 use std::collections::BTreeSet;
 
+/// What is seen of the pages of places, one after the other.
+#[derive(Drop)]
+struct Seen {
+    // Whether an entry of the batch has a place, by its index.
+    placed: [bool; 1024],
+    // Whether each page is in the batch and comes once.
+    once: bool,
+    // Whether each die holds its page.
+    held: bool,
+}
+
 /// Whether the plan is one for the batch, of the rounds that it claims, and the pages of the shortage
 /// show that no plan has fewer. Else the first refusal that applies. It trusts nothing but the batch
-/// and the rounds. Memory is taken for one set of the plan's places at a time.
+/// and the rounds. Memory is taken for one set of the plan's places at a time, and for none where each page
+/// of the batch has one place and the rounds of each die rise from place to place.
 pub fn check<R: Rounds, A: Allocator + Copy>(
     alloc: A,
     batch: &Batch<A>,
@@ -39,11 +51,8 @@ pub fn check<R: Rounds, A: Allocator + Copy>(
     if let Some(refusal) = refusal_of(alloc, batch, rounds, plan.rounds, places)? {
         return Ok(Verdict::Refused(refusal));
     }
-    if !are_named(batch, pages) {
-        return Ok(Verdict::Refused(Refusal::ShortagePage));
-    }
-    if !show_no_fewer(batch, rounds, plan.rounds, pages) {
-        return Ok(Verdict::Refused(Refusal::NotShort));
+    if let Some(refusal) = refusal_of_shortage(batch, rounds, plan.rounds, pages) {
+        return Ok(Verdict::Refused(refusal));
     }
     Ok(Verdict::Least(plan.rounds))
 }
@@ -56,7 +65,7 @@ fn refusal_of<R: Rounds, A: Allocator + Copy>(
     number: u64,
     places: &[Place],
 ) -> Result<Option<Refusal>, AllocError>
-    requires { (page : ℕ) → times_named batch.now page ≤ 1 }
+    requires { IsSound batch.now }
     ensures found { IfOk result (λ refusal. MatchOption refusal
         (IsPlan batch.now (R.current rounds.now) (R.closed rounds.now) places.now
         × (rounds_of (R.current rounds.now) places.now ≡ number))
@@ -65,9 +74,6 @@ fn refusal_of<R: Rounds, A: Allocator + Copy>(
 {
     if let Some(refusal) = refusal_of_pages(alloc, batch, places)? {
         return Ok(Some(refusal));
-    }
-    if !are_held(batch, places) {
-        return Ok(Some(Refusal::NotAHolder));
     }
     if !are_open(rounds, places) {
         return Ok(Some(Refusal::RoundClosed));
@@ -81,60 +87,77 @@ fn refusal_of<R: Rounds, A: Allocator + Copy>(
     Ok(None)
 }
 
-/// What is wrong with the pages that have places: one of the batch has none, or one has two.
+/// What is wrong with the pages that have places, and with the dies that read them: a page of the batch has
+/// none, or one has two, or one is read from a die that does not hold it.
 fn refusal_of_pages<A: Allocator + Copy>(
     alloc: A,
     batch: &Batch<A>,
     places: &[Place],
 ) -> Result<Option<Refusal>, AllocError>
-    ensures { IfOk result (λ refusal. MatchOption refusal (ArePlaced batch.now places.now × ArePlacedOnce places.now)
+    requires { IsSound batch.now }
+    ensures { IfOk result (λ refusal. MatchOption refusal
+        (ArePlaced batch.now places.now × ArePlacedOnce places.now × AreHeld batch.now places.now)
         (λ r. (current rounds : ℕ) (closed : ℕ → ℕ → Bool) (pages : List Page)
         → IsRefused batch.now current closed rounds places.now pages r)) }
 {
-    let (pages, once) = pages_of(alloc, places)?;
-    if !have_all(&pages, batch) {
+    let seen = see_pages(batch, places);
+    if !are_all_marked(&seen.placed[..batch.len()]) {
         return Ok(Some(Refusal::PageMissing));
     }
-    if !once {
+    if !seen.once && !come_once(alloc, places)? {
         return Ok(Some(Refusal::PageTwice));
+    }
+    if !seen.held {
+        return Ok(Some(Refusal::NotAHolder));
     }
     Ok(None)
 }
 
-/// The pages of the places, and whether each comes once.
-fn pages_of<A: Allocator + Copy>(
-    alloc: A,
-    places: &[Place],
-) -> Result<(BTreeSet<u64, A>, bool), AllocError>
-    ensures pages { IfOk result (λ r. (page : ℕ) → contains nat_cmp r.0 page ≡ list_any (λ x. x.page.0 == page) places.now) }
-    ensures once { IfOk result (λ r. IsTrue r.1 ↔ ArePlacedOnce places.now) }
+/// Looks at each place once, at its page in the batch.
+fn see_pages<A: Allocator>(batch: &Batch<A>, places: &[Place]) -> Seen
+    requires { IsSound batch.now }
+    ensures long { length result.placed ≡ 1024 }
+    ensures placed { AreMarks batch.now (λ page. list_any (λ x. x.page.0 == page) places.now) result.placed }
+    ensures once { IsTrue result.once → ArePlacedOnce places.now }
+    ensures held { IsTrue result.held ↔ AreHeld batch.now places.now }
 {
-    let mut pages = BTreeSet::new(alloc);
+    let mut placed = [false; 1024];
     let mut once = true;
-    for place in places {
-        once &= pages.insert(place.page.0)?;
-    }
-    Ok((pages, once))
-}
-
-/// Whether each page of the batch is among these.
-fn have_all<A: Allocator>(pages: &BTreeSet<u64, A>, batch: &Batch<A>) -> bool
-    ensures { IsTrue result ↔ All (λ e. IsTrue (contains nat_cmp pages.now e.page.0)) batch.now }
-{
-    for index in 0..batch.len() {
-        if !pages.contains(&batch.page(index).0) {
-            return false;
+    let mut held = true;
+    for (index, place) in places.iter().enumerate() {
+        match batch.index_of(place.page, index) {
+            Some(entry) => {
+                once &= !placed[entry];
+                placed[entry] = true;
+                held &= batch.holds_at(entry, place.die);
+            }
+            None => {
+                once = false;
+                held = false;
+            }
         }
     }
-    true
+    Seen { placed, once, held }
 }
 
-/// Whether each die holds the page that is read from it.
-fn are_held<A: Allocator>(batch: &Batch<A>, places: &[Place]) -> bool
-    requires { (page : ℕ) → times_named batch.now page ≤ 1 }
-    ensures { IsTrue result ↔ AreHeld batch.now places.now }
+/// Whether each of the marks is set.
+fn are_all_marked(marks: &[bool]) -> bool
+    ensures { IsTrue result ↔ All (λ mark. IsTrue mark) marks.now }
 {
-    places.iter().all(|x| batch.holds(x.page, x.die))
+    marks.iter().all(|mark| *mark)
+}
+
+/// Whether no page has two of the places.
+fn come_once<A: Allocator + Copy>(alloc: A, places: &[Place]) -> Result<bool, AllocError>
+    ensures { IfOk result (λ once. IsTrue once ↔ ArePlacedOnce places.now) }
+{
+    let mut pages = BTreeSet::new(alloc);
+    for place in places {
+        if !pages.insert(place.page.0)? {
+            return Ok(false);
+        }
+    }
+    Ok(true)
 }
 
 /// Whether each place is open.
@@ -148,6 +171,9 @@ fn are_open<R: Rounds>(rounds: &R, places: &[Place]) -> bool
 fn are_apart<A: Allocator + Copy>(alloc: A, places: &[Place]) -> Result<bool, AllocError>
     ensures { IfOk result (λ apart. IsTrue apart ↔ AreApart places.now) }
 {
+    if rise(places) {
+        return Ok(true);
+    }
     let mut taken = BTreeSet::new(alloc);
     for place in places {
         if !taken.insert((place.die.0, place.round.0))? {
@@ -155,6 +181,24 @@ fn are_apart<A: Allocator + Copy>(alloc: A, places: &[Place]) -> Result<bool, Al
         }
     }
     Ok(true)
+}
+
+/// Whether the rounds of each die rise from one place to the next, so that no two are one.
+fn rise(places: &[Place]) -> bool
+    ensures { IsTrue result → AreApart places.now }
+{
+    let mut free = [0u64; 256];
+    for place in places {
+        let die = place.die.0 as usize;
+        let Some(next) = place.round.0.checked_add(1) else {
+            return false;
+        };
+        if next <= free[die] {
+            return false;
+        }
+        free[die] = next;
+    }
+    true
 }
 
 /// Whether the places, none before the current round, end in so many rounds.
@@ -181,42 +225,55 @@ fn last_round(places: &[Place]) -> u64
     last
 }
 
-/// Whether the pages are in the batch, each named once.
-fn are_named<A: Allocator>(batch: &Batch<A>, pages: &[Page]) -> bool
-    ensures { IsTrue result ↔ AreNamed batch.now pages.now }
-{
-    for (index, page) in pages.iter().enumerate() {
-        // No more pages than the batch has come this far, so the search is short.
-        if !batch.names(*page) || has_page(&pages[..index], *page) {
-            return false;
-        }
-    }
-    true
-}
-
-fn has_page(pages: &[Page], page: Page) -> bool
-    ensures { result ≡ list_any (λ p. p.0 == page.0) pages.now }
-{
-    pages.iter().any(|p| p.0 == page.0)
-}
-
-/// Whether the pages show that no plan has fewer than so many rounds.
-fn show_no_fewer<R: Rounds, A: Allocator>(
+/// The first thing that is wrong with the pages that are to show that no plan has fewer rounds.
+fn refusal_of_shortage<R: Rounds, A: Allocator>(
     batch: &Batch<A>,
     rounds: &R,
     number: u64,
     pages: &[Page],
-) -> bool
-    requires once { (page : ℕ) → times_named batch.now page ≤ 1 }
-    requires named { AreNamed batch.now pages.now }
+) -> Option<Refusal>
+    requires sound { IsSound batch.now }
     requires fits { 0 < number → R.current rounds.now + number ≤ 2 ^ 64 }
-    ensures { IsTrue result ↔ ShowsNoFewer batch.now (R.current rounds.now) (R.closed rounds.now) number pages.now }
+    ensures { MatchOption result (ShowsNoFewer batch.now (R.current rounds.now) (R.closed rounds.now) number pages.now)
+        (λ r. (places : List Place) → IsPlan batch.now (R.current rounds.now) (R.closed rounds.now) places
+        → rounds_of (R.current rounds.now) places ≡ number
+        → IsRefused batch.now (R.current rounds.now) (R.closed rounds.now) number places pages.now r) }
 {
+    let Some(dies) = named_holders(batch, pages) else {
+        return Some(Refusal::ShortagePage);
+    };
     if number == 0 {
-        return pages.is_empty();
+        if !pages.is_empty() {
+            return Some(Refusal::NotShort);
+        }
+    } else if !are_more(rounds, number - 1, &dies, pages.len()) {
+        return Some(Refusal::NotShort);
     }
-    let marks = holders_of(batch, pages);
-    are_more(rounds, number - 1, &marks, pages.len())
+    None
+}
+
+/// Which dies hold any of the pages, by their numbers, where the pages are in the batch and each is named
+/// once.
+fn named_holders<A: Allocator>(batch: &Batch<A>, pages: &[Page]) -> Option<[bool; 256]>
+    requires { IsSound batch.now }
+    ensures { MatchOption result (¬ (AreNamed batch.now pages.now))
+        (λ dies. AreNamed batch.now pages.now × AreHoldersMarked batch.now pages.now dies) }
+{
+    let mut named = [false; 1024];
+    let mut dies = [false; 256];
+    let mut likely = 0;
+    for page in pages {
+        let Some(entry) = batch.index_of(*page, likely) else {
+            return None;
+        };
+        if named[entry] {
+            return None;
+        }
+        named[entry] = true;
+        mark(&mut dies, batch.holders_at(entry));
+        likely = entry + 1;
+    }
+    Some(dies)
 }
 
 /// Which dies hold any of the pages, by their numbers.

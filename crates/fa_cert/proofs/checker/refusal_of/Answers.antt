@@ -1,6 +1,6 @@
 use Rattle.std.proofs.Common.{sym, ap, ◌∙◌}
 use Rattle.std.proofs.lemmas.Bool.{iff_false}
-use Rattle.fa_cert.specs.Plan.{IsPlan, ArePlaced, ArePlacedOnce, rounds_of}
+use Rattle.fa_cert.specs.Plan.{IsPlan, ArePlaced, ArePlacedOnce, AreHeld, rounds_of}
 use Rattle.fa_cert.proofs.Parts.{where_none, where_some}
 use Rattle.fa_cert.proofs.checker.refusal_of.Given.{Over}
 use Rattle.fa_cert.proofs.checker.refusal_of.Goals as goal
@@ -9,18 +9,18 @@ use Rattle.fa_cert.proofs.checker.refusal_of.Goals.{Else-not-branch}
 -- where the places are apart, they are a plan
 is_plan : (g : Over) (c : Else-not-branch g) → IsPlan c.args.batch.now (g.R.Rounds.current c.args.rounds.now) (g.R.Rounds.closed c.args.rounds.now) c.args.places.now
 is_plan g c =
-    let placed = where_none (ArePlaced c.args.batch.now c.args.places.now × ArePlacedOnce c.args.places.now) _ c.in_default.is c.in_ok-refusal.ensures in
+    let placed = where_none (ArePlaced c.args.batch.now c.args.places.now × ArePlacedOnce c.args.places.now × AreHeld c.args.batch.now c.args.places.now) _ c.in_default.is c.in_ok-refusal.ensures in
     record {
       each = placed.0;
       once = placed.1;
-      held = c.are_held.ensures.0 c.if-not-are_held.false;
+      held = placed.2;
       opens = c.are_open.ensures.0 c.if-not-are_open.false;
       apart = c.in_ok-are_apart.ensures.0 c.if-not-branch.false;
     }
 
 pub returns-in-Some-clause-found : goal.returns-in-Some-clause-found
 returns-in-Some-clause-found g c =
-    where_some (ArePlaced c.args.batch.now c.args.places.now × ArePlacedOnce c.args.places.now) _ c.in-Some.refusal c.in-Some.is c.in_ok-refusal.ensures
+    where_some (ArePlaced c.args.batch.now c.args.places.now × ArePlacedOnce c.args.places.now × AreHeld c.args.batch.now c.args.places.now) _ c.in-Some.refusal c.in-Some.is c.in_ok-refusal.ensures
     (g.R.Rounds.current c.args.rounds.now) c.args.number (g.R.Rounds.closed c.args.rounds.now)
 
 pub returns-then-not-take_rounds-clause-found : goal.returns-then-not-take_rounds-clause-found
