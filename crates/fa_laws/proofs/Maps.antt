@@ -34,7 +34,7 @@ if_less Less h = refl
 if_less Equal h = absurd h
 if_less Greater h = absurd h
 
-if_equal : (r : Ordering) → is_eq r ≡ true → r ≡ Equal
+pub if_equal : (r : Ordering) → is_eq r ≡ true → r ≡ Equal
 if_equal Less h = absurd (false≢true h)
 if_equal Equal h = refl
 if_equal Greater h = absurd (false≢true h)

@@ -1,4 +1,6 @@
 pub mod Counted
+pub mod EightPages
+pub mod FailingDie
 pub mod Formatted
 pub mod Free
 pub mod InTime

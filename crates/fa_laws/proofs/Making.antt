@@ -1,0 +1,117 @@
+-- Events and image calls made, each from what is found in the maps of the world before it.
+use Rattle.fa_laws.proofs.Invariant.{next}
+use Rattle.fa_machine.specs.Cells.{Outcome, is_of_kind}
+use Rattle.fa_machine.specs.Collecting.{is_in_block}
+use Rattle.fa_machine.specs.Conditions.{history_full}
+use Rattle.fa_machine.specs.Copies.{copy_on}
+use Rattle.fa_machine.specs.Rounds.{is_in_window}
+use Rattle.fa_machine.specs.Run.{CallsNext, Happens, HappensCall, HappensEvent, ImageCall}
+use Rattle.fa_machine.specs.State.{Core, dies_of, is_live}
+use Rattle.fa_machine.specs.Step.{Done, Take, is_die, is_sized_read, may_end}
+use Rattle.fa_machine.specs.Taking.{EndsJob, after_urgent, begun, finished, handed, is_idle, or_else, read_from, read_job, read_of}
+use Rattle.fa_machine.specs.Taking.{flight_of, step_job, urgent_job}
+use Rattle.fa_machine.specs.Collecting.{next_step, victim}
+use Rattle.fa_machine.specs.Turning.{advance_refusal, is_read_pending, is_round_pending, is_collecting}
+use Rattle.fa_machine.specs.World.{Calls, DieImage, Gave, HasOutcome, JobCall, Work, World, next_call, with_done, with_value}
+use Rattle.fa_machine.specs.Conditions.{first_that}
+use Rattle.fa_machine.specs.declared.ids.BatchId.{BatchId}
+use Rattle.fa_machine.specs.declared.jobs.Flight.{Flight}
+use Rattle.fa_machine.specs.declared.jobs.Flight.TheVariants.{Header, Read}
+use Rattle.fa_machine.specs.declared.places.Version.{Version}
+use Rattle.fa_machine.specs.declared.refusals.AdvanceRefused.{AdvanceRefused}
+use Rattle.fa_machine.specs.declared.refusals.AdvanceRefused.TheVariants.{Pending as AdvancePending, Idle, Spent}
+use Rattle.fa_types.specs.declared.numbers.Page.{Page}
+use Rattle.std.proofs.Common.{None, Some, [], ap, false, not, refl, subst, suc, sym, true, ℕ, ◌++◌, ◌∙◌, ◌∷◌, ◌≡◌}
+use Rattle.std.proofs.lemmas.Bool.{or_from}
+use Rattle.std.specs.FinMap.{contains_key, get, len, remove}
+use Rattle.std.specs.List.{list_any}
+use Rattle.std.specs.Prelude.{is_some, if◌then◌else◌, ◌&&◌, ◌||◌, ◌==◌, ◌^◌}
+
+-- the world in which a job has ended
+abbrev pub ended : ℕ → Flight → Outcome → Core → World → World
+ended die flight outcome core w = record (with_done die (Some flight) outcome w) { core = core; moment = suc w.moment }
+
+-- the world after an image call
+abbrev pub called : ℕ → Gave → DieImage → Work → World → World
+called die gave image work w = record w {
+  images = with_value die image w.images;
+  works = with_value die (Some (record work { gave = work.gave ++ gave ∷ [] })) w.works;
+}
+
+-- a job that comes before a waiting program is handed out
+pub takes : (w : World) (die seat : ℕ) (flight : Flight) (core : Core) → (is_die w.core die && not (history_full w.core)) ≡ true
+    → is_idle w.core die ≡ true → urgent_job w.core die ≡ Some flight → core ≡ begun die seat flight w.core
+    → HappensEvent w (Take die seat (Some (handed flight))) (next (Take die seat (Some (handed flight))) core w)
+takes w die seat flight core allows idle urgent is = record {
+  step = record {
+    allows = allows;
+    does = (λ i. (Some (handed flight), is i))
+        ∙ sym (ap (λ b. if b then after_urgent die seat w.core (urgent_job w.core die) else (None, w.core)) idle
+        ∙ ap (after_urgent die seat w.core) urgent);
+  };
+  told = tt;
+  follows = refl;
+}
+
+pub is_at_ease : (core : Core) (die : ℕ) → is_live core.page_map die ≡ true → get core.jobs die ≡ None → is_idle core die ≡ true
+is_at_ease core die live none = ap (λ b. b && not (contains_key core.jobs die)) live ∙ ap (λ o. not (is_some o)) none
+
+pub header_first : (core : Core) (die : ℕ) → contains_key core.behind die ≡ true → urgent_job core die ≡ Some (Header core.epoch)
+header_first core die behind = ap (λ b. or_else (if b then Some (Header core.epoch) else None) (or_else (step_job core die) (read_job core die))) behind
+
+-- where no header is behind and no window stands, the read of the round's booking
+pub read_first : (core : Core) (die : ℕ) (batch : BatchId) (page : Page) (version : Version) (slot : ℕ)
+    → get core.behind die ≡ None → get core.calendar.windows die ≡ None
+    → get core.calendar.bookings (die, core.calendar.round) ≡ Some (record { batch = batch; page = page; started = false })
+    → get core.page_map.numbers page.0 ≡ Some version → copy_on core.page_map page.0 die ≡ Some slot
+    → urgent_job core die ≡ Some (Read batch page version (record { 0 = slot }))
+read_first core die batch page version slot ahead none books number copy =
+    ap (λ o. or_else (if is_some o then Some (Header core.epoch) else None) (or_else (step_job core die) (read_job core die))) ahead
+    ∙ ap (λ o. or_else (if is_in_window o core.calendar.round && not (contains_key core.stepped die)
+    then flight_of core.page_map die (next_step core.page_map die) else None) (read_job core die)) none
+    ∙ ap (read_of core.page_map die) books
+    ∙ (λ i. read_from (record { batch = batch; page = page; started = false }) (number i) (copy i))
+
+-- a job ends
+pub ends : (w : World) (die : ℕ) (flight : Flight) (outcome : Outcome) (core : Core) → get w.core.jobs die ≡ Some flight
+    → (is_of_kind flight outcome && is_sized_read w.core outcome) ≡ true → HasOutcome die (w.works die) outcome
+    → core ≡ finished die flight outcome (record (w.core) { jobs = remove w.core.jobs die })
+    → HappensEvent w (Done die outcome) (ended die flight outcome core w)
+ends w die flight outcome core there kind told is = record {
+  step = record {
+    allows = ap (λ o. may_end w.core o outcome) there ∙ kind;
+    does = subst (λ o. EndsJob w.core die o outcome core) (sym there) is;
+  };
+  told = told;
+  follows = ap (λ o. record (with_done die o outcome w) { core = core; moment = suc w.moment }) (sym there);
+}
+
+pub calls : (w : World) (die : ℕ) (gave : Gave) (image : DieImage) (work : Work) (call : JobCall) → w.works die ≡ Some work
+    → next_call die work.job work.gave ≡ Some call → Calls (is_in_block w.core.page_map) call gave (w.images die) image
+    → Happens w (ImageCall die gave) (called die gave image work w)
+calls w die gave image work call there next made =
+    subst (λ o. HappensCall w die o gave (called die gave image work w)) (sym there)
+    (subst (λ o. CallsNext w die work o gave (called die gave image work w)) (sym next) (image, made, refl))
+
+-- no read that is booked for this round is to be waited for, and no step of a window
+pub record IsAtRest (core : Core) (die : ℕ) : Type 0 where
+  pub read : is_read_pending (get core.jobs die) (get core.calendar.bookings (die, core.calendar.round)) ≡ false
+  pub window : get core.calendar.windows die ≡ None
+
+at_rest : (core : Core) (die : ℕ) → IsAtRest core die → is_round_pending core die ≡ false
+at_rest core die h = or_from _ _ h.read
+    (ap (λ o. is_in_window o core.calendar.round
+    && (is_collecting (get core.jobs die) || (not (contains_key core.stepped die) && is_some (victim core.page_map die)))) h.window)
+
+-- the round of an array of three dies rises
+pub may_advance : (core : Core) → dies_of core.page_map ≡ 0 ∷ 1 ∷ 2 ∷ [] → IsAtRest core 0 → IsAtRest core 1 → IsAtRest core 2
+    → (len core.calendar.bookings == 0) ≡ false → (core.calendar.round == 2 ^ 56) ≡ false → advance_refusal core ≡ None
+may_advance core dies zero one two some early = λ i. first_that {R = AdvanceRefused} (
+    (rest i, AdvancePending)
+    ∷ (some i && len core.calendar.windows == 0, Idle)
+    ∷ (early i, Spent)
+    ∷ [])
+  where
+    rest : list_any (is_round_pending core) (dies_of core.page_map) ≡ false
+    rest = ap (list_any (is_round_pending core)) dies
+        ∙ or_from _ _ (at_rest core 0 zero) (or_from _ _ (at_rest core 1 one) (or_from _ _ (at_rest core 2 two) refl))
