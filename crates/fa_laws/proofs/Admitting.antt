@@ -12,8 +12,8 @@ use Rattle.fa_machine.specs.World.{Due, Told, Work, World, told_at_once, with_ba
 use Rattle.fa_machine.specs.declared.ids.BatchId.{BatchId}
 use Rattle.fa_machine.specs.declared.jobs.Flight.TheVariants.{Read}
 use Rattle.fa_machine.specs.declared.places.Booking.{Booking}
-use Rattle.fa_machine.specs.declared.places.Kind.{Kind}
-use Rattle.fa_machine.specs.declared.places.Kind.TheVariants.{Data, Hole}
+use Rattle.fa_types.specs.declared.kind.Kind.{Kind}
+use Rattle.fa_types.specs.declared.kind.Kind.TheVariants.{Data, Hole}
 use Rattle.fa_machine.specs.declared.places.Version.{Version}
 use Rattle.fa_types.specs.declared.numbers.Page.{Page}
 use Rattle.fa_types.specs.declared.numbers.Slot.{Slot}

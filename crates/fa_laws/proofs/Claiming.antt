@@ -17,8 +17,8 @@ use Rattle.fa_machine.specs.Step.{is_page}
 use Rattle.fa_machine.specs.World.{World, with_payload, with_value_at}
 use Rattle.fa_machine.specs.Writing.{claimed_page, program_at, reserved, target_on}
 use Rattle.fa_machine.specs.declared.places.Copying.{Copying}
-use Rattle.fa_machine.specs.declared.places.Kind.{Kind}
-use Rattle.fa_machine.specs.declared.places.Kind.TheVariants.{Hole}
+use Rattle.fa_types.specs.declared.kind.Kind.{Kind}
+use Rattle.fa_types.specs.declared.kind.Kind.TheVariants.{Hole}
 use Rattle.fa_machine.specs.declared.places.Target.{Target}
 use Rattle.fa_machine.specs.declared.places.Used.{Used}
 use Rattle.fa_machine.specs.declared.places.Used.TheVariants.{Reserved}

@@ -8,8 +8,8 @@ use Rattle.fa_machine.specs.Maps.{below, place_cmp}
 use Rattle.fa_machine.specs.Reading.{is_data}
 use Rattle.fa_machine.specs.State.{is_live, used_at}
 use Rattle.fa_machine.specs.World.{World, plain_page}
-use Rattle.fa_machine.specs.declared.places.Kind.{Kind}
-use Rattle.fa_machine.specs.declared.places.Kind.TheVariants.{Data, Hole}
+use Rattle.fa_types.specs.declared.kind.Kind.{Kind}
+use Rattle.fa_types.specs.declared.kind.Kind.TheVariants.{Data, Hole}
 use Rattle.fa_machine.specs.declared.places.Used.{Used}
 use Rattle.fa_machine.specs.declared.places.Used.TheVariants.{Held, Reserved, Stale}
 use Rattle.fa_machine.specs.declared.places.Version.{Version}

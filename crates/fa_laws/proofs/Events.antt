@@ -25,8 +25,8 @@ use Rattle.fa_machine.specs.Writing.{Abandons, Commits, Reserves, committed, res
 use Rattle.fa_machine.specs.declared.answers.Copied.{Copied}
 use Rattle.fa_machine.specs.declared.answers.Copied.TheVariants.{Current, Late}
 use Rattle.fa_machine.specs.declared.places.Copying.{Copying}
-use Rattle.fa_machine.specs.declared.places.Kind.{Kind}
-use Rattle.fa_machine.specs.declared.places.Kind.TheVariants.{Data, Hole}
+use Rattle.fa_types.specs.declared.kind.Kind.{Kind}
+use Rattle.fa_types.specs.declared.kind.Kind.TheVariants.{Data, Hole}
 use Rattle.fa_machine.specs.declared.places.Target.{Target}
 use Rattle.fa_machine.specs.declared.places.Used.TheVariants.{Held, Stale}
 use Rattle.fa_machine.specs.declared.places.Version.{Version}

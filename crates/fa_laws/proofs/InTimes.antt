@@ -33,7 +33,7 @@ use Rattle.fa_machine.specs.declared.jobs.Flight.{Flight}
 use Rattle.fa_machine.specs.declared.jobs.Flight.TheVariants.{Erase, Header, Move, Program, Read, Sync}
 use Rattle.fa_machine.specs.declared.places.Booking.{Booking}
 use Rattle.fa_machine.specs.declared.places.Copying.{Copying}
-use Rattle.fa_machine.specs.declared.places.Kind.{Kind}
+use Rattle.fa_types.specs.declared.kind.Kind.{Kind}
 use Rattle.fa_machine.specs.declared.places.Version.{Version}
 use Rattle.fa_machine.specs.declared.refusals.AbandonRefused.{AbandonRefused}
 use Rattle.fa_machine.specs.declared.refusals.AdvanceRefused.TheVariants.{Idle, Pending as AdvancePending, Spent as AdvanceSpent}

@@ -31,7 +31,7 @@ use Rattle.fa_machine.specs.declared.ids.BatchId.{BatchId}
 use Rattle.fa_machine.specs.declared.jobs.Flight.{Flight}
 use Rattle.fa_machine.specs.declared.jobs.Flight.TheVariants.{Erase, Header, Move, Program, Read, Sync}
 use Rattle.fa_machine.specs.declared.places.Copying.{Copying}
-use Rattle.fa_machine.specs.declared.places.Kind.{Kind}
+use Rattle.fa_types.specs.declared.kind.Kind.{Kind}
 use Rattle.fa_machine.specs.declared.places.Version.{Version}
 use Rattle.fa_machine.specs.declared.refusals.AbandonRefused.{AbandonRefused}
 use Rattle.fa_machine.specs.declared.refusals.ClaimRefused.TheVariants.{Claimed, NoMemory as ClaimNoMemory}

@@ -34,7 +34,7 @@ use Rattle.fa_machine.specs.declared.answers.Copied.TheVariants.{Current, Late}
 use Rattle.fa_machine.specs.declared.jobs.Flight.{Flight}
 use Rattle.fa_machine.specs.declared.jobs.Flight.TheVariants.{Erase, Header, Move, Program, Read, Sync}
 use Rattle.fa_machine.specs.declared.places.Copying.{Copying}
-use Rattle.fa_machine.specs.declared.places.Kind.{Kind}
+use Rattle.fa_types.specs.declared.kind.Kind.{Kind}
 use Rattle.fa_machine.specs.declared.places.Target.{Target}
 use Rattle.fa_machine.specs.declared.places.Used.{Used}
 use Rattle.fa_machine.specs.declared.places.Used.TheVariants.{Held, Reserved, Stale}

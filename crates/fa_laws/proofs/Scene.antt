@@ -6,7 +6,7 @@ use Rattle.fa_machine.specs.State.{WaitingProgram}
 use Rattle.fa_machine.specs.World.{Accepted, Gave, GaveCell, Work}
 use Rattle.fa_machine.specs.declared.jobs.Flight.{Flight}
 use Rattle.fa_machine.specs.declared.jobs.Flight.TheVariants.{Erase, Header, Move, Program, Read, Sync}
-use Rattle.fa_machine.specs.declared.places.Kind.TheVariants.{Hole}
+use Rattle.fa_types.specs.declared.kind.Kind.TheVariants.{Hole}
 use Rattle.fa_machine.specs.declared.places.Target.{Target}
 use Rattle.fa_machine.specs.declared.places.Used.{Used}
 use Rattle.fa_machine.specs.declared.places.Used.TheVariants.{Held, Reserved, Stale}

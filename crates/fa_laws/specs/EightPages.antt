@@ -3,7 +3,7 @@
 use Rattle.std.specs.Prelude.{◌≡◌, ℕ, suc, ◌+◌, ◌++◌, List, [], ◌∷◌, map, replicate, slice_index_or, Option, Some, None}
 use Rattle.std.specs.FinMap.{empty, from_sorted}
 use Rattle.fa_types.specs.declared.geometry.Geometry.{Geometry}
-use Rattle.fa_machine.specs.declared.places.Kind.TheVariants.{Data}
+use Rattle.fa_types.specs.declared.kind.Kind.TheVariants.{Data}
 use Rattle.fa_machine.specs.declared.places.Used.{Used}
 use Rattle.fa_machine.specs.declared.places.Used.TheVariants.{Held}
 use Rattle.fa_machine.specs.declared.places.Version.{Version}

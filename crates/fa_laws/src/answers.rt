@@ -5,7 +5,7 @@ ghost use Rattle.fa_types.specs.declared.numbers.Seq.{Seq};
 ghost use Rattle.fa_laws.specs.Free.{AreAlike, HasSamePlan, HasSameRounds, is_free_admit, is_free_claim};
 ghost use Rattle.fa_laws.specs.Free.{is_free_copy, is_free_reserve, is_free_window};
 ghost use Rattle.fa_machine.specs.declared.ids.ClaimId.{ClaimId};
-ghost use Rattle.fa_machine.specs.declared.places.Kind.{Kind};
+ghost use Rattle.fa_types.specs.declared.kind.Kind.{Kind};
 ghost use Rattle.fa_machine.specs.declared.refusals.AdmitRefused.{AdmitRefused};
 ghost use Rattle.fa_machine.specs.declared.refusals.ClaimRefused.{ClaimRefused};
 ghost use Rattle.fa_machine.specs.declared.refusals.ReserveCopyRefused.{ReserveCopyRefused};

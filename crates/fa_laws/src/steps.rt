@@ -8,7 +8,7 @@ ghost use Rattle.fa_types.specs.declared.numbers.Seq.{Seq};
 ghost use Rattle.fa_machine.specs.declared.jobs.CollectorStep.TheVariants.{EraseBlock};
 ghost use Rattle.fa_machine.specs.declared.jobs.Flight.TheVariants.{Header, Read};
 ghost use Rattle.fa_machine.specs.declared.ids.Block.{Block};
-ghost use Rattle.fa_machine.specs.declared.places.Kind.{Kind};
+ghost use Rattle.fa_types.specs.declared.kind.Kind.{Kind};
 ghost use Rattle.fa_machine.specs.declared.places.Used.TheVariants.{Held};
 ghost use Rattle.fa_machine.specs.declared.places.Version.{Version};
 ghost use Rattle.fa_machine.specs.declared.refusals.AbandonRefused.{AbandonRefused};

@@ -3,7 +3,7 @@ use Rattle.std.specs.Prelude.{◌≡◌, ℕ, ◌-◌, ◌*◌, ◌^◌, ◌<◌
 use Rattle.std.specs.Ordering.{nat_cmp}
 use Rattle.std.specs.FinMap.{FinMap, empty, get, contains_key}
 use Rattle.fa_types.specs.Plain.{HasPages}
-use Rattle.fa_machine.specs.declared.places.Kind.TheVariants.{Hole}
+use Rattle.fa_types.specs.declared.kind.Kind.TheVariants.{Hole}
 use Rattle.fa_machine.specs.declared.places.Used.{Used}
 use Rattle.fa_machine.specs.declared.places.Used.TheVariants.{Reserved, Held, Stale}
 use Rattle.fa_machine.specs.declared.places.Version.{Version}

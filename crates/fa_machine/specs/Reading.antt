@@ -15,8 +15,8 @@ use Rattle.fa_machine.specs.declared.answers.ReadState.TheVariants.{Waiting, Tor
 use Rattle.fa_machine.specs.declared.ids.BatchId.{BatchId}
 use Rattle.fa_machine.specs.declared.jobs.Flight.{Flight}
 use Rattle.fa_machine.specs.declared.jobs.Flight.TheVariants.{Read}
-use Rattle.fa_machine.specs.declared.places.Kind.{Kind}
-use Rattle.fa_machine.specs.declared.places.Kind.TheVariants.{Data, Hole}
+use Rattle.fa_types.specs.declared.kind.Kind.{Kind}
+use Rattle.fa_types.specs.declared.kind.Kind.TheVariants.{Data, Hole}
 use Rattle.fa_machine.specs.declared.places.Version.{Version}
 use Rattle.fa_machine.specs.declared.refusals.AdmitRefused.{AdmitRefused}
 use Rattle.fa_machine.specs.declared.refusals.AdmitRefused.TheVariants.{Lost, CalendarFull, Spent, NoMemory}

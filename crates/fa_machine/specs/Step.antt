@@ -10,7 +10,7 @@ use Rattle.fa_machine.specs.declared.answers.Flush.{Flush}
 use Rattle.fa_machine.specs.declared.answers.FlushState.{FlushState as StateOfFlush}
 use Rattle.fa_machine.specs.declared.ids.ClaimId.{ClaimId}
 use Rattle.fa_machine.specs.declared.jobs.Flight.{Flight}
-use Rattle.fa_machine.specs.declared.places.Kind.TheVariants.{Data, Hole}
+use Rattle.fa_types.specs.declared.kind.Kind.TheVariants.{Data, Hole}
 use Rattle.fa_machine.specs.declared.refusals.AbandonRefused.{AbandonRefused}
 use Rattle.fa_machine.specs.declared.refusals.AdmitRefused.{AdmitRefused}
 use Rattle.fa_machine.specs.declared.refusals.AdvanceRefused.{AdvanceRefused}

@@ -8,7 +8,7 @@ use Rattle.fa_machine.specs.declared.answers.HistoryEntry.TheVariants.{Commit as
 use Rattle.fa_machine.specs.declared.ids.ClaimId.{ClaimId}
 use Rattle.fa_machine.specs.declared.jobs.Flight.{Flight}
 use Rattle.fa_machine.specs.declared.jobs.Flight.TheVariants.{Program}
-use Rattle.fa_machine.specs.declared.places.Kind.{Kind}
+use Rattle.fa_types.specs.declared.kind.Kind.{Kind}
 use Rattle.fa_machine.specs.declared.places.Target.{Target}
 use Rattle.fa_machine.specs.declared.places.Used.{Used}
 use Rattle.fa_machine.specs.declared.places.Used.TheVariants.{Reserved, Held, Stale}

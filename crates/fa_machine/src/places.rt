@@ -1,15 +1,6 @@
 //! What stands in a slot, in a round of a die, and in a reservation.
 use crate::ids::BatchId;
-use fa_types::{Die, Page, Round, Seq, Slot};
-
-/// What a written page is.
-#[derive(Clone, Copy, Debug, PartialEq, Eq)]
-pub enum Kind {
-    /// It has bytes.
-    Data,
-    /// It was trimmed: its bytes are zeros.
-    Hole,
-}
+use fa_types::{Die, Kind, Page, Round, Seq, Slot};
 
 /// One write of a page: its sequence number, and what it wrote.
 #[derive(Clone, Copy, Debug, PartialEq, Eq)]

@@ -5,6 +5,7 @@
 mod blocks;
 pub mod bytes;
 mod geometry;
+mod kind;
 pub mod laws;
 mod mem_blocks;
 mod numbers;
@@ -13,6 +14,7 @@ mod sizes;
 
 pub use blocks::{BlockFault, Blocks};
 pub use geometry::{Geometry, GeometryFault};
+pub use kind::Kind;
 pub use mem_blocks::MemBlocks;
 pub use numbers::{Die, Page, Round, Seq, Slot};
 pub use rounds::Rounds;

@@ -10,7 +10,7 @@ use Rattle.fa_machine.specs.State.{CalendarState, Core, MapState}
 use Rattle.fa_machine.specs.Turning.{ReservesCopy, TakesWindow, reserve_copy_refusal, window_refusal}
 use Rattle.fa_machine.specs.Writing.{Claims, Reserves, claimed_page, reserve_refusal}
 use Rattle.fa_machine.specs.declared.ids.ClaimId.{ClaimId}
-use Rattle.fa_machine.specs.declared.places.Kind.{Kind}
+use Rattle.fa_types.specs.declared.kind.Kind.{Kind}
 use Rattle.fa_machine.specs.declared.refusals.AdmitRefused.{AdmitRefused}
 use Rattle.fa_machine.specs.declared.refusals.AdmitRefused.TheVariants.{CalendarFull, Lost, NoMemory as AdmitNoMemory}
 use Rattle.fa_machine.specs.declared.refusals.AdmitRefused.TheVariants.{Spent as AdmitSpent}
