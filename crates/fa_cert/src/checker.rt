@@ -11,7 +11,7 @@ ghost use Rattle.fa_cert.specs.Marks.{AreHoldersMarked, AreMarks, marked};
 ghost use Rattle.fa_cert.specs.Plan.{IsPlan, ArePlaced, ArePlacedOnce, AreHeld, AreOpen, AreApart, rounds_of};
 ghost use Rattle.fa_cert.specs.Verdict.{IsVerdict, IsRefused};
 
-use crate::batch::Batch;
+use crate::batch::{Batch, MAX_PAGES};
 use crate::plan::{Place, Plan, Shortage};
 use crate::verdict::{Refusal, Verdict};
 use fa_types::{Die, Page, Round, Rounds};
@@ -22,7 +22,7 @@ use std::collections::BTreeSet;
 #[derive(Drop)]
 struct Seen {
     // Whether an entry of the batch has a place, by its index.
-    placed: [bool; 1024],
+    placed: [bool; MAX_PAGES],
     // Whether each page is in the batch and comes once.
     once: bool,
     // Whether each die holds its page.
@@ -121,10 +121,11 @@ fn see_pages<A: Allocator>(batch: &Batch<A>, places: &[Place]) -> Seen
     ensures once { IsTrue result.once → ArePlacedOnce places.now }
     ensures held { IsTrue result.held ↔ AreHeld batch.now places.now }
 {
-    let mut placed = [false; 1024];
+    let mut placed = [false; MAX_PAGES];
     let mut once = true;
     let mut held = true;
     for (index, place) in places.iter().enumerate() {
+        // Where the plan has the batch's order, the page stands at the same index.
         match batch.index_of(place.page, index) {
             Some(entry) => {
                 once &= !placed[entry];
@@ -259,7 +260,7 @@ fn named_holders<A: Allocator>(batch: &Batch<A>, pages: &[Page]) -> Option<[bool
     ensures { MatchOption result (¬ (AreNamed batch.now pages.now))
         (λ dies. AreNamed batch.now pages.now × AreHoldersMarked batch.now pages.now dies) }
 {
-    let mut named = [false; 1024];
+    let mut named = [false; MAX_PAGES];
     let mut dies = [false; 256];
     let mut likely = 0;
     for page in pages {
@@ -271,6 +272,7 @@ fn named_holders<A: Allocator>(batch: &Batch<A>, pages: &[Page]) -> Option<[bool
         }
         named[entry] = true;
         mark(&mut dies, batch.holders_at(entry));
+        // Where the shortage has the batch's order, the next page stands behind.
         likely = entry + 1;
     }
     Some(dies)

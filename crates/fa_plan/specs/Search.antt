@@ -1,11 +1,12 @@
 -- A walk from a page that is to be given a die. It reaches dies that hold the page; where such a die has no room, the pages that
 -- it reads could be handed on, so the dies that hold any of these are reached too, and so on.
 use Rattle.std.specs.Prelude.{◌≡◌, ℕ, ◌+◌, ◌<◌, ◌≤◌, Bool, true, false, ◌==◌, if◌then◌else◌, List, length, count_by}
-use Rattle.std.specs.Prelude.{slice_index, slice_index_or, slice_set}
+use Rattle.std.specs.Prelude.{slice_index, slice_index_or, slice_set, Option, IfSome, IfNone}
 use Rattle.fa_types.specs.declared.numbers.Die.{Die}
 use Rattle.fa_cert.specs.Batch.{Entry}
+use Rattle.fa_plan.specs.declared.walk.Tables.{Tables}
 use Rattle.fa_plan.specs.declared.walk.Walk.{Walk}
-use Rattle.fa_plan.specs.Reading.{AreReaders, can_read, die_of, load_of}
+use Rattle.fa_plan.specs.Reading.{AreLoads, AreReaders, can_read, die_of, load_of}
 
 -- whether a walk reached a die
 abbrev pub has_reached : Walk → ℕ → Bool
@@ -62,6 +63,23 @@ pub record GoesOn (before after : Walk) : Type 0 where
 pub record HasFound (given : List Die) (rooms : List ℕ) (w : Walk) (die : ℕ) : Type 0 where
   pub reached : has_reached w die ≡ true
   pub room : load_of given die < slice_index rooms die
+
+-- a search is under way: a page wants a die, and no die that the walk reached has room
+pub record IsSearching (batch : List Entry) (given : List Die) (tables : Tables) (w : Walk) : Type 0 where
+  pub small : length batch ≤ 1024
+  pub next : length given < length batch
+  pub loads : AreLoads given tables.loads
+  pub walk : IsWalk batch given w
+  pub full : AreFull given tables.rooms w
+
+-- a walk went on and found a die with room, or else what was to be followed is followed
+pub record HasGoneOn (batch : List Entry) (given : List Die) (tables : Tables) (before after : Walk) (free : Option Die)
+    (AreFollowed : Type 0) : Type 0 where
+  pub walk : IsWalk batch given after
+  pub goes : GoesOn before after
+  pub found : IfSome free (λ die. HasFound given tables.rooms after die.0)
+  pub full : IfNone free (AreFull given tables.rooms after)
+  pub followed : IfNone free AreFollowed
 
 -- a walk cannot go on and found no room
 pub record IsAtItsEnd (batch : List Entry) (given : List Die) (rooms : List ℕ) (w : Walk) : Type 0 where

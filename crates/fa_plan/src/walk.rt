@@ -3,7 +3,7 @@
 ghost use Rattle.std.specs.Prelude.{◌≡◌, ◌+◌, ◌<◌, ◌≤◌, ◌^◌, true, false, length, IfSome};
 ghost use Rattle.std.specs.Prelude.{IfNone, ℕ, replicate};
 ghost use Rattle.fa_plan.specs.Reading.{AreLoads, die_of};
-ghost use Rattle.fa_plan.specs.Search.{AreFull, GoesOn, HasFound, IsAtItsEnd, IsFollowed, IsReached, IsWalk, has_reached, with_die};
+ghost use Rattle.fa_plan.specs.Search.{HasFound, HasGoneOn, IsAtItsEnd, IsFollowed, IsReached, IsSearching, IsWalk, has_reached, with_die};
 
 use fa_cert::Batch;
 use fa_types::Die;
@@ -116,18 +116,10 @@ fn follow_all<A: Allocator>(
     tables: &Tables,
     die: Die,
 ) -> Option<Die>
-    requires small { length batch.now ≤ 1024 }
-    requires next { length given.now < length batch.now }
-    requires loads { AreLoads given.now tables.now.loads }
-    requires walk { IsWalk batch.now given.now walk.old }
-    requires full { AreFull given.now tables.now.rooms walk.old }
+    requires searching { IsSearching batch.now given.now tables.now walk.old }
     requires reached { has_reached walk.old die.0 ≡ true }
-    ensures walk { IsWalk batch.now given.now walk.new }
-    ensures goes { GoesOn walk.old walk.new }
-    ensures found { IfSome result (λ free. HasFound given.now tables.now.rooms walk.new free.0) }
-    ensures full { IfNone result (AreFull given.now tables.now.rooms walk.new) }
-    ensures followed { IfNone result ((page : ℕ) → page < length given.now → die_of given.now page ≡ die.0
-        → IsFollowed batch.now walk.new page) }
+    ensures { HasGoneOn batch.now given.now tables.now walk.old walk.new result
+        ((page : ℕ) → page < length given.now → die_of given.now page ≡ die.0 → IsFollowed batch.now walk.new page) }
 {
     for page in 0..given.len() {
         if given[page].0 == die.0 {
@@ -148,17 +140,9 @@ fn follow<A: Allocator>(
     tables: &Tables,
     page: usize,
 ) -> Option<Die>
-    requires small { length batch.now ≤ 1024 }
-    requires next { length given.now < length batch.now }
-    requires loads { AreLoads given.now tables.now.loads }
-    requires walk { IsWalk batch.now given.now walk.old }
-    requires full { AreFull given.now tables.now.rooms walk.old }
+    requires searching { IsSearching batch.now given.now tables.now walk.old }
     requires reached { IsReached given.now walk.old page }
-    ensures walk { IsWalk batch.now given.now walk.new }
-    ensures goes { GoesOn walk.old walk.new }
-    ensures found { IfSome result (λ free. HasFound given.now tables.now.rooms walk.new free.0) }
-    ensures full { IfNone result (AreFull given.now tables.now.rooms walk.new) }
-    ensures followed { IfNone result (IsFollowed batch.now walk.new page) }
+    ensures { HasGoneOn batch.now given.now tables.now walk.old walk.new result (IsFollowed batch.now walk.new page) }
 {
     for die in batch.holders_at(page) {
         let number = die.0 as usize;

@@ -94,11 +94,12 @@ fn unsound_batches(rt: HostRuntime) -> Result<(), Fail> {
 }
 
 // The program's memory is a heap that grows by little from run to run, so that each of its allocations is
-// the first that doesn't fit in some run.
+// the first that doesn't fit in some run. The rounds of die 0 fall from place to place, so the check makes
+// a set of the places.
 #[test]
 fn each_allocation_of_verify_fails(rt: HostRuntime) -> Result<(), Fail> {
     let text = "batch\npage 1 on 0 1\npage 2 on 0\nclosed 1 1 2\nend
-rounds 2\nplace 1 0 1\nplace 2 0 2\nshort 1 2\nend\n";
+rounds 2\nplace 1 0 2\nplace 2 0 1\nshort 1 2\nend\n";
     let mut refused = 0u32;
     let mut whole = 0u32;
     for room in 0..1000usize {

@@ -15,13 +15,19 @@ pub add-requires-then-not-walk-number-clause-place : goal.add-requires-then-not-
 add-requires-then-not-walk-number-clause-place g c =
     room_in_order c.args.batch.now c.args.given.now c.loop-die.walk c.loop-die.invariant.walk (get_or c.holders_at-die-items.result.now c.loop-die.die-index no_die).0 0 0 (search rules) c.if-not-walk-number.true
 
-pub returns-then-load-tables-clause-walk : goal.returns-then-load-tables-clause-walk
-returns-then-load-tables-clause-walk g c =
+pub returns-then-load-tables : goal.returns-then-load-tables
+returns-then-load-tables g c =
     let die = (get_or c.holders_at-die-items.result.now c.loop-die.die-index no_die).0 in
     let held = ap (λ dies. is_among dies die) (holders_are c.args.batch.now c.args.page c.holders_at-die-items.result.now (omega arith) c.holders_at-die-items.ensures) ∙ among_at c.holders_at-die-items.result.now c.loop-die.die-index c.loop-die-test.true in
     let there : IsReached c.args.given.now c.loop-die.walk c.args.page = record { within = c.requires.reached.within; taken = λ below. c.loop-die.invariant.goes.reached _ (c.requires.reached.taken below) } in
-    subst (λ w. IsWalk c.args.batch.now c.args.given.now w) (sym c.add.ensures)
-    (added_is_walk c.args.batch.now c.args.given.now c.loop-die.walk c.loop-die.invariant.walk die c.args.page 0 (search rules) c.if-not-walk-number.true held there (omega arith))
+    record {
+      walk = subst (λ w. IsWalk c.args.batch.now c.args.given.now w) (sym c.add.ensures)
+          (added_is_walk c.args.batch.now c.args.given.now c.loop-die.walk c.loop-die.invariant.walk die c.args.page 0 (search rules) c.if-not-walk-number.true held there (omega arith));
+      goes = search rules;
+      found = search rules;
+      full = tt;
+      followed = tt;
+    }
 
 pub loop-die-preserved : goal.loop-die-preserved
 loop-die-preserved g c =
@@ -32,7 +38,7 @@ loop-die-preserved g c =
           (let held = ap (λ dies. is_among dies die) (holders_are c.args.batch.now c.args.page c.holders_at-die-items.result.now (omega arith) c.holders_at-die-items.ensures) ∙ among_at c.holders_at-die-items.result.now c.loop-die.die-index c.loop-die-test.true in
           let there : IsReached c.args.given.now c.loop-die.walk c.args.page = record { within = c.requires.reached.within; taken = λ below. so_far.goes.reached _ (c.requires.reached.taken below) } in
           let known : die < 256 = search rules in
-          let load : slice_index c.args.tables.now.loads die ≡ load_of c.args.given.now die = c.requires.loads die known in
+          let load : slice_index c.args.tables.now.loads die ≡ load_of c.args.given.now die = c.requires.searching.loads die known in
           let room : slice_index c.args.tables.now.rooms die ≤ slice_index c.args.tables.now.loads die = w.if-load-tables.false in
           let is = w.walk-is ∙ w.add-then-not-walk-number.ensures in
           let after = with_die c.loop-die.walk die c.args.page (slice_index c.args.tables.now.loads die) in
@@ -55,8 +61,14 @@ loop-die-preserved g c =
           })
     ]
 
-pub returns-clause-followed : goal.returns-clause-followed
-returns-clause-followed g c = λ die reads.
-    c.loop-die.invariant.reached die
-    (ap (λ dies. is_among dies die) (take_all c.loop-die.die-index c.holders_at-die-items.result.now (omega arith)
-    ∙ sym (holders_are c.args.batch.now c.args.page c.holders_at-die-items.result.now (omega arith) c.holders_at-die-items.ensures)) ∙ reads)
+pub returns : goal.returns
+returns g c = record {
+  walk = c.loop-die.invariant.walk;
+  goes = c.loop-die.invariant.goes;
+  found = tt;
+  full = c.loop-die.invariant.full;
+  followed = λ die reads.
+      c.loop-die.invariant.reached die
+      (ap (λ dies. is_among dies die) (take_all c.loop-die.die-index c.holders_at-die-items.result.now (omega arith)
+      ∙ sym (holders_are c.args.batch.now c.args.page c.holders_at-die-items.result.now (omega arith) c.holders_at-die-items.ensures)) ∙ reads);
+}
