@@ -5,7 +5,7 @@ use Rattle.std.proofs.Common.{map, not, refl, subst, suc, sym, take, true, zero,
 use Rattle.std.proofs.lemmas.Bool.{cases_Bool, cases_eq, false≢true, or_left, or_parts, or_right}
 use Rattle.std.proofs.lemmas.List.Sums.{sum_by-cons}
 use Rattle.std.proofs.lemmas.Option.{none-some, same_Some}
-use Rattle.std.specs.List.{after_first, before_first, cons_option, list_any, position_or_len, range_with_len}
+use Rattle.std.specs.List.{AllByRecursion, after_first, before_first, cons_option, list_any, position_or_len, range_with_len}
 use Rattle.std.specs.Prelude.{count_by, filter, filter_map, find, if◌then◌else◌, slice_index_or, ◌==◌}
 
 pub among-map-intro : {X Y : Type 0} (f : X → Y) (x : X) (xs : List X) → Among x xs → Among (f x) (map f xs)
@@ -117,6 +117,11 @@ pub no_refusal : {R : Type 0} (a b : Bool) (r s : R) → cond a (Some r) (cond b
 no_refusal true b r s e = absurd (none-some r (sym e))
 no_refusal false true r s e = absurd (none-some s (sym e))
 no_refusal false false r s e = (refl, refl)
+
+-- what holds of each that is among them
+pub all_from_among : {X : Type 0} (P : X → Type 0) (xs : List X) → ((x : X) → Among x xs → P x) → AllByRecursion P xs
+all_from_among P [] each = tt
+all_from_among P (x ∷ xs) each = (each x (inl refl), all_from_among P xs (λ y among. each y (inr among)))
 
 pub among-contains : {X : Type 0} (x : X) (xs : List X) (k : ℕ) → k < length xs → slice_index_or xs k x ≡ x → Among x xs
 among-contains x [] k h e = absurd (omega arith)

@@ -1,6 +1,6 @@
 //! Laws of single events, each the contract of a function with no code.
-ghost use Rattle.std.specs.Prelude.{◌≡◌, ℕ, ◌+◌, ◌<◌, ◌≤◌, ◌⊎◌, true, false, List, [], ◌∷◌, map, Option, Some, Result, Ok, Err};
-ghost use Rattle.std.specs.List.{list_any, list_all};
+ghost use Rattle.std.specs.Prelude.{◌≡◌, ℕ, ◌+◌, ◌<◌, ◌≤◌, ◌⊎◌, true, false, not, List, [], ◌∷◌, map, Option, Some, None, Result, Ok, Err};
+ghost use Rattle.std.specs.List.{AllByRecursion, list_any, list_all};
 ghost use Rattle.std.specs.FinMap.{contains_key, get};
 ghost use Rattle.fa_types.specs.declared.numbers.Page.{Page};
 ghost use Rattle.fa_types.specs.declared.numbers.Round.{Round};
@@ -21,7 +21,7 @@ ghost use Rattle.fa_machine.specs.Copies.{is_current, is_lost, is_reserved_slot}
 ghost use Rattle.fa_machine.specs.Flushing.{flush_state, has_synced};
 ghost use Rattle.fa_machine.specs.Run.{HappensEvent};
 ghost use Rattle.fa_machine.specs.World.{World};
-ghost use Rattle.fa_machine.specs.Cells.{Outcome};
+ghost use Rattle.fa_machine.specs.Cells.{Cell, DidRead, Outcome, payload_of};
 ghost use Rattle.fa_machine.specs.declared.answers.Copied.{Copied};
 ghost use Rattle.fa_machine.specs.declared.answers.Flush.{Flush};
 ghost use Rattle.fa_machine.specs.declared.answers.FlushState.TheVariants.{Synced};
@@ -29,13 +29,14 @@ ghost use Rattle.fa_machine.specs.Placement.{homes};
 ghost use Rattle.fa_machine.specs.declared.ids.BatchId.{BatchId};
 ghost use Rattle.fa_machine.specs.declared.refusals.AdmitRefused.TheVariants.{Lost};
 ghost use Rattle.fa_types.specs.declared.numbers.Slot.{Slot};
-ghost use Rattle.fa_machine.specs.Reading.{Admitted, Admits, EndsBatch};
+ghost use Rattle.fa_machine.specs.Reading.{Admitted, Admits, EndsBatch, Planned};
+ghost use Rattle.fa_machine.specs.Conditions.{reserved_under};
 ghost use Rattle.fa_laws.specs.Kept.{IsFatal, KeepsLive, KeepsNumbers, KeepsPlain, KeepsSpares};
-ghost use Rattle.fa_machine.specs.State.{Core, MapState, dies_of, used_at};
-ghost use Rattle.fa_machine.specs.Step.{Abandon, Act, Commit, CommitCopy, Does, Done, Step};
+ghost use Rattle.fa_machine.specs.State.{Core, MapState, Reservation, dies_of, is_live, used_at};
+ghost use Rattle.fa_machine.specs.Step.{Abandon, Act, Admit, Commit, CommitCopy, Does, Done, Replan, Step};
 ghost use Rattle.fa_machine.specs.Taking.{Handed, Takes, read_job};
 ghost use Rattle.fa_machine.specs.Turning.{Advances, BringsIn, TakesWindow, is_round_pending};
-ghost use Rattle.fa_machine.specs.Writing.{Reserves, claimed_page};
+ghost use Rattle.fa_machine.specs.Writing.{Reserves, claimed_page, live_targets};
 
 /// A Reserve gives the number behind the last one given, and that is the last one then, so none is given twice.
 pub fn a_number_is_given_once()
@@ -152,6 +153,29 @@ pub fn no_older_copy_is_left()
     ensures { (old new : Core) (claim seat die slot : ℕ) (seq : Seq) (page : Page) (version : Version)
         → Does old (Commit claim seat (Ok seq)) new → used_at new.page_map die slot ≡ Some (Held page version)
         → page.0 ≡ claimed_page old claim → version.seq ≡ seq }
+{}
+
+/// A Commit is accepted only where each slot that it reserved on a live die was programmed, and there is one.
+pub fn a_commit_waits_for_its_programs()
+    ensures { (old new : Core) (claim seat : ℕ) (seq : Seq) (r : Reservation) → Does old (Commit claim seat (Ok seq)) new
+        → reserved_under old claim ≡ Some r
+        → (list_any (λ t. not t.programmed) (live_targets old r.targets) ≡ false)
+        × (list_any (λ t. t.programmed) (live_targets old r.targets) ≡ true) }
+{}
+
+/// A read that gave another slot than the one asked for answers no batch, and its die goes out.
+pub fn damage_is_no_answer()
+    ensures { (old new : Core) (die : ℕ) (batch : BatchId) (page : Page) (version : Version) (slot : Slot) (cell : Cell)
+        → get old.jobs die ≡ Some (Read batch page version slot) → payload_of page.0 version die slot.0 cell ≡ None
+        → Does old (Done die (DidRead cell)) new → (new.batches ≡ old.batches) × (is_live new.page_map die ≡ false) }
+{}
+
+/// Each read that an admission or a plan anew books is on a die that is live.
+pub fn no_dead_die_is_planned()
+    ensures admit { (old new : Core) (pages : List ℕ) (admitted : Admitted) → Does old (Admit pages (Ok admitted)) new
+        → AllByRecursion (λ x. is_live old.page_map x.die.0 ≡ true) admitted.planned.places }
+    ensures replan { (old new : Core) (batch : ℕ) (planned : Planned) → Does old (Replan batch (Ok planned)) new
+        → AllByRecursion (λ x. is_live old.page_map x.die.0 ≡ true) planned.places }
 {}
 
 /// A batch is refused for a lost page only where the page was written and no live die holds it.
