@@ -3,10 +3,12 @@ pub mod EightPages
 pub mod FailingDie
 pub mod Formatted
 pub mod Free
+pub mod HoleAndMove
 pub mod InTime
 pub mod Least
 pub mod Leaving
 pub mod Plain
 pub mod Reached
 pub mod Reading
+pub mod Telling
 pub mod Untouched
