@@ -13,7 +13,8 @@ use Rattle.fa_laws.proofs.Table.{Table, core_of, in_order}
 use Rattle.fa_laws.proofs.Tabled.{advanced, advances, at, did, did_read, dropped, ends_faulty, ends_header, ends_read, fresh, gives_cell, head_done}
 use Rattle.fa_laws.proofs.Tabled.{head_taken, read_done, read_taken, refuses_read, takes_header, takes_read, took, writes_header}
 use Rattle.fa_laws.specs.EightPages.{cell_in, eight, held_slots, write_of, written_in_turn}
-use Rattle.fa_laws.specs.FailingDie.{admission, failure, first_plan, planning_anew, read_of_page, reading_on, second_plan}
+use Rattle.fa_laws.specs.FailingDie.{admission, failure, first_plan, planning_anew, reading_on, second_plan}
+use Rattle.fa_laws.specs.Telling.{read_of_page}
 use Rattle.fa_machine.specs.Cells.{Cell, DidWriteHeader, Fault, Sealed}
 use Rattle.fa_machine.specs.Maps.{place_cmp}
 use Rattle.fa_machine.specs.Placement.{targets}
@@ -331,7 +332,7 @@ module _ (size : ℕ) (within : IsGeometry 3 0 16 8 size 64) (bytes : ℕ → Li
                     ends_read g t17 v18 2 (record { 0 = 0 }) (record { 0 = 2 }) (write_of 2) (record { 0 = 1 }) (cell 2 2 1) (bytes 2) eight (answers_of (0 ∷ 1 ∷ [])) tt tt refl refl refl (right 2) refl,
                     (
                       at g t20 v20,
-                      advances g t19 v19 (record { 0 = 2 }) tt tt refl refl refl refl refl,
+                      advances g t19 v19 (record { 0 = 2 }) tt tt refl refl refl refl,
                       (
                         at g t21 v21,
                         takes_read g t20 v20 0 0 (record { 0 = 0 }) (record { 0 = 3 }) (write_of 3) 2 tt refl refl refl refl refl refl (copies_same g t20 (in_order t20 tt) 3 0),
@@ -529,7 +530,7 @@ module _ (size : ℕ) (within : IsGeometry 3 0 16 8 size 64) (bytes : ℕ → Li
   pub reading : Run (at g t36 v36) (reading_on bytes) (at g t47 v47)
   reading = (
     at g t37 v37,
-    advances g t36 v36 (record { 0 = 3 }) tt tt refl refl refl refl refl,
+    advances g t36 v36 (record { 0 = 3 }) tt tt refl refl refl refl,
     (
       at g t38 v38,
       takes_read g t37 v37 0 0 (record { 0 = 0 }) (record { 0 = 4 }) (write_of 4) 3 tt refl refl refl refl refl refl (copies_same g t37 (in_order t37 tt) 4 0),
@@ -550,7 +551,7 @@ module _ (size : ℕ) (within : IsGeometry 3 0 16 8 size 64) (bytes : ℕ → Li
                 ends_read g t41 v42 2 (record { 0 = 0 }) (record { 0 = 7 }) (write_of 7) (record { 0 = 4 }) (cell 2 7 4) (bytes 7) eight (answers_of (0 ∷ 1 ∷ 2 ∷ 3 ∷ 4 ∷ 5 ∷ [])) tt tt refl refl refl (right 7) refl,
                 (
                   at g t44 v44,
-                  advances g t43 v43 (record { 0 = 4 }) tt tt refl refl refl refl refl,
+                  advances g t43 v43 (record { 0 = 4 }) tt tt refl refl refl refl,
                   (
                     at g t45 v45,
                     takes_read g t44 v44 0 0 (record { 0 = 0 }) (record { 0 = 6 }) (write_of 6) 4 tt refl refl refl refl refl refl (copies_same g t44 (in_order t44 tt) 6 0),

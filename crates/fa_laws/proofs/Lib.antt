@@ -5,6 +5,7 @@ pub mod Calls
 pub mod Certified
 pub mod Claiming
 pub mod Collected
+pub mod Collects
 pub mod Committing
 pub mod Copying
 pub mod Admitting
@@ -17,6 +18,8 @@ pub mod Failing
 pub mod Finishing
 pub mod Growth
 pub mod Handing
+pub mod HoleRead
+pub mod HoleWritten
 pub mod ImageCalls
 pub mod InTimes
 pub mod Invariant
@@ -48,3 +51,4 @@ pub mod Tabled
 pub mod Takes
 pub mod Timely
 pub mod Within
+pub mod Writes

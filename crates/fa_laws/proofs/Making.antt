@@ -8,10 +8,10 @@ use Rattle.fa_machine.specs.Rounds.{is_in_window}
 use Rattle.fa_machine.specs.Run.{CallsNext, Happens, HappensCall, HappensEvent, ImageCall}
 use Rattle.fa_machine.specs.State.{Core, dies_of, is_live}
 use Rattle.fa_machine.specs.Step.{Done, Take, is_die, is_sized_read, may_end}
-use Rattle.fa_machine.specs.Taking.{EndsJob, after_urgent, begun, finished, handed, is_idle, or_else, read_from, read_job, read_of}
-use Rattle.fa_machine.specs.Taking.{flight_of, step_job, urgent_job}
+use Rattle.fa_machine.specs.Taking.{EndsJob, Handed, after_urgent, begins, begun, finished, handed, is_idle, or_else, read_from, read_job, read_of}
+use Rattle.fa_machine.specs.Taking.{flight_of, other_job, step_job, urgent_job, without_stale_booking}
 use Rattle.fa_machine.specs.Collecting.{next_step, victim}
-use Rattle.fa_machine.specs.Turning.{advance_refusal, is_read_pending, is_round_pending, is_collecting}
+use Rattle.fa_machine.specs.Turning.{advance_refusal, is_read_pending, is_round_pending, is_step_pending, is_collecting}
 use Rattle.fa_machine.specs.World.{Calls, DieImage, Gave, HasOutcome, JobCall, Work, World, next_call, with_done, with_value}
 use Rattle.fa_machine.specs.Conditions.{first_that}
 use Rattle.fa_machine.specs.declared.ids.BatchId.{BatchId}
@@ -21,11 +21,11 @@ use Rattle.fa_machine.specs.declared.places.Version.{Version}
 use Rattle.fa_machine.specs.declared.refusals.AdvanceRefused.{AdvanceRefused}
 use Rattle.fa_machine.specs.declared.refusals.AdvanceRefused.TheVariants.{Pending as AdvancePending, Idle, Spent}
 use Rattle.fa_types.specs.declared.numbers.Page.{Page}
-use Rattle.std.proofs.Common.{None, Some, [], ap, false, not, refl, subst, suc, sym, true, ℕ, ◌++◌, ◌∙◌, ◌∷◌, ◌≡◌}
-use Rattle.std.proofs.lemmas.Bool.{or_from}
+use Rattle.std.proofs.Common.{Bool, List, None, Some, [], ap, false, not, refl, subst, suc, sym, true, ℕ, ◌++◌, ◌∙◌, ◌∷◌, ◌≡◌}
+use Rattle.std.proofs.lemmas.Bool.{and_left, and_right, or_from}
 use Rattle.std.specs.FinMap.{contains_key, get, len, remove}
-use Rattle.std.specs.List.{list_any}
-use Rattle.std.specs.Prelude.{is_some, if◌then◌else◌, ◌&&◌, ◌||◌, ◌==◌, ◌^◌}
+use Rattle.std.specs.List.{AllByRecursion, list_any}
+use Rattle.std.specs.Prelude.{is_some, if◌then◌else◌, ◌&&◌, ◌==◌, ◌^◌}
 
 -- the world in which a job has ended
 abbrev pub ended : ℕ → Flight → Outcome → Core → World → World
@@ -96,22 +96,64 @@ calls w die gave image work call there next made =
 -- no read that is booked for this round is to be waited for, and no step of a window
 pub record IsAtRest (core : Core) (die : ℕ) : Type 0 where
   pub read : is_read_pending (get core.jobs die) (get core.calendar.bookings (die, core.calendar.round)) ≡ false
-  pub window : get core.calendar.windows die ≡ None
+  pub step : is_step_pending core die ≡ false
 
-at_rest : (core : Core) (die : ℕ) → IsAtRest core die → is_round_pending core die ≡ false
-at_rest core die h = or_from _ _ h.read
-    (ap (λ o. is_in_window o core.calendar.round
-    && (is_collecting (get core.jobs die) || (not (contains_key core.stepped die) && is_some (victim core.page_map die)))) h.window)
+pub outside_no_step : (core : Core) (die : ℕ) → is_in_window (get core.calendar.windows die) core.calendar.round ≡ false
+    → is_step_pending core die ≡ false
+outside_no_step core die outside = and_left _ _ outside
 
--- the round of an array of three dies rises
-pub may_advance : (core : Core) → dies_of core.page_map ≡ 0 ∷ 1 ∷ 2 ∷ [] → IsAtRest core 0 → IsAtRest core 1 → IsAtRest core 2
-    → (len core.calendar.bookings == 0) ≡ false → (core.calendar.round == 2 ^ 56) ≡ false → advance_refusal core ≡ None
-may_advance core dies zero one two some early = λ i. first_that {R = AdvanceRefused} (
-    (rest i, AdvancePending)
-    ∷ (some i && len core.calendar.windows == 0, Idle)
+pub step_was_done : (core : Core) (die : ℕ) → get core.jobs die ≡ None → contains_key core.stepped die ≡ true → is_step_pending core die ≡ false
+step_was_done core die idle done =
+    and_right _ _ (or_from _ _ (ap is_collecting idle) (ap (λ b. not b && is_some (victim core.page_map die)) done))
+
+none_any : (test : ℕ → Bool) (xs : List ℕ) → AllByRecursion (λ x. test x ≡ false) xs → list_any test xs ≡ false
+none_any test [] all = refl
+none_any test (x ∷ xs) all = or_from _ _ all.0 (none_any test xs all.1)
+
+all_rest : (core : Core) (dies : List ℕ) → AllByRecursion (IsAtRest core) dies → AllByRecursion (λ die. is_round_pending core die ≡ false) dies
+all_rest core [] all = tt
+all_rest core (die ∷ dies) all = (or_from _ _ all.0.read all.0.step, all_rest core dies all.1)
+
+-- the round rises
+pub may_advance : (core : Core) → AllByRecursion (IsAtRest core) (dies_of core.page_map)
+    → (len core.calendar.bookings == 0 && len core.calendar.windows == 0) ≡ false → (core.calendar.round == 2 ^ 56) ≡ false
+    → advance_refusal core ≡ None
+may_advance core all some early = λ i. first_that {R = AdvanceRefused} (
+    (none_any (is_round_pending core) (dies_of core.page_map) (all_rest core (dies_of core.page_map) all) i, AdvancePending)
+    ∷ (some i, Idle)
     ∷ (early i, Spent)
     ∷ [])
-  where
-    rest : list_any (is_round_pending core) (dies_of core.page_map) ≡ false
-    rest = ap (list_any (is_round_pending core)) dies
-        ∙ or_from _ _ (at_rest core 0 zero) (or_from _ _ (at_rest core 1 one) (or_from _ _ (at_rest core 2 two) refl))
+
+-- a job that comes behind the booked reads is handed out
+pub takes_other : (w : World) (die seat : ℕ) (job : Handed) (core : Core) → (is_die w.core die && not (history_full w.core)) ≡ true
+    → is_idle w.core die ≡ true → urgent_job w.core die ≡ None → other_job (without_stale_booking die w.core) die ≡ Some job
+    → core ≡ begun die seat job.flight (without_stale_booking die w.core)
+    → HappensEvent w (Take die seat (Some job)) (next (Take die seat (Some job)) core w)
+takes_other w die seat job core allows idle urgent other is = record {
+  step = record {
+    allows = allows;
+    does = (λ i. (Some job, is i))
+        ∙ sym (ap (λ b. if b then after_urgent die seat w.core (urgent_job w.core die) else (None, w.core)) idle
+        ∙ ap (after_urgent die seat w.core) urgent ∙ ap (begins die seat (without_stale_booking die w.core)) other);
+  };
+  told = tt;
+  follows = refl;
+}
+
+-- where no header is behind, no window stands and no read is booked that was not started
+pub none_first : (core : Core) (die : ℕ) → get core.behind die ≡ None → get core.calendar.windows die ≡ None
+    → read_job core die ≡ None → urgent_job core die ≡ None
+none_first core die ahead none read =
+    ap (λ o. or_else (if is_some o then Some (Header core.epoch) else None) (or_else (step_job core die) (read_job core die))) ahead
+    ∙ ap (λ o. or_else (if is_in_window o core.calendar.round && not (contains_key core.stepped die)
+    then flight_of core.page_map die (next_step core.page_map die) else None) (read_job core die)) none
+    ∙ read
+
+-- in a round of its window, the collector's step
+pub step_first : (core : Core) (die : ℕ) (flight : Flight) → get core.behind die ≡ None
+    → (is_in_window (get core.calendar.windows die) core.calendar.round && not (contains_key core.stepped die)) ≡ true
+    → flight_of core.page_map die (next_step core.page_map die) ≡ Some flight → urgent_job core die ≡ Some flight
+step_first core die flight ahead inside is =
+    ap (λ o. or_else (if is_some o then Some (Header core.epoch) else None) (or_else (step_job core die) (read_job core die))) ahead
+    ∙ ap (λ b. or_else (if b then flight_of core.page_map die (next_step core.page_map die) else None) (read_job core die)) inside
+    ∙ ap (λ o. or_else o (read_job core die)) is

@@ -21,18 +21,34 @@ use Rattle.fa_machine.specs.declared.answers.ReadState.TheVariants.{Ready, Torn,
 use Rattle.fa_machine.specs.declared.ids.BatchId.{BatchId}
 use Rattle.fa_machine.specs.declared.places.Booking.{Booking}
 use Rattle.fa_machine.specs.declared.places.Version.{Version}
+use Rattle.fa_machine.specs.declared.places.Window.{Window as WindowOf}
 use Rattle.fa_types.specs.Open.{max_closed}
 use Rattle.fa_types.specs.declared.geometry.Geometry.{Geometry}
 use Rattle.fa_types.specs.declared.numbers.Page.{Page}
-use Rattle.std.proofs.Common.{Bool, List, None, Option, Some, [], ap, arith, false, length, map, not, refl, subst, suc, sym, true, ℕ, ◌+◌, ◌++◌, ◌∙◌, ◌≡◌, ◌≤◌}
-use Rattle.std.proofs.lemmas.Bool.{leb-true}
+use Rattle.std.proofs.Common.{Bool, List, None, Option, Some, [], ap, arith, cond, false, length, map, not, refl, subst, suc, sym, true, ℕ, ◌+◌, ◌++◌, ◌∙◌, ◌∷◌, ◌≡◌, ◌≤◌}
+use Rattle.std.proofs.lemmas.Bool.{and_parts, leb-true}
 use Rattle.std.proofs.lemmas.List.{length-map}
 use Rattle.std.proofs.lemmas.List.Sums.{count_by-le-length}
 use Rattle.std.specs.Cmp.{nat_cmp_total}
 use Rattle.std.specs.FinMap.{empty, entries-from_sorted, find as find_entry, from_sorted, get, get-from_sorted, insert, is_sorted, keys, put, values}
 use Rattle.std.specs.List.{fold, list_all, list_any}
-use Rattle.std.specs.Ordering.{nat_cmp}
+use Rattle.std.specs.Ordering.{eq_by_cmp, nat_cmp}
 use Rattle.std.specs.Prelude.{T, count_by, filter, filter_map, find, if◌then◌else◌, is_some, nat_le, option_map, replicate, unwrap_or, Ok, ◌&&◌, ◌||◌, ◌*◌, ◌==◌}
+
+-- no window has more than 64 rounds that have not passed
+abbrev pub are_short : ℕ → List (ℕ × WindowOf) → Bool
+are_short round windows = list_all (λ e. nat_le (window_rounds round (Some e.1)) 64) windows
+
+short_window : (round die : ℕ) (windows : List (ℕ × WindowOf)) → are_short round windows ≡ true → window_rounds round (at_number die windows) ≤ 64
+short_window round die [] e = omega arith
+short_window round die (x ∷ xs) e =
+    let parts = and_parts (nat_le (window_rounds round (Some x.1)) 64) (are_short round xs) e in
+    branch (eq_by_cmp nat_cmp die x.0) (leb-true (window_rounds round (Some x.1)) 64 parts.0) (short_window round die xs parts.1)
+  where
+    branch : (b : Bool) → window_rounds round (Some x.1) ≤ 64 → window_rounds round (at_number die xs) ≤ 64
+        → window_rounds round (cond b (Some x.1) (at_number die xs)) ≤ 64
+    branch true here rest = here
+    branch false here rest = rest
 
 module _ (g : Geometry) where
   -- the slot of the copy of a page on a die, and the dies that hold a page
@@ -77,7 +93,7 @@ module _ (g : Geometry) where
     entries_same : (pages : List ℕ) → entries_for m pages ≡ entries_in t pages
     entries_same pages = λ i. map (λ page. record { page = record { 0 = page }; holders = map (λ die. record { 0 = die }) (holders_same page i) }) pages
 
-    closed_same : (bookings : List ((ℕ × ℕ) × Booking)) → T (is_sorted place_cmp bookings)
+    pub closed_same : (bookings : List ((ℕ × ℕ) × Booking)) → T (is_sorted place_cmp bookings)
         → is_closed m (record ((core_of g t).calendar) { bookings = from_sorted bookings }) ≡ closed_in t bookings
     closed_same bookings ordered = λ i die round. not (is_some (get-from_sorted nat_cmp t.live die o.live i))
         || (is_some (get-from_sorted place_cmp bookings (die, round) ordered i) || is_in_window (get-from_sorted nat_cmp t.windows die o.windows i) round)
@@ -101,9 +117,9 @@ module _ (g : Geometry) where
         → find (lost_in t) asked ≡ None → is_late (core_of g t).calendar ≡ false
         → IsCertificate (entries_in t pages) t.round (closed_in t bookings) planned.rounds planned.places planned.shortage
         → AreFirstRounds t.round (closed_in t bookings) planned.places
-        → t.windows ≡ [] → nat_le (length bookings + length planned.places) max_closed ≡ true
+        → are_short t.round t.windows ≡ true → nat_le (length bookings + length planned.places + 64) max_closed ≡ true
         → Plans m (record ((core_of g t).calendar) { bookings = from_sorted bookings }) asked pages (Ok planned)
-    plans_in bookings ordered asked pages planned found early certificate first none few = (
+    plans_in bookings ordered asked pages planned found early certificate first short few = (
       (λ i. find (λ page. lost_same page i) asked) ∙ found,
       early,
       record {
@@ -115,15 +131,16 @@ module _ (g : Geometry) where
           let a : count_by (λ (place : ℕ × ℕ). place.0 == die) (keys calendar.bookings)
           ≡ count_by (λ (place : ℕ × ℕ). place.0 == die) (map (λ e. e.0) bookings) =
           ap (λ (es : List ((ℕ × ℕ) × Booking)). count_by (λ (place : ℕ × ℕ). place.0 == die) (map (λ e. e.0) es)) (entries-from_sorted place_cmp bookings ordered) in
-          let b : window_rounds t.round (get calendar.windows die) ≡ 0 =
-          ap (window_rounds t.round) (get-from_sorted nat_cmp t.windows die o.windows ∙ ap (at_number die) none) in
+          let b : window_rounds t.round (get calendar.windows die) ≡ window_rounds t.round (at_number die t.windows) =
+          ap (window_rounds t.round) (get-from_sorted nat_cmp t.windows die o.windows) in
+          let w = short_window t.round die t.windows short in
           let c : count_by (λ (place : ℕ × ℕ). place.0 == die) (map (λ e. e.0) bookings) ≤ length (map (λ (e : (ℕ × ℕ) × Booking). e.0) bookings) =
           count_by-le-length (λ (place : ℕ × ℕ). place.0 == die) (map (λ e. e.0) bookings) in
           let d : count_by (λ (x : Place). x.die.0 == die) planned.places ≤ length planned.places =
           count_by-le-length (λ (x : Place). x.die.0 == die) planned.places in
           let e = length-map bookings (λ (e : (ℕ × ℕ) × Booking). e.0) in
           let f = leb-true _ _ few in
-          omega (arith, a, b, c, d, e, f)),
+          omega (arith, a, b, w, c, d, e, f)),
     )
 
   abbrev pub booked_in : BatchId → List Place → List ((ℕ × ℕ) × Booking) → List ((ℕ × ℕ) × Booking)
@@ -180,7 +197,7 @@ module _ (g : Geometry) where
       → find (lost_in t) pages ≡ None → is_late (core_of g t).calendar ≡ false
       → IsCertificate (entries_in t (read_in t pages)) t.round (closed_in t t.bookings) planned.rounds planned.places planned.shortage
       → AreFirstRounds t.round (closed_in t t.bookings) planned.places
-      → t.windows ≡ [] → nat_le (length t.bookings + length planned.places) max_closed ≡ true → fresh_in t batch.0 ≡ true
+      → are_short t.round t.windows ≡ true → nat_le (length t.bookings + length planned.places + 64) max_closed ≡ true → fresh_in t batch.0 ≡ true
       → HappensEvent (at g t v) (Admit pages (Ok (record { batch = batch; planned = planned })))
       (at g (admitted_in batch planned pages t) (admits_beside batch.0 pages t v))
   admits t v pages batch planned ordered may found early certificate first none few fresh =
@@ -276,7 +293,7 @@ module _ (g : Geometry) where
         → IsCertificate (entries_in t (left_in t batch pages answers)) t.round (closed_in t (released_in batch t.bookings))
         planned.rounds planned.places planned.shortage
         → AreFirstRounds t.round (closed_in t (released_in batch t.bookings)) planned.places
-        → t.windows ≡ [] → nat_le (length (released_in batch t.bookings) + length planned.places) max_closed ≡ true
+        → are_short t.round t.windows ≡ true → nat_le (length (released_in batch t.bookings) + length planned.places + 64) max_closed ≡ true
         → HappensEvent (at g t v) (Replan batch (Ok planned)) (at g (replanned_in batch planned t) (record v { moment = suc v.moment }))
     replans v planned left found early certificate first none few =
         let core : Core = core_of g t in

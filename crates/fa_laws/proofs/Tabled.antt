@@ -1,13 +1,15 @@
 -- Events and image calls of states that are told by lists.
 use Rattle.fa_laws.proofs.Invariant.{next}
 use Rattle.fa_laws.proofs.Listed.{empty_listed, insert_listed, keep_listed, len_listed, remove_listed, without_key}
-use Rattle.fa_laws.proofs.Making.{IsAtRest, called, calls, ends, header_first, may_advance, read_first, takes}
+use Rattle.fa_laws.proofs.Certified.{all_pass}
+use Rattle.fa_laws.proofs.Making.{IsAtRest, called, calls, ends, header_first, may_advance, outside_no_step, read_first, step_was_done, takes}
 use Rattle.fa_laws.proofs.Maps.{nat_same, place_cmp_total, place_same}
 use Rattle.fa_laws.proofs.Table.{Ordered, Table, core_of, in_order, is_ordered}
 use Rattle.fa_machine.specs.Cells.{Cell, DidRead, DidWriteHeader, Fault, Outcome, payload_of}
 use Rattle.fa_machine.specs.Conditions.{history_full}
 use Rattle.fa_machine.specs.Copies.{copy_on}
 use Rattle.fa_machine.specs.Maps.{below, place_cmp}
+use Rattle.fa_machine.specs.Rounds.{is_in_window}
 use Rattle.fa_machine.specs.Run.{Happens, HappensEvent, ImageCall}
 use Rattle.fa_machine.specs.State.{Core}
 use Rattle.fa_machine.specs.Step.{Advance, Done, Take, is_die, is_sized_read}
@@ -23,19 +25,20 @@ use Rattle.fa_types.specs.declared.geometry.Geometry.{Geometry}
 use Rattle.fa_types.specs.declared.numbers.Page.{Page}
 use Rattle.fa_types.specs.declared.numbers.Round.{Round}
 use Rattle.fa_types.specs.declared.numbers.Slot.{Slot}
-use Rattle.std.proofs.Common.{Bool, List, None, Option, Some, [], ap, false, not, refl, subst, suc, sym, true, ℕ, ◌+◌, ◌++◌, ◌∙◌, ◌∷◌, ◌≡◌}
-use Rattle.std.proofs.lemmas.Bool.{and_parts, false≢true}
+use Rattle.std.proofs.Common.{Bool, List, None, Option, Some, [], ap, false, not, inl, inr, refl, subst, suc, sym, true, ℕ, ◌+◌, ◌++◌, ◌∙◌, ◌∷◌, ◌≡◌}
+use Rattle.std.proofs.lemmas.Bool.{and_parts, false≢true, or_cases}
+use Rattle.std.specs.List.{list_all}
 use Rattle.std.specs.Cmp.{nat_cmp_total}
 use Rattle.std.specs.FinMap.{find as find_entry, from_sorted, get-from_sorted, insert, is_sorted, put, remove}
 use Rattle.std.specs.FinMap.Entries.{is_sorted-where_key}
 use Rattle.std.specs.Ordering.{eq_by_cmp, nat_cmp}
-use Rattle.std.specs.Prelude.{T, filter, if◌then◌else◌, is_some, length, nat_lt, Ok, ◌&&◌, ◌==◌, ◌^◌}
+use Rattle.std.specs.Prelude.{T, filter, if◌then◌else◌, is_some, length, nat_lt, Ok, ◌&&◌, ◌||◌, ◌==◌, ◌^◌}
 
 not_true : (b : Bool) → not b ≡ true → b ≡ false
 not_true true e = sym e
 not_true false e = refl
 
-is_none_there : {X : Type 0} (o : Option X) → not (is_some o) ≡ true → o ≡ None
+pub is_none_there : {X : Type 0} (o : Option X) → not (is_some o) ≡ true → o ≡ None
 is_none_there None e = refl
 is_none_there (Some x) e = absurd (false≢true e)
 
@@ -110,13 +113,13 @@ module _ (g : Geometry) where
   abbrev pub at : Table → World → World
   at t v = record v { core = core_of g t }
 
-  abbrev free_in : Table → ℕ → Bool
+  abbrev pub free_in : Table → ℕ → Bool
   free_in t die = is_some (at_number die t.live) && not (is_some (at_number die t.jobs))
 
-  abbrev can_take : Table → ℕ → Bool
+  abbrev pub can_take : Table → ℕ → Bool
   can_take t die = is_die (core_of g t) die && not (history_full (core_of g t))
 
-  idle_in : (t : Table) → Ordered t → (die : ℕ) → free_in t die ≡ true → is_idle (core_of g t) die ≡ true
+  pub idle_in : (t : Table) → Ordered t → (die : ℕ) → free_in t die ≡ true → is_idle (core_of g t) die ≡ true
   idle_in t o die free =
       (λ i. is_some (get-from_sorted nat_cmp t.live die o.live i) && not (is_some (get-from_sorted nat_cmp t.jobs die o.jobs i))) ∙ free
 
@@ -249,10 +252,11 @@ module _ (g : Geometry) where
         synced = sym (remove_listed nat_cmp_total nat_same t.synced die o.synced) i;
       })
 
-  -- no read of the round is to be waited for at the die, which has no window
+  -- no read of the round is to be waited for at the die, and no step of its window
   abbrev pub rests : Table → ℕ → Bool
   rests t die =
-      not (is_read_pending (at_number die t.jobs) (find_entry place_cmp (die, t.round) t.bookings)) && not (is_some (at_number die t.windows))
+      not (is_read_pending (at_number die t.jobs) (find_entry place_cmp (die, t.round) t.bookings))
+      && (not (is_in_window (at_number die t.windows) t.round) || (not (is_some (at_number die t.jobs)) && is_some (at_number die t.stepped)))
 
   rests_at : (t : Table) → Ordered t → (die : ℕ) → rests t die ≡ true → IsAtRest (core_of g t) die
   rests_at t o die h =
@@ -260,24 +264,30 @@ module _ (g : Geometry) where
       record {
         read = (λ i. is_read_pending (get-from_sorted nat_cmp t.jobs die o.jobs i) (get-from_sorted place_cmp t.bookings (die, t.round) o.bookings i))
             ∙ not_true _ parts.0;
-        window = get-from_sorted nat_cmp t.windows die o.windows ∙ is_none_there (at_number die t.windows) parts.1;
+        step = elim (or_cases (not (is_in_window (at_number die t.windows) t.round)) _ parts.1) [
+          | inl outside ↦ outside_no_step (core_of g t) die
+              (ap (λ x. is_in_window x t.round) (get-from_sorted nat_cmp t.windows die o.windows) ∙ not_true _ outside)
+          | inr done ↦
+              let both = and_parts (not (is_some (at_number die t.jobs))) (is_some (at_number die t.stepped)) done in
+              step_was_done (core_of g t) die (get-from_sorted nat_cmp t.jobs die o.jobs ∙ is_none_there (at_number die t.jobs) both.0)
+              (ap is_some (get-from_sorted nat_cmp t.stepped die o.stepped) ∙ both.1)
+        ];
       }
 
-  pub advances : (t : Table) (v : World) (round : Round) → T (is_ordered t) → T (is_ordered (advanced t)) → g.dies ≡ 3
-      → (rests t 0 && (rests t 1 && rests t 2)) ≡ true → (length t.bookings == 0) ≡ false → (t.round == 2 ^ 56) ≡ false
-      → round.0 ≡ t.round + 1
+  pub advances : (t : Table) (v : World) (round : Round) → T (is_ordered t) → T (is_ordered (advanced t))
+      → list_all (rests t) (below g.dies) ≡ true → (length t.bookings == 0 && length t.windows == 0) ≡ false
+      → (t.round == 2 ^ 56) ≡ false → round.0 ≡ t.round + 1
       → HappensEvent (at t v) (Advance (Ok round)) (at (advanced t) (record v { moment = suc v.moment }))
-  advances t v round ordered then_ordered dies rest some early next =
+  advances t v round ordered then_ordered rest some early next =
       let o = in_order t ordered in
       let l = in_order (advanced t) then_ordered in
-      let first = and_parts (rests t 0) (rests t 1 && rests t 2) rest in
-      let others = and_parts (rests t 1) (rests t 2) first.1 in
       record {
         step = record {
           allows = refl;
           does = (
-            may_advance (core_of g t) (ap below dies) (rests_at t o 0 first.0) (rests_at t o 1 others.0) (rests_at t o 2 others.1)
-                (ap (λ n. n == 0) (len_listed place_cmp_total place_same t.bookings o.bookings) ∙ some) early,
+            may_advance (core_of g t) (all_pass (rests t) (IsAtRest (core_of g t)) (rests_at t o) (below g.dies) rest)
+                ((λ i. len_listed place_cmp_total place_same t.bookings o.bookings i == 0 && len_listed nat_cmp_total nat_same t.windows o.windows i == 0) ∙ some)
+                early,
             next,
             (λ i. record (core_of g t) {
               calendar = record {

@@ -1,51 +1,20 @@
 -- A batch of eight pages in which a die fails: its events, from the array as it was mounted to the answered batch.
-use Rattle.std.specs.Prelude.{◌≡◌, ℕ, ◌+◌, ◌==◌, ◌||◌, List, [], ◌∷◌, ◌++◌, map, Ok, Some}
+use Rattle.std.specs.Prelude.{◌≡◌, ℕ, ◌+◌, ◌==◌, ◌||◌, List, [], ◌∷◌, ◌++◌, map, Ok}
 use Rattle.fa_types.specs.declared.geometry.Geometry.{Geometry}
-use Rattle.fa_types.specs.declared.numbers.Page.{Page}
 use Rattle.fa_cert.specs.Verdict.{IsVerdict}
-use Rattle.fa_cert.specs.declared.plan.Place.{Place}
 use Rattle.fa_cert.specs.declared.verdict.Verdict.TheVariants.{Least}
 use Rattle.fa_machine.specs.declared.answers.ReadState.TheVariants.{Ready, Torn}
-use Rattle.fa_machine.specs.declared.jobs.Flight.TheVariants.{Header, Read}
 use Rattle.fa_machine.specs.Beginning.{IsBeginning}
-use Rattle.fa_machine.specs.Cells.{Sealed, DidRead, DidWriteHeader, Fault}
+use Rattle.fa_machine.specs.Cells.{Fault}
 use Rattle.fa_machine.specs.Placement.{targets}
 use Rattle.fa_machine.specs.Reading.{Planned, entries_for, released, results}
 use Rattle.fa_machine.specs.Rounds.{is_closed}
 use Rattle.fa_machine.specs.Run.{Happening, Event, ImageCall, HappensEvent, Run}
 use Rattle.fa_machine.specs.State.{is_live}
-use Rattle.fa_machine.specs.Step.{Admit, Advance, Done, EndBatch, Replan, Take}
-use Rattle.fa_machine.specs.Taking.{Handed, handed}
-use Rattle.fa_machine.specs.World.{World, Accepted, GaveCell, Refused}
-use Rattle.fa_laws.specs.EightPages.{eight, write_of, written_in_turn}
-
--- a die writes its header
-abbrev pub writes_header : (die epoch : ℕ) → List Happening
-writes_header die epoch =
-    Event (Take die 0 (Some (handed (Header epoch)))) ∷ ImageCall die Accepted ∷ Event (Done die DidWriteHeader) ∷ []
-
--- the read of a page for the batch, from a slot
-abbrev pub read_of_page : (page slot : ℕ) → Handed
-read_of_page page slot =
-    handed (Read (record { 0 = 0 }) (record { 0 = page }) (write_of page) (record { 0 = slot }))
-
--- a die is handed the read of a page
-abbrev pub starts : (die page slot : ℕ) → Happening
-starts die page slot = Event (Take die 0 (Some (read_of_page page slot)))
-
--- its image gives the page, and the read ends with that
-abbrev pub gives : (bytes : ℕ → List ℕ) (die page slot : ℕ) → List Happening
-gives bytes die page slot =
-    let cell = Sealed page (write_of page) die slot (bytes page) in ImageCall die (GaveCell cell) ∷ Event (Done die (DidRead cell)) ∷ []
-
-abbrev pub next_round : ℕ → Happening
-next_round round = Event (Advance (Ok (record { 0 = round })))
-
-abbrev pub place_of : (page die round : ℕ) → Place
-place_of page die round = record { page = record { 0 = page }; die = record { 0 = die }; round = record { 0 = round } }
-
-abbrev pub pages_of : List ℕ → List Page
-pages_of pages = map (λ page. record { 0 = page }) pages
+use Rattle.fa_machine.specs.Step.{Admit, Done, EndBatch, Replan}
+use Rattle.fa_machine.specs.World.{World, Refused}
+use Rattle.fa_laws.specs.EightPages.{eight, written_in_turn}
+use Rattle.fa_laws.specs.Telling.{gives, next_round, pages_of, place_of, starts, writes_header}
 
 -- Three rounds for eight pages on three dies. All eight are more than the six places of two rounds.
 abbrev pub first_plan : Planned

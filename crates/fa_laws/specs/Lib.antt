@@ -3,6 +3,7 @@ pub mod EightPages
 pub mod FailingDie
 pub mod Formatted
 pub mod Free
+pub mod HoleAndMove
 pub mod InTime
 pub mod Kept
 pub mod Least
@@ -10,4 +11,5 @@ pub mod Leaving
 pub mod Plain
 pub mod Reached
 pub mod Reading
+pub mod Telling
 pub mod Untouched
