@@ -7,8 +7,10 @@ pub mod Cuts
 pub mod Indexed
 pub mod LinesRead
 pub mod Marked
+pub mod Merged
 pub mod Numbers
 pub mod Parts
+pub mod Pieces
 pub mod Placed
 pub mod Printed
 pub mod Reading
