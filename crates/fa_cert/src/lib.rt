@@ -19,6 +19,6 @@ pub use closed::{Closed, Run, end_soon};
 pub use listing::Listing;
 pub use merging::{pass, put_in, take_out};
 pub use plan::{Place, Places, Plan, Shortage};
-pub use spans::{Span, count_covered, covers, nth_uncovered};
+pub use spans::{Span, Spans, count_covered, covers, nth_uncovered};
 pub use text::{BatchText, Certificate, TextError, print, read_batch, read_certificate};
 pub use verdict::{Refusal, Verdict};

@@ -95,17 +95,20 @@ pub fn take_out<A: Allocator>(spans: &mut VecDeque<Span, A>, round: u64) -> Resu
     split(spans, index, round, span.last)
 }
 
-/// Takes a round out of the spans, in none of which an earlier one lies, where it lies in one. It takes
-/// the same few steps however many they are.
-pub fn pass<A: Allocator>(spans: &mut VecDeque<Span, A>, round: u64)
+/// Takes a round out of the spans, in none of which an earlier one lies, where it lies in one, and says
+/// whether it did. It takes the same few steps however many they are.
+pub fn pass<A: Allocator>(spans: &mut VecDeque<Span, A>, round: u64) -> bool
     requires merged { AreMerged spans.old.items }
     requires first { (r : ℕ) → r < round → is_covered spans.old.items r ≡ false }
+    ensures covered { result ≡ is_covered spans.old.items round }
     ensures gone { PassesRound spans.old.items round spans.new.items }
     ensures room { deque_capacity spans.old ≤ deque_capacity spans.new }
 {
     if spans.len() > 0 && spans[0].first <= round {
         trim(spans, 0, round);
+        return true;
     }
+    false
 }
 
 /// Takes the first round of a span out of it, and the span away where it has no other.

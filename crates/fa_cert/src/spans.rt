@@ -44,6 +44,14 @@ impl<A: Allocator> Spans<A> {
         }
     }
 
+    /// The rounds of these spans.
+    pub fn of(spans: VecDeque<Span, A>) -> Spans<A>
+        requires { AreRising spans.items }
+        ensures { result ≡ spans.items }
+    {
+        Spans { spans }
+    }
+
     /// Adds the rounds from a first to a last one, which begin no earlier than those that are there.
     /// Out of memory, the spans stay as they were.
     pub fn add(&mut self, first: u64, last: u64) -> Result<(), AllocError>
