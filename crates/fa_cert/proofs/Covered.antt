@@ -1,7 +1,8 @@
 -- Spans of rounds that rise and do not touch.
 use Rattle.std.proofs.Common.{◌≡◌, ℕ, zero, suc, ◌+◌, ◌-◌, ◌<◌, ◌≤◌, inl, inr, Bool, true, false, cond, not, ◌&&◌, ◌||◌, nat_eq, nat_le, nat_lt, min, max, List, [], ◌∷◌, ◌++◌, length, take, drop, set, get_or, refl, sym, ap, ◌∙◌, subst, arith, drop-cons}
 use Rattle.std.specs.List.{sum_by, AllByRecursion}
-use Rattle.std.proofs.lemmas.Bool.{cases_lt, and_left, and_right, and_from, and_parts, or_from, or_left, or_right, or_cases, le-leb, lt-leb, leb-true, lt-ltb, le-ltb, cond-true, cond-false}
+use Rattle.std.specs.List.Sorted.{IsPartitionedBy}
+use Rattle.std.proofs.lemmas.Bool.{ltb-true, cases_lt, and_left, and_right, and_from, and_parts, or_from, or_left, or_right, or_cases, le-leb, lt-leb, leb-true, lt-ltb, le-ltb, cond-true, cond-false}
 use Rattle.std.proofs.lemmas.List.{take_more, take_more_set, length-set}
 use Rattle.std.proofs.lemmas.List.Folds.{list_any-append}
 use Rattle.std.proofs.lemmas.List.Sums.{sum_by-cons}
@@ -10,7 +11,7 @@ use Rattle.std.proofs.Math.Seq.{take-length}
 use Rattle.fa_types.specs.Open.{rounds_that}
 use Rattle.fa_cert.specs.declared.spans.Span.{Span}
 use Rattle.fa_cert.specs.declared.closed.Run.{Run}
-use Rattle.fa_cert.specs.Runs.{any_closes, is_covered, is_from, AreRising, FewCovered, IsNthFree}
+use Rattle.fa_cert.specs.Runs.{any_closes, is_covered, is_from, AreRising, FewCovered, IsIndexFrom, IsNthFree}
 use Rattle.fa_cert.proofs.Counting.{AllByRecursion-weaker}
 use Rattle.fa_cert.proofs.Windows.{rounds_that-same, rounds_that-add, rounds_that-none, rounds_that-not, rounds_that-join, rounds_that-from}
 
@@ -20,14 +21,14 @@ bit-or true false h = refl
 bit-or false true h = refl
 bit-or false false h = refl
 
-outside : (low high r : ℕ) → high < r → is_from low high r ≡ false
+pub outside : (low high r : ℕ) → high < r → is_from low high r ≡ false
 outside low high r h = and_right (nat_le low r) (nat_le r high) (lt-leb r high h)
 
-before : (low high r : ℕ) → r < low → is_from low high r ≡ false
+pub before : (low high r : ℕ) → r < low → is_from low high r ≡ false
 before low high r h = and_left (nat_le low r) (nat_le r high) (lt-leb low r h)
 
 -- spans behind a round do not cover it
-behind : (last r : ℕ) → r ≤ last → (spans : List Span) → AllByRecursion (λ t. last < t.first) spans → is_covered spans r ≡ false
+pub behind : (last r : ℕ) → r ≤ last → (spans : List Span) → AllByRecursion (λ t. last < t.first) spans → is_covered spans r ≡ false
 behind last r h [] all = refl
 behind last r h (s ∷ spans) all =
     let here : last < s.first = all.0 in
@@ -81,7 +82,7 @@ rising_front (x ∷ xs) y rising =
     ((rising.0, parts.0, rest.0), (parts.1, rest.1), rest.2)
 
 -- two spans that touch or overlap are one
-join_is : (a b c d r : ℕ) → a ≤ c → c ≤ b + 1 → is_from a (max b d) r ≡ (is_from a b r || is_from c d r)
+pub join_is : (a b c d r : ℕ) → a ≤ c → c ≤ b + 1 → is_from a (max b d) r ≡ (is_from a b r || is_from c d r)
 join_is a b c d r low touch =
     elim (cases_lt r a) [
       | inl early ↦ before a (max b d) r early ∙ sym (or_from (is_from a b r) (is_from c d r) (before a b r early) (before c d r (omega arith)))
@@ -336,3 +337,49 @@ few_soon most now runs all die n =
           let fits = rounds_that-not (any_closes runs die) now most in
           omega (arith, parts, none, fits))
     ]
+
+-- a span that comes later begins behind the end of one before it
+pub rising_pair : (spans : List Span) (i j : ℕ) (d : Span) → AreRising spans → i < j → j < length spans → (get_or spans i d).last < (get_or spans j d).first
+rising_pair [] i j d rising below within = absurd (omega arith)
+rising_pair (s ∷ spans) zero zero d rising below within = absurd (omega arith)
+rising_pair (s ∷ spans) zero (suc j) d rising below within = every_at (λ t. s.last < t.first) spans j d rising.1 (omega arith)
+  where
+    every_at : (P : Span → Type 0) (xs : List Span) (i : ℕ) (d : Span) → AllByRecursion P xs → i < length xs → P (get_or xs i d)
+    every_at P [] i d all within = absurd (omega arith)
+    every_at P (x ∷ xs) zero d all within = all.0
+    every_at P (x ∷ xs) (suc i) d all within = every_at P xs i d all.1 (omega arith)
+rising_pair (s ∷ spans) (suc i) zero d rising below within = absurd (omega arith)
+rising_pair (s ∷ spans) (suc i) (suc j) d rising below within = rising_pair spans i j d rising.2 (omega arith) (omega arith)
+
+-- so spans that end before a round come before those that do not
+pub ends_first : (spans : List Span) (round : ℕ) → AreRising spans → IsPartitionedBy (λ s. nat_lt s.last round) spans
+ends_first spans round rising i j d low below late =
+    elim (cases_lt i j) [
+      | inl earlier ↦
+          (let apart = rising_pair spans i j d rising earlier below in
+          let proper = rising_at spans j d rising below in
+          lt-ltb (get_or spans i d).last round (omega (arith, apart, proper, ltb-true (get_or spans j d).last round late)))
+      | inr same ↦ (let here : i ≡ j = omega arith in subst (λ k. nat_lt (get_or spans k d).last round ≡ true) (sym here) late)
+    ]
+
+-- whether a round is covered shows at the first span that does not end before it
+pub covered_from : (spans : List Span) (round index : ℕ) (d : Span) → AreRising spans → IsIndexFrom spans round index → index < length spans → is_covered spans round ≡ nat_le (get_or spans index d).first round
+covered_from [] round index d rising is within = absurd (omega arith)
+covered_from (s ∷ spans) round zero d rising is within =
+    let late : round ≤ s.last = is.after 0 s (omega arith) (omega arith) in
+    elim (cases_lt round s.first) [
+      | inl early ↦ or_from (is_from s.first s.last round) (is_covered spans round) (before s.first s.last round early) (behind s.last round late spans rising.1) ∙ sym (lt-leb s.first round early)
+      | inr begun ↦ or_left (is_from s.first s.last round) (is_covered spans round) (and_from (nat_le s.first round) (nat_le round s.last) (le-leb s.first round begun) (le-leb round s.last late)) ∙ sym (le-leb s.first round begun)
+    ]
+covered_from (s ∷ spans) round (suc index) d rising is within =
+    let gone : s.last < round = is.before 0 s (omega arith) in
+    ap (λ b. b || is_covered spans round) (outside s.first s.last round gone)
+    ∙ covered_from spans round index d rising.2 (record { within = omega (arith, is.within); before = λ i e below. is.before (suc i) e (omega arith); after = λ i e low below. is.after (suc i) e (omega arith) (omega arith) }) (omega arith)
+
+pub covered_past : (spans : List Span) (round index : ℕ) → AreRising spans → IsIndexFrom spans round index → length spans ≤ index → is_covered spans round ≡ false
+covered_past [] round index rising is past = refl
+covered_past (s ∷ spans) round zero rising is past = absurd (omega arith)
+covered_past (s ∷ spans) round (suc index) rising is past =
+    let gone : s.last < round = is.before 0 s (omega arith) in
+    or_from (is_from s.first s.last round) (is_covered spans round) (outside s.first s.last round gone)
+    (covered_past spans round index rising.2 (record { within = omega (arith, is.within); before = λ i e below. is.before (suc i) e (omega arith); after = λ i e low below. is.after (suc i) e (omega arith) (omega arith) }) (omega arith))

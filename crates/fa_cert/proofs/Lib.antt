@@ -8,8 +8,10 @@ pub mod Entries
 pub mod Indexed
 pub mod LinesRead
 pub mod Marked
+pub mod Merged
 pub mod Numbers
 pub mod Parts
+pub mod Pieces
 pub mod Placed
 pub mod Printed
 pub mod Reading

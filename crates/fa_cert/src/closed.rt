@@ -51,6 +51,21 @@ impl<A: Allocator + Copy> Closed<A> {
 }
 
 impl<A: Allocator> Closed<A> {
+    ghost use Rattle.fa_cert.specs.Closed.{current_of, is_closed};
+
+    /// The closed rounds of these spans, which are those of each die by its number.
+    pub fn of_spans(now: Round, dies: Vec<Spans<A>, A>) -> Closed<A>
+        requires long { length dies.items ≡ 256 }
+        requires few { FewClosed now.0 (closed_by dies.items) }
+        ensures current { current_of result ≡ now.0 }
+        ensures closed { (die round : ℕ) → is_closed result die round ≡ closed_by dies.items die round }
+    {
+        Closed {
+            current: now.0,
+            dies,
+        }
+    }
+
     fn spans(&self, die: Die) -> &Spans<A>
         ensures { result.now ≡ slice_index_or self.now.dies.items die.0 [] }
     {

@@ -2,9 +2,10 @@
 ghost use Rattle.std.specs.Prelude.{◌≡◌, ℕ, ◌+◌, ◌-◌, ◌^◌, ◌<◌, ◌≤◌, ◌||◌, max, min, [], OnOk, OnErr};
 ghost use Rattle.std.specs.List.{AllByRecursion};
 ghost use Rattle.fa_types.specs.Open.{rounds_that};
-ghost use Rattle.fa_cert.specs.Runs.{is_covered, is_from, AreRising, FewCovered, IsNthFree};
+ghost use Rattle.fa_cert.specs.Runs.{is_covered, is_from, AreRising, FewCovered, IsIndexFrom, IsNthFree};
 
 use std::alloc::{AllocError, Allocator, Global};
+use std::collections::VecDeque;
 use std::marker::Model;
 
 /// The rounds from a first to a last one.
@@ -17,7 +18,7 @@ pub struct Span {
 /// Spans of rounds in rising order, no two of which touch. Contracts see their list.
 #[derive(Debug, Drop)]
 pub struct Spans<A: Allocator = Global> {
-    spans: Vec<Span, A>,
+    spans: VecDeque<Span, A>,
 }
 
 impl<A: Allocator> Model for Spans<A> {
@@ -39,8 +40,16 @@ impl<A: Allocator> Spans<A> {
         ensures { result ≡ [] }
     {
         Spans {
-            spans: Vec::new(alloc),
+            spans: VecDeque::new(alloc),
         }
+    }
+
+    /// The rounds of these spans.
+    pub fn of(spans: VecDeque<Span, A>) -> Spans<A>
+        requires { AreRising spans.items }
+        ensures { result ≡ spans.items }
+    {
+        Spans { spans }
     }
 
     /// Adds the rounds from a first to a last one, which begin no earlier than those that are there.
@@ -59,9 +68,7 @@ impl<A: Allocator> Spans<A> {
     pub fn covers(&self, round: u64) -> bool
         ensures { result ≡ is_covered self.now round }
     {
-        self.spans
-            .iter()
-            .any(|s| s.first <= round && round <= s.last)
+        covers(&self.spans, round)
     }
 
     /// How many of so many rounds from a first one lie in the spans.
@@ -69,7 +76,7 @@ impl<A: Allocator> Spans<A> {
         requires { from + rounds < 2 ^ 64 }
         ensures { result ≡ rounds_that (is_covered self.now) from rounds }
     {
-        count_covered(self.spans.as_slice(), from, rounds)
+        count_covered(&self.spans, from, rounds)
     }
 
     /// The n-th round from a first one, n from 1, that lies in none of the spans.
@@ -80,12 +87,16 @@ impl<A: Allocator> Spans<A> {
         requires few { FewCovered self.now from }
         ensures { IsNthFree self.now from n result }
     {
-        nth_uncovered(self.spans.as_slice(), from, n)
+        nth_uncovered(&self.spans, from, n)
     }
 }
 
 /// Adds a span that begins no earlier than the others: it is a longer last one, or one more.
-fn add_span<A: Allocator>(spans: &mut Vec<Span, A>, first: u64, last: u64) -> Result<(), AllocError>
+fn add_span<A: Allocator>(
+    spans: &mut VecDeque<Span, A>,
+    first: u64,
+    last: u64,
+) -> Result<(), AllocError>
     requires proper { first ≤ last }
     requires later { AllByRecursion (λ s. s.first ≤ first) spans.old.items }
     requires rising { AreRising spans.old.items }
@@ -106,7 +117,7 @@ fn add_span<A: Allocator>(spans: &mut Vec<Span, A>, first: u64, last: u64) -> Re
             return Ok(());
         }
     }
-    spans.push(Span { first, last })?;
+    spans.push_back(Span { first, last })?;
     Ok(())
 }
 
@@ -120,31 +131,61 @@ fn overlap(span: Span, from: u64, rounds: u64) -> u64
     past.saturating_sub(span.first.max(from))
 }
 
-/// How many of so many rounds from a first one lie in the spans.
-fn count_covered(spans: &[Span], from: u64, rounds: u64) -> u64
-    requires rising { AreRising spans.now }
+/// Whether the round lies in one of the spans. It takes as many steps as the logarithm of their number.
+pub fn covers<A: Allocator>(spans: &VecDeque<Span, A>, round: u64) -> bool
+    requires { AreRising spans.now.items }
+    ensures { result ≡ is_covered spans.now.items round }
+{
+    let index = index_from(spans, round);
+    index < spans.len() && spans[index].first <= round
+}
+
+/// The index of the first span that ends at the round or later, or their number where none does.
+pub fn index_from<A: Allocator>(spans: &VecDeque<Span, A>, round: u64) -> usize
+    requires { AreRising spans.now.items }
+    ensures { IsIndexFrom spans.now.items round result }
+{
+    let mut low = 0;
+    let mut high = spans.len();
+    while low < high {
+        let middle = low + (high - low) / 2;
+        if spans[middle].last < round {
+            low = middle + 1;
+        } else {
+            high = middle;
+        }
+    }
+    low
+}
+
+/// How many of so many rounds from a first one lie in the spans. It takes a look at each span that
+/// begins before they end.
+pub fn count_covered<A: Allocator>(spans: &VecDeque<Span, A>, from: u64, rounds: u64) -> u64
+    requires rising { AreRising spans.now.items }
     requires fits { from + rounds < 2 ^ 64 }
-    ensures { result ≡ rounds_that (is_covered spans.now) from rounds }
+    ensures { result ≡ rounds_that (is_covered spans.now.items) from rounds }
 {
     let mut count = 0;
-    for span in spans {
-        count += overlap(*span, from, rounds);
+    for index in 0..spans.len() {
+        let span = spans[index];
+        count += overlap(span, from, rounds);
     }
     count
 }
 
 /// The n-th round from a first one, n from 1, that lies in none of the spans. A span that begins
 /// before it puts it off by the rounds that it has from the first one on.
-fn nth_uncovered(spans: &[Span], from: u64, n: u64) -> u64
-    requires rising { AreRising spans.now }
+pub fn nth_uncovered<A: Allocator>(spans: &VecDeque<Span, A>, from: u64, n: u64) -> u64
+    requires rising { AreRising spans.now.items }
     requires first { 1 ≤ n }
     requires small { n ≤ 2 ^ 32 }
     requires early { from ≤ 2 ^ 56 }
-    requires few { FewCovered spans.now from }
-    ensures { IsNthFree spans.now from n result }
+    requires few { FewCovered spans.now.items from }
+    ensures { IsNthFree spans.now.items from n result }
 {
     let mut round = from + (n - 1);
-    for span in spans {
+    for index in 0..spans.len() {
+        let span = spans[index];
         if round < span.first {
             break;
         }

@@ -30,4 +30,4 @@ returns-clause-rising g c =
           omega (arith, same, w.saturating_add.ensures, w.if-first-saturating_add.false, c.ranges.first.fits))
       | else-len-gt0 w ↦ absurd (omega (arith, size.0, c.len-len.ensures))
     ] in
-    subst AreRising (sym c.in_ok-push.ensures.items) (rising_push c.args.spans.now.items (record { first = c.args.first; last = c.args.last }) c.requires.rising (all_below c.args.spans.now.items d c.args.first c.requires.rising ends) c.requires.proper)
+    subst AreRising (sym c.in_ok-push_back.ensures.items) (rising_push c.args.spans.now.items (record { first = c.args.first; last = c.args.last }) c.requires.rising (all_below c.args.spans.now.items d c.args.first c.requires.rising ends) c.requires.proper)

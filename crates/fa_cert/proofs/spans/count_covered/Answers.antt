@@ -7,15 +7,28 @@ use Rattle.fa_cert.proofs.Covered.{overlap_of, covered_sum, covered_fits}
 use Rattle.fa_cert.proofs.spans.count_covered.Goals as goal
 
 pub overflow_add-count : goal.overflow_add-count
-overflow_add-count c =
-    let d : Span = record { first = 0; last = 0 } in
-    let more = sum_by_more (overlap_of c.args.from c.args.rounds) c.args.spans.now c.loop-span.span-index d (omega arith) in
-    let part = sum_by-take-le (overlap_of c.args.from c.args.rounds) c.args.spans.now (c.loop-span.span-index + 1) in
-    let fits = covered_fits c.args.from c.args.rounds c.args.spans.now c.requires.rising in
-    omega (arith, more, part, fits, c.loop-span.invariant, c.overlap-count.ensures, c.requires.fits)
+overflow_add-count g c =
+    let d : Span = c.index-span.result.now in
+    let here = c.index-span.ensures in
+    let size = c.args.spans.now.ok in
+    let more = sum_by_more (overlap_of c.args.from c.args.rounds) c.args.spans.now.items c.loop-index.index d (omega (arith, size.0)) in
+    let part = sum_by-take-le (overlap_of c.args.from c.args.rounds) c.args.spans.now.items (c.loop-index.index + 1) in
+    let fits = covered_fits c.args.from c.args.rounds c.args.spans.now.items c.requires.rising in
+    let added = ap (overlap_of c.args.from c.args.rounds) here in
+    omega (arith, more, part, fits, added, c.loop-index.invariant, c.overlap-count.ensures, c.requires.fits)
 
 pub returns : goal.returns
-returns c =
-    let end : c.loop-span.span-index ≡ length c.args.spans.now = omega arith in
-    c.loop-span.invariant ∙ ap (λ n. sum_by (overlap_of c.args.from c.args.rounds) (take n c.args.spans.now)) end ∙ ap (λ v. sum_by (overlap_of c.args.from c.args.rounds) v) (take-length c.args.spans.now)
-    ∙ sym (covered_sum c.args.from c.args.rounds c.args.spans.now c.requires.rising)
+returns g c =
+    let size = c.args.spans.now.ok in
+    let end : c.loop-index.index ≡ length c.args.spans.now.items = omega (arith, size.0) in
+    c.loop-index.invariant ∙ ap (λ n. sum_by (overlap_of c.args.from c.args.rounds) (take n c.args.spans.now.items)) end ∙ ap (λ v. sum_by (overlap_of c.args.from c.args.rounds) v) (take-length c.args.spans.now.items)
+    ∙ sym (covered_sum c.args.from c.args.rounds c.args.spans.now.items c.requires.rising)
+
+pub loop-index-preserved : goal.loop-index-preserved
+loop-index-preserved g c =
+    let d : Span = c.index-span.result.now in
+    let here = c.index-span.ensures in
+    let size = c.args.spans.now.ok in
+    let more = sum_by_more (overlap_of c.args.from c.args.rounds) c.args.spans.now.items c.loop-index.index d (omega (arith, size.0)) in
+    let added = ap (overlap_of c.args.from c.args.rounds) here in
+    omega (arith, more, added, c.loop-index.invariant, c.overlap-count.ensures)

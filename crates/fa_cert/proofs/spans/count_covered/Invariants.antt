@@ -3,5 +3,5 @@ use Rattle.std.specs.List.{sum_by}
 use Rattle.fa_cert.proofs.Covered.{overlap_of}
 use Rattle.fa_cert.proofs.spans.count_covered.Given as goal
 
-abbrev pub invariant-loop-span : goal.invariant-loop-span
-invariant-loop-span l = l.count ≡ sum_by (overlap_of l.from l.rounds) (take l.span-index l.spans)
+abbrev pub invariant-loop-index : goal.invariant-loop-index
+invariant-loop-index g l = l.count ≡ sum_by (overlap_of l.from l.rounds) (take l.index l.spans.items)

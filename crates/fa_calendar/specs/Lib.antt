@@ -1,0 +1,4 @@
+pub mod Calendar
+pub mod Dies
+pub mod DieState
+pub mod Windows
