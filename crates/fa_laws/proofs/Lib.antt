@@ -10,7 +10,6 @@ pub mod Committing
 pub mod Copying
 pub mod Admitting
 pub mod EightBegin
-pub mod EightRead
 pub mod Ending
 pub mod Entering
 pub mod Events
@@ -30,6 +29,7 @@ pub mod Listed
 pub mod Lists
 pub mod Maps
 pub mod Making
+pub mod MendedBatch
 pub mod Orders
 pub mod Outcomes
 pub mod Outlasting
@@ -51,4 +51,5 @@ pub mod Tabled
 pub mod Takes
 pub mod Timely
 pub mod Within
+pub mod TornBatch
 pub mod Writes

@@ -1,17 +1,19 @@
 -- A batch of eight pages in which a die fails: its events, from the array as it was mounted to the answered batch.
-use Rattle.std.specs.Prelude.{◌≡◌, ℕ, ◌+◌, ◌==◌, ◌||◌, List, [], ◌∷◌, ◌++◌, map, Ok}
+use Rattle.std.specs.Prelude.{◌≡◌, ℕ, ◌+◌, ◌==◌, ◌||◌, List, [], ◌∷◌, ◌++◌, map, option_map, Ok, Some}
 use Rattle.fa_types.specs.declared.geometry.Geometry.{Geometry}
 use Rattle.fa_cert.specs.Verdict.{IsVerdict}
 use Rattle.fa_cert.specs.declared.verdict.Verdict.TheVariants.{Least}
 use Rattle.fa_machine.specs.declared.answers.ReadState.TheVariants.{Ready, Torn}
 use Rattle.fa_machine.specs.Beginning.{IsBeginning}
 use Rattle.fa_machine.specs.Cells.{Fault}
+use Rattle.fa_machine.specs.Conditions.{reserved_under}
+use Rattle.fa_machine.specs.Copies.{holders}
 use Rattle.fa_machine.specs.Placement.{targets}
 use Rattle.fa_machine.specs.Reading.{Planned, entries_for, released, results}
 use Rattle.fa_machine.specs.Rounds.{is_closed}
 use Rattle.fa_machine.specs.Run.{Happening, Event, ImageCall, HappensEvent, Run}
-use Rattle.fa_machine.specs.State.{is_live}
-use Rattle.fa_machine.specs.Step.{Admit, Done, EndBatch, Replan}
+use Rattle.fa_machine.specs.State.{Reservation, is_live}
+use Rattle.fa_machine.specs.Step.{Admit, Claim, Done, EndBatch, Replan, Reserve}
 use Rattle.fa_machine.specs.World.{World, Refused}
 use Rattle.fa_laws.specs.EightPages.{eight, written_in_turn}
 use Rattle.fa_laws.specs.Telling.{gives, next_round, pages_of, place_of, starts, writes_header}
@@ -58,9 +60,15 @@ reading_on bytes =
     (next_round 3 ∷ starts 0 4 3 ∷ starts 2 7 4 ∷ []) ++ gives bytes 0 4 3 ++ gives bytes 2 7 4
     ++ (next_round 4 ∷ starts 0 6 4 ∷ []) ++ gives bytes 0 6 4
 
+-- a write of page 1 thereafter
+abbrev pub later_write : (ℕ → List ℕ) → List Happening
+later_write bytes = Event (Claim 1 (Ok (record { 0 = 0 }))) ∷ Event (Reserve 0 (bytes 1) (Ok (record { 0 = 9 }))) ∷ []
+
 -- The whole chain, with what its states are.
 pub record BatchOutlastsDie (geometry : Geometry) (bytes : ℕ → List ℕ) : Type 0 where
   pub begins : IsBeginning (written_in_turn geometry bytes)
+  pub pairs : map (holders (written_in_turn geometry bytes).core.page_map) eight
+      ≡ (0 ∷ 1 ∷ []) ∷ (1 ∷ 2 ∷ []) ∷ (0 ∷ 2 ∷ []) ∷ (0 ∷ 2 ∷ []) ∷ (0 ∷ 1 ∷ []) ∷ (1 ∷ 2 ∷ []) ∷ (0 ∷ 1 ∷ []) ∷ (1 ∷ 2 ∷ []) ∷ []
   -- the batch is admitted, with the least plan: `check` answers Least(3)
   pub admitted : World
   pub admits : Run (written_in_turn geometry bytes) admission admitted
@@ -87,3 +95,6 @@ pub record BatchOutlastsDie (geometry : Geometry) (bytes : ℕ → List ℕ) : T
   pub ends : HappensEvent ready (EndBatch 0 (map (λ page. (page, bytes page)) eight)) last
   -- a later write of page 1, whose homes were dies 1 and 2, goes to dies 2 and 0
   pub later : targets last.core 1 ≡ 2 ∷ 0 ∷ []
+  pub writing : World
+  pub writes : Run last (later_write bytes) writing
+  pub reserved : option_map {T = Reservation} (λ r. map (λ t. t.die.0) r.targets) (reserved_under writing.core 0) ≡ Some (2 ∷ 0 ∷ [])

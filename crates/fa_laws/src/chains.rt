@@ -11,7 +11,9 @@ use crate::beginnings::a_formatted_array_is_a_beginning;
 /// die goes out, and the batch is torn. What is left is planned anew, read, and answered: all eight pages, each with its
 /// bytes, whatever these are.
 pub fn die_fails_in_a_batch()
-    ensures { (geometry : Geometry) (bytes : ℕ → List ℕ) → HasThreeDies geometry
+    // There is such an array.
+    ensures some { (geometry : Geometry) × HasThreeDies geometry × (geometry.page_bytes ≡ 512) }
+    ensures told { (geometry : Geometry) (bytes : ℕ → List ℕ) → HasThreeDies geometry
         → ((page : ℕ) → length (bytes page) ≡ geometry.page_bytes) → BatchOutlastsDie geometry bytes }
 {}
 
@@ -19,7 +21,9 @@ pub fn die_fails_in_a_batch()
 /// page 0 at once. The read of page 1 is booked for a later round of die 0, whose collector moves the page meanwhile, in its
 /// window: the read is of the new slot. Each page is answered with its bytes. Then a flush waits for both dies and is synced.
 pub fn a_hole_a_move_and_a_flush()
-    ensures { (geometry : Geometry) (bytes : ℕ → List ℕ) → HasTwoDies geometry
+    // There is such an array.
+    ensures some { (geometry : Geometry) × HasTwoDies geometry × (geometry.page_bytes ≡ 512) }
+    ensures told { (geometry : Geometry) (bytes : ℕ → List ℕ) → HasTwoDies geometry
         → ((page : ℕ) → length (bytes page) ≡ geometry.page_bytes) → ReadsAHoleAndAMovedPage geometry bytes }
 {
     a_formatted_array_is_a_beginning();

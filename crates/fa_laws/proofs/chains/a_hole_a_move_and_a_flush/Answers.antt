@@ -1,13 +1,13 @@
 use Rattle.fa_laws.proofs.HoleRead as read
 use Rattle.fa_laws.proofs.HoleWritten as written
 use Rattle.fa_laws.proofs.Tabled.{at}
-use Rattle.fa_laws.specs.HoleAndMove.{ReadsAHoleAndAMovedPage, writing}
+use Rattle.fa_laws.specs.HoleAndMove.{HasTwoDies, ReadsAHoleAndAMovedPage, writing}
 use Rattle.fa_laws.specs.Formatted.{formatted}
 use Rattle.fa_machine.specs.Beginning.{IsBeginning}
 use Rattle.fa_machine.specs.Run.{Run}
 use Rattle.fa_types.specs.Geometry.{IsGeometry}
 use Rattle.fa_types.specs.declared.geometry.Geometry.{Geometry}
-use Rattle.std.proofs.Common.{List, length, refl, subst, sym, ℕ, ◌≡◌}
+use Rattle.std.proofs.Common.{List, arith, length, refl, subst, sym, ℕ, ◌≡◌}
 use Rattle.fa_laws.proofs.chains.a_hole_a_move_and_a_flush.Goals as goal
 
 module _ (size : ℕ) (within : IsGeometry 2 0 4 4 size 8) (bytes : ℕ → List ℕ) (sized : (page : ℕ) → length (bytes page) ≡ size) where
@@ -43,12 +43,37 @@ module _ (size : ℕ) (within : IsGeometry 2 0 4 4 size 8) (bytes : ℕ → List
     flushes = read.flushing_both size within bytes sized;
   }
 
+-- with pages of 512 bytes
+some_geometry : (geometry : Geometry) × HasTwoDies geometry × (geometry.page_bytes ≡ 512)
+some_geometry = (
+  record {
+    dies = 2;
+    spares = 0;
+    blocks = 4;
+    slots = 4;
+    page_bytes = 512;
+    pages = 8;
+    within = record {
+      dies_fit = record { least = omega arith; most = omega arith; two_in_use = omega arith };
+      blocks_fit = (omega arith, omega arith);
+      slots_fit = (omega arith, omega arith);
+      page_fits = refl;
+      pages_fit = record { least = omega arith; most = omega arith; fit_twice = omega arith };
+    };
+  },
+  record { dies = refl; spares = refl; blocks = refl; slots = refl; pages = refl },
+  refl,
+)
+
 pub returns : goal.returns
-returns c geometry bytes two sized =
-    subst (λ (x : ℕ × ℕ × ℕ × ℕ × ℕ). (within : IsGeometry x.0 x.1 x.2 x.3 geometry.page_bytes x.4)
-    → IsBeginning (formatted (record { dies = x.0; spares = x.1; blocks = x.2; slots = x.3; page_bytes = geometry.page_bytes; pages = x.4; within = within }))
-    → ReadsAHoleAndAMovedPage
-    (record { dies = x.0; spares = x.1; blocks = x.2; slots = x.3; page_bytes = geometry.page_bytes; pages = x.4; within = within }) bytes)
-    (sym (λ i. (two.dies i, two.spares i, two.blocks i, two.slots i, two.pages i)))
-    (λ within begins. told geometry.page_bytes within bytes sized begins) geometry.within
-    (c.a_formatted_array_is_a_beginning.ensures geometry two.dies two.spares)
+returns c = record {
+  some = some_geometry;
+  told = λ geometry bytes two sized.
+      subst (λ (x : ℕ × ℕ × ℕ × ℕ × ℕ). (within : IsGeometry x.0 x.1 x.2 x.3 geometry.page_bytes x.4)
+      → IsBeginning (formatted (record { dies = x.0; spares = x.1; blocks = x.2; slots = x.3; page_bytes = geometry.page_bytes; pages = x.4; within = within }))
+      → ReadsAHoleAndAMovedPage
+      (record { dies = x.0; spares = x.1; blocks = x.2; slots = x.3; page_bytes = geometry.page_bytes; pages = x.4; within = within }) bytes)
+      (sym (λ i. (two.dies i, two.spares i, two.blocks i, two.slots i, two.pages i)))
+      (λ within begins. told geometry.page_bytes within bytes sized begins) geometry.within
+      (c.a_formatted_array_is_a_beginning.ensures geometry two.dies two.spares);
+}
