@@ -51,3 +51,4 @@ pub mod Takes
 pub mod Timely
 pub mod TornBatch
 pub mod Writes
+pub mod ZeroPages
