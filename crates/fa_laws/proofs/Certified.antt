@@ -7,7 +7,7 @@ use Rattle.fa_types.specs.Open.{IsOpen, open_among}
 use Rattle.fa_types.specs.declared.numbers.Die.{Die}
 use Rattle.fa_types.specs.declared.numbers.Page.{Page}
 use Rattle.std.proofs.Common.{Bool, List, [], ap, arith, cond, eq-eqb, eqb-true, false, inl, inr, length, not, refl, subst, sym, true, ℕ, ◌-◌, ◌≤◌, ◌∙◌, ◌∷◌, ◌≡◌}
-use Rattle.std.proofs.lemmas.Bool.{and_from, and_parts, and_right, cases_Bool, cases_eq, false≢true, leb-true, ltb-true, ne_eqb, or_from, or_parts}
+use Rattle.std.proofs.lemmas.Bool.{and_from, and_parts, and_right, cases_Bool, cases_eq, false≢true, leb-true, ltb-true, ne_eqb, not-true, or_from, or_parts}
 use Rattle.std.proofs.lemmas.List.Elements.{All-from_recursion}
 use Rattle.std.proofs.lemmas.List.Sums.{sum_by-cons}
 use Rattle.std.specs.List.{AllByRecursion, list_all, list_any}
@@ -28,10 +28,6 @@ all_of test P follows xs e = All-from_recursion P xs (all_pass test P follows xs
 abbrev pub are_apart : {X : Type 0} → (X → X → Bool) → List X → Bool
 are_apart same [] = true
 are_apart same (x ∷ xs) = not (list_any (same x) xs) && are_apart same xs
-
-not_so : (b : Bool) → not b ≡ true → b ≡ false
-not_so true e = sym e
-not_so false e = refl
 
 none_more : {X : Type 0} (test : X → Bool) (same : X → X → Bool) → ((x y : X) → test x ≡ true → test y ≡ true → same x y ≡ true)
     → (x : X) → test x ≡ true → (xs : List X) → list_any (same x) xs ≡ false → count_by test xs ≡ 0
@@ -55,7 +51,7 @@ one_at_most test same alike (x ∷ xs) e =
     let rest = one_at_most test same alike xs parts.1 in
     elim (cases_Bool (test x)) [
       | inl passes ↦
-          let none = none_more test same alike x passes xs (not_so (list_any (same x) xs) parts.0) in
+          let none = none_more test same alike x passes xs (not-true (list_any (same x) xs) parts.0) in
           let front : ◌≡◌ {A = ℕ} (cond (test x) 1 0) 1 = ap {B = ℕ} (λ b. cond b 1 0) passes in
           let sum = sum_by-cons {X = _} (λ z. cond (test z) 1 0) x xs in
           omega (arith, front, sum, none)
@@ -150,7 +146,7 @@ module _ (batch : List Entry) (current : ℕ) (closed : ℕ → ℕ → Bool) (p
         held = all_of (λ x. holds batch x.page.0 x.die.0) (λ x. IsTrue (holds batch x.page.0 x.die.0)) (λ x h. h) places c.0;
         opens = all_of is_open (λ x. IsOpen current closed x.die.0 x.round.0)
             (λ x h. let parts = and_parts (nat_le current x.round.0) _ h in
-            (leb-true current x.round.0 parts.0, not_so (closed x.die.0 x.round.0) parts.1)) places d.0;
+            (leb-true current x.round.0 parts.0, not-true (closed x.die.0 x.round.0) parts.1)) places d.0;
         apart = λ die round. one_at_most (λ x. x.die.0 == die && x.round.0 == round) (λ x y. x.die.0 == y.die.0 && x.round.0 == y.round.0)
             (λ x y h k. let p = and_parts (x.die.0 == die) (x.round.0 == round) h in let q = and_parts (y.die.0 == die) (y.round.0 == round) k in
             and_from _ _ (same_number x.die.0 y.die.0 die p.0 q.0) (same_number x.round.0 y.round.0 round p.1 q.1)) places d.1;

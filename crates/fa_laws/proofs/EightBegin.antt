@@ -1,5 +1,6 @@
 -- The array of three dies on which eight pages were written in turn is a beginning.
 use Rattle.fa_laws.proofs.Maps.{if_equal, nat_same, place_same}
+use Rattle.fa_laws.proofs.ZeroPages.{has_zero_pages, zeros_at}
 use Rattle.fa_laws.specs.EightPages.{cell_in, eight, held_slots, pages_on, write_of, written_in_turn}
 use Rattle.fa_machine.specs.Beginning.{IsBeginning, IsPlainOf, StandsAt}
 use Rattle.fa_machine.specs.Cells.{Sealed}
@@ -15,14 +16,14 @@ use Rattle.fa_machine.specs.declared.places.Used.TheVariants.{Held, Reserved, St
 use Rattle.fa_machine.specs.declared.places.Version.{Version}
 use Rattle.fa_types.specs.Geometry.{IsGeometry}
 use Rattle.fa_types.specs.declared.geometry.Geometry.{Geometry}
-use Rattle.std.proofs.Common.{Bool, List, None, Option, Some, [], ap, arith, cond, eqb-true, false, inl, inr, length, map, refl, replicate, subst, suc, sym, true, zero}
+use Rattle.std.proofs.Common.{Bool, List, None, Option, Some, [], ap, arith, cond, eqb-true, false, inl, inr, length, map, refl, replicate, subst, sym, true}
 use Rattle.std.proofs.Common.{ℕ, ◌+◌, ◌-◌, ◌<◌, ◌∙◌, ◌∷◌, ◌≡◌, ◌≤◌}
 use Rattle.std.proofs.lemmas.Bool.{and_parts, cases_Bool, cases_eq, cases_lt, false≢true, ltb-true, ne_eqb}
 use Rattle.std.proofs.lemmas.List.{get_or-append_right, length-replicate}
 use Rattle.std.proofs.lemmas.Option.{none-some, same_Some}
 use Rattle.std.specs.Cmp.{unsigned_tied}
 use Rattle.std.specs.FinMap.{find as find_entry, get, get-empty, get-from_sorted}
-use Rattle.std.specs.List.{AllByRecursion, list_all}
+use Rattle.std.specs.List.{list_all}
 use Rattle.std.specs.Ordering.{eq_by_cmp, nat_cmp}
 use Rattle.std.specs.Prelude.{find, is_some, nat_lt, option_map, slice_index_or, ◌&&◌, ◌==◌}
 use Rattle.std.specs.declared.cmp.Ordering.{Ordering}
@@ -94,15 +95,6 @@ below_eight P a b c d e f g h page low =
                 ]
           ]
     ]
-
-has_zero_pages : (n : ℕ) (page : List ℕ) (size : ℕ) → length page ≡ size → AllByRecursion (λ page. length page ≡ size) (replicate n page)
-has_zero_pages zero page size e = tt
-has_zero_pages (suc n) page size e = (e, has_zero_pages n page size e)
-
-zeros_at : (n : ℕ) (x : List ℕ) (k : ℕ) → k < n → slice_index_or (replicate n x) k [] ≡ x
-zeros_at zero x k low = absurd (omega arith)
-zeros_at (suc n) x zero low = refl
-zeros_at (suc n) x (suc k) low = zeros_at n x k (omega arith)
 
 -- the slot of a page on a die
 abbrev slot_of : ℕ → ℕ → Option ℕ

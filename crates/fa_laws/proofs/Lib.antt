@@ -53,3 +53,4 @@ pub mod Timely
 pub mod Within
 pub mod TornBatch
 pub mod Writes
+pub mod ZeroPages

@@ -26,17 +26,13 @@ use Rattle.fa_types.specs.declared.numbers.Page.{Page}
 use Rattle.fa_types.specs.declared.numbers.Round.{Round}
 use Rattle.fa_types.specs.declared.numbers.Slot.{Slot}
 use Rattle.std.proofs.Common.{Bool, List, None, Option, Some, [], ap, false, not, inl, inr, refl, subst, suc, sym, true, ℕ, ◌+◌, ◌++◌, ◌∙◌, ◌∷◌, ◌≡◌}
-use Rattle.std.proofs.lemmas.Bool.{and_parts, false≢true, or_cases}
+use Rattle.std.proofs.lemmas.Bool.{and_parts, false≢true, not-true, or_cases}
 use Rattle.std.specs.List.{list_all}
 use Rattle.std.specs.Cmp.{nat_cmp_total}
 use Rattle.std.specs.FinMap.{find as find_entry, from_sorted, get-from_sorted, insert, is_sorted, put, remove}
 use Rattle.std.specs.FinMap.Entries.{is_sorted-where_key}
 use Rattle.std.specs.Ordering.{eq_by_cmp, nat_cmp}
 use Rattle.std.specs.Prelude.{T, filter, if◌then◌else◌, is_some, length, nat_lt, Ok, ◌&&◌, ◌||◌, ◌==◌, ◌^◌}
-
-not_true : (b : Bool) → not b ≡ true → b ≡ false
-not_true true e = sym e
-not_true false e = refl
 
 pub is_none_there : {X : Type 0} (o : Option X) → not (is_some o) ≡ true → o ≡ None
 is_none_there None e = refl
@@ -263,10 +259,10 @@ module _ (g : Geometry) where
       let parts = and_parts (not (is_read_pending (at_number die t.jobs) (find_entry place_cmp (die, t.round) t.bookings))) _ h in
       record {
         read = (λ i. is_read_pending (get-from_sorted nat_cmp t.jobs die o.jobs i) (get-from_sorted place_cmp t.bookings (die, t.round) o.bookings i))
-            ∙ not_true _ parts.0;
+            ∙ not-true _ parts.0;
         step = elim (or_cases (not (is_in_window (at_number die t.windows) t.round)) _ parts.1) [
           | inl outside ↦ outside_no_step (core_of g t) die
-              (ap (λ x. is_in_window x t.round) (get-from_sorted nat_cmp t.windows die o.windows) ∙ not_true _ outside)
+              (ap (λ x. is_in_window x t.round) (get-from_sorted nat_cmp t.windows die o.windows) ∙ not-true _ outside)
           | inr done ↦
               let both = and_parts (not (is_some (at_number die t.jobs))) (is_some (at_number die t.stepped)) done in
               step_was_done (core_of g t) die (get-from_sorted nat_cmp t.jobs die o.jobs ∙ is_none_there (at_number die t.jobs) both.0)

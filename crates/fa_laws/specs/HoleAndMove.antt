@@ -13,7 +13,8 @@ use Rattle.fa_machine.specs.Copies.{copy_on}
 use Rattle.fa_machine.specs.Maps.{below}
 use Rattle.fa_machine.specs.Reading.{Planned, batch_at}
 use Rattle.fa_machine.specs.Run.{Happening, Event, ImageCall, HappensEvent, Run}
-use Rattle.fa_machine.specs.Step.{Act, Admit, Claim, Commit, Done, EndBatch, FlushBegin, FlushState, Release, Reserve, ReserveHole, Take, Window}
+use Rattle.fa_machine.specs.Step.{Act, Admit, Claim, Commit, Done, EndBatch, FlushBegin, FlushState, Release, Reserve}
+use Rattle.fa_machine.specs.Step.{ReserveHole, Take, Window}
 use Rattle.fa_machine.specs.Taking.{Handed, handed}
 use Rattle.fa_machine.specs.World.{World, Accepted, GaveCell, plain_page}
 use Rattle.fa_laws.specs.EightPages.{write_of}
@@ -40,7 +41,9 @@ writes_page page slot payload =
 
 -- both headers are written, and pages 0, 1 and 2, to slots 0, 1 and 2
 abbrev pub writing : (ℕ → List ℕ) → List Happening
-writing bytes = writes_header 0 1 ++ writes_header 1 1 ++ writes_page 0 0 (bytes 0) ++ writes_page 1 1 (bytes 1) ++ writes_page 2 2 (bytes 2)
+writing bytes =
+    writes_header 0 1 ++ writes_header 1 1
+    ++ writes_page 0 0 (bytes 0) ++ writes_page 1 1 (bytes 1) ++ writes_page 2 2 (bytes 2)
 
 -- the fourth write: a hole
 abbrev pub the_hole : Version
@@ -70,7 +73,8 @@ the_move = handed (Move (record { 0 = 1 }) (write_of 1) (record { 0 = 1 }) (reco
 
 abbrev pub moving : (ℕ → List ℕ) → List Happening
 moving bytes =
-    Event (Take 0 0 (Some the_move)) ∷ ImageCall 0 (GaveCell (Sealed 1 (write_of 1) 0 1 (bytes 1))) ∷ ImageCall 0 Accepted ∷ Event (Done 0 DidMove) ∷ []
+    Event (Take 0 0 (Some the_move)) ∷ ImageCall 0 (GaveCell (Sealed 1 (write_of 1) 0 1 (bytes 1)))
+    ∷ ImageCall 0 Accepted ∷ Event (Done 0 DidMove) ∷ []
 
 -- die 1 reads page 2 in round 2, and die 0 page 1 in round 3, from its new slot
 abbrev pub reading : (ℕ → List ℕ) → List Happening

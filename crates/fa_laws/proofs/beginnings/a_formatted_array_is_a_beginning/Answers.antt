@@ -1,4 +1,5 @@
 use Rattle.fa_laws.proofs.Maps.{get-insert_other}
+use Rattle.fa_laws.proofs.ZeroPages.{has_zero_pages, zeros_at}
 use Rattle.fa_laws.specs.Formatted.{formatted, new_map}
 use Rattle.fa_machine.specs.Beginning.{IsPlainOf, StandsAt}
 use Rattle.fa_machine.specs.Cells.{Empty}
@@ -10,22 +11,17 @@ use Rattle.fa_machine.specs.World.{World, plain_page}
 use Rattle.fa_machine.specs.declared.places.Used.{Used}
 use Rattle.fa_machine.specs.declared.places.Version.{Version}
 use Rattle.fa_types.specs.declared.geometry.Geometry.{Geometry}
-use Rattle.std.proofs.Common.{List, None, Option, Some, [], ap, arith, inl, inr, length, refl, suc, sym, true, zero, ℕ, ◌<◌, ◌∙◌, ◌≡◌}
+use Rattle.std.proofs.Common.{None, Option, Some, ap, arith, inl, inr, refl, sym, true, ℕ, ◌<◌, ◌∙◌, ◌≡◌}
 use Rattle.std.proofs.lemmas.Bool.{and_parts, cases_lt, false≢true}
 use Rattle.std.proofs.lemmas.List.{length-replicate}
 use Rattle.std.proofs.lemmas.Option.{none-some}
 use Rattle.std.specs.FinMap.{contains_key, empty, get, get-empty, insert}
-use Rattle.std.specs.List.{AllByRecursion}
 use Rattle.std.specs.Ordering.{nat_cmp}
-use Rattle.std.specs.Prelude.{is_some, option_map, replicate, slice_index_or}
+use Rattle.std.specs.Prelude.{is_some, option_map, replicate}
 use Rattle.fa_laws.proofs.beginnings.a_formatted_array_is_a_beginning.Goals as goal
 
 none_number : (page : ℕ) → get (empty {X = Version} {R = nat_cmp}) page ≡ None
 none_number page = get-empty nat_cmp page
-
-has_zero_pages : (n : ℕ) (page : List ℕ) (size : ℕ) → length page ≡ size → AllByRecursion (λ page. length page ≡ size) (replicate n page)
-has_zero_pages zero page size e = tt
-has_zero_pages (suc n) page size e = (e, has_zero_pages n page size e)
 
 two_live : (die : ℕ) → contains_key (insert (insert (empty {X = Unit {0}} {R = nat_cmp}) 0 tt) 1 tt) die ≡ true → die < 2
 two_live die e =
@@ -35,11 +31,6 @@ two_live die e =
           get-insert_other (insert (empty {X = Unit {0}} {R = nat_cmp}) 0 tt) 1 tt die (λ s. absurd (omega (arith, s, high)))
           ∙ get-insert_other (empty {X = Unit {0}} {R = nat_cmp}) 0 tt die (λ s. absurd (omega (arith, s, high))) ∙ get-empty nat_cmp die)) ∙ e))
     ]
-
-zeros_at : (n : ℕ) (x : List ℕ) (k : ℕ) → k < n → slice_index_or (replicate n x) k [] ≡ x
-zeros_at zero x k low = absurd (omega arith)
-zeros_at (suc n) x zero low = refl
-zeros_at (suc n) x (suc k) low = zeros_at n x k (omega arith)
 
 stands_new : (w : World) (die slot : ℕ) (o : Option Used) → o ≡ None → (w.images die).seen slot ≡ Empty → StandsAt w die slot o
 stands_new w die slot None e is = is
