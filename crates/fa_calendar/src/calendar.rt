@@ -1,5 +1,5 @@
 //! The calendar of all dies.
-ghost use Rattle.std.specs.Prelude.{◌≡◌, ℕ, ◌+◌, ◌-◌, ◌^◌, ◌<◌, ◌≤◌, ◌||◌, ◌&&◌, ◌==◌, not, nat_lt, if◌then◌else◌, Bool, true, false, List, IfOk, IsOk, OnOk, OnErr, IsErrOf, Some, None, option_map};
+ghost use Rattle.std.specs.Prelude.{◌≡◌, ℕ, ◌+◌, ◌-◌, ◌^◌, ◌<◌, ◌≤◌, ◌||◌, ◌&&◌, ◌==◌, not, nat_lt, if◌then◌else◌, Bool, true, false, List, IfOk, IsOk, OnOk, OnErr, IsErrOf, IsTrue, Some, None, option_map};
 ghost use Rattle.std.specs.List.{AllByRecursion};
 ghost use Rattle.fa_types.specs.Open.{rounds_that, max_closed, FewClosed, IsOpen};
 ghost use Rattle.fa_cert.specs.Plan.{AreApart};
@@ -63,6 +63,15 @@ impl<A: Allocator> Calendar<A> {
             return Err(refused);
         }
         Ok(())
+    }
+
+    /// Whether a round of a die is booked. It takes as many steps as the logarithm of the number of the die's
+    /// runs of closed rounds.
+    pub fn is_booked(&self, die: Die, round: Round) -> bool
+        ensures booked { result ≡ is_booked self.now die.0 round.0 }
+        ensures late { IsTrue result → current_of self.now ≤ round.0 }
+    {
+        self.dies[die.0 as usize].is_booked(round.0)
     }
 
     /// Releases a booked round of a die. It takes no memory.

@@ -5,7 +5,7 @@ ghost use Rattle.fa_types.specs.Open.{rounds_that, max_closed};
 ghost use Rattle.fa_cert.specs.Runs.{is_covered, is_from, total_rounds, AddsRun, AreMerged, DropsRound, IsNthFree};
 ghost use Rattle.fa_calendar.specs.DieState.{IsRoomy};
 ghost use Rattle.fa_calendar.specs.Dies.{is_at};
-ghost use Rattle.fa_calendar.specs.Windows.{left_window, IsFirstWindow};
+ghost use Rattle.fa_calendar.specs.Windows.{is_in_window, left_window, IsFirstWindow};
 
 use crate::gap::first_gap;
 use crate::refused::CalendarRefused;
@@ -62,6 +62,18 @@ impl<A: Allocator> DieCalendar<A> {
     pub fn is_closed(&self, round: u64) -> bool
         ensures { result ≡ is_covered self.now.spans round }
     {
+        covers(&self.spans, round)
+    }
+
+    /// Whether the round is closed and not in the window.
+    pub fn is_booked(&self, round: u64) -> bool
+        ensures { result ≡ (is_covered self.now.spans round && not (is_in_window self.now.window round)) }
+    {
+        if let Some(window) = self.window {
+            if window.first <= round && round <= window.last {
+                return false;
+            }
+        }
         covers(&self.spans, round)
     }
 

@@ -17,6 +17,8 @@ macro_rules! ensure {
 #[cfg(test)]
 mod arguments;
 #[cfg(test)]
+mod calendars;
+#[cfg(test)]
 mod cert;
 #[cfg(test)]
 mod cmds;

@@ -1,0 +1,5 @@
+use Rattle.fa_cert.proofs.Merged.{merged_rising}
+use Rattle.fa_calendar.proofs.die.DieCalendar.is_booked.Goals as goal
+
+pub covers-requires : goal.covers-requires
+covers-requires g c = merged_rising c.self.inside.spans.items c.self.invariant.merged
