@@ -1,12 +1,12 @@
 -- Spans that are edited, and stay merged.
-use Rattle.std.proofs.Common.{◌≡◌, ◌≢◌, ℕ, zero, suc, ◌+◌, ◌-◌, ◌<◌, ◌≤◌, inl, inr, Bool, true, false, cond, not, ◌&&◌, ◌||◌, nat_eq, nat_le, nat_lt, max, List, [], ◌∷◌, ◌++◌, length, take, drop, set, get_or, refl, sym, ap, ◌∙◌, subst, arith, drop-cons, Result, Ok, Err}
+use Rattle.std.proofs.Common.{◌≡◌, ℕ, zero, suc, ◌+◌, ◌-◌, ◌<◌, ◌≤◌, inl, inr, Bool, true, false, cond, not, ◌&&◌, ◌||◌, nat_eq, nat_le, max, List, [], ◌∷◌, ◌++◌, length, take, drop, set, get_or, refl, sym, ap, ◌∙◌, subst, arith, drop-cons, Result, Ok, Err}
 use Rattle.std.specs.Prelude.{OnErr}
-use Rattle.std.specs.List.{sum_by, insert, remove, AllByRecursion}
-use Rattle.std.proofs.lemmas.Bool.{cases_eq, cases_lt, and_left, and_right, and_from, or_from, or_left, or_right, le-leb, lt-leb, leb-true, eq-eqb, eqb-true}
+use Rattle.std.specs.List.{insert, remove, AllByRecursion}
+use Rattle.std.proofs.lemmas.Bool.{cases_lt, and_from, or_from, or_left, or_right, le-leb, leb-true, eqb-true}
 use Rattle.std.proofs.lemmas.List.{append_assoc, set_split, set_at, take_more, take_more_set, drop-set-lt, take-append-drop, drop_all, length-take-le}
 use Rattle.std.proofs.lemmas.List.Folds.{list_any-append}
 use Rattle.std.proofs.lemmas.List.Sums.{sum_by-cons}
-use Rattle.std.proofs.Math.Bool.{or-false, or_assoc, or_comm}
+use Rattle.std.proofs.Math.Bool.{or-false, or_assoc}
 use Rattle.fa_cert.specs.declared.spans.Span.{Span}
 use Rattle.fa_cert.specs.Runs.{is_covered, is_from, total_rounds, AddsRun, AreMerged, AreRising, DropsRound, IsIndexFrom, PassesRound}
 use Rattle.fa_cert.proofs.Counting.{AllByRecursion-weaker}

@@ -1,4 +1,4 @@
-use Rattle.std.proofs.Common.{◌≡◌, suc, ◌+◌, ◌-◌, ◌<◌, ◌++◌, ◌∷◌, length, take, drop, sym, ap, subst, ◌∙◌, arith}
+use Rattle.std.proofs.Common.{suc, ◌+◌, ◌-◌, ◌++◌, ◌∷◌, take, drop, sym, ap, subst, ◌∙◌, arith}
 use Rattle.fa_cert.specs.declared.spans.Span.{Span}
 use Rattle.fa_cert.specs.Runs.{DropsRound}
 use Rattle.fa_cert.proofs.Merged.{drops_inside, split_is, long_inside, on_err_anyway}

@@ -1,4 +1,4 @@
-use Rattle.std.proofs.Common.{ℕ, ◌<◌, nat_le, arith, sym, ◌∙◌, ap, length}
+use Rattle.std.proofs.Common.{nat_le, arith, sym, ◌∙◌, ap}
 use Rattle.std.proofs.lemmas.Bool.{le-ltb}
 use Rattle.fa_cert.specs.declared.spans.Span.{Span}
 use Rattle.fa_cert.proofs.Covered.{covered_from, covered_past}

@@ -1,5 +1,4 @@
-use Rattle.std.proofs.Common.{◌≡◌, get_or, sym, ap, subst, ◌∙◌, ◌<◌, length, arith}
-use Rattle.std.proofs.lemmas.List.{get_or_default}
+use Rattle.std.proofs.Common.{sym, ap, ◌∙◌, arith}
 use Rattle.fa_cert.specs.declared.spans.Span.{Span}
 use Rattle.fa_cert.proofs.Covered.{nth_is_free, rising_at, step_near, stays_early, stays_past}
 use Rattle.fa_cert.proofs.spans.nth_uncovered.Goals as goal
