@@ -54,7 +54,8 @@ impl<A: Allocator> Calendar<A> {
         ensures windows { (die : ℕ) → window_of self.new die ≡ window_of self.old die }
         ensures ok { OnOk result ((die round : ℕ) → is_booked self.new die round
             ≡ ((is_booked self.old die round && not (is_at old.now die round)) || is_at new.now die round)) }
-        ensures full { IsErrOf result CalendarRefused.Full → (die : ℕ) × IsFull (current_of self.old) (is_closed_with self.old old.now new.now die) 0 }
+        ensures full { IsErrOf result CalendarRefused.Full
+            → (die : ℕ) × IsFull (current_of self.old) (is_closed_with self.old old.now new.now die) 0 }
         ensures err { OnErr result (IsUnchanged self.old self.new) }
     {
         open_all(&mut self.dies, old);

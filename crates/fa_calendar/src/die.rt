@@ -253,7 +253,8 @@ fn take_all<A: Allocator>(
 ) -> Result<(), AllocError>
     requires { AreMerged spans.old.items }
     ensures merged { OnOk result (AreMerged spans.new.items) }
-    ensures opened { OnOk result ((r : ℕ) → is_covered spans.new.items r ≡ (is_covered spans.old.items r && not (is_at places.now number r))) }
+    ensures opened { OnOk result ((r : ℕ) → is_covered spans.new.items r
+        ≡ (is_covered spans.old.items r && not (is_at places.now number r))) }
 {
     for place in places {
         if place.die.0 == number && covers(spans, place.round.0) {

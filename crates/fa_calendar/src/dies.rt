@@ -42,7 +42,8 @@ pub fn open_all<A: Allocator>(dies: &mut Vec<DieCalendar<A>, A>, places: &[Place
     requires long { length dies.old.items ≡ 256 }
     requires roomy { AllHaveRoom dies.old.items }
     ensures kept { KeepsDies dies.old.items dies.new.items }
-    ensures opened { (die round : ℕ) → closed_by dies.new.items die round ≡ (closed_by dies.old.items die round && not (is_at places.now die round)) }
+    ensures opened { (die round : ℕ) → closed_by dies.new.items die round
+        ≡ (closed_by dies.old.items die round && not (is_at places.now die round)) }
 {
     for place in places {
         open_one(dies, place.die, place.round);
@@ -66,7 +67,8 @@ pub fn restore_all<A: Allocator>(dies: &mut Vec<DieCalendar<A>, A>, places: &[Pl
     requires roomy { AllHaveRoom dies.old.items }
     requires room { HasRoomFor dies.old.items (λ die round. closed_by dies.old.items die round || is_at places.now die round) }
     ensures kept { KeepsDies dies.old.items dies.new.items }
-    ensures closed { (die round : ℕ) → closed_by dies.new.items die round ≡ (closed_by dies.old.items die round || is_at places.now die round) }
+    ensures closed { (die round : ℕ) → closed_by dies.new.items die round
+        ≡ (closed_by dies.old.items die round || is_at places.now die round) }
 {
     for place in places {
         restore_one(dies, *place);
