@@ -1,5 +1,5 @@
 -- What the bytes of a header say.
-use Rattle.std.proofs.Common.{◌≡◌, ℕ, ◌^◌, ◌<◌, ◌≤◌, Bool, true, false, not, nat_eq, bit_and, List, ◌++◌, take, drop, refl, ap, sym, subst, ◌∙◌, arith}
+use Rattle.std.proofs.Common.{◌≡◌, ℕ, ◌^◌, ◌<◌, ◌≤◌, Bool, true, false, not, nat_eq, ◌⊎◌, inl, inr, bit_and, List, ◌++◌, take, drop, refl, ap, sym, subst, ◌∙◌, arith}
 use Rattle.std.proofs.lemmas.List.{take_at}
 use Rattle.byteorder.specs.Endian.{big_number}
 use Rattle.byteorder.specs.Numbers.{big_number-reads_back}
@@ -103,10 +103,10 @@ mask_fits header is =
     let most : 2 ^ header.geometry.dies ≤ 2 ^ 64 = pow-le-pow_right (omega arith) header.geometry.within.dies_fit.most in
     omega (arith, is.live_dies)
 
-pub reads_header : (header : Header) → IsHeader header → ReadsHeader (header_bytes header) header
-reads_header header is =
+pub reads_header : (format : ℕ) (header : Header) → IsHeader header → ReadsHeader (header_bytes format header) header
+reads_header format header is =
     let limits = header.geometry.within in
-    let bytes = header_bytes header in
+    let bytes = header_bytes format header in
     let marks : big_number 4 (drop 36 bytes) ≡ marks_number header.clean header.spare = big_number-reads_back 4 (marks_number header.clean header.spare) (drop 40 bytes) (marks_fit header.clean header.spare) in
     record {
       die = big_number-reads_back 4 header.die.0 (drop 16 bytes) (omega (arith, is.die, limits.dies_fit.most));
@@ -120,11 +120,26 @@ reads_header header is =
       pages = big_number-reads_back 8 header.geometry.pages (drop 48 bytes) (omega (arith, limits.pages_fit.most));
       epoch = big_number-reads_back 8 header.epoch (drop 56 bytes) (epoch_fits header is);
       mask = big_number-reads_back 8 header.mask (drop 64 bytes) (mask_fits header is);
-      array = take_at header.array (sha256 (shape_fields header ++ state_fields header)) 16 is.array;
+      array = take_at header.array (sha256 (shape_fields format header ++ state_fields header)) 16 is.array;
     }
 
+-- in either format
+reads_format : (bytes : List ℕ) (header : Header) → IsHeader header
+    → (bytes ≡ header_bytes 2 header) ⊎ (bytes ≡ header_bytes 1 header) → ReadsHeader bytes header
+reads_format bytes header is (inl newest) = subst (λ (b : List ℕ). ReadsHeader b header) (sym newest) (reads_header 2 header is)
+reads_format bytes header is (inr oldest) = subst (λ (b : List ℕ). ReadsHeader b header) (sym oldest) (reads_header 1 header is)
+
 pub reads_spelled : (bytes : List ℕ) (header : Header) → SpellsHeader header bytes → ReadsHeader bytes header
-reads_spelled bytes header spells = subst (λ (b : List ℕ). ReadsHeader b header) (sym spells.1) (reads_header header spells.0)
+reads_spelled bytes header spells = reads_format bytes header spells.0 spells.1
+
+-- the number of the format tells the formats apart
+pub formats_apart : (a b : Header) → header_bytes 1 a ≡ header_bytes 2 b → ⊥
+formats_apart a b same =
+    let format : List ℕ → ℕ = λ bytes. big_number 4 (drop 8 bytes) in
+    let first : format (header_bytes 1 a) ≡ 1 = big_number-reads_back 4 1 (drop 12 (header_bytes 1 a)) (omega arith) in
+    let second : format (header_bytes 2 b) ≡ 2 = big_number-reads_back 4 2 (drop 12 (header_bytes 2 b)) (omega arith) in
+    let both : format (header_bytes 1 a) ≡ format (header_bytes 2 b) = ap format same in
+    omega arith
 
 -- a geometry's numbers have no fault
 no_fault : (g : Geometry) (fault : GeometryFault) → IsFirstFault g.dies g.spares g.blocks g.slots g.page_bytes g.pages fault → ⊥

@@ -1,6 +1,7 @@
 -- The 112 bytes at the front of an image: which array and which die of it the image is, and which dies
--- were live when it was written, with a digest over all before it. Numbers are big-endian.
-use Rattle.std.specs.Prelude.{◌≡◌, ℕ, ◌+◌, ◌^◌, ◌<◌, ◌≤◌, Bool, List, ◌++◌, length, if◌then◌else◌, MatchBool}
+-- were live when it was written, with a digest over all before it. They are written in format 2, and read
+-- in format 1 as well; the number of the format is all that differs. Numbers are big-endian.
+use Rattle.std.specs.Prelude.{◌≡◌, ℕ, ◌+◌, ◌^◌, ◌<◌, ◌≤◌, Bool, ◌⊎◌, List, ◌++◌, length, if◌then◌else◌, MatchBool}
 use Rattle.std.specs.Int.{bit_at}
 use Rattle.byteorder.specs.Endian.{big_bytes}
 use Rattle.fa_tag.specs.SlotGrammar.{with_digest}
@@ -24,10 +25,10 @@ pub record IsHeader (header : Header) : Type 0 where
 abbrev pub marks_number : Bool → Bool → ℕ
 marks_number clean spare = (if clean then 1 else 0) + (if spare then 2 else 0)
 
--- the first 48 bytes: the letters FLSHARR1, the format 1, the die, the array's numbers and the marks
-abbrev pub shape_fields : Header → List ℕ
-shape_fields h =
-    big_bytes 8 0x464c534841525231 ++ big_bytes 4 1 ++ big_bytes 4 h.die.0 ++ big_bytes 4 h.geometry.dies
+-- the first 48 bytes: the letters FLSHARR1, the format, the die, the array's numbers and the marks
+abbrev pub shape_fields : ℕ → Header → List ℕ
+shape_fields format h =
+    big_bytes 8 0x464c534841525231 ++ big_bytes 4 format ++ big_bytes 4 h.die.0 ++ big_bytes 4 h.geometry.dies
     ++ big_bytes 4 h.geometry.spares ++ big_bytes 4 h.geometry.blocks ++ big_bytes 4 h.geometry.slots
     ++ big_bytes 4 h.geometry.page_bytes ++ big_bytes 4 (marks_number h.clean h.spare) ++ big_bytes 8 h.geometry.pages
 
@@ -35,10 +36,10 @@ shape_fields h =
 abbrev pub state_fields : Header → List ℕ
 state_fields h = big_bytes 8 h.epoch ++ big_bytes 8 h.mask ++ h.array
 
--- the 112 bytes of a header
-abbrev pub header_bytes : Header → List ℕ
-header_bytes h = with_digest (shape_fields h ++ state_fields h)
+-- the 112 bytes of a header in a format
+abbrev pub header_bytes : ℕ → Header → List ℕ
+header_bytes format h = with_digest (shape_fields format h ++ state_fields h)
 
--- the bytes are those of this header
+-- the bytes are those of this header, in format 2 or in format 1
 abbrev pub SpellsHeader : Header → List ℕ → Type 0
-SpellsHeader header bytes = IsHeader header × (bytes ≡ header_bytes header)
+SpellsHeader header bytes = IsHeader header × ((bytes ≡ header_bytes 2 header) ⊎ (bytes ≡ header_bytes 1 header))

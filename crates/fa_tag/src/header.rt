@@ -1,5 +1,5 @@
 //! An image's header.
-ghost use Rattle.std.specs.Prelude.{◌≡◌, ◌+◌, ◌<◌, ◌^◌, ◌↔◌, ℕ, List, ◌++◌, length, drop, IsTrue, IfSome, Some, ◌≤◌};
+ghost use Rattle.std.specs.Prelude.{◌≡◌, ◌+◌, ◌<◌, ◌^◌, ◌↔◌, ◌⊎◌, ℕ, List, ◌++◌, length, drop, IsTrue, IfSome, Some, ◌≤◌};
 ghost use Rattle.std.specs.Int.{bit_at};
 ghost use Rattle.fa_tag.specs.declared.header.Header.{Header};
 ghost use Rattle.fa_tag.specs.SlotGrammar.{with_digest as bytes_and_digest};
@@ -12,8 +12,11 @@ use fa_types::{Die, Geometry, HEADER_BYTES};
 /// The letters `FLSHARR1`, the first of a header.
 const MAGIC: u64 = 0x464c_5348_4152_5231;
 
-/// The format of the images.
-const FORMAT: u32 = 1;
+/// The first format of the images.
+const FORMAT_1: u32 = 1;
+
+/// The format in which headers are written.
+const FORMAT_2: u32 = 2;
 
 /// The greatest epoch: 2^62.
 const MAX_EPOCH: u64 = 1 << 62;
@@ -37,26 +40,41 @@ pub struct Header {
     pub array: [u8; 16],
 }
 
-/// The bytes of a header, with their digest (SHA-256, FIPS 180-4).
+/// The bytes of a header, with their digest (SHA-256, FIPS 180-4), in format 2.
 pub fn seal_header(header: &Header) -> [u8; HEADER_BYTES]
     requires { IsHeader header.now }
-    ensures { result ≡ header_bytes header.now }
+    ensures { result ≡ header_bytes 2 header.now }
 {
-    sealed(header)
+    sealed(FORMAT_2, header)
 }
 
-/// The header that these bytes are: `None` where they are those of no header.
+/// The bytes of a header in format 1, which no writer of today uses: for tests of those who read it.
+pub fn seal_header_1(header: &Header) -> [u8; HEADER_BYTES]
+    requires { IsHeader header.now }
+    ensures { result ≡ header_bytes 1 header.now }
+{
+    sealed(FORMAT_1, header)
+}
+
+/// The header that these bytes are, in either format: `None` where they are those of no header.
 pub fn open_header(bytes: &[u8; HEADER_BYTES]) -> Option<Header>
     ensures found { IfSome result (λ header. SpellsHeader header bytes.now) }
     ensures only { (header : Header) → SpellsHeader header bytes.now → result ≡ Some header }
 {
     let header = fields_in(bytes)?;
     // A header is read where writing it gives these very bytes.
-    if is_in_grammar(&header) && same_bytes(&sealed(&header), bytes) {
+    if is_in_grammar(&header) && is_spelled(&header, bytes) {
         Some(header)
     } else {
         None
     }
+}
+
+/// Whether these are the bytes of the fields, in either format.
+fn is_spelled(header: &Header, bytes: &[u8; HEADER_BYTES]) -> bool
+    ensures { IsTrue result ↔ ((bytes.now ≡ header_bytes 2 header.now) ⊎ (bytes.now ≡ header_bytes 1 header.now)) }
+{
+    same_bytes(&sealed(FORMAT_2, header), bytes) || same_bytes(&sealed(FORMAT_1, header), bytes)
 }
 
 /// The fields, whatever the bytes are: nothing but the geometry's limits is looked at.
@@ -115,11 +133,11 @@ fn has_role(header: &Header) -> bool
     }
 }
 
-/// The bytes of the fields, with their digest.
-fn sealed(header: &Header) -> [u8; HEADER_BYTES]
-    ensures { result ≡ header_bytes header.now }
+/// The bytes of the fields in a format, with their digest.
+fn sealed(format: u32, header: &Header) -> [u8; HEADER_BYTES]
+    ensures { result ≡ header_bytes format header.now }
 {
-    with_digest(&shape_bytes(header), &state_bytes(header))
+    with_digest(&shape_bytes(format, header), &state_bytes(header))
 }
 
 /// The two parts of a header, with the digest of both behind them.
@@ -133,13 +151,13 @@ fn with_digest(shape: &[u8; 48], state: &[u8; 32]) -> [u8; HEADER_BYTES]
 }
 
 /// The fields up to the number of pages.
-fn shape_bytes(header: &Header) -> [u8; 48]
-    ensures { result ≡ shape_fields header.now }
+fn shape_bytes(format: u32, header: &Header) -> [u8; 48]
+    ensures { result ≡ shape_fields format header.now }
 {
     let geometry = &header.geometry;
     let mut bytes = [0; 48];
     BigEndian::write_u64(&mut bytes, MAGIC);
-    BigEndian::write_u32(&mut bytes[8..], FORMAT);
+    BigEndian::write_u32(&mut bytes[8..], format);
     BigEndian::write_u32(&mut bytes[12..], u32::from(header.die.0));
     BigEndian::write_u32(&mut bytes[16..], geometry.dies);
     BigEndian::write_u32(&mut bytes[20..], geometry.spares);

@@ -2,10 +2,14 @@
 //! nothing else is. No call takes memory.
 #![tactic(auto)]
 
+mod fields;
+mod hashed;
 mod header;
 pub mod laws;
 mod numbers;
+mod payload_digest;
 mod tag;
 
-pub use header::{Header, open_header, seal_header};
-pub use tag::{Opened, Tag, open, seal};
+pub use header::{Header, open_header, seal_header, seal_header_1};
+pub use payload_digest::PayloadDigest;
+pub use tag::{Opened, Tag, open, seal, seal_1};

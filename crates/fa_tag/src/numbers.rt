@@ -1,5 +1,5 @@
 //! Numbers in bytes, digests, and bytes one behind the other.
-ghost use Rattle.std.specs.Prelude.{◌≡◌, ◌+◌, ◌≤◌, ◌↔◌, ◌++◌, length, take, drop, IsTrue};
+ghost use Rattle.std.specs.Prelude.{◌≡◌, ◌+◌, ◌≤◌, ◌↔◌, ◌++◌, length, take, drop, All, IsTrue};
 ghost use Rattle.byteorder.specs.Endian.{big_number};
 ghost use Rattle.sha2.specs.Sha256.{sha256};
 
@@ -11,6 +11,20 @@ pub(crate) fn same_bytes(a: &[u8], b: &[u8]) -> bool
     ensures { IsTrue result ↔ (a.now ≡ b.now) }
 {
     a == b
+}
+
+/// Whether each byte is zero.
+pub(crate) fn are_zeros(bytes: &[u8]) -> bool
+    ensures { IsTrue result ↔ All (λ byte. byte ≡ 0) bytes.now }
+{
+    bytes.iter().all(|byte| *byte == 0)
+}
+
+/// Whether the first bytes are the digest of the others (SHA-256, FIPS 180-4).
+pub(crate) fn is_digest_of(digest: &[u8], bytes: &[u8]) -> bool
+    ensures { IsTrue result ↔ (digest.now ≡ sha256 bytes.now) }
+{
+    same_bytes(digest, &Sha256::digest(bytes))
 }
 
 /// The digest of two pieces, one behind the other (SHA-256, FIPS 180-4).

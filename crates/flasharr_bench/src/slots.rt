@@ -1,10 +1,11 @@
 //! How long it takes to seal slots and to open them again.
 ghost use Rattle.std.specs.Prelude.{◌≡◌, ◌+◌, ◌<◌, ◌≤◌, ◌^◌, ◌↔◌, length, All, IfOk, IsTrue};
+ghost use Rattle.fa_types.specs.declared.kind.Kind.TheVariants.{Data};
 ghost use Rattle.fa_tag.specs.SlotGrammar.{IsTag};
 ghost use Rattle.flasharr_bench.specs.Good.{IsGood};
 
 use fa_tag::{Opened, Tag, open, seal};
-use fa_types::{Die, Page, Seq, Slot, TAG_BYTES};
+use fa_types::{Die, Kind, Page, Seq, Slot, TAG_BYTES};
 use std::io;
 use std::rt::Clock;
 use std::time::{Duration, Instant};
@@ -101,15 +102,17 @@ fn seal_numbered(number: u32, payload: &[u8; PAGE_BYTES], slot: &mut [u8; SLOT_B
     seal(tag_of(number), payload, slot);
 }
 
-/// The tag of a number, and of no other.
+/// The tag of a number, and of no other: that of data.
 fn tag_of(number: u32) -> Tag
     requires { number < 1048576 }
     ensures tag { IsTag result }
+    ensures data { result.kind ≡ Data }
     ensures own { result.page.0 ≡ number }
 {
     Tag {
         page: Page(u64::from(number)),
         seq: Seq(u64::from(number) + 1),
+        kind: Kind::Data,
         die: Die((number % 64) as u8),
         slot: Slot(number),
     }

@@ -2,7 +2,7 @@
 use crate::reopened::{left_and_opened, sealed_and_opened};
 use fa_image::{FileImage, FuseImage, Image, ImageFault, MemImage};
 use fa_tag::{Opened, Tag};
-use fa_types::{Die, Geometry, HEADER_BYTES, Page, Seq, Slot, TAG_BYTES};
+use fa_types::{Die, Geometry, HEADER_BYTES, Kind, Page, Seq, Slot, TAG_BYTES};
 use std::fs::{OpenOptions, Permissions};
 use std::os::unix::fs::PermissionsExt;
 use std::os::unix::process::parent_id;
@@ -198,6 +198,7 @@ fn a_sealed_page_is_opened_again(rt: HostRuntime) -> Result<(), Fail> {
     let tag = Tag {
         page: Page(5),
         seq: Seq(3),
+        kind: Kind::Data,
         die: Die(2),
         slot: Slot(17),
     };

@@ -3,7 +3,7 @@ ghost use Rattle.std.specs.Prelude.{◌≡◌, ◌+◌, ◌<◌, ◌≤◌, leng
 ghost use Rattle.fa_image.specs.File.{Start, opened};
 ghost use Rattle.fa_image.specs.FileMade.{file_view, file_is_honest, FileMade};
 ghost use Rattle.fa_image.specs.Image.{ReadingSlot, Gave, slot_bytes, slot_count};
-ghost use Rattle.fa_tag.specs.SlotGrammar.{IsTag, slot_1};
+ghost use Rattle.fa_tag.specs.SlotGrammar.{IsTag, IsPayloadOf, slot_2};
 
 use fa_image::{FileImage, Image};
 use fa_tag::{Opened, Tag, open, seal};
@@ -24,6 +24,7 @@ pub fn sealed_and_opened<R: Files<File = File> + AllocGlobal>(
     payload: &[u8],
 ) -> io::Result<(FileImage, Opened)>
     requires tag { IsTag tag }
+    requires kind { IsPayloadOf tag.kind payload.now }
     requires slot { tag.slot.0 < slot_count geometry }
     requires length { length payload.now ≡ geometry.page_bytes }
     ensures { IfOk result (λ pair. IsTrue (file_is_honest pair.0) → pair.1 ≡ Opened.Good tag) }
@@ -37,8 +38,9 @@ pub fn sealed_and_opened<R: Files<File = File> + AllocGlobal>(
 /// The bytes of a sealed page.
 fn sealed(alloc: Global, tag: Tag, payload: &[u8]) -> Result<Vec<u8>, AllocError>
     requires tag { IsTag tag }
+    requires kind { IsPayloadOf tag.kind payload.now }
     requires length { length payload.now ≤ 4096 }
-    ensures slot { IfOk result (λ bytes. bytes.items ≡ slot_1 tag payload.now) }
+    ensures slot { IfOk result (λ bytes. bytes.items ≡ slot_2 tag payload.now) }
     ensures length { IfOk result (λ bytes. length bytes.items ≡ length payload.now + 64) }
 {
     let mut bytes = vec![in alloc; 0u8; payload.len() + TAG_BYTES]?;

@@ -109,7 +109,13 @@ rounds 2\nplace 1 0 2\nplace 2 0 1\nshort 1 2\nend\n";
         };
         let mut input = text.as_bytes();
         let mut output = Vec::new(rt.alloc());
-        let status = run(&heap, rt.alloc(), slice::from_ref(&name), &mut input, &mut output);
+        let status = run(
+            &heap,
+            rt.alloc(),
+            slice::from_ref(&name),
+            &mut input,
+            &mut output,
+        );
         if status == 0 {
             whole = whole.saturating_add(1);
             ensure!(output.as_slice() == b"least 2\n".as_slice(), at room);

@@ -8,4 +8,4 @@ pub returns : goal.returns
 returns c =
     c.with_digest.ensures
     ∙ ap (λ (l : List ℕ). with_digest (l ++ c.state_bytes.result)) c.shape_bytes.ensures
-    ∙ ap (λ (l : List ℕ). with_digest (shape_fields c.args.header.now ++ l)) c.state_bytes.ensures
+    ∙ ap (λ (l : List ℕ). with_digest (shape_fields c.args.format c.args.header.now ++ l)) c.state_bytes.ensures
