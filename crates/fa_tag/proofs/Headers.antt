@@ -10,7 +10,7 @@ use Rattle.std.specs.Prelude.{IsTrue, MatchBool, IfOk, IfErr, Result, Ok, Err, S
 use Rattle.std.specs.Result.{result_ok, OkIff}
 use Rattle.std.specs.Int.{bit_at}
 use Rattle.fa_types.specs.declared.geometry.GeometryFault.{GeometryFault}
-use Rattle.fa_types.specs.declared.geometry.GeometryFault.TheVariants.{Dies, Blocks, Slots, PageBytes, Pages}
+use Rattle.fa_types.specs.declared.geometry.GeometryFault.TheVariants.{Dies, Blocks, Slots, PageBytes, Pages, Copies}
 use Rattle.sha2.specs.Sha256.{sha256}
 use Rattle.fa_types.specs.Geometry.{IsGeometry, is_page_size, IsFirstFault}
 use Rattle.fa_types.specs.declared.geometry.Geometry.{Geometry}
@@ -148,6 +148,7 @@ no_fault g Blocks first = first.1 g.within.blocks_fit
 no_fault g Slots first = first.2 g.within.slots_fit
 no_fault g PageBytes first = first.3 g.within.page_fits
 no_fault g Pages first = first.4 g.within.pages_fit
+no_fault g Copies first = first
 
 -- what `Geometry::new` gives of a geometry's numbers
 module _ (g : Geometry) (dies spares blocks slots page_bytes pages : ℕ)

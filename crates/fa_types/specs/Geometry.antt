@@ -1,7 +1,7 @@
 -- The shape of an array: how many dies, blocks, slots and pages there are, and their limits.
 use Rattle.std.specs.Prelude.{ℕ, ◌+◌, ◌-◌, ◌*◌, ◌/◌, ◌<◌, ◌≤◌, Bool, ◌||◌, ◌==◌, IsTrue}
 use Rattle.fa_types.specs.declared.geometry.GeometryFault.{GeometryFault}
-use Rattle.fa_types.specs.declared.geometry.GeometryFault.TheVariants.{Dies, Blocks, Slots, PageBytes, Pages}
+use Rattle.fa_types.specs.declared.geometry.GeometryFault.TheVariants.{Dies, Blocks, Slots, PageBytes, Pages, Copies}
 
 -- 2 to 64 dies, of which all but two may be spares
 pub record AreDies (dies spares : ℕ) : Type 0 where
@@ -44,7 +44,14 @@ pub record IsPlace (dies blocks slots die slot : ℕ) : Type 0 where
   pub on_a_die : die < dies
   pub on_the_die : slot < blocks * slots
 
--- the first of the five limits, in this order, that the numbers break
+-- Two or three copies of each page, no more than there are dies in use, and room for them on those dies, with two
+-- blocks of each die left over.
+pub record AreCopies (copies dies spares blocks slots pages : ℕ) : Type 0 where
+  pub two_or_three : (2 ≤ copies) × (copies ≤ 3)
+  pub each_on_a_die : copies ≤ dies - spares
+  pub fit : copies * pages ≤ (dies - spares) * (blocks - 2) * slots
+
+-- the first of the five limits, in this order, that the numbers break; how many copies there are is no part of a geometry
 abbrev pub IsFirstFault : (dies spares blocks slots page_bytes pages : ℕ) → GeometryFault → Type 0
 IsFirstFault dies spares blocks slots page_bytes pages Dies = ¬ (AreDies dies spares)
 IsFirstFault dies spares blocks slots page_bytes pages Blocks = AreDies dies spares × (¬ (AreBlocks blocks))
@@ -55,6 +62,7 @@ IsFirstFault dies spares blocks slots page_bytes pages PageBytes =
 IsFirstFault dies spares blocks slots page_bytes pages Pages =
     AreDies dies spares × AreBlocks blocks × AreSlotsOfBlock slots × IsTrue (is_page_size page_bytes)
     × (¬ (ArePages dies spares blocks slots pages))
+IsFirstFault dies spares blocks slots page_bytes pages Copies = ⊥
 
 -- the faults are numbered in that order
 abbrev pub geometry_fault_number : GeometryFault → ℕ
@@ -63,3 +71,4 @@ geometry_fault_number Blocks = 2
 geometry_fault_number Slots = 3
 geometry_fault_number PageBytes = 4
 geometry_fault_number Pages = 5
+geometry_fault_number Copies = 6

@@ -42,10 +42,13 @@ pub enum GeometryFault {
     /// Fault 5: no page, more than 1,048,576, or more than the dies hold twice.
     #[error("pages outside their limits")]
     Pages,
+    /// Fault 6: not 2 or 3 copies, more than the dies in use, or more of each page than these hold.
+    #[error("copies outside their limits")]
+    Copies,
 }
 
 impl GeometryFault {
-    /// The fault's number, 1 to 5.
+    /// The fault's number, 1 to 6.
     pub fn number(self) -> u8
         ensures { result ≡ geometry_fault_number self }
     {
@@ -55,6 +58,7 @@ impl GeometryFault {
             GeometryFault::Slots => 3,
             GeometryFault::PageBytes => 4,
             GeometryFault::Pages => 5,
+            GeometryFault::Copies => 6,
         }
     }
 }

@@ -4,6 +4,7 @@
 
 mod blocks;
 pub mod bytes;
+mod copies;
 mod geometry;
 mod kind;
 pub mod laws;
@@ -13,6 +14,7 @@ mod rounds;
 mod sizes;
 
 pub use blocks::{BlockFault, Blocks};
+pub use copies::Copies;
 pub use geometry::{Geometry, GeometryFault};
 pub use kind::Kind;
 pub use mem_blocks::MemBlocks;

@@ -1,0 +1,4 @@
+pub mod Faulty
+pub mod Limits
+pub mod Texts
+pub mod Unknown

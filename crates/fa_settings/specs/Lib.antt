@@ -1,0 +1,5 @@
+pub mod Faults
+pub mod Keys
+pub mod Meanings
+pub mod Settings
+pub mod Shapes
