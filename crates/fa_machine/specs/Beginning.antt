@@ -17,9 +17,24 @@ use Rattle.fa_machine.specs.World.{World, plain_page}
 -- The state over what the images hold, with nothing under way: round 1, each live header behind, an empty history.
 abbrev pub mounted : (copies epoch last : ℕ) (m : MapState) (spares : Numbers) (numbers : FinMap nat_cmp ℕ) → Core
 mounted copies epoch last m spares numbers = record {
-  copies = copies; page_map = m; calendar = record { round = 1; bookings = empty; windows = empty }; epoch = epoch; behind = m.live;
-  spares = spares; stepped = empty; last = last; waiting = []; jobs = empty; copying = None; claims = empty; batches = empty; flushes = 0;
-  asked = empty; synced = empty; base = record { numbers = numbers; commits = 0; starts = 0 }; history = [];
+  copies = copies;
+  page_map = m;
+  calendar = record { round = 1; bookings = empty; windows = empty };
+  epoch = epoch;
+  behind = m.live;
+  spares = spares;
+  stepped = empty;
+  last = last;
+  waiting = [];
+  jobs = empty;
+  copying = None;
+  claims = empty;
+  batches = empty;
+  flushes = 0;
+  asked = empty;
+  synced = empty;
+  base = record { numbers = numbers; commits = 0; starts = 0 };
+  history = [];
 }
 
 -- what the plain array has of a page that was never written, or of a hole, is zeros

@@ -18,10 +18,17 @@ drop_die die core =
     let left = remove core.page_map.live die in record core {
       page_map = record (core.page_map) { live = left; used = keep (λ place used. not (place.0 == die)) core.page_map.used };
       calendar = record (core.calendar) {
-        bookings = keep (λ place booking. not (place.0 == die)) core.calendar.bookings; windows = remove core.calendar.windows die };
-      epoch = core.epoch + 1; behind = left; stepped = remove core.stepped die;
-      waiting = filter (λ program. not (program.die == die)) core.waiting; jobs = remove core.jobs die; asked = remove core.asked die;
-      synced = remove core.synced die }
+        bookings = keep (λ place booking. not (place.0 == die)) core.calendar.bookings;
+        windows = remove core.calendar.windows die;
+      };
+      epoch = core.epoch + 1;
+      behind = left;
+      stepped = remove core.stepped die;
+      waiting = filter (λ program. not (program.die == die)) core.waiting;
+      jobs = remove core.jobs die;
+      asked = remove core.asked die;
+      synced = remove core.synced die;
+    }
 
 -- what is reserved under a claim
 abbrev pub reserved_under : Core → ℕ → Option Reservation

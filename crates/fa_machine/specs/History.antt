@@ -36,5 +36,7 @@ starts_in (Start seat page seq ∷ entries) = 1 + starts_in entries
 -- the base with the history taken into it
 abbrev pub folded : Base → List HistoryEntry → Base
 folded base entries = record {
-  numbers = replay base.numbers entries; commits = base.commits + commits_in entries; starts = base.starts + starts_in entries;
+  numbers = replay base.numbers entries;
+  commits = base.commits + commits_in entries;
+  starts = base.starts + starts_in entries;
 }

@@ -117,9 +117,11 @@ at_once m pages = filter (λ page. not (has_data (get m.numbers page))) pages
 abbrev pub Admits : Core → List ℕ → Result Admitted AdmitRefused → Core → Type 0
 Admits old pages (Ok admitted) new =
     Plans old.page_map old.calendar pages (to_read old.page_map pages) (Ok admitted.planned) × (is_fresh old admitted.batch.0 ≡ true)
-    × (new ≡ record old { calendar = booked admitted.batch admitted.planned.places old.calendar;
+    × (new ≡ record old {
+      calendar = booked admitted.batch admitted.planned.places old.calendar;
       batches = insert old.batches admitted.batch.0
-          (record { pages = pages; answers = insert_all (at_once old.page_map pages) (zeros old.page_map) empty }) })
+          (record { pages = pages; answers = insert_all (at_once old.page_map pages) (zeros old.page_map) empty });
+    })
 Admits old pages (Err refused) new = Plans old.page_map old.calendar pages (to_read old.page_map pages) (Err refused) × (new ≡ old)
 
 abbrev pub batch_at : Core → ℕ → OpenBatch
@@ -129,7 +131,7 @@ batch_at core batch = unwrap_or (get core.batches batch) (record { pages = []; a
 abbrev pub left_of : Core → ℕ → List ℕ
 left_of core batch =
     filter (λ page. not (contains_key (batch_at core batch).answers page || list_any (is_read_for batch page) (values core.jobs)))
-        (batch_at core batch).pages
+    (batch_at core batch).pages
 
 -- Replan: the batch's bookings that were not started are released, and what is left of it is planned anew.
 abbrev pub Replans : Core → ℕ → Result Planned AdmitRefused → Core → Type 0

@@ -22,7 +22,8 @@ CallsNext before die work None gave after = ⊥
 CallsNext before die work (Some call) gave after =
     (image : DieImage) × Calls (is_in_block before.core.page_map) call gave (before.images die) image × (after ≡ record before {
       images = with_value die image before.images;
-      works = with_value die (Some (record work { gave = work.gave ++ gave ∷ [] })) before.works })
+      works = with_value die (Some (record work { gave = work.gave ++ gave ∷ [] })) before.works;
+    })
 
 abbrev pub HappensCall : World → ℕ → Option Work → Gave → World → Type 0
 HappensCall before die None gave after = ⊥

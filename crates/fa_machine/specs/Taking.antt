@@ -88,15 +88,19 @@ other_job core die = or_else (option_map program_of (find (is_for die) core.wait
 -- The state in which a job is in flight: a move has reserved its new slot, a read has started and is in the history,
 -- a program no longer waits.
 abbrev pub begun : ℕ → ℕ → Flight → Core → Core
-begun die seat (Move page version from to) core = record core { jobs = insert core.jobs die (Move page version from to);
+begun die seat (Move page version from to) core = record core {
+  jobs = insert core.jobs die (Move page version from to);
   page_map = record (core.page_map) { used = insert core.page_map.used (die, to.0) Reserved };
 }
-begun die seat (Read batch page version slot) core = record core { jobs = insert core.jobs die (Read batch page version slot);
+begun die seat (Read batch page version slot) core = record core {
+  jobs = insert core.jobs die (Read batch page version slot);
   calendar = record (core.calendar) {
-    bookings = insert core.calendar.bookings (die, core.calendar.round) (record { batch = batch; page = page; started = true }) };
+    bookings = insert core.calendar.bookings (die, core.calendar.round) (record { batch = batch; page = page; started = true });
+  };
   history = core.history ++ Start seat page version.seq ∷ [];
 }
-begun die seat (Program page version slot) core = record core { jobs = insert core.jobs die (Program page version slot);
+begun die seat (Program page version slot) core = record core {
+  jobs = insert core.jobs die (Program page version slot);
   waiting = before_first (is_for die) core.waiting ++ after_first (is_for die) core.waiting;
 }
 begun die seat flight core = record core { jobs = insert core.jobs die flight }
@@ -104,8 +108,10 @@ begun die seat flight core = record core { jobs = insert core.jobs die flight }
 -- The state without the booking of this round, where it was not started: its die holds no current copy of its page,
 -- and its batch is torn.
 abbrev pub without_stale_booking : ℕ → Core → Core
-without_stale_booking die core = record core { calendar = record (core.calendar) {
-    bookings = keep (λ place b. not (place.0 == die && place.1 == core.calendar.round) || b.started) core.calendar.bookings };
+without_stale_booking die core = record core {
+  calendar = record (core.calendar) {
+    bookings = keep (λ place b. not (place.0 == die && place.1 == core.calendar.round) || b.started) core.calendar.bookings;
+  };
 }
 
 -- A job that is handed out, or none, with the state after.
@@ -148,7 +154,8 @@ mark_claim die slot c = record c {
 
 -- the reservation to which a slot belongs has its copy there
 abbrev pub program_ends : ℕ → ℕ → Core → Core
-program_ends die slot core = record core { claims = change (λ id c. mark_claim die slot c) core.claims;
+program_ends die slot core = record core {
+  claims = change (λ id c. mark_claim die slot c) core.claims;
   copying = option_map {T = Copying} (λ c. record c { target = mark die slot c.target }) core.copying;
 }
 
@@ -158,9 +165,12 @@ stepped_on die core = record core { stepped = insert core.stepped die tt }
 -- The new slot is current and the old one stale where the copy still has the page's number, else both are stale.
 abbrev pub move_ends : ℕ → ℕ → Version → ℕ → ℕ → Core → Core
 move_ends die page version from to core =
-    let kept = is_current core.page_map page die from in record core { page_map = record (core.page_map) {
+    let kept = is_current core.page_map page die from in record core {
+      page_map = record (core.page_map) {
         used = insert (insert core.page_map.used (die, from) Stale) (die, to)
-            (if kept then Held (record { 0 = page }) version else Stale) } }
+            (if kept then Held (record { 0 = page }) version else Stale);
+      };
+    }
 
 -- the slots of the block are erased, save those that were reserved while it was erased, which are programmed later
 abbrev pub stays : MapState → ℕ → ℕ → ℕ × ℕ → Used → Bool

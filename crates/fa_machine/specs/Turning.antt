@@ -45,7 +45,9 @@ abbrev pub TakesWindow : Core → ℕ → ℕ → Result Round WindowRefused →
 TakesWindow old die count (Ok first) new =
     (window_refusal old die count ≡ None) × IsFirstWindow old.page_map old.calendar die count first.0 × (new ≡ record old {
       calendar = record (old.calendar) {
-        windows = insert old.calendar.windows die (record { first = first; last = record { 0 = first.0 + count - 1 } }) } })
+        windows = insert old.calendar.windows die (record { first = first; last = record { 0 = first.0 + count - 1 } });
+      };
+    })
 TakesWindow old die count (Err WindowNoMemory) new = (window_refusal old die count ≡ None) × (new ≡ old)
 TakesWindow old die count (Err refused) new = (window_refusal old die count ≡ Some refused) × (new ≡ old)
 
@@ -81,18 +83,25 @@ advance_refusal core = first_that ((list_any (is_round_pending core) (dies_of co
 -- Advance: the round rises by 1. The bookings of the round that has passed go, and the windows that ended in it.
 abbrev pub Advances : Core → Result Round AdvanceRefused → Core → Type 0
 Advances old (Ok round) new =
-    (advance_refusal old ≡ None) × (round.0 ≡ old.calendar.round + 1) × (new ≡ record old { calendar = record {
-        round = old.calendar.round + 1; bookings = keep (λ place b. nat_lt old.calendar.round place.1) old.calendar.bookings;
-        windows = keep (λ die window. nat_lt old.calendar.round window.last.0) old.calendar.windows };
-      stepped = empty })
+    (advance_refusal old ≡ None) × (round.0 ≡ old.calendar.round + 1) × (new ≡ record old {
+      calendar = record {
+        round = old.calendar.round + 1;
+        bookings = keep (λ place b. nat_lt old.calendar.round place.1) old.calendar.bookings;
+        windows = keep (λ die window. nat_lt old.calendar.round window.last.0) old.calendar.windows;
+      };
+      stepped = empty;
+    })
 Advances old (Err refused) new = (advance_refusal old ≡ Some refused) × (new ≡ old)
 
 -- SpareIn: a spare is live, and each live header is behind, its own among them.
 abbrev pub BringsIn : Core → ℕ → Result (Unit {0}) SpareRefused → Core → Type 0
 BringsIn old die (Ok done) new =
     (contains_key old.spares die ≡ true) × (new ≡ record old {
-      page_map = record (old.page_map) { live = insert old.page_map.live die tt }; epoch = old.epoch + 1;
-      behind = insert old.page_map.live die tt; spares = remove old.spares die })
+      page_map = record (old.page_map) { live = insert old.page_map.live die tt };
+      epoch = old.epoch + 1;
+      behind = insert old.page_map.live die tt;
+      spares = remove old.spares die;
+    })
 BringsIn old die (Err NotSpare) new = (contains_key old.spares die ≡ false) × (new ≡ old)
 
 abbrev pub has_number : ℕ → Option Version → Bool
@@ -108,8 +117,10 @@ reserve_copy_refusal core page seq = first_that ((not (is_thin core page && has_
 abbrev pub copying_to : Core → ℕ → List ℕ → Option Version → Option ℕ → Core
 copying_to core page payload (Some version) (Some die) =
     let t = target_on core.page_map die in record core {
-      page_map = with_targets Reserved (t ∷ []) core.page_map; waiting = core.waiting ++ program_at page version payload t ∷ [];
-      copying = Some (record { page = record { 0 = page }; version = version; target = t }) }
+      page_map = with_targets Reserved (t ∷ []) core.page_map;
+      waiting = core.waiting ++ program_at page version payload t ∷ [];
+      copying = Some (record { page = record { 0 = page }; version = version; target = t });
+    }
 copying_to core page payload version die = core
 
 -- ReserveCopy: a slot for one more copy of a thin page, and its program.

@@ -158,7 +158,8 @@ abbrev pub with_batch : ℕ → List ℕ → World → World
 with_batch batch pages w = record w {
   values = fold (λ values page. with_value_at batch page (record { bytes = zeros w.core.page_map; since = w.moment }) values)
       w.values (at_once w.core.page_map pages);
-  told = w.told ++ told_at_once w.core pages; admitted = with_value batch w.moment w.admitted;
+  told = w.told ++ told_at_once w.core pages;
+  admitted = with_value batch w.moment w.admitted;
 }
 
 -- a job that was handed out: a read is due the plain array's page of this moment
@@ -171,7 +172,8 @@ with_due die flight w = w
 abbrev pub with_told : ℕ → ℕ → ℕ → ℕ → Option (List ℕ) → World → World
 with_told die batch page seq None w = w
 with_told die batch page seq (Some bytes) w = record w {
-  values = with_value_at batch page (w.due die) w.values; told = w.told ++ (record { page = page; seq = seq; bytes = bytes }) ∷ [];
+  values = with_value_at batch page (w.due die) w.values;
+  told = w.told ++ (record { page = page; seq = seq; bytes = bytes }) ∷ [];
 }
 
 abbrev pub with_end : ℕ → Flight → Outcome → World → World

@@ -63,8 +63,10 @@ reserved claim kind payload core =
     let page = claimed_page core claim in let version : Version = record { seq = record { 0 = core.last + 1 }; kind = kind } in
     let places = map (target_on core.page_map) (targets core page) in
     with_reserved claim (Some (record { version = version; targets = places })) (record core {
-      page_map = with_targets Reserved places core.page_map; last = core.last + 1;
-      waiting = core.waiting ++ map (program_at page version payload) places })
+      page_map = with_targets Reserved places core.page_map;
+      last = core.last + 1;
+      waiting = core.waiting ++ map (program_at page version payload) places;
+    })
 
 -- Why a number and slots are refused to a write that wants so many targets at least: too few live dies have room, no
 -- die is live, or 2^62 - 1 was given.
@@ -98,9 +100,11 @@ without_page page used = used
 abbrev pub committed : ℕ → ℕ → Reservation → Core → Core
 committed claim seat r core =
     let page = claimed_page core claim in let staled = change (λ place used. without_page page used) core.page_map.used in
-    with_reserved claim None (record core { page_map = with_targets (Held (record { 0 = page }) r.version) (live_targets core r.targets)
+    with_reserved claim None (record core {
+      page_map = with_targets (Held (record { 0 = page }) r.version) (live_targets core r.targets)
           (record (core.page_map) { numbers = insert core.page_map.numbers page r.version; used = staled });
-      history = core.history ++ CommitEntry seat (record { 0 = page }) r.version.seq ∷ [] })
+      history = core.history ++ CommitEntry seat (record { 0 = page }) r.version.seq ∷ [];
+    })
 
 -- Commit: what is reserved under the claim becomes the page's last write.
 abbrev pub Commits : Core → ℕ → ℕ → Option Reservation → Result Seq CommitRefused → Core → Type 0
@@ -124,5 +128,6 @@ Abandons old claim None answer new = ⊥
 Abandons old claim (Some r) (Ok done) new =
     (abandon_refusal old r.targets ≡ None) × (new ≡ with_reserved claim None (record old {
       page_map = with_targets Stale (live_targets old r.targets) old.page_map;
-      waiting = filter (λ p. not (list_any (λ t. t.die.0 == p.die && t.slot.0 == p.slot) r.targets)) old.waiting }))
+      waiting = filter (λ p. not (list_any (λ t. t.die.0 == p.die && t.slot.0 == p.slot) r.targets)) old.waiting;
+    }))
 Abandons old claim (Some r) (Err refused) new = (abandon_refusal old r.targets ≡ Some refused) × (new ≡ old)
