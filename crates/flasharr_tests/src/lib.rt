@@ -41,6 +41,8 @@ mod reopened;
 #[cfg(test)]
 mod rows;
 #[cfg(test)]
+mod settings;
+#[cfg(test)]
 mod spelling;
 #[cfg(test)]
 mod tag;

@@ -22,6 +22,7 @@ fn texts_of_faults(rt: HostRuntime) -> Result<(), Fail> {
         (GeometryFault::Slots, "slots outside their limits"),
         (GeometryFault::PageBytes, "no size of a page"),
         (GeometryFault::Pages, "pages outside their limits"),
+        (GeometryFault::Copies, "copies outside their limits"),
     ];
     for (fault, text) in geometry {
         tells(rt.alloc(), &fault, text)?;

@@ -1,7 +1,7 @@
 //! The limits of a geometry from both sides, and the plain store behind its trait.
 ghost use Rattle.std.specs.Prelude.{◌+◌, ◌≤◌};
 
-use fa_types::{BlockFault, Blocks, Geometry, MemBlocks};
+use fa_types::{BlockFault, Blocks, Copies, Geometry, MemBlocks};
 use std::alloc::Global;
 use std::test::Fail;
 
@@ -90,6 +90,35 @@ fn first_fault_of_several() -> Result<(), Fail> {
     ensure!(fault_of(4, 0, 16, 3, 511, 0) == 3);
     ensure!(fault_of(4, 0, 16, 8, 511, 0) == 4);
     ensure!(fault_of(4, 0, 16, 8, 512, 0) == 5);
+    Ok(())
+}
+
+/// The fault of so many copies on a geometry by its number, 0 for none.
+fn fault_of_copies(number: u32, geometry: Geometry) -> u8 {
+    match Copies::new(number, geometry) {
+        Ok(_) => 0,
+        Err(fault) => fault.number(),
+    }
+}
+
+#[test]
+fn limits_of_copies() -> Result<(), Fail> {
+    // Dies, spares, pages and copies: a die has 14 usable blocks of 8 slots.
+    let cases = [
+        (4, 0, 149, 1, 6),
+        (4, 0, 149, 2, 0),
+        (4, 0, 149, 3, 0),
+        (4, 0, 149, 4, 6),
+        (4, 0, 150, 3, 6),
+        (4, 1, 112, 3, 0),
+        (4, 2, 1, 3, 6),
+        (2, 0, 112, 2, 0),
+        (64, 0, 1, u32::MAX, 6),
+    ];
+    for (dies, spares, pages, copies, want) in cases {
+        let geometry = Geometry::new(dies, spares, 16, 8, 512, pages)?;
+        ensure!(fault_of_copies(copies, geometry) == want, at copies);
+    }
     Ok(())
 }
 
