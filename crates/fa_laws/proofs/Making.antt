@@ -1,4 +1,5 @@
 -- Events and image calls made, each from what is found in the maps of the world before it.
+use Rattle.std.specs.Option.{option_or}
 use Rattle.fa_laws.proofs.Invariant.{next}
 use Rattle.fa_machine.specs.Cells.{Outcome, is_of_kind}
 use Rattle.fa_machine.specs.Collecting.{is_in_block}
@@ -8,7 +9,7 @@ use Rattle.fa_machine.specs.Rounds.{is_in_window}
 use Rattle.fa_machine.specs.Run.{CallsNext, Happens, HappensCall, HappensEvent, ImageCall}
 use Rattle.fa_machine.specs.State.{Core, dies_of, is_live}
 use Rattle.fa_machine.specs.Step.{Done, Take, is_die, is_sized_read, may_end}
-use Rattle.fa_machine.specs.Taking.{EndsJob, Handed, after_urgent, begins, begun, finished, handed, is_idle, or_else, read_from, read_job, read_of}
+use Rattle.fa_machine.specs.Taking.{EndsJob, Handed, after_urgent, begins, begun, finished, handed, is_idle, read_from, read_job, read_of}
 use Rattle.fa_machine.specs.Taking.{flight_of, other_job, step_job, urgent_job, without_stale_booking}
 use Rattle.fa_machine.specs.Collecting.{next_step, victim}
 use Rattle.fa_machine.specs.Turning.{advance_refusal, is_read_pending, is_round_pending, is_step_pending, is_collecting}
@@ -57,7 +58,7 @@ pub is_at_ease : (core : Core) (die : ℕ) → is_live core.page_map die ≡ tru
 is_at_ease core die live none = ap (λ b. b && not (contains_key core.jobs die)) live ∙ ap (λ o. not (is_some o)) none
 
 pub header_first : (core : Core) (die : ℕ) → contains_key core.behind die ≡ true → urgent_job core die ≡ Some (Header core.epoch)
-header_first core die behind = ap (λ b. or_else (if b then Some (Header core.epoch) else None) (or_else (step_job core die) (read_job core die))) behind
+header_first core die behind = ap (λ b. option_or (if b then Some (Header core.epoch) else None) (option_or (step_job core die) (read_job core die))) behind
 
 -- where no header is behind and no window stands, the read of the round's booking
 pub read_first : (core : Core) (die : ℕ) (batch : BatchId) (page : Page) (version : Version) (slot : ℕ)
@@ -66,8 +67,8 @@ pub read_first : (core : Core) (die : ℕ) (batch : BatchId) (page : Page) (vers
     → get core.page_map.numbers page.0 ≡ Some version → copy_on core.page_map page.0 die ≡ Some slot
     → urgent_job core die ≡ Some (Read batch page version (record { 0 = slot }))
 read_first core die batch page version slot ahead none books number copy =
-    ap (λ o. or_else (if is_some o then Some (Header core.epoch) else None) (or_else (step_job core die) (read_job core die))) ahead
-    ∙ ap (λ o. or_else (if is_in_window o core.calendar.round && not (contains_key core.stepped die)
+    ap (λ o. option_or (if is_some o then Some (Header core.epoch) else None) (option_or (step_job core die) (read_job core die))) ahead
+    ∙ ap (λ o. option_or (if is_in_window o core.calendar.round && not (contains_key core.stepped die)
     then flight_of core.page_map die (next_step core.page_map die) else None) (read_job core die)) none
     ∙ ap (read_of core.page_map die) books
     ∙ (λ i. read_from (record { batch = batch; page = page; started = false }) (number i) (copy i))
@@ -144,8 +145,8 @@ takes_other w die seat job core allows idle urgent other is = record {
 pub none_first : (core : Core) (die : ℕ) → get core.behind die ≡ None → get core.calendar.windows die ≡ None
     → read_job core die ≡ None → urgent_job core die ≡ None
 none_first core die ahead none read =
-    ap (λ o. or_else (if is_some o then Some (Header core.epoch) else None) (or_else (step_job core die) (read_job core die))) ahead
-    ∙ ap (λ o. or_else (if is_in_window o core.calendar.round && not (contains_key core.stepped die)
+    ap (λ o. option_or (if is_some o then Some (Header core.epoch) else None) (option_or (step_job core die) (read_job core die))) ahead
+    ∙ ap (λ o. option_or (if is_in_window o core.calendar.round && not (contains_key core.stepped die)
     then flight_of core.page_map die (next_step core.page_map die) else None) (read_job core die)) none
     ∙ read
 
@@ -154,6 +155,6 @@ pub step_first : (core : Core) (die : ℕ) (flight : Flight) → get core.behind
     → (is_in_window (get core.calendar.windows die) core.calendar.round && not (contains_key core.stepped die)) ≡ true
     → flight_of core.page_map die (next_step core.page_map die) ≡ Some flight → urgent_job core die ≡ Some flight
 step_first core die flight ahead inside is =
-    ap (λ o. or_else (if is_some o then Some (Header core.epoch) else None) (or_else (step_job core die) (read_job core die))) ahead
-    ∙ ap (λ b. or_else (if b then flight_of core.page_map die (next_step core.page_map die) else None) (read_job core die)) inside
-    ∙ ap (λ o. or_else o (read_job core die)) is
+    ap (λ o. option_or (if is_some o then Some (Header core.epoch) else None) (option_or (step_job core die) (read_job core die))) ahead
+    ∙ ap (λ b. option_or (if b then flight_of core.page_map die (next_step core.page_map die) else None) (read_job core die)) inside
+    ∙ ap (λ o. option_or o (read_job core die)) is

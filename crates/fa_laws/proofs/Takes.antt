@@ -1,9 +1,10 @@
 -- What a Take comes to, case by case.
+use Rattle.std.specs.Option.{option_or}
 use Rattle.fa_machine.specs.Collecting.{move_place, next_step}
 use Rattle.fa_machine.specs.Copies.{copy_on}
 use Rattle.fa_machine.specs.State.{Core, WaitingProgram, used_at}
 use Rattle.fa_machine.specs.Taking.{Handed, after_urgent, begins, begun, flight_of, handed, header_job, is_for, is_idle, move_from}
-use Rattle.fa_machine.specs.Taking.{or_else, other_job, program_of, read_from, read_job, read_of, step_job, sync_job, taken}
+use Rattle.fa_machine.specs.Taking.{other_job, program_of, read_from, read_job, read_of, step_job, sync_job, taken}
 use Rattle.fa_machine.specs.Taking.{urgent_job, without_stale_booking}
 use Rattle.fa_machine.specs.declared.jobs.CollectorStep.{CollectorStep}
 use Rattle.fa_machine.specs.declared.jobs.CollectorStep.TheVariants.{EraseBlock, MoveSlot, Nothing}
@@ -43,7 +44,7 @@ IsOther core die None = Unit {0}
 IsOther core die (Some job) =
     ((p : WaitingProgram) × (find (is_for die) core.waiting ≡ Some p) × (job ≡ program_of p)) ⊎ ((flushes : ℕ) × (job ≡ handed (Sync flushes)))
 
-one_of_two : {A : Type 0} (a b : Option A) (x : A) → or_else a b ≡ Some x → (a ≡ Some x) ⊎ (b ≡ Some x)
+one_of_two : {A : Type 0} (a b : Option A) (x : A) → option_or a b ≡ Some x → (a ≡ Some x) ⊎ (b ≡ Some x)
 one_of_two None b x e = inr e
 one_of_two (Some a) b x e = inl e
 
@@ -92,7 +93,7 @@ a_read core die (Some b) flight booked e =
 
 urgent_is : (core : Core) (die : ℕ) (flight : Flight) → urgent_job core die ≡ Some flight → IsUrgent core die flight
 urgent_is core die flight e =
-    elim (one_of_two (header_job core die) (or_else (step_job core die) (read_job core die)) flight e) [
+    elim (one_of_two (header_job core die) (option_or (step_job core die) (read_job core die)) flight e) [
       | inl header ↦ subst (IsUrgent core die) (same_Some _ flight (if_some _ _ flight header).1) tt
       | inr later ↦ elim (one_of_two (step_job core die) (read_job core die) flight later) [
         | inl step ↦ a_step core die _ flight refl (if_some _ _ flight step).1
@@ -106,7 +107,7 @@ sync_is core die job None is e = absurd (none-some job e)
 sync_is core die job (Some flight) is e = sym (same_Some _ job e) ∙ ap handed (sym (same_Some _ flight (if_some _ _ flight is).1))
 
 other_is : (core : Core) (die : ℕ) (found : Option WaitingProgram) (job : Option Handed) → find (is_for die) core.waiting ≡ found
-    → or_else (option_map program_of found) (option_map handed (sync_job core die)) ≡ job → IsOther core die job
+    → option_or (option_map program_of found) (option_map handed (sync_job core die)) ≡ job → IsOther core die job
 other_is core die found None is e = tt
 other_is core die (Some p) (Some job) is e = inl (p, is, sym (same_Some _ job e))
 other_is core die None (Some job) is e = inr (core.flushes, sync_is core die job (sync_job core die) refl e)

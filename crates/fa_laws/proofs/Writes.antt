@@ -1,4 +1,5 @@
 -- The events of a writer and the programs of dies, of states that are told by lists.
+use Rattle.std.specs.Option.{option_or}
 use Rattle.fa_laws.proofs.Listed.{change_listed, insert_listed, inserts_listed, keep_listed, remove_listed}
 use Rattle.fa_laws.proofs.Making.{called, calls, ends, none_first, takes_other}
 use Rattle.fa_laws.proofs.Maps.{nat_same, place_cmp_total, place_same}
@@ -12,7 +13,7 @@ use Rattle.fa_machine.specs.Placement.{copies_asked, targets}
 use Rattle.fa_machine.specs.Run.{Happens, HappensEvent, ImageCall}
 use Rattle.fa_machine.specs.State.{Core, OpenClaim, Reservation}
 use Rattle.fa_machine.specs.Step.{Claim, Commit, Done, Release, Reserve, ReserveHole, Take, is_page}
-use Rattle.fa_machine.specs.Taking.{Handed, handed, is_for, mark_claim, or_else, program_of, read_of, other_job, urgent_job, without_stale_booking}
+use Rattle.fa_machine.specs.Taking.{Handed, handed, is_for, mark_claim, program_of, read_of, other_job, urgent_job, without_stale_booking}
 use Rattle.fa_machine.specs.World.{Accepted, HasOutcome, ProgramsSlot, World, with_cell, with_value_at}
 use Rattle.fa_machine.specs.Writing.{Commits, Reserves, claimed_page, committed, live_targets, program_at, reserve_refusal, reserved}
 use Rattle.fa_machine.specs.Writing.{target_on, with_targets, without_page}
@@ -232,7 +233,7 @@ module _ (g : Geometry) where
 
   -- the job behind the booked reads
   abbrev pub other_in : Table → ℕ → Option Handed
-  other_in t die = or_else (option_map program_of (find (is_for die) t.waiting))
+  other_in t die = option_or (option_map program_of (find (is_for die) t.waiting))
       (option_map handed (if nat_lt (unwrap_or (at_number die t.synced) 0) (unwrap_or (at_number die t.asked) 0) then Some (Sync t.flushes) else None))
 
   -- nothing comes before a waiting program
@@ -257,7 +258,7 @@ module _ (g : Geometry) where
         (ap (read_of (core_of g t).page_map die) (get-from_sorted place_cmp t.bookings (die, t.round) o.bookings) ∙ is_none_there _ b.1)
 
     other_same : other_job (without_stale_booking die (core_of g t)) die ≡ other_in t die
-    other_same = λ i. or_else (option_map program_of (find (is_for die) t.waiting)) (option_map handed
+    other_same = λ i. option_or (option_map program_of (find (is_for die) t.waiting)) (option_map handed
         (if nat_lt (unwrap_or (get-from_sorted nat_cmp t.synced die o.synced i) 0) (unwrap_or (get-from_sorted nat_cmp t.asked die o.asked i) 0)
         then Some (Sync t.flushes) else None))
 

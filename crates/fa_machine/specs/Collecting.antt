@@ -1,5 +1,5 @@
--- What the collector does: its victim, its next step, and when it wants a window.
-use Rattle.std.specs.Prelude.{ℕ, ◌*◌, ◌/◌, Bool, not, ◌==◌, ◌&&◌, ◌||◌, nat_lt, nat_le, List, Option, Some, None, is_some}
+-- What the collector does: its victim, and its next step.
+use Rattle.std.specs.Prelude.{ℕ, ◌*◌, ◌/◌, Bool, not, ◌==◌, ◌&&◌, ◌||◌, nat_lt, nat_le, List, Option, Some, None}
 use Rattle.std.specs.Prelude.{find, count_by}
 use Rattle.std.specs.List.{list_all, range_with_len}
 use Rattle.fa_machine.specs.declared.jobs.CollectorStep.{CollectorStep}
@@ -7,8 +7,8 @@ use Rattle.fa_machine.specs.declared.jobs.CollectorStep.TheVariants.{MoveSlot, E
 use Rattle.fa_machine.specs.declared.places.Used.{Used}
 use Rattle.fa_machine.specs.Copies.{is_reserved_slot, is_held_slot, is_stale_slot}
 use Rattle.fa_machine.specs.Maps.{below}
-use Rattle.fa_machine.specs.Placement.{is_erased_slot, room}
-use Rattle.fa_machine.specs.State.{MapState, slots_of, is_live, used_at}
+use Rattle.fa_machine.specs.Placement.{is_erased_slot}
+use Rattle.fa_machine.specs.State.{MapState, slots_of, used_at}
 
 -- the slots of a block
 abbrev pub slots_in : MapState → ℕ → List ℕ
@@ -55,6 +55,3 @@ next_step m die = step_on m die (victim m die)
 -- where the collector moves a slot of its victim to: the lowest erased slot outside of it
 abbrev pub move_place : MapState → ℕ → ℕ → Option ℕ
 move_place m die block = find (is_erased_outside m die block) (slots_of m)
-
-abbrev pub wants_window : MapState → ℕ → Bool
-wants_window m die = is_live m die && nat_lt (room m die) m.geometry.slots && is_some (victim m die)

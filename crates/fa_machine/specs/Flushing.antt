@@ -33,7 +33,3 @@ flush_state core flush =
 -- Fold: the history is taken into its base.
 abbrev pub Folds : Core → Core → Type 0
 Folds old new = new ≡ record old { base = folded old.base old.history; history = [] }
-
--- how many Commits and Starts there were since mounting; a Fold leaves them
-abbrev pub counts : Core → ℕ × ℕ
-counts core = let b = folded core.base core.history in (b.commits, b.starts)

@@ -1,5 +1,6 @@
 -- The history: a base, and the Commits and Starts since. A Commit gives a page its number. A Start is legal where
 -- the page has, at its place, the number that it names.
+use Rattle.std.specs.Option.{option_map_or}
 use Rattle.std.specs.Prelude.{ℕ, ◌+◌, Bool, true, false, ◌==◌, ◌&&◌, nat_le, List, [], ◌∷◌, length, Option, Some, None}
 use Rattle.std.specs.Ordering.{nat_cmp}
 use Rattle.std.specs.FinMap.{FinMap, insert, get}
@@ -14,8 +15,7 @@ replay numbers (Commit seat page seq ∷ entries) = replay (insert numbers page.
 replay numbers (Start seat page seq ∷ entries) = replay numbers entries
 
 abbrev pub is_number : Option ℕ → ℕ → Bool
-is_number None seq = false
-is_number (Some n) seq = n == seq
+is_number number seq = option_map_or (λ n. n == seq) number false
 
 -- each Start is legal
 abbrev pub is_legal : FinMap nat_cmp ℕ → List HistoryEntry → Bool

@@ -1,7 +1,7 @@
--- Where copies go: the homes of a page and its order of dies, the room of a die, the targets of a write, and the
--- pages that want one more copy.
+-- Where copies go: the homes of a page and its order of dies, the room of a die, the targets of a write, thin
+-- pages, and where one more copy goes.
 use Rattle.std.specs.Prelude.{ℕ, ◌+◌, ◌-◌, ◌/◌, ◌%◌, min, Bool, not, ◌==◌, ◌&&◌, nat_lt, if◌then◌else◌, List, [], ◌∷◌, ◌++◌}
-use Rattle.std.specs.Prelude.{Option, is_none, is_some, option_map, option_and_then, length, take, reverse, find, filter, count_by}
+use Rattle.std.specs.Prelude.{Option, is_none, length, take, reverse, find, filter, count_by}
 use Rattle.std.specs.FinMap.{len}
 use Rattle.fa_machine.specs.Copies.{holds_page, holders}
 use Rattle.fa_machine.specs.Maps.{below, is_one_of}
@@ -59,8 +59,3 @@ is_thin core page = let n = length (holders core.page_map page) in nat_lt 0 n &&
 -- where one more copy goes: the first live die with room in the page's order that does not hold it
 abbrev pub copy_place : Core → ℕ → Option ℕ
 copy_place core page = find (λ die. has_room core.page_map die && not (holds_page core.page_map page die)) (order_of core page)
-
--- the lowest thin page that has a place to go, and that place
-abbrev pub next_thin : Core → Option (ℕ × ℕ)
-next_thin core = option_and_then (λ page. option_map (λ die. (page, die)) (copy_place core page))
-    (find (λ page. is_thin core page && is_some (copy_place core page)) (below core.page_map.geometry.pages))

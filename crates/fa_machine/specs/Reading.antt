@@ -1,4 +1,5 @@
 -- The events of readers: Admit, Replan, EndBatch; and how a batch stands.
+use Rattle.std.specs.Option.{option_map_or}
 use Rattle.std.specs.Prelude.{◌≡◌, ℕ, ◌+◌, ◌-◌, ◌^◌, ◌<◌, ◌≤◌, Bool, true, false, not, ◌==◌, ◌&&◌, ◌||◌, nat_lt, if◌then◌else◌, List, []}
 use Rattle.std.specs.Prelude.{Option, Some, None, option_map, unwrap_or, Result, Ok, Err}
 use Rattle.std.specs.Prelude.{map, filter, fold, find, filter_map, count_by, replicate}
@@ -41,8 +42,7 @@ is_data Hole = false
 
 -- whether a page has bytes on its dies: it was written, and not as a hole
 abbrev pub has_data : Option Version → Bool
-has_data None = false
-has_data (Some version) = is_data version.kind
+has_data version = option_map_or (λ v. is_data v.kind) version false
 
 -- the pages that are to be read, each with its holders
 abbrev pub entries_for : MapState → List ℕ → List Entry

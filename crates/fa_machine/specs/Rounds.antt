@@ -1,4 +1,5 @@
 -- Which rounds of a die are closed, how many entries its calendar has, and where its next window lies.
+use Rattle.std.specs.Option.{option_map_or}
 use Rattle.std.specs.Prelude.{◌≡◌, ℕ, ◌+◌, ◌-◌, ◌<◌, max, Bool, true, false, not, ◌==◌, ◌&&◌, ◌||◌, nat_le, Option, Some, None, count_by}
 use Rattle.std.specs.List.{list_all, range_with_len}
 use Rattle.std.specs.FinMap.{get, contains_key, keys}
@@ -7,8 +8,7 @@ use Rattle.fa_machine.specs.State.{MapState, CalendarState, is_live}
 
 -- whether a round is in a window, if there is one
 abbrev pub is_in_window : Option Window → ℕ → Bool
-is_in_window None round = false
-is_in_window (Some window) round = nat_le window.first.0 round && nat_le round window.last.0
+is_in_window window round = option_map_or (λ w. nat_le w.first.0 round && nat_le round w.last.0) window false
 
 -- A round of a die is closed where it is booked or in the die's window. That is all that a calendar knows.
 abbrev pub is_taken : CalendarState → ℕ → ℕ → Bool
@@ -20,8 +20,7 @@ is_closed m calendar die round = not (is_live m die) || is_taken calendar die ro
 
 -- how many rounds of a window have not passed
 abbrev pub window_rounds : ℕ → Option Window → ℕ
-window_rounds round None = 0
-window_rounds round (Some window) = window.last.0 + 1 - max round window.first.0
+window_rounds round window = option_map_or (λ w. w.last.0 + 1 - max round w.first.0) window 0
 
 -- the entries of a die: its booked rounds, and the rounds of its window that have not passed
 abbrev pub entries_of : CalendarState → ℕ → ℕ

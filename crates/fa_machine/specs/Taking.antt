@@ -2,6 +2,7 @@
 use Rattle.std.specs.Prelude.{◌≡◌, ℕ, ◌/◌, Bool, true, not, ◌==◌, ◌&&◌, ◌||◌, nat_lt, if◌then◌else◌, List, [], ◌∷◌, ◌++◌}
 use Rattle.std.specs.Prelude.{Option, Some, None, unwrap_or, option_map, map, find}
 use Rattle.std.specs.List.{before_first, after_first}
+use Rattle.std.specs.Option.{option_or}
 use Rattle.std.specs.FinMap.{insert, remove, contains_key, get}
 use Rattle.fa_machine.specs.declared.answers.HistoryEntry.TheVariants.{Start}
 use Rattle.fa_machine.specs.declared.jobs.CollectorStep.{CollectorStep}
@@ -74,16 +75,12 @@ is_for die p = p.die == die
 abbrev pub sync_job : Core → ℕ → Option Flight
 sync_job core die = if nat_lt (unwrap_or (get core.synced die) 0) (unwrap_or (get core.asked die) 0) then Some (Sync core.flushes) else None
 
-abbrev pub or_else : {A : Type 0} → Option A → Option A → Option A
-or_else None b = b
-or_else (Some a) b = Some a
-
 -- the jobs before and behind the drop of a booking that cannot be read
 abbrev pub urgent_job : Core → ℕ → Option Flight
-urgent_job core die = or_else (header_job core die) (or_else (step_job core die) (read_job core die))
+urgent_job core die = option_or (header_job core die) (option_or (step_job core die) (read_job core die))
 
 abbrev pub other_job : Core → ℕ → Option Handed
-other_job core die = or_else (option_map program_of (find (is_for die) core.waiting)) (option_map handed (sync_job core die))
+other_job core die = option_or (option_map program_of (find (is_for die) core.waiting)) (option_map handed (sync_job core die))
 
 -- The state in which a job is in flight: a move has reserved its new slot, a read has started and is in the history,
 -- a program no longer waits.

@@ -1,5 +1,6 @@
 -- The events of the collector and the round, Window and Advance, and those of the rebuilder, SpareIn, ReserveCopy and
 -- CommitCopy.
+use Rattle.std.specs.Option.{option_map_or}
 use Rattle.std.specs.Prelude.{◌≡◌, ℕ, ◌+◌, ◌-◌, ◌^◌, Bool, true, false, not, ◌==◌, ◌&&◌, ◌||◌, nat_lt, List, [], ◌∷◌, ◌++◌}
 use Rattle.std.specs.Prelude.{Option, Some, None, is_none, is_some, Result, Ok, Err}
 use Rattle.std.specs.List.{list_any}
@@ -62,8 +63,7 @@ is_collecting flight = false
 
 -- whether the read of a booking of this round has not ended, at a die with this job
 abbrev pub is_read_pending : Option Flight → Option Booking → Bool
-is_read_pending flight None = false
-is_read_pending flight (Some b) = not b.started || is_reading flight
+is_read_pending flight booking = option_map_or (λ b. not b.started || is_reading flight) booking false
 
 -- whether the collector's step of this round is in flight, or is not done while there is one, as there is where there is a victim
 abbrev pub is_step_pending : Core → ℕ → Bool
@@ -105,8 +105,7 @@ BringsIn old die (Ok done) new =
 BringsIn old die (Err NotSpare) new = (contains_key old.spares die ≡ false) × (new ≡ old)
 
 abbrev pub has_number : ℕ → Option Version → Bool
-has_number seq None = false
-has_number seq (Some version) = version.seq.0 == seq
+has_number seq version = option_map_or (λ v. v.seq.0 == seq) version false
 
 abbrev pub reserve_copy_refusal : Core → ℕ → ℕ → Option ReserveCopyRefused
 reserve_copy_refusal core page seq = first_that ((not (is_thin core page && has_number seq (get core.page_map.numbers page)), Gone)
