@@ -2,3 +2,4 @@ pub mod Faulty
 pub mod Limits
 pub mod Texts
 pub mod Unknown
+pub mod Verdicts

@@ -4,6 +4,7 @@
 mod address;
 mod fault;
 mod key;
+pub mod laws;
 mod names;
 mod reader;
 mod settings;
