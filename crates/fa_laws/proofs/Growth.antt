@@ -1,10 +1,11 @@
 -- Each event keeps the replay of the history, and counts.
 use Rattle.fa_laws.proofs.Takes.{IsOther, IsUrgent, take_cases}
-use Rattle.fa_laws.specs.Counted.{HasHistory, counts, commits_of, commits_over, is_read, starts_of, starts_over}
+use Rattle.fa_laws.specs.Counted.{HasHistory, commits_of, commits_over, is_read, starts_of, starts_over}
 use Rattle.fa_machine.specs.Beginning.{IsBeginning}
 use Rattle.fa_machine.specs.Cells.{DidErase, DidMove, DidProgram, DidRead, DidSync, DidWriteHeader, Outcome}
 use Rattle.fa_machine.specs.Conditions.{reserved_under}
 use Rattle.fa_machine.specs.Flushing.{Folds}
+use Rattle.fa_machine.specs.Looks.{counts}
 use Rattle.fa_machine.specs.History.{commits_in, folded, is_legal, is_number, replay, starts_in}
 use Rattle.fa_machine.specs.Placement.{copy_place}
 use Rattle.fa_machine.specs.Run.{CallsNext, Event, Happening, Happens, HappensCall, ImageCall, Run}

@@ -4,7 +4,7 @@ use Rattle.std.specs.List.{sum_by}
 use Rattle.std.specs.FinMap.{get}
 use Rattle.fa_machine.specs.declared.jobs.Flight.{Flight}
 use Rattle.fa_machine.specs.declared.jobs.Flight.TheVariants.{Read}
-use Rattle.fa_machine.specs.History.{folded, replay, is_legal}
+use Rattle.fa_machine.specs.History.{replay, is_legal}
 use Rattle.fa_machine.specs.Run.{Happening, Event}
 use Rattle.fa_machine.specs.State.{Core}
 use Rattle.fa_machine.specs.Step.{Commit, Take}
@@ -33,7 +33,3 @@ commits_over happenings = sum_by commits_of happenings
 
 abbrev pub starts_over : List Happening → ℕ
 starts_over happenings = sum_by starts_of happenings
-
--- how many Commits and Starts there were since mounting; a Fold leaves them
-abbrev pub counts : Core → ℕ × ℕ
-counts core = let b = folded core.base core.history in (b.commits, b.starts)

@@ -1,8 +1,9 @@
 //! The history is kept over every run: its replay is the numbers of the pages.
 ghost use Rattle.std.specs.Prelude.{◌≡◌, List};
-ghost use Rattle.fa_laws.specs.Counted.{HasHistory, counts, commits_over, starts_over};
+ghost use Rattle.fa_laws.specs.Counted.{HasHistory, commits_over, starts_over};
 ghost use Rattle.fa_machine.specs.Beginning.{IsBeginning};
 ghost use Rattle.fa_machine.specs.Flushing.{Folds};
+ghost use Rattle.fa_machine.specs.Looks.{counts};
 ghost use Rattle.fa_machine.specs.History.{replay};
 ghost use Rattle.fa_machine.specs.Run.{Happening, Run};
 ghost use Rattle.fa_machine.specs.State.{Core};

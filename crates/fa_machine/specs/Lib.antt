@@ -5,6 +5,7 @@ pub mod Conditions
 pub mod Copies
 pub mod Flushing
 pub mod History
+pub mod Looks
 pub mod Maps
 pub mod Placement
 pub mod Reading
