@@ -4,8 +4,8 @@ use Rattle.fa_laws.proofs.Leaving.{entered_is_sound}
 use Rattle.fa_laws.proofs.Maps.{get-insert_other, get-remove_some, has_some}
 use Rattle.fa_machine.specs.Maps.{Numbers}
 use Rattle.fa_machine.specs.World.{World}
-use Rattle.std.proofs.Common.{None, Option, Some, ap, inl, inr, refl, suc, sym, true, ℕ, ◌∙◌, ◌≡◌, ◌⊎◌}
-use Rattle.std.proofs.lemmas.Bool.{cases_eq, false≢true}
+use Rattle.std.proofs.Common.{ap, inl, inr, suc, sym, true, ℕ, ◌∙◌, ◌≡◌, ◌⊎◌}
+use Rattle.std.proofs.lemmas.Bool.{cases_eq}
 use Rattle.std.specs.FinMap.{contains_key, get, insert, remove}
 use Rattle.std.specs.Prelude.{is_some}
 

@@ -19,7 +19,7 @@ use Rattle.fa_machine.specs.declared.places.Used.{Used}
 use Rattle.fa_machine.specs.declared.places.Version.{Version}
 use Rattle.std.proofs.Common.{Bool, None, Option, Some, [], ap, arith, eq-eqb, false, inl, inr, not, refl, subst, suc, sym, true, ℕ}
 use Rattle.std.proofs.Common.{◌<◌, ◌∙◌, ◌∷◌, ◌≡◌, ◌≤◌}
-use Rattle.std.proofs.lemmas.Bool.{cases_eq, false≢true, ne_eqb, not-true, not_from_false, not_from_true, true≢false}
+use Rattle.std.proofs.lemmas.Bool.{cases_eq, ne_eqb, not-true, not_from_false, not_from_true, true≢false}
 use Rattle.std.proofs.lemmas.Option.{none-some, same_Some}
 use Rattle.std.specs.Cmp.{nat_cmp_total}
 use Rattle.std.specs.FinMap.{FinMap, contains_key, get, remove}

@@ -16,7 +16,7 @@ use Rattle.fa_machine.specs.declared.jobs.Flight.TheVariants.{Erase, Header, Mov
 use Rattle.fa_machine.specs.declared.refusals.SpareRefused.TheVariants.{NotSpare}
 use Rattle.std.proofs.Common.{Bool, List, None, Option, Some, ap, false, inl, inr, refl, subst, sym, true, ℕ, ◌∙◌, ◌≡◌, ◌⊎◌}
 use Rattle.std.proofs.lemmas.Bool.{cases_eq, false≢true}
-use Rattle.std.specs.FinMap.{contains_key, get, insert, remove}
+use Rattle.std.specs.FinMap.{contains_key, get, remove}
 use Rattle.std.specs.Prelude.{Err, Ok, is_some, if◌then◌else◌, ◌==◌}
 
 pub record IsOut (core : Core) (die : ℕ) : Type 0 where

@@ -15,12 +15,11 @@ use Rattle.fa_machine.specs.State.{Core, is_live}
 use Rattle.fa_machine.specs.Step.{Act, Admit, Done, Replan, SpareIn, Step}
 use Rattle.fa_machine.specs.Taking.{EndsJob}
 use Rattle.fa_machine.specs.World.{World}
-use Rattle.fa_machine.specs.declared.ids.BatchId.{BatchId}
 use Rattle.fa_machine.specs.declared.jobs.Flight.{Flight}
 use Rattle.fa_machine.specs.declared.places.Booking.{Booking}
 use Rattle.fa_machine.specs.declared.refusals.SpareRefused.TheVariants.{NotSpare}
 use Rattle.fa_types.specs.declared.geometry.Geometry.{Geometry}
-use Rattle.std.proofs.Common.{Bool, None, Option, Some, ap, arith, false, inl, inr, refl, subst, sym, true, ℕ, ◌<◌, ◌∙◌, ◌≡◌}
+use Rattle.std.proofs.Common.{None, Option, Some, ap, inl, inr, refl, subst, sym, true, ℕ, ◌<◌, ◌∙◌, ◌≡◌}
 use Rattle.std.proofs.lemmas.Bool.{cases_eq, ltb-true}
 use Rattle.std.specs.FinMap.{contains_key, get, insert, remove}
 use Rattle.std.specs.Prelude.{Err, Ok, is_some}

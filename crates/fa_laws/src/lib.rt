@@ -4,6 +4,7 @@
 
 pub mod answers;
 pub mod beginnings;
+pub mod calendars;
 pub mod chains;
 pub mod histories;
 pub mod plans;

@@ -1,9 +1,7 @@
 use Rattle.fa_laws.proofs.Lists.{no_refusal}
-use Rattle.fa_machine.specs.State.{Core, Reservation}
 use Rattle.fa_machine.specs.Writing.{Commits, live_targets}
 use Rattle.fa_machine.specs.declared.refusals.CommitRefused.TheVariants.{Failed, Pending}
-use Rattle.fa_types.specs.declared.numbers.Seq.{Seq}
-use Rattle.std.proofs.Common.{Bool, Option, Some, false, not, subst, true, ℕ, ◌≡◌}
+use Rattle.std.proofs.Common.{Some, not, subst}
 use Rattle.std.proofs.lemmas.Bool.{not-false}
 use Rattle.std.specs.List.{list_any}
 use Rattle.std.specs.Prelude.{Ok}
