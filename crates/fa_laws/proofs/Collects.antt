@@ -6,7 +6,7 @@ use Rattle.fa_laws.proofs.Planning.{closed_in, closed_same}
 use Rattle.fa_laws.proofs.Table.{Ordered, Table, core_of, in_order, is_ordered}
 use Rattle.fa_laws.proofs.Tabled.{at, at_number, can_take, did, free_in, idle_in, is_none_there, took, with_number, without_number}
 use Rattle.fa_machine.specs.Cells.{DidMove, DidSync}
-use Rattle.fa_machine.specs.Collecting.{is_in_block, move_or_erase, next_step, slots_in, step_on, victim}
+use Rattle.fa_machine.specs.Collecting.{is_in_block, next_step, slots_in}
 use Rattle.fa_machine.specs.Conditions.{first_that}
 use Rattle.fa_machine.specs.Copies.{holds_last, is_current, is_held_slot, is_reserved_slot, is_stale_slot}
 use Rattle.fa_machine.specs.Maps.{below, place_cmp}
@@ -41,6 +41,7 @@ use Rattle.std.specs.Cmp.{nat_cmp_total}
 use Rattle.std.specs.FinMap.{FinMap, entries-from_sorted, find as find_entry, from_sorted, get-from_sorted, insert, put, remove}
 use Rattle.std.specs.List.{fold, list_all, list_any, range_with_len}
 use Rattle.std.specs.Ordering.{nat_cmp}
+use Rattle.std.specs.Option.{option_map_or}
 use Rattle.std.specs.Prelude.{slice_index_or, T, count_by, find, if◌then◌else◌, is_none, is_some, nat_le, nat_lt, option_map, unwrap_or, Ok, ◌&&◌, ◌||◌, ◌/◌, ◌==◌, ◌^◌}
 
 abbrev pub windowed : ℕ → Round → Round → Table → Table
@@ -88,9 +89,9 @@ module _ (g : Geometry) where
     abbrev victim_with : Option ℕ
     victim_with = find (λ b. may_with b && list_all (no_better_with b) (below m.geometry.blocks)) (below m.geometry.blocks)
 
-    abbrev step_with : Option ℕ → CollectorStep
-    step_with None = Nothing
-    step_with (Some block) = move_or_erase block (find (λ slot. is_held_slot (u die slot)) (slots_in m block))
+    abbrev step_with : ℕ → CollectorStep
+    step_with block = option_map_or (λ slot. MoveSlot (record { 0 = slot }))
+        (find (λ slot. is_held_slot (u die slot)) (slots_in m block)) (EraseBlock (record { 0 = block }))
 
     abbrev move_with : ℕ → Option Used → Option Flight
     move_with from (Some (Held page version)) =
@@ -103,7 +104,7 @@ module _ (g : Geometry) where
     flight_with Nothing = None
 
     abbrev collects_with : Option Flight
-    collects_with = flight_with (step_with victim_with)
+    collects_with = flight_with (option_map_or step_with victim_with Nothing)
 
   same_move : (m : MapState) (die from : ℕ) (o : Option Used) → move_from m die from o ≡ move_with m (used_at m) die from o
   same_move m die from None = refl
@@ -116,12 +117,8 @@ module _ (g : Geometry) where
   same_flight m die (EraseBlock block) = refl
   same_flight m die Nothing = refl
 
-  same_step : (m : MapState) (die : ℕ) (o : Option ℕ) → step_on m die o ≡ step_with m (used_at m) die o
-  same_step m die None = refl
-  same_step m die (Some block) = refl
-
   same_collects : (m : MapState) (die : ℕ) → flight_of m die (next_step m die) ≡ collects_with m (used_at m) die
-  same_collects m die = ap (flight_of m die) (same_step m die (victim m die)) ∙ same_flight m die (step_with m (used_at m) die (victim m die))
+  same_collects m die = same_flight m die (next_step m die)
 
   module _ (t : Table) (o : Ordered t) (die : ℕ) where
     abbrev core : Core

@@ -28,7 +28,7 @@ wrong_if false e f = absurd (false≢true e)
 
 -- no move finds the wrong slot
 never_wrong : (b : Bytes) (die : ℕ) (flight : Flight) (payload : List ℕ) (gave : List Gave)
-    → outcome_of die (record { flight = flight; payload = payload }) gave ≡ Some Wrong → is_of_kind flight Wrong ≡ true → GaveFits b die flight gave → ⊥
+    → outcome_of die flight payload gave ≡ Some Wrong → is_of_kind flight Wrong ≡ true → GaveFits b die flight gave → ⊥
 never_wrong b die (Move page version from to) payload (GaveCell cell ∷ []) e k g =
     wrong_if (is_some (payload_of page.0 version die from.0 cell)) (ap is_some g) (ap tag e)
 never_wrong b die (Move page version from to) payload (GaveCell cell ∷ Accepted ∷ []) e k g = absurd (omega (arith, ap tag e))
@@ -59,7 +59,7 @@ header_live false x core e = refl
 ends_live : (w : World) (h : Holds w) (die : ℕ) (flight : Flight) (payload : List ℕ) (gave : List Gave) (outcome : Outcome) (core : Core)
     → JobFits (scene_of w).bytes (scene_of w).places (scene_of w).in_block (w.due die).bytes die flight payload
     → GaveFits (scene_of w).bytes die flight gave
-    → outcome_of die (record { flight = flight; payload = payload }) gave ≡ Some outcome
+    → outcome_of die flight payload gave ≡ Some outcome
     → is_of_kind flight outcome ≡ true
     → ((finished die flight outcome core).page_map.live ≡ core.page_map.live)
     ⊎ ((call : ℕ) × (outcome ≡ Fault call) × ((finished die flight outcome core).page_map.live ≡ remove core.page_map.live die))
@@ -97,7 +97,7 @@ done_leaves w h out (Some flight) (Some work) outcome core die job works may wor
     elim (ends_live w h out flight work.job.payload work.gave outcome (record (w.core) { jobs = remove w.core.jobs out })
     (subst (λ f. JobFits (scene_of w).bytes (scene_of w).places (scene_of w).in_block (w.due out).bytes out f work.job.payload) same fits.job)
     (subst (λ f. GaveFits (scene_of w).bytes out f work.gave) same fits.gave)
-    (subst (λ f. outcome_of out (record { flight = f; payload = work.job.payload }) work.gave ≡ Some outcome) same worked)
+    (subst (λ f. outcome_of out f work.job.payload work.gave ≡ Some outcome) same worked)
     (and_parts (is_of_kind flight outcome) (is_sized_read w.core outcome) may).0) [
       | inl kept ↦ absurd (live_kept w.core.page_map.live core.page_map.live die (ap (λ (c : Core). c.page_map.live) ends ∙ kept) was is)
       | inr fault ↦

@@ -6,7 +6,7 @@ use Rattle.fa_machine.specs.Cells.{DidErase, DidMove, DidProgram, DidRead, DidSy
 use Rattle.fa_machine.specs.Conditions.{reserved_under}
 use Rattle.fa_machine.specs.Flushing.{Folds}
 use Rattle.fa_machine.specs.Looks.{counts}
-use Rattle.fa_machine.specs.History.{commits_in, folded, is_legal, is_number, replay, starts_in}
+use Rattle.fa_machine.specs.History.{folded, is_commit, is_legal, replay}
 use Rattle.fa_machine.specs.Placement.{copy_place}
 use Rattle.fa_machine.specs.Run.{CallsNext, Event, Happening, Happens, HappensCall, ImageCall, Run}
 use Rattle.fa_machine.specs.State.{Base, Core, OpenBatch, Reservation}
@@ -42,11 +42,12 @@ use Rattle.fa_types.specs.declared.numbers.Page.{Page}
 use Rattle.fa_types.specs.declared.numbers.Seq.{Seq}
 use Rattle.std.proofs.Common.{Bool, List, None, Option, Some, [], ap, arith, cond, eq-eqb, false, inl, inr, refl, subst, sym, true, ℕ}
 use Rattle.std.proofs.Common.{◌++◌, ◌+◌, ◌∙◌, ◌∷◌, ◌≡◌}
-use Rattle.std.proofs.lemmas.List.Sums.{sum_by-cons}
+use Rattle.std.proofs.lemmas.List.Sums.{sum_by-append, sum_by-cons}
 use Rattle.std.specs.Cmp.{nat_cmp_total}
 use Rattle.std.specs.FinMap.{FinMap, get, get-insert, insert}
 use Rattle.std.specs.Ordering.{eq_by_cmp, nat_cmp}
-use Rattle.std.specs.Prelude.{Err, Ok, Result, if◌then◌else◌, option_map, ◌&&◌, ◌==◌}
+use Rattle.std.specs.Option.{option_map_or}
+use Rattle.std.specs.Prelude.{Err, Ok, Result, count_by, if◌then◌else◌, not, option_map, ◌&&◌, ◌==◌}
 
 replay-append : (numbers : FinMap nat_cmp ℕ) (a b : List HistoryEntry) → replay numbers (a ++ b) ≡ replay (replay numbers a) b
 replay-append numbers [] b = refl
@@ -57,6 +58,9 @@ and-assoc : (x y z : Bool) → (x && (y && z)) ≡ ((x && y) && z)
 and-assoc true y z = refl
 and-assoc false y z = refl
 
+abbrev is_number : Option ℕ → ℕ → Bool
+is_number number seq = option_map_or (λ n. n == seq) number false
+
 legal-append : (numbers : FinMap nat_cmp ℕ) (a b : List HistoryEntry)
     → is_legal numbers (a ++ b) ≡ (is_legal numbers a && is_legal (replay numbers a) b)
 legal-append numbers [] b = refl
@@ -65,15 +69,17 @@ legal-append numbers (Start seat page seq ∷ a) b =
     ap (λ rest. is_number (get numbers page.0) seq.0 && rest) (legal-append numbers a b)
     ∙ and-assoc (is_number (get numbers page.0) seq.0) (is_legal numbers a) (is_legal (replay numbers a) b)
 
-pub commits-append : (a b : List HistoryEntry) → commits_in (a ++ b) ≡ commits_in a + commits_in b
-commits-append [] b = omega arith
-commits-append (CommitEntry seat page seq ∷ a) b = let e = commits-append a b in omega (arith, e)
-commits-append (Start seat page seq ∷ a) b = commits-append a b
+abbrev commits_in : List HistoryEntry → ℕ
+commits_in entries = count_by is_commit entries
 
-pub starts-append : (a b : List HistoryEntry) → starts_in (a ++ b) ≡ starts_in a + starts_in b
-starts-append [] b = omega arith
-starts-append (CommitEntry seat page seq ∷ a) b = starts-append a b
-starts-append (Start seat page seq ∷ a) b = let e = starts-append a b in omega (arith, e)
+abbrev starts_in : List HistoryEntry → ℕ
+starts_in entries = count_by (λ entry. not (is_commit entry)) entries
+
+commits-append : (a b : List HistoryEntry) → commits_in (a ++ b) ≡ commits_in a + commits_in b
+commits-append a b = sum_by-append (λ entry. cond (is_commit entry) 1 0) a b
+
+starts-append : (a b : List HistoryEntry) → starts_in (a ++ b) ≡ starts_in a + starts_in b
+starts-append a b = sum_by-append (λ entry. cond (not (is_commit entry)) 1 0) a b
 
 -- the parts of a state that the history is of
 abbrev pub Three : Type 0

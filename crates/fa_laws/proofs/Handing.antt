@@ -11,7 +11,7 @@ use Rattle.fa_laws.proofs.Starting.{Fits, begin_holds, idle_works}
 use Rattle.fa_laws.proofs.Takes.{IsOther, IsUrgent, take_cases}
 use Rattle.fa_laws.specs.Counted.{is_read}
 use Rattle.fa_machine.specs.Cells.{Broken, Cell, Empty, Sealed, payload_of}
-use Rattle.fa_machine.specs.Collecting.{count_in, is_erased_outside, may_be_victim, move_or_erase, move_place, next_step, slots_in}
+use Rattle.fa_machine.specs.Collecting.{count_in, is_erased_outside, may_be_victim, move_place, next_step, slots_in}
 use Rattle.fa_machine.specs.Collecting.{step_on, victim}
 use Rattle.fa_machine.specs.Copies.{copy_on, holds_last, is_current, is_held_slot, is_reserved_slot, is_stale_slot}
 use Rattle.fa_machine.specs.Maps.{below, place_cmp}
@@ -39,6 +39,7 @@ use Rattle.std.proofs.lemmas.Bool.{and_parts, cases_eq, cases_lt, false≢true, 
 use Rattle.std.proofs.lemmas.Option.{none-some}
 use Rattle.std.specs.FinMap.{FinMap, get, insert}
 use Rattle.std.specs.List.{after_first, before_first}
+use Rattle.std.specs.Option.{option_map_or}
 use Rattle.std.specs.Prelude.{find, if◌then◌else◌, is_none, ◌&&◌, ◌==◌}
 
 -- a tag is compared by page, number, die and slot
@@ -83,7 +84,8 @@ erased_number (MoveSlot slot) = 0
 erased_number (EraseBlock b) = b.0
 erased_number Nothing = 0
 
-nothing_held : (b : ℕ) (found : Option ℕ) (block : Block) → move_or_erase b found ≡ EraseBlock block → (found ≡ None) × (b ≡ block.0)
+nothing_held : (b : ℕ) (found : Option ℕ) (block : Block)
+    → option_map_or (λ slot. MoveSlot (record { 0 = slot })) found (EraseBlock (record { 0 = b })) ≡ EraseBlock block → (found ≡ None) × (b ≡ block.0)
 nothing_held b None block e = (refl, ap erased_number e)
 nothing_held b (Some slot) block e = absurd (false≢true (ap is_erase e))
 
@@ -92,7 +94,7 @@ at_most_one true = omega arith
 at_most_one false = omega arith
 
 -- the block of an erase is the victim, and all that it held was moved
-erased_block : (m : MapState) (die : ℕ) (block : Block) (v : Option ℕ) → victim m die ≡ v → step_on m die v ≡ EraseBlock block
+erased_block : (m : MapState) (die : ℕ) (block : Block) (v : Option ℕ) → victim m die ≡ v → option_map_or (step_on m die) v Nothing ≡ EraseBlock block
     → (count_in m die block.0 is_reserved_slot ≡ 0) × (find (λ slot. is_held_slot (used_at m die slot)) (slots_in m block.0) ≡ None)
 erased_block m die block None is e = absurd (false≢true (ap is_erase e))
 erased_block m die block (Some b) is e =

@@ -64,7 +64,7 @@ read_case w h die batch page version slot cell (Some bytes) gives is fits since 
 job_ends : (w : World) (h : Holds w) (die : ℕ) (flight : Flight) (payload : List ℕ) (gave : List Gave) (outcome : Outcome)
     → JobFits (scene_of w).bytes (scene_of w).places (scene_of w).in_block (w.due die).bytes die flight payload
     → GaveFits (scene_of w).bytes die flight gave
-    → outcome_of die (record { flight = flight; payload = payload }) gave ≡ Some outcome
+    → outcome_of die flight payload gave ≡ Some outcome
     → is_of_kind flight outcome ≡ true
     → ((slot : ℕ) → tally (program_is_at die slot) w.core.waiting + flight_writes flight slot ≤ 1)
     → ((batch : BatchId) (page : Page) (version : Version) (slot : Slot) (b : OpenBatch) → flight ≡ Read batch page version slot
@@ -112,7 +112,7 @@ done_case w h die (Some flight) (Some work) outcome core job works may worked en
     (job_ends w h die flight work.job.payload work.gave outcome
     (subst (λ f. JobFits (scene_of w).bytes (scene_of w).places (scene_of w).in_block (w.due die).bytes die f work.job.payload) is fits.job)
     (subst (λ f. GaveFits (scene_of w).bytes die f work.gave) is fits.gave)
-    (subst (λ f. outcome_of die (record { flight = f; payload = work.job.payload }) work.gave ≡ Some outcome) is worked)
+    (subst (λ f. outcome_of die f work.job.payload work.gave ≡ Some outcome) is worked)
     (and_parts (is_of_kind flight outcome) (is_sized_read w.core outcome) may).0
     (λ slot. let n = h.sound.once die slot in let e = ap (λ o. writes o slot) works in let f = ap (λ k. flight_writes k slot) is in omega (arith, n, e, f))
     (λ batch page version slot b e o. h.answered.reading die work batch page version slot b works (is ∙ e) o))

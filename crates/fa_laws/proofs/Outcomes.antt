@@ -31,7 +31,7 @@ if_wrong true e = absurd (omega (arith, e))
 if_wrong false e = absurd (omega (arith, e))
 
 pub gave_program : (b : Bytes) (die : ℕ) (page : Page) (version : Version) (slot : Slot) (payload : List ℕ) (gave : List Gave)
-    → outcome_of die (record { flight = Program page version slot; payload = payload }) gave ≡ Some DidProgram
+    → outcome_of die (Program page version slot) payload gave ≡ Some DidProgram
     → GaveFits b die (Program page version slot) gave → Stands b page.0 version die slot.0
 gave_program b die page version slot payload (Accepted ∷ []) e g = g
 gave_program b die page version slot payload (GaveCell cell ∷ Accepted ∷ []) e g = absurd (omega (arith, ap tag e))
@@ -41,7 +41,7 @@ gave_program b die page version slot payload (Refused ∷ []) e g = absurd (omeg
 gave_program b die page version slot payload gave e g = absurd (omega (arith, ap tag e))
 
 pub gave_move : (b : Bytes) (die : ℕ) (page : Page) (version : Version) (from to : Slot) (payload : List ℕ) (gave : List Gave)
-    → outcome_of die (record { flight = Move page version from to; payload = payload }) gave ≡ Some DidMove
+    → outcome_of die (Move page version from to) payload gave ≡ Some DidMove
     → GaveFits b die (Move page version from to) gave → Stands b page.0 version die to.0
 gave_move b die page version from to payload (GaveCell cell ∷ Accepted ∷ []) e g = g
 gave_move b die page version from to payload (GaveCell cell ∷ Refused ∷ []) e g = absurd (omega (arith, ap tag e))
@@ -51,7 +51,7 @@ gave_move b die page version from to payload (Refused ∷ []) e g = absurd (omeg
 gave_move b die page version from to payload gave e g = absurd (omega (arith, ap tag e))
 
 pub gave_read : (b : Bytes) (die : ℕ) (batch : BatchId) (page : Page) (version : Version) (slot : Slot) (payload : List ℕ) (gave : List Gave) (cell : Cell)
-    → outcome_of die (record { flight = Read batch page version slot; payload = payload }) gave ≡ Some (DidRead cell)
+    → outcome_of die (Read batch page version slot) payload gave ≡ Some (DidRead cell)
     → GaveFits b die (Read batch page version slot) gave → cell ≡ b.seen die slot.0
 gave_read b die batch page version slot payload (GaveCell found ∷ []) cell e g = sym (ap (cell_of found) e) ∙ g
 gave_read b die batch page version slot payload (GaveCell found ∷ Accepted ∷ []) cell e g = absurd (omega (arith, ap tag e))

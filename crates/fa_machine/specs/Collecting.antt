@@ -1,6 +1,7 @@
 -- What the collector does: its victim, and its next step.
-use Rattle.std.specs.Prelude.{ℕ, ◌*◌, ◌/◌, Bool, not, ◌==◌, ◌&&◌, ◌||◌, nat_lt, nat_le, List, Option, Some, None}
+use Rattle.std.specs.Prelude.{ℕ, ◌*◌, ◌/◌, Bool, not, ◌==◌, ◌&&◌, ◌||◌, nat_lt, nat_le, List, Option}
 use Rattle.std.specs.Prelude.{find, count_by}
+use Rattle.std.specs.Option.{option_map_or}
 use Rattle.std.specs.List.{list_all, range_with_len}
 use Rattle.fa_machine.specs.declared.jobs.CollectorStep.{CollectorStep}
 use Rattle.fa_machine.specs.declared.jobs.CollectorStep.TheVariants.{MoveSlot, EraseBlock, Nothing}
@@ -41,16 +42,12 @@ abbrev pub victim : MapState → ℕ → Option ℕ
 victim m die = find (λ b. may_be_victim m die b && list_all (is_no_better m die b) (below m.geometry.blocks)) (below m.geometry.blocks)
 
 -- the next step on a victim: to move its lowest current slot, and where none is left to erase it
-abbrev pub move_or_erase : ℕ → Option ℕ → CollectorStep
-move_or_erase block None = EraseBlock (record { 0 = block })
-move_or_erase block (Some slot) = MoveSlot (record { 0 = slot })
-
-abbrev pub step_on : MapState → ℕ → Option ℕ → CollectorStep
-step_on m die None = Nothing
-step_on m die (Some block) = move_or_erase block (find (λ slot. is_held_slot (used_at m die slot)) (slots_in m block))
+abbrev pub step_on : MapState → ℕ → ℕ → CollectorStep
+step_on m die block = option_map_or (λ slot. MoveSlot (record { 0 = slot }))
+    (find (λ slot. is_held_slot (used_at m die slot)) (slots_in m block)) (EraseBlock (record { 0 = block }))
 
 abbrev pub next_step : MapState → ℕ → CollectorStep
-next_step m die = step_on m die (victim m die)
+next_step m die = option_map_or (step_on m die) (victim m die) Nothing
 
 -- where the collector moves a slot of its victim to: the lowest erased slot outside of it
 abbrev pub move_place : MapState → ℕ → ℕ → Option ℕ

@@ -1,6 +1,6 @@
 -- Which copies of a page there are, and which dies hold it. A copy is current where its die is live and its number
 -- is the page's.
-use Rattle.std.specs.Prelude.{ℕ, Bool, true, false, ◌==◌, ◌&&◌, List, Option, Some, None, is_some, length, find, filter}
+use Rattle.std.specs.Prelude.{ℕ, Bool, true, false, ◌==◌, ◌&&◌, List, Option, Some, is_some, length, find, filter}
 use Rattle.std.specs.FinMap.{get}
 use Rattle.fa_machine.specs.declared.places.Used.{Used}
 use Rattle.fa_machine.specs.declared.places.Used.TheVariants.{Reserved, Held, Stale}

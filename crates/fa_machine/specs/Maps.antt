@@ -1,5 +1,5 @@
 -- Words for finite maps and lists that the definitions share.
-use Rattle.std.specs.Prelude.{ℕ, Bool, ◌==◌, ◌&&◌, List, map, filter, fold}
+use Rattle.std.specs.Prelude.{ℕ, Bool, ◌==◌, List, map, filter, fold}
 use Rattle.std.specs.List.{list_any, range_with_len}
 use Rattle.std.specs.Ordering.{nat_cmp, then_cmp, on}
 use Rattle.std.specs.declared.cmp.Ordering.{Ordering}

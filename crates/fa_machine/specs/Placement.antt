@@ -4,7 +4,7 @@ use Rattle.std.specs.Prelude.{ℕ, ◌+◌, ◌-◌, ◌/◌, ◌%◌, min, Bool
 use Rattle.std.specs.Prelude.{Option, is_none, length, take, reverse, find, filter, count_by}
 use Rattle.std.specs.FinMap.{len}
 use Rattle.fa_machine.specs.Copies.{holds_page, holders}
-use Rattle.fa_machine.specs.Maps.{below, is_one_of}
+use Rattle.fa_machine.specs.Maps.{is_one_of}
 use Rattle.fa_machine.specs.State.{MapState, Core, dies_of, slots_of, is_live, used_at}
 
 -- The homes of a page on m dies. The third is the die behind the second, and the one behind that where it is the first.

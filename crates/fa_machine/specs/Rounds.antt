@@ -1,6 +1,6 @@
 -- Which rounds of a die are closed, how many entries its calendar has, and where its next window lies.
 use Rattle.std.specs.Option.{option_map_or}
-use Rattle.std.specs.Prelude.{◌≡◌, ℕ, ◌+◌, ◌-◌, ◌<◌, max, Bool, true, false, not, ◌==◌, ◌&&◌, ◌||◌, nat_le, Option, Some, None, count_by}
+use Rattle.std.specs.Prelude.{◌≡◌, ℕ, ◌+◌, ◌-◌, ◌<◌, max, Bool, true, false, not, ◌==◌, ◌&&◌, ◌||◌, nat_le, Option, count_by}
 use Rattle.std.specs.List.{list_all, range_with_len}
 use Rattle.std.specs.FinMap.{get, contains_key, keys}
 use Rattle.fa_machine.specs.declared.places.Window.{Window}

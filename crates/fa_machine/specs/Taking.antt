@@ -2,8 +2,8 @@
 use Rattle.std.specs.Prelude.{◌≡◌, ℕ, ◌/◌, Bool, true, not, ◌==◌, ◌&&◌, ◌||◌, nat_lt, if◌then◌else◌, List, [], ◌∷◌, ◌++◌}
 use Rattle.std.specs.Prelude.{Option, Some, None, unwrap_or, option_map, map, find}
 use Rattle.std.specs.List.{before_first, after_first}
-use Rattle.std.specs.Option.{option_or}
-use Rattle.std.specs.FinMap.{insert, remove, contains_key, get}
+use Rattle.std.specs.Option.{option_map_or, option_or}
+use Rattle.std.specs.FinMap.{FinMap, insert, remove, contains_key, get}
 use Rattle.fa_machine.specs.declared.answers.HistoryEntry.TheVariants.{Start}
 use Rattle.fa_machine.specs.declared.jobs.CollectorStep.{CollectorStep}
 use Rattle.fa_machine.specs.declared.jobs.CollectorStep.TheVariants.{MoveSlot, EraseBlock, Nothing}
@@ -19,7 +19,7 @@ use Rattle.fa_machine.specs.Cells.{Outcome, DidRead, DidProgram, DidMove, DidEra
 use Rattle.fa_machine.specs.Collecting.{is_in_block, next_step, move_place}
 use Rattle.fa_machine.specs.Conditions.{drop_die}
 use Rattle.fa_machine.specs.Copies.{copy_on, is_current, is_reserved_slot}
-use Rattle.fa_machine.specs.Maps.{keep, change}
+use Rattle.fa_machine.specs.Maps.{place_cmp, keep, change}
 use Rattle.fa_machine.specs.Rounds.{is_in_window}
 use Rattle.fa_machine.specs.State.{Core, MapState, OpenBatch, OpenClaim, Reservation, WaitingProgram, is_live, used_at}
 
@@ -82,39 +82,37 @@ urgent_job core die = option_or (header_job core die) (option_or (step_job core 
 abbrev pub other_job : Core → ℕ → Option Handed
 other_job core die = option_or (option_map program_of (find (is_for die) core.waiting)) (option_map handed (sync_job core die))
 
--- The state in which a job is in flight: a move has reserved its new slot, a read has started and is in the history,
--- a program no longer waits.
+-- the state with other slots in use, and with other bookings
+abbrev pub with_used : FinMap place_cmp Used → Core → Core
+with_used used core = record core { page_map = record (core.page_map) { used = used } }
+
+abbrev pub with_bookings : FinMap place_cmp Booking → Core → Core
+with_bookings bookings core = record core { calendar = record (core.calendar) { bookings = bookings } }
+
+-- What a job changes as it is handed out: a move reserves its new slot, a read has started and is in the history, a
+-- program no longer waits.
+abbrev pub entered : ℕ → ℕ → Flight → Core → Core
+entered die seat (Move page version from to) core = with_used (insert core.page_map.used (die, to.0) Reserved) core
+entered die seat (Read batch page version slot) core =
+    let bookings = insert core.calendar.bookings (die, core.calendar.round) (record { batch = batch; page = page; started = true }) in
+    record (with_bookings bookings core) { history = core.history ++ Start seat page version.seq ∷ [] }
+entered die seat (Program page version slot) core =
+    record core { waiting = before_first (is_for die) core.waiting ++ after_first (is_for die) core.waiting }
+entered die seat flight core = core
+
+-- the state in which a job is in flight
 abbrev pub begun : ℕ → ℕ → Flight → Core → Core
-begun die seat (Move page version from to) core = record core {
-  jobs = insert core.jobs die (Move page version from to);
-  page_map = record (core.page_map) { used = insert core.page_map.used (die, to.0) Reserved };
-}
-begun die seat (Read batch page version slot) core = record core {
-  jobs = insert core.jobs die (Read batch page version slot);
-  calendar = record (core.calendar) {
-    bookings = insert core.calendar.bookings (die, core.calendar.round) (record { batch = batch; page = page; started = true });
-  };
-  history = core.history ++ Start seat page version.seq ∷ [];
-}
-begun die seat (Program page version slot) core = record core {
-  jobs = insert core.jobs die (Program page version slot);
-  waiting = before_first (is_for die) core.waiting ++ after_first (is_for die) core.waiting;
-}
-begun die seat flight core = record core { jobs = insert core.jobs die flight }
+begun die seat flight core = record (entered die seat flight core) { jobs = insert core.jobs die flight }
 
 -- The state without the booking of this round, where it was not started: its die holds no current copy of its page,
 -- and its batch is torn.
 abbrev pub without_stale_booking : ℕ → Core → Core
-without_stale_booking die core = record core {
-  calendar = record (core.calendar) {
-    bookings = keep (λ place b. not (place.0 == die && place.1 == core.calendar.round) || b.started) core.calendar.bookings;
-  };
-}
+without_stale_booking die core =
+    with_bookings (keep (λ place b. not (place.0 == die && place.1 == core.calendar.round) || b.started) core.calendar.bookings) core
 
 -- A job that is handed out, or none, with the state after.
 abbrev pub begins : ℕ → ℕ → Core → Option Handed → Option Handed × Core
-begins die seat core None = (None, core)
-begins die seat core (Some job) = (Some job, begun die seat job.flight core)
+begins die seat core job = (job, option_map_or (λ j. begun die seat j.flight core) job core)
 
 abbrev pub after_urgent : ℕ → ℕ → Core → Option Flight → Option Handed × Core
 after_urgent die seat core (Some flight) = begins die seat core (Some (handed flight))
@@ -145,9 +143,8 @@ abbrev pub mark : ℕ → ℕ → Target → Target
 mark die slot t = if t.die.0 == die && t.slot.0 == slot then record t { programmed = true } else t
 
 abbrev pub mark_claim : ℕ → ℕ → OpenClaim → OpenClaim
-mark_claim die slot c = record c {
-  reserved = option_map {T = Reservation} (λ r. record r { targets = map (mark die slot) r.targets }) c.reserved;
-}
+mark_claim die slot c =
+    record c { reserved = option_map {T = Reservation} (λ r. record r { targets = map (mark die slot) r.targets }) c.reserved }
 
 -- the reservation to which a slot belongs has its copy there
 abbrev pub program_ends : ℕ → ℕ → Core → Core
@@ -162,21 +159,15 @@ stepped_on die core = record core { stepped = insert core.stepped die tt }
 -- The new slot is current and the old one stale where the copy still has the page's number, else both are stale.
 abbrev pub move_ends : ℕ → ℕ → Version → ℕ → ℕ → Core → Core
 move_ends die page version from to core =
-    let kept = is_current core.page_map page die from in record core {
-      page_map = record (core.page_map) {
-        used = insert (insert core.page_map.used (die, from) Stale) (die, to)
-            (if kept then Held (record { 0 = page }) version else Stale);
-      };
-    }
+    let moved = if is_current core.page_map page die from then Held (record { 0 = page }) version else Stale in
+    with_used (insert (insert core.page_map.used (die, from) Stale) (die, to) moved) core
 
 -- the slots of the block are erased, save those that were reserved while it was erased, which are programmed later
 abbrev pub stays : MapState → ℕ → ℕ → ℕ × ℕ → Used → Bool
 stays m die block place used = not (place.0 == die && is_in_block m block place.1) || is_reserved_slot (Some used)
 
 abbrev pub erase_ends : ℕ → ℕ → Core → Core
-erase_ends die block core = record core {
-  page_map = record (core.page_map) { used = keep (stays core.page_map die block) core.page_map.used };
-}
+erase_ends die block core = with_used (keep (stays core.page_map die block) core.page_map.used) core
 
 -- Done: the job of a die has ended. A header is not behind any more where its epoch is still the current one. A fault takes
 -- the die out, and so does a slot that is not the one asked for.

@@ -59,28 +59,19 @@ next_call die job [] = Some (first_call die job.flight job.payload)
 next_call die job (GaveCell cell ∷ []) = second_call die job.flight cell
 next_call die job gave = None
 
--- how a job ends whose one call was accepted
-abbrev pub accepted_outcome : Flight → Option Outcome
-accepted_outcome (Program page version slot) = Some DidProgram
-accepted_outcome (Erase block) = Some DidErase
-accepted_outcome (Header epoch) = Some DidWriteHeader
-accepted_outcome (Sync flushes) = Some DidSync
-accepted_outcome flight = None
-
--- how a job ends, or goes on, whose first call gave a cell
-abbrev pub read_outcome : ℕ → Flight → Cell → Option Outcome
-read_outcome die (Read batch page version slot) cell = Some (DidRead cell)
-read_outcome die (Move page version from to) cell = cond (is_some (payload_of page.0 version die from.0 cell)) None (Some Wrong)
-read_outcome die flight cell = None
-
--- The outcome of a job that made these calls, if it made them all.
-abbrev pub outcome_of : ℕ → Handed → List Gave → Option Outcome
-outcome_of die job (Refused ∷ []) = Some (Fault (number_of_call (first_call die job.flight job.payload)))
-outcome_of die job (Accepted ∷ []) = accepted_outcome job.flight
-outcome_of die job (GaveCell cell ∷ []) = read_outcome die job.flight cell
-outcome_of die job (GaveCell cell ∷ Accepted ∷ []) = Some DidMove
-outcome_of die job (GaveCell cell ∷ Refused ∷ []) = Some (Fault 2)
-outcome_of die job gave = None
+-- The outcome of a job whose calls gave this, if it made them all: a move goes on where it read the slot that was asked for.
+abbrev pub outcome_of : ℕ → Flight → List ℕ → List Gave → Option Outcome
+outcome_of die flight payload (Refused ∷ []) = Some (Fault (number_of_call (first_call die flight payload)))
+outcome_of die flight payload (GaveCell cell ∷ Accepted ∷ []) = Some DidMove
+outcome_of die flight payload (GaveCell cell ∷ Refused ∷ []) = Some (Fault 2)
+outcome_of die (Move page version from to) payload (GaveCell cell ∷ []) =
+    cond (is_some (payload_of page.0 version die from.0 cell)) None (Some Wrong)
+outcome_of die (Read batch page version slot) payload (GaveCell cell ∷ []) = Some (DidRead cell)
+outcome_of die (Program page version slot) payload (Accepted ∷ []) = Some DidProgram
+outcome_of die (Erase block) payload (Accepted ∷ []) = Some DidErase
+outcome_of die (Header epoch) payload (Accepted ∷ []) = Some DidWriteHeader
+outcome_of die (Sync flushes) payload (Accepted ∷ []) = Some DidSync
+outcome_of die flight payload gave = None
 
 -- an image: what reads of its slots give
 pub record DieImage : Type 0 where
@@ -89,21 +80,19 @@ pub record DieImage : Type 0 where
 abbrev pub with_cell : ℕ → Cell → DieImage → DieImage
 with_cell slot cell image = record image { seen = λ s. if s == slot then cell else image.seen s }
 
--- Calls of an image that is honest. A refused program or erase may leave anything in what it was writing.
+-- Calls of an image that is honest. A refused program or erase may leave anything in what it was writing. A header, a sync
+-- and a refused read change nothing that is seen.
 abbrev pub Calls : (ℕ → ℕ → Bool) → JobCall → Gave → DieImage → DieImage → Type 0
 Calls is_of (ReadsSlot slot) (GaveCell cell) before after = (cell ≡ before.seen slot) × (after ≡ before)
-Calls is_of (ReadsSlot slot) Refused before after = after ≡ before
+Calls is_of (ReadsSlot slot) Accepted before after = ⊥
+Calls is_of call (GaveCell cell) before after = ⊥
 Calls is_of (ProgramsSlot slot cell) Accepted before after = after ≡ with_cell slot cell before
 Calls is_of (ProgramsSlot slot cell) Refused before after = (left : Cell) × (after ≡ with_cell slot left before)
 Calls is_of (ErasesBlock block) Accepted before after =
     after ≡ record before { seen = λ slot. if is_of block slot then Empty else before.seen slot }
 Calls is_of (ErasesBlock block) Refused before after =
     (left : ℕ → Cell) × (after ≡ record before { seen = λ slot. if is_of block slot then left slot else before.seen slot })
-Calls is_of WritesHeader Accepted before after = after ≡ before
-Calls is_of WritesHeader Refused before after = after ≡ before
-Calls is_of Syncs Accepted before after = after ≡ before
-Calls is_of Syncs Refused before after = after ≡ before
-Calls is_of call gave before after = ⊥
+Calls is_of call gave before after = after ≡ before
 
 -- the bytes that a read is to give, and the moment of its Take
 pub record Due : Type 0 where
@@ -201,7 +190,7 @@ followed act w = w
 -- the outcome of a Done is what its job's calls gave
 abbrev pub HasOutcome : ℕ → Option Work → Outcome → Type 0
 HasOutcome die None outcome = ⊥
-HasOutcome die (Some work) outcome = outcome_of die work.job work.gave ≡ Some outcome
+HasOutcome die (Some work) outcome = outcome_of die work.job.flight work.job.payload work.gave ≡ Some outcome
 
 -- What an event owes to the world: a Done tells what its job's calls gave, and one more copy has bytes that were
 -- answered by a read which started while the page had this number.

@@ -1,10 +1,11 @@
 use Rattle.std.proofs.Common.{◌≡◌, ℕ, Bool, true, false, ◌&&◌, nat_lt, Option, Some, None, refl, sym, ap, ◌∙◌, eqb-true}
+use Rattle.std.specs.Option.{option_map_or}
 use Rattle.std.specs.Prelude.{◌==◌}
 use Rattle.std.proofs.lemmas.Bool.{and_parts, false≢true}
 use Rattle.fa_machine.specs.declared.ids.Block.{Block}
 use Rattle.fa_machine.specs.declared.jobs.CollectorStep.{CollectorStep}
 use Rattle.fa_machine.specs.declared.jobs.CollectorStep.TheVariants.{MoveSlot, EraseBlock, Nothing}
-use Rattle.fa_machine.specs.Collecting.{may_be_victim, victim, move_or_erase, step_on, count_in}
+use Rattle.fa_machine.specs.Collecting.{may_be_victim, victim, step_on, count_in}
 use Rattle.fa_machine.specs.Copies.{is_reserved_slot, is_stale_slot}
 use Rattle.fa_machine.specs.Maps.{below}
 use Rattle.fa_machine.specs.State.{MapState}
@@ -22,11 +23,12 @@ erased_block (EraseBlock block) = block.0
 erased_block Nothing = 0
 
 -- the block that is erased is the victim
-the_victim : (b : ℕ) (found : Option ℕ) (block : Block) → move_or_erase b found ≡ EraseBlock block → b ≡ block.0
+the_victim : (b : ℕ) (found : Option ℕ) (block : Block)
+    → option_map_or (λ slot. MoveSlot (record { 0 = slot })) found (EraseBlock (record { 0 = b })) ≡ EraseBlock block → b ≡ block.0
 the_victim b None block e = ap erased_block e
 the_victim b (Some slot) block e = absurd (false≢true (ap is_erase e))
 
-no_reserved : (m : MapState) (die : ℕ) (block : Block) (v : Option ℕ) → victim m die ≡ v → step_on m die v ≡ EraseBlock block
+no_reserved : (m : MapState) (die : ℕ) (block : Block) (v : Option ℕ) → victim m die ≡ v → option_map_or (step_on m die) v Nothing ≡ EraseBlock block
     → count_in m die block.0 is_reserved_slot ≡ 0
 no_reserved m die block None is e = absurd (false≢true (ap is_erase e))
 no_reserved m die block (Some b) is e =
