@@ -1,4 +1,5 @@
 -- What holds of the worlds of runs makes the answers right.
+use Rattle.fa_laws.proofs.Endings.{HappensCall, with_done}
 use Rattle.fa_laws.proofs.Events.{happens_holds}
 use Rattle.fa_laws.proofs.Invariant.{Holds}
 use Rattle.fa_laws.proofs.Runs.{run_keeps}
@@ -7,10 +8,10 @@ use Rattle.fa_laws.specs.Plain.{ChangesPlain}
 use Rattle.fa_laws.specs.Reached.{IsReached}
 use Rattle.fa_machine.specs.Cells.{DidRead, Outcome}
 use Rattle.fa_machine.specs.Reading.{answered}
-use Rattle.fa_machine.specs.Run.{CallsNext, Event, Happening, Happens, HappensCall, ImageCall, IsRightAnswer, ReadsRight}
+use Rattle.fa_machine.specs.Run.{CallsNext, Event, Happening, Happens, ImageCall, IsRightAnswer, ReadsRight}
 use Rattle.fa_machine.specs.State.{Core, OpenBatch}
 use Rattle.fa_machine.specs.Step.{Act, Admit, Commit, Does, Done, EndBatch, Reserve, ReserveFewer, ReserveHole, Take, allowed}
-use Rattle.fa_machine.specs.World.{Gave, JobCall, Work, World, followed, next_call, with_done, with_due, with_end, with_told}
+use Rattle.fa_machine.specs.World.{Gave, JobCall, Work, World, followed, next_call, with_due, with_end, with_told}
 use Rattle.fa_machine.specs.declared.jobs.Flight.{Flight}
 use Rattle.fa_machine.specs.declared.jobs.Flight.TheVariants.{Read}
 use Rattle.std.proofs.Common.{List, None, Option, Some, [], ap, refl, subst, sym, true, ℕ, ◌∙◌, ◌∷◌, ◌≡◌}
@@ -52,7 +53,7 @@ with_told_plain : (die batch page seq : ℕ) (o : Option (List ℕ)) (w : World)
 with_told_plain die batch page seq None w = refl
 with_told_plain die batch page seq (Some bytes) w = refl
 
-with_end_plain : (die : ℕ) (flight : Flight) (outcome : Outcome) (w : World) → (with_end die flight outcome w).plain ≡ w.plain
+with_end_plain : (die : ℕ) (flight : Flight) (outcome : Outcome) (w : World) → (with_end die (Some flight) outcome w).plain ≡ w.plain
 with_end_plain die (Read batch page version slot) (DidRead cell) w = with_told_plain die batch.0 page.0 version.seq.0 _ w
 with_end_plain die flight outcome w = refl
 
@@ -76,7 +77,7 @@ plain_followed w after (Take die seat None) e = e
 plain_followed w after (Done die outcome) e = e ∙ with_done_plain die (get w.core.jobs die) outcome w
 plain_followed w after act e = e
 
-call_plain : (w after : World) (die : ℕ) (work : Work) (call : Option JobCall) (gave : Gave) → CallsNext w die work call gave after → after.plain ≡ w.plain
+call_plain : (w after : World) (die : ℕ) (work : Work) (call : Option JobCall) (gave : Gave) → CallsNext w die (Some work) call gave after → after.plain ≡ w.plain
 call_plain w after die work None gave c = absurd c
 call_plain w after die work (Some call) gave c = ap (λ (v : World). v.plain) c.2
 

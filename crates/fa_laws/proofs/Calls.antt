@@ -1,4 +1,5 @@
 -- Each call of each job keeps what holds.
+use Rattle.fa_laws.proofs.Endings.{HappensCall}
 use Rattle.fa_laws.proofs.Admitting.{one_value_same}
 use Rattle.fa_laws.proofs.ImageCalls.{call_holds, job_seen, kept_unheld, opens, with_cell_other, with_cell_same}
 use Rattle.fa_laws.proofs.Invariant.{Holds, owned_of, scene_of}
@@ -7,7 +8,7 @@ use Rattle.fa_laws.proofs.Scene.{Bytes, GaveFits, JobFits, is_settled}
 use Rattle.fa_machine.specs.Cells.{Cell, Empty, Sealed, payload_of}
 use Rattle.fa_machine.specs.Collecting.{is_in_block}
 use Rattle.fa_machine.specs.Copies.{is_held_slot}
-use Rattle.fa_machine.specs.Run.{CallsNext, HappensCall}
+use Rattle.fa_machine.specs.Run.{CallsNext}
 use Rattle.fa_machine.specs.State.{used_at}
 use Rattle.fa_machine.specs.World.{Accepted, Calls, DieImage, Gave, GaveCell, ProgramsSlot, Refused, Work, World, first_call}
 use Rattle.fa_machine.specs.World.{next_call, second_call, with_cell, with_value}
@@ -154,11 +155,11 @@ second_move w h die page version from to payload cell (GaveCell other) image byt
 
 pub second_call_holds : (w : World) (h : Holds w) (die : ℕ) (flight : Flight) (payload : List ℕ) (cell : Cell) (g : Gave) (after : World)
     → w.works die ≡ Some (working flight payload (GaveCell cell ∷ []))
-    → CallsNext w die (working flight payload (GaveCell cell ∷ [])) (second_call die flight cell) g after → Holds after
+    → CallsNext w die (Some (working flight payload (GaveCell cell ∷ []))) (second_call die flight cell) g after → Holds after
 second_call_holds w h die (Move page version from to) payload cell g after works c =
     let gives : payload_of page.0 version die from.0 cell ≡ Some (w.payloads page.0 version.seq.0) =
     (h.sound.works die (working (Move page version from to) payload (GaveCell cell ∷ [])) works).gave in
-    let d = subst (λ o. CallsNext w die (working (Move page version from to) payload (GaveCell cell ∷ [])) (option_map (λ bytes. ProgramsSlot to.0 (Sealed page.0 version die to.0 bytes)) o) g after) gives c in
+    let d = subst (λ o. CallsNext w die (Some (working (Move page version from to) payload (GaveCell cell ∷ []))) (option_map (λ bytes. ProgramsSlot to.0 (Sealed page.0 version die to.0 bytes)) o) g after) gives c in
     subst Holds (sym d.2) (second_move w h die page version from to payload cell g d.0 (w.payloads page.0 version.seq.0) refl works d.1)
 second_call_holds w h die (Header epoch) payload cell g after works c = absurd c
 second_call_holds w h die (Erase block) payload cell g after works c = absurd c
@@ -168,7 +169,7 @@ second_call_holds w h die (Sync flushes) payload cell g after works c = absurd c
 
 next_holds : (w : World) (h : Holds w) (die : ℕ) (flight : Flight) (payload : List ℕ) (list : List Gave) (g : Gave) (after : World)
     → w.works die ≡ Some (working flight payload list)
-    → CallsNext w die (working flight payload list) (next_call die (record { flight = flight; payload = payload }) list) g after → Holds after
+    → CallsNext w die (Some (working flight payload list)) (next_call die (record { flight = flight; payload = payload }) list) g after → Holds after
 next_holds w h die flight payload [] g after works c = subst Holds (sym c.2) (first_call_holds w h die flight payload g c.0 works c.1)
 next_holds w h die flight payload (GaveCell cell ∷ []) g after works c = second_call_holds w h die flight payload cell g after works c
 next_holds w h die flight payload (Accepted ∷ []) g after works c = absurd c

@@ -1,4 +1,5 @@
 -- The collector's window and its moves, and flushes, of states that are told by lists.
+use Rattle.fa_laws.proofs.Endings.{HasOutcome}
 use Rattle.fa_laws.proofs.Listed.{insert_listed, inserts_listed, remove_listed}
 use Rattle.fa_laws.proofs.Making.{ends, step_first, takes}
 use Rattle.fa_laws.proofs.Maps.{nat_same, place_cmp_total, place_same}
@@ -16,7 +17,7 @@ use Rattle.fa_machine.specs.State.{Core, MapState, slots_of, used_at}
 use Rattle.fa_machine.specs.Step.{Done, FlushBegin, FlushState, Take, Window, is_die}
 use Rattle.fa_machine.specs.Taking.{flight_of, handed, move_from}
 use Rattle.fa_machine.specs.Turning.{window_refusal}
-use Rattle.fa_machine.specs.World.{HasOutcome, World}
+use Rattle.fa_machine.specs.World.{World}
 use Rattle.fa_machine.specs.Reading.{is_late}
 use Rattle.fa_machine.specs.declared.answers.Flush.{Flush}
 use Rattle.fa_machine.specs.declared.answers.FlushState.{FlushState as StateOfFlush}

@@ -1,4 +1,5 @@
 -- A die goes out at a fault alone.
+use Rattle.fa_laws.proofs.Endings.{HasOutcome, may_end}
 use Rattle.fa_laws.proofs.Invariant.{Holds, scene_of}
 use Rattle.fa_laws.proofs.Maps.{get-insert_other, get-insert_same, get-remove_other}
 use Rattle.fa_laws.proofs.Outcomes.{gave_read, tag}
@@ -8,9 +9,9 @@ use Rattle.fa_machine.specs.Cells.{payload_of}
 use Rattle.fa_laws.specs.Kept.{KeepsLive}
 use Rattle.fa_machine.specs.Run.{HappensEvent}
 use Rattle.fa_machine.specs.State.{Core, OpenBatch, is_live}
-use Rattle.fa_machine.specs.Step.{Act, Done, SpareIn, Step, is_sized_read, may_end}
+use Rattle.fa_machine.specs.Step.{Act, Done, SpareIn, Step, is_sized_read}
 use Rattle.fa_machine.specs.Taking.{EndsJob, finished, read_ends, with_answer}
-use Rattle.fa_machine.specs.World.{Accepted, Gave, GaveCell, HasOutcome, IsTold, Refused, Work, World, outcome_of}
+use Rattle.fa_machine.specs.World.{Accepted, Gave, GaveCell, IsTold, Refused, Work, World, outcome_of}
 use Rattle.fa_machine.specs.declared.jobs.Flight.{Flight}
 use Rattle.fa_machine.specs.declared.jobs.Flight.TheVariants.{Erase, Header, Move, Program, Read, Sync}
 use Rattle.fa_machine.specs.declared.refusals.SpareRefused.TheVariants.{NotSpare}
@@ -90,7 +91,7 @@ done_leaves : (w : World) (h : Holds w) (out : ℕ) (flight : Option Flight) (wo
     → EndsJob w.core out flight outcome core → contains_key w.core.page_map.live die ≡ true → contains_key core.page_map.live die ≡ false
     → (call : ℕ) × (Done out outcome ≡ Done die (Fault call))
 done_leaves w h out None work outcome core die job works may worked ends was is = absurd ends
-done_leaves w h out (Some flight) None outcome core die job works may worked ends was is = absurd worked
+done_leaves w h out (Some flight) None outcome core die job works may worked ends was is = absurd (none-some outcome worked)
 done_leaves w h out (Some flight) (Some work) outcome core die job works may worked ends was is =
     let same : work.job.flight ≡ flight = same_Some work.job.flight flight (sym (ap (option_map {T = Work} (λ k. k.job.flight)) works) ∙ sym (h.jobs out) ∙ job) in
     let fits = h.sound.works out work works in

@@ -1,4 +1,5 @@
 -- Each event keeps the replay of the history, and counts.
+use Rattle.fa_laws.proofs.Endings.{HappensCall}
 use Rattle.fa_laws.proofs.Takes.{IsOther, IsUrgent, take_cases}
 use Rattle.fa_laws.specs.Counted.{HasHistory, commits_of, commits_over, is_read, starts_of, starts_over}
 use Rattle.fa_machine.specs.Beginning.{IsBeginning}
@@ -8,7 +9,7 @@ use Rattle.fa_machine.specs.Flushing.{Folds}
 use Rattle.fa_machine.specs.Looks.{counts}
 use Rattle.fa_machine.specs.History.{folded, is_commit, is_legal, replay}
 use Rattle.fa_machine.specs.Placement.{copy_place}
-use Rattle.fa_machine.specs.Run.{CallsNext, Event, Happening, Happens, HappensCall, ImageCall, Run}
+use Rattle.fa_machine.specs.Run.{CallsNext, Event, Happening, Happens, ImageCall, Run}
 use Rattle.fa_machine.specs.State.{Base, Core, OpenBatch, Reservation}
 use Rattle.fa_machine.specs.Step.{Abandon, Act, Admit, Advance, Claim, Commit, CommitCopy, Does, Done, EndBatch, FlushBegin}
 use Rattle.fa_machine.specs.Step.{FlushState, Fold, Release, Replan, Reserve, ReserveCopy, ReserveFewer, ReserveHole, SpareIn, Take}
@@ -285,7 +286,7 @@ call_grows : (before after : World) (die : ℕ) (work : Option Work) (gave : Gav
 call_grows before after die None gave d = absurd d
 call_grows before after die (Some work) gave d = next_grows (next_call die work.job work.gave) d
   where
-    next_grows : (call : Option JobCall) → CallsNext before die work call gave after → Grows (three before.core) (three after.core) 0 0
+    next_grows : (call : Option JobCall) → CallsNext before die (Some work) call gave after → Grows (three before.core) (three after.core) 0 0
     next_grows None d = absurd d
     next_grows (Some call) d = leaves before.core after.core _ (ap (λ (w : World). w.core) d.2) refl
 

@@ -1,4 +1,5 @@
 -- Each event keeps the bookings ahead, and a batch whose bookings have passed has its answers.
+use Rattle.fa_laws.proofs.Endings.{HappensCall}
 use Rattle.fa_laws.proofs.Booked.{Good, MayPlan, dropped_good, ended_good, good_same, kept_all, planned_all, planned_before}
 use Rattle.fa_laws.proofs.Booked.{planned_timely, released_good, same_after, take_good, to_good}
 use Rattle.fa_laws.proofs.Events.{first_refusal}
@@ -16,7 +17,7 @@ use Rattle.fa_machine.specs.Conditions.{reserved_under}
 use Rattle.fa_machine.specs.Maps.{place_cmp}
 use Rattle.fa_machine.specs.Placement.{copy_place}
 use Rattle.fa_machine.specs.Reading.{batch_at, is_booked, is_read_for, left_of, released, results}
-use Rattle.fa_machine.specs.Run.{CallsNext, Event, Happening, Happens, HappensCall, ImageCall, Run}
+use Rattle.fa_machine.specs.Run.{CallsNext, Event, Happening, Happens, ImageCall, Run}
 use Rattle.fa_machine.specs.State.{Core, OpenBatch, Reservation, dies_of}
 use Rattle.fa_machine.specs.Step.{Abandon, Act, Admit, Advance, Claim, Commit, CommitCopy, Does, Done, EndBatch, FlushBegin}
 use Rattle.fa_machine.specs.Step.{FlushState, Fold, Release, Replan, Reserve, ReserveCopy, ReserveFewer, ReserveHole, SpareIn, Take}
@@ -179,7 +180,7 @@ module _ (K : ℕ → ℕ → BatchId → Type 0) where
   call_good before after die None gave c g = absurd c
   call_good before after die (Some work) gave c g = next_good (next_call die work.job work.gave) c
     where
-      next_good : (call : Option JobCall) → CallsNext before die work call gave after → Good K after.core
+      next_good : (call : Option JobCall) → CallsNext before die (Some work) call gave after → Good K after.core
       next_good None c = absurd c
       next_good (Some call) c = to_good K after.core before.core (ap (λ (v : World). v.core) c.2) g
 

@@ -1,4 +1,5 @@
 -- Done keeps what holds, for each job and each outcome that its calls may come to.
+use Rattle.fa_laws.proofs.Endings.{HasOutcome, may_end, with_done}
 use Rattle.fa_laws.proofs.Admitting.{one_value_same}
 use Rattle.fa_laws.proofs.Collected.{erase_ends_holds, move_ends_holds, read_ends_holds}
 use Rattle.fa_laws.proofs.Finishing.{drop_holds, ended, ended_holds, program_ends_holds}
@@ -10,9 +11,9 @@ use Rattle.fa_machine.specs.Cells.{Cell, DidErase, DidMove, DidProgram, DidRead,
 use Rattle.fa_machine.specs.Cells.{is_of_kind, payload_of}
 use Rattle.fa_machine.specs.Maps.{Numbers}
 use Rattle.fa_machine.specs.State.{Core, OpenBatch}
-use Rattle.fa_machine.specs.Step.{Done, allowed, is_sized_read, may_end}
+use Rattle.fa_machine.specs.Step.{Done, allowed, is_sized_read}
 use Rattle.fa_machine.specs.Taking.{EndsJob, finished, read_ends}
-use Rattle.fa_machine.specs.World.{Gave, HasOutcome, Work, World, outcome_of, with_done, with_end, with_told, with_value}
+use Rattle.fa_machine.specs.World.{Gave, Work, World, outcome_of, with_end, with_told, with_value}
 use Rattle.fa_machine.specs.declared.ids.BatchId.{BatchId}
 use Rattle.fa_machine.specs.declared.jobs.Flight.{Flight}
 use Rattle.fa_machine.specs.declared.jobs.Flight.TheVariants.{Erase, Header, Move, Program, Read, Sync}
@@ -21,7 +22,7 @@ use Rattle.fa_types.specs.declared.numbers.Page.{Page}
 use Rattle.fa_types.specs.declared.numbers.Slot.{Slot}
 use Rattle.std.proofs.Common.{Bool, List, None, Option, Some, ap, arith, false, refl, subst, suc, sym, true, ℕ, ◌+◌, ◌∙◌, ◌≡◌, ◌≤◌}
 use Rattle.std.proofs.lemmas.Bool.{and_parts, false≢true}
-use Rattle.std.proofs.lemmas.Option.{same_Some}
+use Rattle.std.proofs.lemmas.Option.{none-some, same_Some}
 use Rattle.std.specs.FinMap.{FinMap, get, insert, remove}
 use Rattle.std.specs.Ordering.{nat_cmp}
 use Rattle.std.specs.Prelude.{if◌then◌else◌, option_map, ◌==◌}
@@ -69,7 +70,7 @@ job_ends : (w : World) (h : Holds w) (die : ℕ) (flight : Flight) (payload : Li
     → ((slot : ℕ) → tally (program_is_at die slot) w.core.waiting + flight_writes flight slot ≤ 1)
     → ((batch : BatchId) (page : Page) (version : Version) (slot : Slot) (b : OpenBatch) → flight ≡ Read batch page version slot
     → get w.core.batches batch.0 ≡ Some b → w.admitted batch.0 ≤ (w.due die).since)
-    → Holds (record (with_end die flight outcome w) {
+    → Holds (record (with_end die (Some flight) outcome w) {
       works = with_value die None w.works;
       core = finished die flight outcome (record (w.core) { jobs = remove w.core.jobs die });
       moment = suc w.moment;
@@ -104,7 +105,7 @@ done_case : (w : World) (h : Holds w) (die : ℕ) (flight : Option Flight) (work
     → get w.core.jobs die ≡ flight → w.works die ≡ work → may_end w.core flight outcome ≡ true → HasOutcome die work outcome
     → EndsJob w.core die flight outcome core → Holds (record (with_done die flight outcome w) { core = core; moment = suc w.moment })
 done_case w h die None work outcome core job works may worked ends = absurd ends
-done_case w h die (Some flight) None outcome core job works may worked ends = absurd worked
+done_case w h die (Some flight) None outcome core job works may worked ends = absurd (none-some outcome worked)
 done_case w h die (Some flight) (Some work) outcome core job works may worked ends =
     let is : work.job.flight ≡ flight = same_Some work.job.flight flight (sym (ap (option_map {T = Work} (λ k. k.job.flight)) works) ∙ sym (h.jobs die) ∙ job) in
     let fits = h.sound.works die work works in

@@ -11,6 +11,7 @@ pub mod Copying
 pub mod Admitting
 pub mod EightBegin
 pub mod Ending
+pub mod Endings
 pub mod Entering
 pub mod Events
 pub mod Failing

@@ -1,4 +1,5 @@
 -- Events and image calls made, each from what is found in the maps of the world before it.
+use Rattle.fa_laws.proofs.Endings.{HappensCall, HasOutcome, may_end, with_done}
 use Rattle.std.specs.Option.{option_or}
 use Rattle.fa_laws.proofs.Invariant.{next}
 use Rattle.fa_machine.specs.Cells.{Outcome, is_of_kind}
@@ -6,14 +7,14 @@ use Rattle.fa_machine.specs.Collecting.{is_in_block}
 use Rattle.fa_machine.specs.Conditions.{history_full}
 use Rattle.fa_machine.specs.Copies.{copy_on}
 use Rattle.fa_machine.specs.Rounds.{is_in_window}
-use Rattle.fa_machine.specs.Run.{CallsNext, Happens, HappensCall, HappensEvent, ImageCall}
+use Rattle.fa_machine.specs.Run.{CallsNext, Happens, HappensEvent, ImageCall}
 use Rattle.fa_machine.specs.State.{Core, dies_of, is_live}
-use Rattle.fa_machine.specs.Step.{Done, Take, is_die, is_sized_read, may_end}
+use Rattle.fa_machine.specs.Step.{Done, Take, is_die, is_sized_read}
 use Rattle.fa_machine.specs.Taking.{EndsJob, Handed, after_urgent, begins, begun, finished, handed, is_idle, read_from, read_job, read_of}
 use Rattle.fa_machine.specs.Taking.{flight_of, other_job, step_job, urgent_job, without_stale_booking}
 use Rattle.fa_machine.specs.Collecting.{next_step, victim}
 use Rattle.fa_machine.specs.Turning.{advance_refusal, is_read_pending, is_round_pending, is_step_pending, is_collecting}
-use Rattle.fa_machine.specs.World.{Calls, DieImage, Gave, HasOutcome, JobCall, Work, World, next_call, with_done, with_value}
+use Rattle.fa_machine.specs.World.{Calls, DieImage, Gave, JobCall, Work, World, next_call, with_value}
 use Rattle.fa_machine.specs.Conditions.{first_that}
 use Rattle.fa_machine.specs.declared.ids.BatchId.{BatchId}
 use Rattle.fa_machine.specs.declared.jobs.Flight.{Flight}
@@ -24,6 +25,7 @@ use Rattle.fa_machine.specs.declared.refusals.AdvanceRefused.TheVariants.{Pendin
 use Rattle.fa_types.specs.declared.numbers.Page.{Page}
 use Rattle.std.proofs.Common.{Bool, List, None, Some, [], ap, false, not, refl, subst, suc, sym, true, ℕ, ◌++◌, ◌∙◌, ◌∷◌, ◌≡◌}
 use Rattle.std.proofs.lemmas.Bool.{and_left, and_right, or_from}
+use Rattle.std.specs.Prelude.{option_and_then}
 use Rattle.std.specs.FinMap.{contains_key, get, len, remove}
 use Rattle.std.specs.List.{AllByRecursion, list_any}
 use Rattle.std.specs.Prelude.{is_some, if◌then◌else◌, ◌&&◌, ◌==◌, ◌^◌}
@@ -70,7 +72,7 @@ read_first core die batch page version slot ahead none books number copy =
     ap (λ o. option_or (if is_some o then Some (Header core.epoch) else None) (option_or (step_job core die) (read_job core die))) ahead
     ∙ ap (λ o. option_or (if is_in_window o core.calendar.round && not (contains_key core.stepped die)
     then flight_of core.page_map die (next_step core.page_map die) else None) (read_job core die)) none
-    ∙ ap (read_of core.page_map die) books
+    ∙ ap (option_and_then (read_of core.page_map die)) books
     ∙ (λ i. read_from (record { batch = batch; page = page; started = false }) (number i) (copy i))
 
 -- a job ends
@@ -92,7 +94,7 @@ pub calls : (w : World) (die : ℕ) (gave : Gave) (image : DieImage) (work : Wor
     → Happens w (ImageCall die gave) (called die gave image work w)
 calls w die gave image work call there next made =
     subst (λ o. HappensCall w die o gave (called die gave image work w)) (sym there)
-    (subst (λ o. CallsNext w die work o gave (called die gave image work w)) (sym next) (image, made, refl))
+    (subst (λ o. CallsNext w die (Some work) o gave (called die gave image work w)) (sym next) (image, made, refl))
 
 -- no read that is booked for this round is to be waited for, and no step of a window
 pub record IsAtRest (core : Core) (die : ℕ) : Type 0 where

@@ -1,4 +1,5 @@
 -- A read in flight is due what it was due as it was taken.
+use Rattle.fa_laws.proofs.Endings.{HappensCall, HasOutcome, with_done}
 use Rattle.fa_laws.proofs.Admitting.{one_value_other, one_value_same}
 use Rattle.fa_laws.proofs.Answering.{reached_holds}
 use Rattle.fa_laws.proofs.Events.{happens_holds}
@@ -14,7 +15,7 @@ use Rattle.fa_machine.specs.Cells.{Cell, DidErase, DidMove, DidProgram, DidRead,
 use Rattle.fa_machine.specs.Cells.{payload_of}
 use Rattle.fa_machine.specs.Conditions.{reserved_under}
 use Rattle.fa_machine.specs.Placement.{copy_place}
-use Rattle.fa_machine.specs.Run.{CallsNext, Event, Happening, HappensCall, HappensEvent, ImageCall, Run}
+use Rattle.fa_machine.specs.Run.{CallsNext, Event, Happening, HappensEvent, ImageCall, Run}
 use Rattle.fa_machine.specs.State.{Core, OpenBatch, Reservation, is_live}
 use Rattle.fa_machine.specs.Step.{Abandon, Act, Admit, Advance, Claim, Commit, CommitCopy, Does, Done, EndBatch, FlushBegin}
 use Rattle.fa_machine.specs.Step.{FlushState, Fold, Release, Replan, Reserve, ReserveCopy, ReserveFewer, ReserveHole, SpareIn, Take}
@@ -22,7 +23,7 @@ use Rattle.fa_machine.specs.Step.{Window}
 use Rattle.fa_machine.specs.Taking.{EndsJob, Handed, Takes, begins, begun, finished, handed, is_idle, read_ends, with_answer}
 use Rattle.fa_machine.specs.Taking.{without_stale_booking}
 use Rattle.fa_machine.specs.Turning.{CommitsCopy, copying_to}
-use Rattle.fa_machine.specs.World.{Due, Gave, HasOutcome, JobCall, Work, World, followed, next_call, outcome_of, plain_page, with_done}
+use Rattle.fa_machine.specs.World.{Due, Gave, JobCall, Work, World, followed, next_call, outcome_of, plain_page}
 use Rattle.fa_machine.specs.World.{with_due, with_end, with_told}
 use Rattle.fa_machine.specs.Writing.{Abandons, Commits, Reserves}
 use Rattle.fa_machine.specs.declared.answers.Copied.{Copied}
@@ -196,7 +197,7 @@ module _ (die : ℕ) (flight : Flight) where
       told_due batch page seq None = refl
       told_due batch page seq (Some bytes) = refl
 
-      end_due : (f : Flight) (outcome : Outcome) → (with_end out f outcome w).due ≡ w.due
+      end_due : (f : Flight) (outcome : Outcome) → (with_end out (Some f) outcome w).due ≡ w.due
       end_due (Read batch page version slot) (DidRead cell) = told_due batch.0 page.0 version.seq.0 _
       end_due f outcome = refl
 
@@ -224,7 +225,7 @@ module _ (die : ℕ) (flight : Flight) where
   call_pends due before after out None gave c p = absurd c
   call_pends due before after out (Some work) gave c p = next_pends (next_call out work.job work.gave) c
     where
-      next_pends : (call : Option JobCall) → CallsNext before out work call gave after → Pends due after
+      next_pends : (call : Option JobCall) → CallsNext before out (Some work) call gave after → Pends due after
       next_pends None c = absurd c
       next_pends (Some call) c = subst (Pends due) (sym c.2) (record { at = p.at; same = p.same })
 
@@ -269,7 +270,7 @@ with_due_here die w flight batch page version slot is =
 gave_right : (w : World) (h : Holds w) (die : ℕ) (batch : BatchId) (page : Page) (version : Version) (slot : Slot) (cell : Cell) (work : Option Work)
     → get w.core.jobs die ≡ Some (Read batch page version slot) → w.works die ≡ work → HasOutcome die work (DidRead cell)
     → payload_of page.0 version die slot.0 cell ≡ Some (w.due die).bytes
-gave_right w h die batch page version slot cell None job works worked = absurd worked
+gave_right w h die batch page version slot cell None job works worked = absurd (none-some (DidRead cell) worked)
 gave_right w h die batch page version slot cell (Some work) job works worked =
     let is : work.job.flight ≡ Read batch page version slot =
     same_Some work.job.flight (Read batch page version slot) (sym (ap (option_map {T = Work} (λ k. k.job.flight)) works) ∙ sym (h.jobs die) ∙ job) in

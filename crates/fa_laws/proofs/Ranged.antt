@@ -1,4 +1,5 @@
 -- Each used slot is one of its die.
+use Rattle.fa_laws.proofs.Endings.{HappensCall, HasOutcome}
 use Rattle.fa_laws.proofs.Committing.{reserved_owned}
 use Rattle.fa_laws.proofs.Ending.{among-map}
 use Rattle.fa_laws.proofs.Events.{happens_holds}
@@ -18,7 +19,7 @@ use Rattle.fa_machine.specs.Copies.{holds_page}
 use Rattle.fa_machine.specs.Maps.{change, insert_all, keep, place_cmp}
 use Rattle.fa_machine.specs.Placement.{copies_asked, copy_place, free, has_room, is_erased_slot, lowest_erased, order_of, room}
 use Rattle.fa_machine.specs.Placement.{targets}
-use Rattle.fa_machine.specs.Run.{CallsNext, Event, Happening, Happens, HappensCall, ImageCall}
+use Rattle.fa_machine.specs.Run.{CallsNext, Event, Happening, Happens, ImageCall}
 use Rattle.fa_machine.specs.State.{Core, MapState, OpenBatch, Reservation, is_live, slots_of, used_at}
 use Rattle.fa_machine.specs.Step.{Abandon, Act, Admit, Advance, Claim, Commit, CommitCopy, Does, Done, EndBatch, FlushBegin}
 use Rattle.fa_machine.specs.Step.{FlushState, Fold, Release, Replan, Reserve, ReserveCopy, ReserveFewer, ReserveHole, SpareIn, Take}
@@ -26,7 +27,7 @@ use Rattle.fa_machine.specs.Step.{Window}
 use Rattle.fa_machine.specs.Taking.{EndsJob, Handed, Takes, begins, begun, finished, read_ends, stays, with_answer}
 use Rattle.fa_machine.specs.Taking.{without_stale_booking}
 use Rattle.fa_machine.specs.Turning.{CommitsCopy, copying_to}
-use Rattle.fa_machine.specs.World.{Gave, HasOutcome, IsTold, JobCall, Work, World, next_call}
+use Rattle.fa_machine.specs.World.{Gave, IsTold, JobCall, Work, World, next_call}
 use Rattle.fa_machine.specs.Writing.{Abandons, Commits, Reserves, claimed_page, live_targets, target_on}
 use Rattle.fa_machine.specs.Writing.{without_page}
 use Rattle.fa_machine.specs.declared.answers.Copied.{Copied}
@@ -247,7 +248,7 @@ module _ (w : World) (h : Holds w) (ranged : Ranged w.core) where
   done_ranged : (die : ℕ) (flight : Option Flight) (work : Option Work) (outcome : Outcome) (core : Core) → get w.core.jobs die ≡ flight → w.works die ≡ work
       → HasOutcome die work outcome → EndsJob w.core die flight outcome core → Ranged core
   done_ranged die None work outcome core job works worked e = absurd e
-  done_ranged die (Some flight) None outcome core job works worked e = absurd worked
+  done_ranged die (Some flight) None outcome core job works worked e = absurd (none-some outcome worked)
   done_ranged die (Some flight) (Some work) outcome core job works worked e =
       let is : work.job.flight ≡ flight = same_Some work.job.flight flight (sym (ap (option_map {T = Work} (λ k. k.job.flight)) works) ∙ sym (h.jobs die) ∙ job) in
       subst Ranged (sym e) (finished_ranged die flight work.job.payload outcome
@@ -291,7 +292,7 @@ call_core : (before after : World) (die : ℕ) (work : Option Work) (gave : Gave
 call_core before after die None gave c = absurd c
 call_core before after die (Some work) gave c = next_core (next_call die work.job work.gave) c
   where
-    next_core : (call : Option JobCall) → CallsNext before die work call gave after → after.core ≡ before.core
+    next_core : (call : Option JobCall) → CallsNext before die (Some work) call gave after → after.core ≡ before.core
     next_core None c = absurd c
     next_core (Some call) c = ap (λ (v : World). v.core) c.2
 

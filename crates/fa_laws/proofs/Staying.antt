@@ -1,4 +1,5 @@
 -- A current copy stays with its die until its page is written again.
+use Rattle.fa_laws.proofs.Endings.{HasOutcome}
 use Rattle.fa_cert.specs.Batch.{holds}
 use Rattle.fa_laws.proofs.Claiming.{room_erased}
 use Rattle.fa_laws.proofs.Committing.{reserved_owned}
@@ -33,7 +34,7 @@ use Rattle.fa_machine.specs.Step.{Window}
 use Rattle.fa_machine.specs.Taking.{EndsJob, Handed, Takes, begins, begun, erase_ends, finished, move_ends, read_ends, stays}
 use Rattle.fa_machine.specs.Taking.{stepped_on, with_answer, without_stale_booking}
 use Rattle.fa_machine.specs.Turning.{CommitsCopy, copying_to}
-use Rattle.fa_machine.specs.World.{HasOutcome, IsTold, Work, World}
+use Rattle.fa_machine.specs.World.{IsTold, Work, World}
 use Rattle.fa_machine.specs.Writing.{Abandons, Commits, Reserves, claimed_page, live_targets, target_on}
 use Rattle.fa_machine.specs.Writing.{without_page}
 use Rattle.fa_machine.specs.declared.answers.Copied.{Copied}
@@ -357,7 +358,7 @@ module _ (w : World) (h : Holds w) (page die : ℕ) (c : HasCopy w.core page die
   done_stays : (d : ℕ) (flight : Option Flight) (work : Option Work) (outcome : Outcome) (core : Core) → is_live w.core.page_map die ≡ true
       → get w.core.jobs d ≡ flight → w.works d ≡ work → HasOutcome d work outcome → EndsJob w.core d flight outcome core → is_live core.page_map die ≡ true → Stays core
   done_stays d None work outcome core was job works worked e alive = absurd e
-  done_stays d (Some flight) None outcome core was job works worked e alive = absurd worked
+  done_stays d (Some flight) None outcome core was job works worked e alive = absurd (none-some outcome worked)
   done_stays d (Some flight) (Some work) outcome core was job works worked e alive =
       let is : work.job.flight ≡ flight = same_Some work.job.flight flight (sym (ap (option_map {T = Work} (λ k. k.job.flight)) works) ∙ sym (h.jobs d) ∙ job) in
       to_stays _ core e (finished_stays d flight work.job.payload outcome was

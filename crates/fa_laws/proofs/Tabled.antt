@@ -1,4 +1,5 @@
 -- Events and image calls of states that are told by lists.
+use Rattle.fa_laws.proofs.Endings.{HasOutcome, with_done}
 use Rattle.fa_laws.proofs.Invariant.{next}
 use Rattle.fa_laws.proofs.Listed.{empty_listed, insert_listed, keep_listed, len_listed, remove_listed, without_key}
 use Rattle.fa_laws.proofs.Certified.{all_pass}
@@ -15,7 +16,7 @@ use Rattle.fa_machine.specs.State.{Core}
 use Rattle.fa_machine.specs.Step.{Advance, Done, Take, is_die, is_sized_read}
 use Rattle.fa_machine.specs.Taking.{Handed, handed, is_idle, with_answer, read_ends}
 use Rattle.fa_machine.specs.Turning.{is_read_pending}
-use Rattle.fa_machine.specs.World.{GaveCell, Accepted, Refused, HasOutcome, Work, World, WritesHeader, ReadsSlot, with_done, with_due, with_told, with_value}
+use Rattle.fa_machine.specs.World.{GaveCell, Accepted, Refused, Work, World, WritesHeader, ReadsSlot, with_due, with_told, with_value}
 use Rattle.fa_machine.specs.declared.answers.HistoryEntry.TheVariants.{Start}
 use Rattle.fa_machine.specs.declared.ids.BatchId.{BatchId}
 use Rattle.fa_machine.specs.declared.jobs.Flight.{Flight}

@@ -16,6 +16,7 @@ use Rattle.fa_machine.specs.declared.places.Used.TheVariants.{Held, Reserved, St
 use Rattle.fa_machine.specs.declared.places.Version.{Version}
 use Rattle.std.proofs.Common.{Bool, None, Option, Some, ap, false, inl, inr, refl, subst, sym, true, ℕ, ◌/◌, ◌∙◌, ◌≡◌, ◌⊎◌}
 use Rattle.std.proofs.lemmas.Option.{none-some, same_Some}
+use Rattle.std.specs.Prelude.{option_and_then}
 use Rattle.std.specs.FinMap.{get}
 use Rattle.std.specs.Prelude.{find, if◌then◌else◌, option_map}
 
@@ -85,7 +86,7 @@ a_read_from core die b (Some version) (Some slot) flight booked waits number cop
     (record { booking = b; booked = booked; waits = waits; batch_is = refl; page_is = refl; number = number; copy = copy })
 
 a_read : (core : Core) (die : ℕ) (booking : Option Booking) (flight : Flight) → get core.calendar.bookings (die, core.calendar.round) ≡ booking
-    → read_of core.page_map die booking ≡ Some flight → IsUrgent core die flight
+    → option_and_then (read_of core.page_map die) booking ≡ Some flight → IsUrgent core die flight
 a_read core die None flight booked e = absurd (none-some flight e)
 a_read core die (Some b) flight booked e =
     let found = if_none b.started _ flight e in

@@ -1,4 +1,5 @@
 -- The events of a writer and the programs of dies, of states that are told by lists.
+use Rattle.fa_laws.proofs.Endings.{HasOutcome}
 use Rattle.std.specs.Option.{option_or}
 use Rattle.fa_laws.proofs.Listed.{change_listed, insert_listed, inserts_listed, keep_listed, remove_listed}
 use Rattle.fa_laws.proofs.Making.{called, calls, ends, none_first, takes_other}
@@ -14,7 +15,7 @@ use Rattle.fa_machine.specs.Run.{Happens, HappensEvent, ImageCall}
 use Rattle.fa_machine.specs.State.{Core, OpenClaim, Reservation}
 use Rattle.fa_machine.specs.Step.{Claim, Commit, Done, Release, Reserve, ReserveHole, Take, is_page}
 use Rattle.fa_machine.specs.Taking.{Handed, handed, is_for, mark_claim, program_of, read_of, other_job, urgent_job, without_stale_booking}
-use Rattle.fa_machine.specs.World.{Accepted, HasOutcome, ProgramsSlot, World, with_cell, with_value_at}
+use Rattle.fa_machine.specs.World.{Accepted, ProgramsSlot, World, with_cell, with_value_at}
 use Rattle.fa_machine.specs.Writing.{Commits, Reserves, claimed_page, committed, live_targets, program_at, reserve_refusal, reserved}
 use Rattle.fa_machine.specs.Writing.{target_on, with_targets, without_page}
 use Rattle.fa_machine.specs.declared.answers.HistoryEntry.TheVariants.{Commit as CommitEntry}
@@ -239,7 +240,7 @@ module _ (g : Geometry) where
   -- nothing comes before a waiting program
   abbrev pub none_urgent : Table → ℕ → Bool
   none_urgent t die = not (is_some (at_number die t.behind)) && (not (is_some (at_number die t.windows))
-      && not (is_some (read_of (core_of g t).page_map die (find_entry place_cmp (die, t.round) t.bookings))))
+      && not (is_some (option_and_then (read_of (core_of g t).page_map die) (find_entry place_cmp (die, t.round) t.bookings))))
 
   abbrev pub sync_taken : ℕ → ℕ → Table → Table
   sync_taken die flushes t = record t {
@@ -255,7 +256,7 @@ module _ (g : Geometry) where
         none_first (core_of g t) die
         (get-from_sorted nat_cmp t.behind die o.behind ∙ is_none_there (at_number die t.behind) a.0)
         (get-from_sorted nat_cmp t.windows die o.windows ∙ is_none_there (at_number die t.windows) b.0)
-        (ap (read_of (core_of g t).page_map die) (get-from_sorted place_cmp t.bookings (die, t.round) o.bookings) ∙ is_none_there _ b.1)
+        (ap (option_and_then (read_of (core_of g t).page_map die)) (get-from_sorted place_cmp t.bookings (die, t.round) o.bookings) ∙ is_none_there _ b.1)
 
     other_same : other_job (without_stale_booking die (core_of g t)) die ≡ other_in t die
     other_same = λ i. option_or (option_map program_of (find (is_for die) t.waiting)) (option_map handed

@@ -1,13 +1,13 @@
 -- An array of three dies, no spare, each of 16 blocks of 8 slots, with 64 pages that are to have two copies. Pages 0 to 7
 -- were written in turn, and the array was mounted since: nothing is under way, and each live header is behind.
 use Rattle.std.specs.Prelude.{◌≡◌, ℕ, suc, ◌+◌, ◌++◌, List, [], ◌∷◌, map, replicate, slice_index_or, Option, Some, None}
-use Rattle.std.specs.FinMap.{empty, from_sorted}
+use Rattle.std.specs.FinMap.{from_sorted}
 use Rattle.fa_types.specs.declared.geometry.Geometry.{Geometry}
 use Rattle.fa_types.specs.declared.kind.Kind.TheVariants.{Data}
 use Rattle.fa_machine.specs.declared.places.Used.{Used}
 use Rattle.fa_machine.specs.declared.places.Used.TheVariants.{Held}
 use Rattle.fa_machine.specs.declared.places.Version.{Version}
-use Rattle.fa_machine.specs.Beginning.{mounted}
+use Rattle.fa_laws.specs.Formatted.{new_core}
 use Rattle.fa_machine.specs.Cells.{Cell, Empty, Sealed, Broken}
 use Rattle.fa_machine.specs.State.{MapState, used_at}
 use Rattle.fa_machine.specs.World.{World}
@@ -54,7 +54,7 @@ cell_in bytes die slot (Some used) = Broken
 -- The array, of which pages 0 to 7 have these bytes. The others were never written.
 abbrev pub written_in_turn : Geometry → (ℕ → List ℕ) → World
 written_in_turn geometry bytes = record {
-  core = mounted 2 1 8 (eight_written geometry) empty (from_sorted (map (λ page. (page, page + 1)) eight));
+  core = new_core 8 (eight_written geometry) (from_sorted (map (λ page. (page, page + 1)) eight));
   images = λ die. record { seen = λ slot. cell_in bytes die slot (used_at (eight_written geometry) die slot) };
   works = λ die. None;
   plain = map bytes eight ++ replicate 56 (replicate geometry.page_bytes 0);

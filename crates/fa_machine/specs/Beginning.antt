@@ -1,7 +1,6 @@
 -- The array as it is mounted: what its images hold, and nothing under way.
 use Rattle.std.specs.Prelude.{◌≡◌, ℕ, ◌-◌, ◌*◌, ◌^◌, ◌<◌, ◌≤◌, ◌⊎◌, true, false, ◌||◌, [], length, Option, Some, None, is_some, option_map}
-use Rattle.std.specs.Ordering.{nat_cmp}
-use Rattle.std.specs.FinMap.{FinMap, empty, get, contains_key}
+use Rattle.std.specs.FinMap.{empty, get, contains_key}
 use Rattle.fa_types.specs.Plain.{HasPages}
 use Rattle.fa_types.specs.declared.kind.Kind.TheVariants.{Hole}
 use Rattle.fa_machine.specs.declared.places.Used.{Used}
@@ -9,31 +8,25 @@ use Rattle.fa_machine.specs.declared.places.Used.TheVariants.{Reserved, Held, St
 use Rattle.fa_machine.specs.declared.places.Version.{Version}
 use Rattle.fa_machine.specs.Cells.{Empty, Sealed}
 use Rattle.fa_machine.specs.Copies.{is_current}
-use Rattle.fa_machine.specs.Maps.{Numbers}
 use Rattle.fa_machine.specs.Reading.{zeros}
-use Rattle.fa_machine.specs.State.{Core, MapState, is_live, used_at}
+use Rattle.fa_machine.specs.State.{Core, is_live, used_at}
 use Rattle.fa_machine.specs.World.{World, plain_page}
 
--- The state over what the images hold, with nothing under way: round 1, each live header behind, an empty history.
-abbrev pub mounted : (copies epoch last : ℕ) (m : MapState) (spares : Numbers) (numbers : FinMap nat_cmp ℕ) → Core
-mounted copies epoch last m spares numbers = record {
-  copies = copies;
-  page_map = m;
+-- the state with no program that waits, job, copy, claim or batch, and the one with no flush
+abbrev pub with_nothing_open : Core → Core
+with_nothing_open core = record core { waiting = []; jobs = empty; copying = None; claims = empty; batches = empty }
+
+abbrev pub with_no_flush : Core → Core
+with_no_flush core = record core { flushes = 0; asked = empty; synced = empty }
+
+-- The state over what the images hold, with nothing under way: round 1, each live header behind, an empty history. What the
+-- images give is left as it is: the page map, the epoch, the spares, the last number, and the numbers where the history begins.
+abbrev pub mounted : Core → Core
+mounted core = record (with_nothing_open (with_no_flush core)) {
   calendar = record { round = 1; bookings = empty; windows = empty };
-  epoch = epoch;
-  behind = m.live;
-  spares = spares;
+  behind = core.page_map.live;
   stepped = empty;
-  last = last;
-  waiting = [];
-  jobs = empty;
-  copying = None;
-  claims = empty;
-  batches = empty;
-  flushes = 0;
-  asked = empty;
-  synced = empty;
-  base = record { numbers = numbers; commits = 0; starts = 0 };
+  base = record (core.base) { commits = 0; starts = 0 };
   history = [];
 }
 
@@ -55,7 +48,7 @@ StandsAt w die slot (Some Stale) = Unit {0}
 -- A world that was just mounted. A page that was written and has no copy is lost, and what the plain array has of it is
 -- settled by nothing.
 pub record IsBeginning (w : World) : Type 0 where
-  pub fresh : w.core ≡ mounted w.core.copies w.core.epoch w.core.last w.core.page_map w.core.spares w.core.base.numbers
+  pub fresh : w.core ≡ mounted w.core
   pub copies : (w.core.copies ≡ 2) ⊎ (w.core.copies ≡ 3)
   -- so that the homes of a page are as many dies
   pub enough : w.core.copies ≤ w.core.page_map.geometry.dies - w.core.page_map.geometry.spares

@@ -83,9 +83,8 @@ booked batch places calendar = record calendar {
 
 -- the calendar without a batch's bookings that were not started
 abbrev pub released : ℕ → CalendarState → CalendarState
-released batch calendar = record calendar {
-  bookings = keep (λ place booking. booking.started || not (booking.batch.0 == batch)) calendar.bookings;
-}
+released batch calendar =
+    record calendar { bookings = keep (λ place booking. booking.started || not (booking.batch.0 == batch)) calendar.bookings }
 
 -- whether a job is the read of a page for a batch
 abbrev pub is_read_for : ℕ → ℕ → Flight → Bool

@@ -1,6 +1,6 @@
 -- Runs: any order of events, each with its answer, and of image calls, each of a job in flight, that keeps the
 -- conditions; and which runs read right.
-use Rattle.std.specs.Prelude.{◌≡◌, ℕ, suc, ◌≤◌, List, [], ◌∷◌, ◌++◌, Option, Some, None}
+use Rattle.std.specs.Prelude.{◌≡◌, ℕ, suc, ◌≤◌, List, [], ◌∷◌, ◌++◌, Option, Some, None, option_and_then, option_map}
 use Rattle.std.specs.List.{AllByRecursion}
 use Rattle.fa_machine.specs.Collecting.{is_in_block}
 use Rattle.fa_machine.specs.Step.{Act, EndBatch, Step}
@@ -16,22 +16,19 @@ pub record HappensEvent (before : World) (act : Act) (after : World) : Type 0 wh
   pub told : IsTold before act
   pub follows : after ≡ record (followed act before) { core = after.core; moment = suc before.moment }
 
--- the next call of a job in flight, as its image answers it
-abbrev pub CallsNext : World → ℕ → Work → Option JobCall → Gave → World → Type 0
+-- the next call of the work that a die is at, if it has one, as its image answers it
+abbrev pub CallsNext : World → ℕ → Option Work → Option JobCall → Gave → World → Type 0
 CallsNext before die work None gave after = ⊥
 CallsNext before die work (Some call) gave after =
     (image : DieImage) × Calls (is_in_block before.core.page_map) call gave (before.images die) image × (after ≡ record before {
       images = with_value die image before.images;
-      works = with_value die (Some (record work { gave = work.gave ++ gave ∷ [] })) before.works;
+      works = with_value die (option_map {T = Work} (λ k. record k { gave = k.gave ++ gave ∷ [] }) work) before.works;
     })
-
-abbrev pub HappensCall : World → ℕ → Option Work → Gave → World → Type 0
-HappensCall before die None gave after = ⊥
-HappensCall before die (Some work) gave after = CallsNext before die work (next_call die work.job work.gave) gave after
 
 abbrev pub Happens : World → Happening → World → Type 0
 Happens before (Event act) after = HappensEvent before act after
-Happens before (ImageCall die gave) after = HappensCall before die (before.works die) gave after
+Happens before (ImageCall die gave) after =
+    CallsNext before die (before.works die) (option_and_then (λ k. next_call die k.job k.gave) (before.works die)) gave after
 
 abbrev pub Run : World → List Happening → World → Type 0
 Run before [] after = after ≡ before

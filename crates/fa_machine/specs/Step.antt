@@ -1,6 +1,7 @@
 -- The events of the array with their answers, the conditions under which callers may make them, and what each does.
 use Rattle.std.specs.Prelude.{◌≡◌, ℕ, min, Bool, true, false, not, ◌==◌, ◌&&◌, nat_lt, nat_le}
-use Rattle.std.specs.Prelude.{IsTrue, List, [], ◌∷◌, length, Option, Some, None, Result}
+use Rattle.std.specs.Prelude.{IsTrue, List, [], ◌∷◌, length, Option, Result}
+use Rattle.std.specs.Option.{option_map_or}
 use Rattle.std.specs.List.{list_all}
 use Rattle.std.specs.FinMap.{get, remove}
 use Rattle.fa_types.specs.declared.numbers.Round.{Round}
@@ -9,7 +10,6 @@ use Rattle.fa_machine.specs.declared.answers.Copied.{Copied}
 use Rattle.fa_machine.specs.declared.answers.Flush.{Flush}
 use Rattle.fa_machine.specs.declared.answers.FlushState.{FlushState as StateOfFlush}
 use Rattle.fa_machine.specs.declared.ids.ClaimId.{ClaimId}
-use Rattle.fa_machine.specs.declared.jobs.Flight.{Flight}
 use Rattle.fa_types.specs.declared.kind.Kind.TheVariants.{Data, Hole}
 use Rattle.fa_machine.specs.declared.refusals.AbandonRefused.{AbandonRefused}
 use Rattle.fa_machine.specs.declared.refusals.AdmitRefused.{AdmitRefused}
@@ -74,12 +74,8 @@ abbrev pub is_sized_read : Core → Outcome → Bool
 is_sized_read core (DidRead (Sealed page version die slot payload)) = is_sized core payload
 is_sized_read core outcome = true
 
--- there is a job in flight, and the outcome is of its kind
-abbrev pub may_end : Core → Option Flight → Outcome → Bool
-may_end core None outcome = false
-may_end core (Some flight) outcome = is_of_kind flight outcome && is_sized_read core outcome
-
--- The conditions of each event, which a caller can test. Those that are not named have none.
+-- The conditions of each event, which a caller can test. Those that are not named have none. A Done has an outcome of
+-- the kind of the job in flight.
 abbrev pub allowed : Core → Act → Bool
 allowed core (Claim page answer) = is_page core page
 allowed core (Release claim) = claim_open core claim && not (is_reserved core claim)
@@ -92,7 +88,7 @@ allowed core (Admit pages answer) = is_distinct pages && list_all (is_page core)
 allowed core (Replan batch answer) = batch_open core batch
 allowed core (EndBatch batch answer) = batch_open core batch
 allowed core (Take die seat answer) = is_die core die && not (history_full core)
-allowed core (Done die outcome) = may_end core (get core.jobs die) outcome
+allowed core (Done die outcome) = option_map_or (λ job. is_of_kind job outcome) (get core.jobs die) false && is_sized_read core outcome
 allowed core (Window die count answer) = is_die core die && nat_le 1 count && nat_le count 64
 allowed core (SpareIn die answer) = is_die core die
 allowed core (ReserveCopy page seq payload answer) = is_page core page && is_sized core payload

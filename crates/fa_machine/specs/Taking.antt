@@ -1,6 +1,6 @@
 -- The events of dies: Take hands out the first job that applies, Done ends the job in flight.
 use Rattle.std.specs.Prelude.{◌≡◌, ℕ, ◌/◌, Bool, true, not, ◌==◌, ◌&&◌, ◌||◌, nat_lt, if◌then◌else◌, List, [], ◌∷◌, ◌++◌}
-use Rattle.std.specs.Prelude.{Option, Some, None, unwrap_or, option_map, map, find}
+use Rattle.std.specs.Prelude.{Option, Some, None, unwrap_or, option_and_then, option_map, map, find}
 use Rattle.std.specs.List.{before_first, after_first}
 use Rattle.std.specs.Option.{option_map_or, option_or}
 use Rattle.std.specs.FinMap.{FinMap, insert, remove, contains_key, get}
@@ -56,13 +56,12 @@ abbrev pub read_from : Booking → Option Version → Option ℕ → Option Flig
 read_from b (Some version) (Some slot) = Some (Read b.batch b.page version (record { 0 = slot }))
 read_from b version slot = None
 
--- the read of a booking, from the slot that holds the page at this moment
-abbrev pub read_of : MapState → ℕ → Option Booking → Option Flight
-read_of m die None = None
-read_of m die (Some b) = if b.started then None else read_from b (get m.numbers b.page.0) (copy_on m b.page.0 die)
+-- the read of a booking that was not started, from the slot that holds the page at this moment
+abbrev pub read_of : MapState → ℕ → Booking → Option Flight
+read_of m die b = if b.started then None else read_from b (get m.numbers b.page.0) (copy_on m b.page.0 die)
 
 abbrev pub read_job : Core → ℕ → Option Flight
-read_job core die = read_of core.page_map die (get core.calendar.bookings (die, core.calendar.round))
+read_job core die = option_and_then (read_of core.page_map die) (get core.calendar.bookings (die, core.calendar.round))
 
 -- the oldest program that waits for the die
 abbrev pub program_of : WaitingProgram → Handed

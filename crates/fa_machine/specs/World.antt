@@ -1,7 +1,7 @@
 -- The array with its images: what stands in each slot, the calls that the jobs in flight have made, and the plain array,
 -- which changes at Commit alone. A run is a list of events and of image calls, of which any may fail.
-use Rattle.std.specs.Prelude.{◌≡◌, ℕ, Bool, ◌==◌, ◌&&◌, cond, if◌then◌else◌, List, [], ◌∷◌, ◌++◌, Option, Some, None, option_map, Ok}
-use Rattle.std.specs.Prelude.{Contains, filter_map, fold, slice_index_or, is_some}
+use Rattle.std.specs.Prelude.{◌≡◌, ℕ, Bool, ◌==◌, ◌&&◌, cond, if◌then◌else◌, List, [], ◌∷◌, ◌++◌, Option, Some, None, Ok}
+use Rattle.std.specs.Prelude.{Contains, option_and_then, option_map, filter_map, fold, slice_index_or, is_some}
 use Rattle.std.specs.FinMap.{get}
 use Rattle.fa_types.specs.Plain.{put}
 use Rattle.fa_machine.specs.declared.jobs.Flight.{Flight}
@@ -165,14 +165,10 @@ with_told die batch page seq (Some bytes) w = record w {
   told = w.told ++ (record { page = page; seq = seq; bytes = bytes }) ∷ [];
 }
 
-abbrev pub with_end : ℕ → Flight → Outcome → World → World
-with_end die (Read batch page version slot) (DidRead cell) w =
+abbrev pub with_end : ℕ → Option Flight → Outcome → World → World
+with_end die (Some (Read batch page version slot)) (DidRead cell) w =
     with_told die batch.0 page.0 version.seq.0 (payload_of page.0 version die slot.0 cell) w
 with_end die flight outcome w = w
-
-abbrev pub with_done : ℕ → Option Flight → Outcome → World → World
-with_done die None outcome w = w
-with_done die (Some flight) outcome w = record (with_end die flight outcome w) { works = with_value die None w.works }
 
 -- what an event changes in the world besides the array's state
 abbrev pub followed : Act → World → World
@@ -184,17 +180,12 @@ followed (Commit claim seat (Ok seq)) w =
 followed (Admit pages (Ok admitted)) w = with_batch admitted.batch.0 pages w
 followed (Take die seat (Some job)) w =
     record (with_due die job.flight w) { works = with_value die (Some (record { job = job; gave = [] })) w.works }
-followed (Done die outcome) w = with_done die (get w.core.jobs die) outcome w
+followed (Done die outcome) w = record (with_end die (get w.core.jobs die) outcome w) { works = with_value die None w.works }
 followed act w = w
 
--- the outcome of a Done is what its job's calls gave
-abbrev pub HasOutcome : ℕ → Option Work → Outcome → Type 0
-HasOutcome die None outcome = ⊥
-HasOutcome die (Some work) outcome = outcome_of die work.job.flight work.job.payload work.gave ≡ Some outcome
-
--- What an event owes to the world: a Done tells what its job's calls gave, and one more copy has bytes that were
--- answered by a read which started while the page had this number.
+-- What an event owes to the world: a Done tells the outcome that its job's calls gave, and one more copy has bytes that
+-- were answered by a read which started while the page had this number.
 abbrev pub IsTold : World → Act → Type 0
-IsTold w (Done die outcome) = HasOutcome die (w.works die) outcome
+IsTold w (Done die outcome) = option_and_then (λ k. outcome_of die k.job.flight k.job.payload k.gave) (w.works die) ≡ Some outcome
 IsTold w (ReserveCopy page seq payload answer) = Contains w.told (record { page = page; seq = seq; bytes = payload })
 IsTold w act = Unit {0}

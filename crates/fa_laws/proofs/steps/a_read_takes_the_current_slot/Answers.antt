@@ -1,4 +1,5 @@
 use Rattle.std.proofs.Common.{◌≡◌, ℕ, true, false, cond, Option, Some, None, refl, sym, ap, ◌∙◌}
+use Rattle.std.specs.Prelude.{option_and_then}
 use Rattle.std.specs.FinMap.{get}
 use Rattle.std.proofs.lemmas.Option.{none-some, same_Some}
 use Rattle.fa_machine.specs.declared.jobs.Flight.{Flight}
@@ -27,7 +28,7 @@ from_booking m die b (Some version) (Some slot) is flight e =
     let same = same_Some _ flight e in
     ap (λ (f : Flight). is_current m (page_of f) die (slot_of f)) (sym same) ∙ (found_passes (is_current m b.page.0 die) (slots_of m) slot is).0
 
-current : (m : MapState) (die : ℕ) (booking : Option Booking) (flight : Flight) → read_of m die booking ≡ Some flight
+current : (m : MapState) (die : ℕ) (booking : Option Booking) (flight : Flight) → option_and_then (read_of m die) booking ≡ Some flight
     → is_current m (page_of flight) die (slot_of flight) ≡ true
 current m die None flight e = absurd (none-some flight e)
 current m die (Some b) flight e =
