@@ -2,7 +2,8 @@
 use Rattle.fa_laws.proofs.Claiming.{value_other, value_same}
 use Rattle.fa_laws.proofs.Invariant.{AreAnswered, AreTold, Holds, later}
 use Rattle.fa_laws.proofs.Lists.{among-filter, among-filter_map}
-use Rattle.fa_laws.proofs.Maps.{any_value, get-insert_all, get-insert_cases, get-remove_some, nat_same}
+use Rattle.fa_machine.proofs.Maps.{get-insert_cases, get-remove_some, nat_same}
+use Rattle.fa_laws.proofs.Maps.{any_value, get-insert_all}
 use Rattle.fa_laws.proofs.Reserving.{among-append}
 use Rattle.fa_laws.proofs.Scene.{Among}
 use Rattle.fa_machine.specs.Maps.{insert_all}

@@ -2,7 +2,7 @@
 use Rattle.fa_cert.specs.Plan.{rounds_of}
 use Rattle.fa_cert.specs.declared.plan.Place.{Place}
 use Rattle.fa_laws.proofs.Finishing.{passed_some}
-use Rattle.fa_laws.proofs.Maps.{get-keep, get-place_other, place_cmp_total, place_same}
+use Rattle.fa_machine.proofs.Maps.{get-keep, get-place_other, place_cmp_total, place_same}
 use Rattle.fa_laws.proofs.Scene.{Among}
 use Rattle.fa_laws.proofs.Takes.{IsOther, IsUrgent, take_cases}
 use Rattle.fa_laws.proofs.Timely.{Timely, TimelyCore, begun_timely, booked_cases, dropped_timely, ended_timely, kept_timely}

@@ -4,8 +4,9 @@ use Rattle.fa_laws.proofs.Invariant.{AreInside, Holds, later, owned_claim, owned
 use Rattle.fa_laws.proofs.Keeping.{Records, disowned_is_sound, recorded_is_sound}
 use Rattle.fa_laws.proofs.Lists.{among-filter, among-map-intro, among-take, found_passes, none_found, tally-filter-le, tally-map-le}
 use Rattle.fa_laws.proofs.Lists.{tally-take-le}
-use Rattle.fa_laws.proofs.Maps.{get-insert_all, get-insert_all_among, get-insert_cases, get-insert_other, get-insert_same}
-use Rattle.fa_laws.proofs.Maps.{get-remove_other, get-remove_same, get-remove_some, place_cmp_total, place_itself, place_same}
+use Rattle.fa_machine.proofs.Maps.{get-insert_cases, get-insert_other, get-insert_same}
+use Rattle.fa_laws.proofs.Maps.{get-insert_all, get-insert_all_among}
+use Rattle.fa_machine.proofs.Maps.{get-remove_other, get-remove_same, get-remove_some, place_cmp_total, place_itself, place_same}
 use Rattle.fa_laws.proofs.Reserving.{Reserves, reserved_is_sound}
 use Rattle.fa_laws.proofs.Scene.{Among, Owned, Scene, program_is_at, tally}
 use Rattle.fa_machine.specs.Conditions.{claim_open}

@@ -4,7 +4,7 @@ use Rattle.fa_laws.proofs.Ending.{Lands, landed_is_sound}
 use Rattle.fa_laws.proofs.Finishing.{passed_all, passed_some}
 use Rattle.fa_laws.proofs.Invariant.{AreAnswered, AreTold, Holds, scene_of}
 use Rattle.fa_laws.proofs.Keeping.{Keeps, kept_is_sound}
-use Rattle.fa_laws.proofs.Maps.{get-insert_cases, get-keep, get-place_other, get-place_same, passed, place_cmp_total, place_same}
+use Rattle.fa_machine.proofs.Maps.{get-insert_cases, get-keep, get-place_other, get-place_same, passed, place_cmp_total, place_same}
 use Rattle.fa_laws.proofs.Parts.{held≢stale, kept≢settled}
 use Rattle.fa_laws.proofs.Reserving.{among-append}
 use Rattle.fa_laws.proofs.Scene.{Among, IsMoving, Scene, Stands, is_settled}

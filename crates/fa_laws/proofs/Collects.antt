@@ -2,7 +2,7 @@
 use Rattle.fa_laws.proofs.Endings.{HasOutcome}
 use Rattle.fa_laws.proofs.Listed.{insert_listed, inserts_listed, remove_listed}
 use Rattle.fa_laws.proofs.Making.{ends, step_first, takes}
-use Rattle.fa_laws.proofs.Maps.{nat_same, place_cmp_total, place_same}
+use Rattle.fa_machine.proofs.Maps.{nat_same, place_cmp_total, place_same}
 use Rattle.fa_laws.proofs.Planning.{closed_in, closed_same}
 use Rattle.fa_laws.proofs.Table.{Ordered, Table, core_of, in_order, is_ordered}
 use Rattle.fa_laws.proofs.Tabled.{at, at_number, can_take, did, free_in, idle_in, is_none_there, took, with_number, without_number}

@@ -4,7 +4,8 @@ use Rattle.fa_laws.proofs.Ending.{among-map}
 use Rattle.fa_laws.proofs.Invariant.{Holds, later, owned_claim, owned_of, scene_of}
 use Rattle.fa_laws.proofs.Keeping.{Keeps, kept_is_sound, renumbered_is_sound}
 use Rattle.fa_laws.proofs.Lists.{among-filter, among-filter-intro, any_none, any_some, no_refusal, tally-filter-le}
-use Rattle.fa_laws.proofs.Maps.{get-change, get-insert_all, get-insert_cases, place_cmp_total, place_same}
+use Rattle.fa_machine.proofs.Maps.{get-change, get-insert_cases, place_cmp_total, place_same}
+use Rattle.fa_laws.proofs.Maps.{get-insert_all}
 use Rattle.fa_laws.proofs.Parts.{held≢stale, kept≢held}
 use Rattle.fa_laws.proofs.Scene.{Among, IsNumbered, IsTargetAt, JobFits, Owned, Scene, Sound, is_settled, program_is_at}
 use Rattle.fa_laws.proofs.Settling.{Settles, settled_is_sound}

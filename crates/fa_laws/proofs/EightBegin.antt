@@ -1,5 +1,5 @@
 -- The array of three dies on which eight pages were written in turn is a beginning.
-use Rattle.fa_laws.proofs.Maps.{if_equal, nat_same, place_same}
+use Rattle.fa_machine.proofs.Maps.{if_equal, nat_same, place_same}
 use Rattle.fa_laws.proofs.ZeroPages.{has_zero_pages, zeros_at}
 use Rattle.fa_laws.specs.EightPages.{cell_in, eight, held_slots, pages_on, write_of, written_in_turn}
 use Rattle.fa_machine.specs.Beginning.{IsBeginning, IsPlainOf, StandsAt}

@@ -1,7 +1,7 @@
 -- SpareIn keeps what holds.
 use Rattle.fa_laws.proofs.Invariant.{Holds, later, scene_of}
 use Rattle.fa_laws.proofs.Leaving.{entered_is_sound}
-use Rattle.fa_laws.proofs.Maps.{get-insert_other, get-remove_some, has_some}
+use Rattle.fa_machine.proofs.Maps.{get-insert_other, get-remove_some, has_some}
 use Rattle.fa_machine.specs.Maps.{Numbers}
 use Rattle.fa_machine.specs.World.{World}
 use Rattle.std.proofs.Common.{ap, inl, inr, suc, sym, true, ℕ, ◌∙◌, ◌≡◌, ◌⊎◌}

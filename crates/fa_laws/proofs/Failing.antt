@@ -1,7 +1,7 @@
 -- A die goes out at a fault alone.
 use Rattle.fa_laws.proofs.Endings.{HasOutcome, may_end}
 use Rattle.fa_laws.proofs.Invariant.{Holds, scene_of}
-use Rattle.fa_laws.proofs.Maps.{get-insert_other, get-insert_same, get-remove_other}
+use Rattle.fa_machine.proofs.Maps.{get-insert_other, get-insert_same, get-remove_other}
 use Rattle.fa_laws.proofs.Outcomes.{gave_read, tag}
 use Rattle.fa_laws.proofs.Scene.{Bytes, GaveFits, JobFits}
 use Rattle.fa_machine.specs.Cells.{DidErase, DidMove, DidProgram, DidRead, DidSync, DidWriteHeader, Fault, Outcome, Wrong, is_of_kind}

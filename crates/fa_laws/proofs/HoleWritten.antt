@@ -1,7 +1,7 @@
 -- On a formatted array of two dies three pages are written, and page 0 is made a hole: each state by its lists.
 use Rattle.fa_laws.proofs.Listed.{empty_listed, insert_listed}
 use Rattle.fa_laws.proofs.Making.{called}
-use Rattle.fa_laws.proofs.Maps.{nat_same, place_cmp_total, place_same}
+use Rattle.fa_machine.proofs.Maps.{nat_same, place_cmp_total, place_same}
 use Rattle.fa_laws.proofs.Table.{Table, core_of, in_order}
 use Rattle.fa_laws.proofs.Tabled.{at, did, ends_header, fresh, head_done}
 use Rattle.fa_laws.proofs.Tabled.{head_taken, takes_header, took, writes_header}

@@ -5,7 +5,8 @@ use Rattle.fa_laws.proofs.Booked.{planned_timely, released_good, same_after, tak
 use Rattle.fa_laws.proofs.Events.{first_refusal}
 use Rattle.fa_laws.proofs.Finishing.{passed_some, passed_test}
 use Rattle.fa_laws.proofs.Lists.{among-filter-intro, among-range, any_none}
-use Rattle.fa_laws.proofs.Maps.{any_value, get-keep, nat_same, place_cmp_total, place_itself, place_same, some_value}
+use Rattle.fa_machine.proofs.Maps.{get-keep, nat_same, place_cmp_total, place_itself, place_same}
+use Rattle.fa_laws.proofs.Maps.{any_value, some_value}
 use Rattle.fa_laws.proofs.Runs.{run_keeps}
 use Rattle.fa_laws.proofs.Scene.{Among}
 use Rattle.fa_laws.proofs.Timely.{TimelyCore, advanced_timely}

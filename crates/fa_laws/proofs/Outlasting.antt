@@ -2,7 +2,7 @@
 use Rattle.fa_cert.specs.Batch.{holds}
 use Rattle.fa_laws.proofs.Finishing.{passed_all}
 use Rattle.fa_laws.proofs.Lists.{among-range}
-use Rattle.fa_laws.proofs.Maps.{get-keep, get-place_other, get-remove_other, place_cmp_total, place_same}
+use Rattle.fa_machine.proofs.Maps.{get-keep, get-place_other, get-remove_other, place_cmp_total, place_same}
 use Rattle.fa_laws.proofs.Scene.{Among}
 use Rattle.fa_machine.specs.Cells.{DidErase, DidMove, DidProgram, DidRead, DidSync, DidWriteHeader, Fault, Outcome, Wrong}
 use Rattle.fa_machine.specs.Collecting.{is_in_block}

@@ -4,7 +4,7 @@ use Rattle.fa_laws.proofs.Admitting.{one_value_other, one_value_same}
 use Rattle.fa_laws.proofs.Answering.{reached_holds}
 use Rattle.fa_laws.proofs.Events.{happens_holds}
 use Rattle.fa_laws.proofs.Invariant.{Holds, scene_of}
-use Rattle.fa_laws.proofs.Maps.{get-insert_other, get-insert_same, get-remove_other}
+use Rattle.fa_machine.proofs.Maps.{get-insert_other, get-insert_same, get-remove_other}
 use Rattle.fa_laws.proofs.Outcomes.{gave_read}
 use Rattle.fa_laws.proofs.Runs.{run_keeps}
 use Rattle.fa_laws.proofs.Scene.{GaveFits, JobFits}

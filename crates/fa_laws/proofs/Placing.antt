@@ -1,6 +1,6 @@
 -- Where writes go, of states that are told by lists.
 use Rattle.fa_laws.proofs.Listed.{len_listed}
-use Rattle.fa_laws.proofs.Maps.{nat_same}
+use Rattle.fa_machine.proofs.Maps.{nat_same}
 use Rattle.fa_laws.proofs.Table.{Ordered, Table, core_of}
 use Rattle.fa_laws.proofs.Tabled.{at_number}
 use Rattle.fa_machine.specs.Maps.{below, place_cmp}

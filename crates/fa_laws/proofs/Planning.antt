@@ -4,7 +4,7 @@ use Rattle.fa_cert.specs.Certificate.{IsCertificate}
 use Rattle.fa_cert.specs.Plan.{AreFirstRounds}
 use Rattle.fa_cert.specs.declared.plan.Place.{Place}
 use Rattle.fa_laws.proofs.Listed.{empty_listed, insert_listed, inserts_listed, keep_listed, remove_listed}
-use Rattle.fa_laws.proofs.Maps.{nat_same, place_cmp_total, place_same}
+use Rattle.fa_machine.proofs.Maps.{nat_same, place_cmp_total, place_same}
 use Rattle.fa_laws.proofs.Table.{Ordered, Table, core_of, in_order, is_ordered}
 use Rattle.fa_laws.proofs.Tabled.{at, at_number, with_number, without_number}
 use Rattle.fa_machine.specs.Copies.{copy_on, holders, holds_last, is_lost}

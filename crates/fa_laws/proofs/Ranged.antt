@@ -6,7 +6,8 @@ use Rattle.fa_laws.proofs.Events.{happens_holds}
 use Rattle.fa_laws.proofs.Finishing.{passed_some}
 use Rattle.fa_laws.proofs.Invariant.{Holds, owned_of, scene_of}
 use Rattle.fa_laws.proofs.Lists.{among-filter, among-take, found_passes, no_refusal, none_found}
-use Rattle.fa_laws.proofs.Maps.{get-change, get-insert_all, get-keep, get-place_other, place_cmp_total, place_same}
+use Rattle.fa_machine.proofs.Maps.{get-change, get-keep, get-place_other, place_cmp_total, place_same}
+use Rattle.fa_laws.proofs.Maps.{get-insert_all}
 use Rattle.fa_laws.proofs.Runs.{run_keeps}
 use Rattle.fa_laws.proofs.Scene.{Among, JobFits, Owned, is_settled}
 use Rattle.fa_laws.proofs.Starts.{beginning_holds}

@@ -1,6 +1,6 @@
 -- A die that is neither live nor a spare stays so: one that went out does not come back.
 use Rattle.fa_laws.proofs.Failing.{LiveLaw}
-use Rattle.fa_laws.proofs.Maps.{get-insert_other, get-remove_other, get-remove_same}
+use Rattle.fa_machine.proofs.Maps.{get-insert_other, get-remove_other, get-remove_same}
 use Rattle.fa_laws.proofs.Ranged.{calls_core}
 use Rattle.fa_laws.proofs.Runs.{run_keeps}
 use Rattle.fa_laws.specs.Kept.{KeepsSpares}

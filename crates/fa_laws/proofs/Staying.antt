@@ -8,8 +8,9 @@ use Rattle.fa_laws.proofs.Finishing.{passed_all}
 use Rattle.fa_laws.proofs.Handing.{holds_held, no_state}
 use Rattle.fa_laws.proofs.Invariant.{Holds, scene_of}
 use Rattle.fa_laws.proofs.Lists.{among-filter, among-map-intro, among-range, among-take, found_passes, no_refusal, none_passes}
-use Rattle.fa_laws.proofs.Maps.{get-change, get-insert_all, get-insert_all_among, get-insert_other, get-insert_same, get-keep}
-use Rattle.fa_laws.proofs.Maps.{get-place_other, get-place_same, get-remove_same, place_cmp_total, place_itself, place_same}
+use Rattle.fa_machine.proofs.Maps.{get-change, get-insert_other, get-insert_same, get-keep}
+use Rattle.fa_laws.proofs.Maps.{get-insert_all, get-insert_all_among}
+use Rattle.fa_machine.proofs.Maps.{get-place_other, get-place_same, get-remove_same, place_cmp_total, place_itself, place_same}
 use Rattle.fa_laws.proofs.Outlasting.{dropped_other, moved_other}
 use Rattle.fa_laws.proofs.Parts.{kept≢held}
 use Rattle.fa_laws.proofs.Ranged.{HoldsRanged, Ranged, calls_core, happens_ranged, reached_ranged, slots_total}

@@ -4,7 +4,7 @@ use Rattle.fa_laws.proofs.Invariant.{next}
 use Rattle.fa_laws.proofs.Listed.{empty_listed, insert_listed, keep_listed, len_listed, remove_listed, without_key}
 use Rattle.fa_laws.proofs.Certified.{all_pass}
 use Rattle.fa_laws.proofs.Making.{IsAtRest, called, calls, ends, header_first, may_advance, outside_no_step, read_first, step_was_done, takes}
-use Rattle.fa_laws.proofs.Maps.{nat_same, place_cmp_total, place_same}
+use Rattle.fa_machine.proofs.Maps.{nat_same, place_cmp_total, place_same}
 use Rattle.fa_laws.proofs.Table.{Ordered, Table, core_of, in_order, is_ordered}
 use Rattle.fa_machine.specs.Cells.{Cell, DidRead, DidWriteHeader, Fault, Outcome, payload_of}
 use Rattle.fa_machine.specs.Conditions.{history_full}

@@ -1,7 +1,7 @@
 -- Bookings lie ahead, and each read in flight has one in the current round.
 use Rattle.fa_laws.proofs.Finishing.{passed_some}
-use Rattle.fa_laws.proofs.Maps.{get-insert_cases, get-keep, get-place_other, get-place_same, get-remove_some, passed, place_cmp_total}
-use Rattle.fa_laws.proofs.Maps.{place_same}
+use Rattle.fa_machine.proofs.Maps.{get-insert_cases, get-keep, get-place_other, get-place_same, get-remove_some, passed, place_cmp_total}
+use Rattle.fa_machine.proofs.Maps.{place_same}
 use Rattle.fa_laws.specs.Counted.{is_read}
 use Rattle.fa_machine.specs.Maps.{keep, place_cmp}
 use Rattle.fa_machine.specs.State.{Core}

@@ -5,7 +5,7 @@ use Rattle.fa_cert.specs.Plan.{AreFirstRounds}
 use Rattle.fa_laws.proofs.Certified.{three_holders, worked_first, worked_plan, worked_shortage}
 use Rattle.fa_laws.proofs.Listed.{empty_listed}
 use Rattle.fa_laws.proofs.Making.{called}
-use Rattle.fa_laws.proofs.Maps.{nat_same, place_cmp_total, place_same}
+use Rattle.fa_machine.proofs.Maps.{nat_same, place_cmp_total, place_same}
 use Rattle.fa_laws.proofs.Planning.{admits, admits_beside, admitted_in, closed_in, copies_same, entries_in, read_in}
 use Rattle.fa_laws.proofs.Table.{Table, core_of, in_order}
 use Rattle.fa_laws.proofs.Tabled.{advanced, advances, at, did, did_read, dropped, ends_faulty, ends_header, ends_read, fresh, gives_cell, head_done}

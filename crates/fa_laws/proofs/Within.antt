@@ -2,7 +2,7 @@
 use Rattle.fa_laws.proofs.Booked.{Good, MayPlan, opened_live}
 use Rattle.fa_laws.proofs.Failing.{LiveLaw}
 use Rattle.fa_laws.proofs.InTimes.{begins_good, call_good, event_good}
-use Rattle.fa_laws.proofs.Maps.{get-insert_other, get-remove_some, has_some}
+use Rattle.fa_machine.proofs.Maps.{get-insert_other, get-remove_some, has_some}
 use Rattle.fa_laws.proofs.Ranged.{calls_core}
 use Rattle.fa_laws.proofs.Returning.{finished_live}
 use Rattle.fa_laws.proofs.Runs.{run_keeps}

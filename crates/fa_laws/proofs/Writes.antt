@@ -3,7 +3,7 @@ use Rattle.fa_laws.proofs.Endings.{HasOutcome}
 use Rattle.std.specs.Option.{option_or}
 use Rattle.fa_laws.proofs.Listed.{change_listed, insert_listed, inserts_listed, keep_listed, remove_listed}
 use Rattle.fa_laws.proofs.Making.{called, calls, ends, none_first, takes_other}
-use Rattle.fa_laws.proofs.Maps.{nat_same, place_cmp_total, place_same}
+use Rattle.fa_machine.proofs.Maps.{nat_same, place_cmp_total, place_same}
 use Rattle.fa_laws.proofs.Placing.{asked_same, erased_in, erased_same, targets_in, targets_same}
 use Rattle.fa_laws.proofs.Table.{Ordered, Table, core_of, in_order, is_ordered}
 use Rattle.fa_laws.proofs.Tabled.{at, at_number, can_take, did, free_in, fresh, idle_in, is_none_there, took, with_number, without_number}

@@ -1,4 +1,4 @@
-use Rattle.fa_laws.proofs.Maps.{get-insert_other}
+use Rattle.fa_machine.proofs.Maps.{get-insert_other}
 use Rattle.fa_laws.proofs.ZeroPages.{has_zero_pages, zeros_at}
 use Rattle.fa_laws.specs.Formatted.{formatted, new_map}
 use Rattle.fa_machine.specs.Beginning.{IsPlainOf, StandsAt}

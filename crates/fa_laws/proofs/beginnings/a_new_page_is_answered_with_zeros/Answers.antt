@@ -1,5 +1,6 @@
 use Rattle.fa_laws.proofs.Invariant.{next}
-use Rattle.fa_laws.proofs.Maps.{get-insert_all_among, get-insert_same, nat_same}
+use Rattle.fa_machine.proofs.Maps.{get-insert_same, nat_same}
+use Rattle.fa_laws.proofs.Maps.{get-insert_all_among}
 use Rattle.fa_laws.proofs.Scene.{Among}
 use Rattle.fa_laws.specs.Formatted.{admits_one, formatted, new_map}
 use Rattle.fa_machine.specs.Copies.{holders}

@@ -1,4 +1,4 @@
-use Rattle.fa_laws.proofs.Maps.{get-remove_same}
+use Rattle.fa_machine.proofs.Maps.{get-remove_same}
 use Rattle.fa_machine.specs.Cells.{DidRead}
 use Rattle.fa_machine.specs.State.{Core, is_live}
 use Rattle.fa_machine.specs.Taking.{EndsJob, read_ends}

@@ -1,0 +1,14 @@
+pub mod Chained
+pub mod Changed
+pub mod Holders
+pub mod Indices
+pub mod Kept
+pub mod MayHold
+pub mod Plain
+pub mod Ranges
+pub mod Seen
+pub mod Swept
+pub mod Tabled
+pub mod Taking
+pub mod Tallied
+pub mod Written

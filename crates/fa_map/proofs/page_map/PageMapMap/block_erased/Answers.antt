@@ -1,0 +1,23 @@
+use Rattle.std.proofs.Common.{◌≡◌, ℕ, ◌*◌, ◌/◌, ◌<◌, ◌==◌, ◌&&◌, if◌then◌else◌, sym, ap, subst, ◌∙◌}
+use Rattle.fa_map.specs.Plain.{die_slots}
+use Rattle.fa_types.specs.declared.geometry.Geometry.{Geometry}
+use Rattle.fa_map.specs.Chains.{entry_of}
+use Rattle.fa_map.specs.Entries.{erased_entry}
+use Rattle.fa_map.specs.Shown.{IsShown}
+use Rattle.fa_map.proofs.Seen.{shown_erased}
+use Rattle.fa_map.proofs.page_map.PageMapMap.block_erased.Goals as goal
+
+pub invariant_of-self : goal.invariant_of-self
+invariant_of-self g c =
+    let s = c.args.self.now in
+    let new = c.erase_block.new.self.entries.items in
+    let each = subst (λ (k : Geometry). (d slot : ℕ) → slot < die_slots k → entry_of new (die_slots k) d slot
+    ≡ (if d == c.args.die.0 && slot / k.slots == c.args.block.0 then erased_entry (entry_of s.tables.entries.items (die_slots k) d slot) else entry_of s.tables.entries.items (die_slots k) d slot)) s.same c.erase_block.ensures.entries in
+    let long = c.erase_block.new.self.sound.tallied.slots ∙ ap (λ (k : Geometry). k.dies * die_slots k) c.erase_block.ensures.geometry ∙ sym s.tables.sound.tallied.slots in
+    record {
+      sound =
+          subst (λ m. IsShown m s.geometry s.live.items s.live_dies s.versions.items new) (sym c.note.ensures)
+          (shown_erased s.shown.state s.geometry s.live.items s.live_dies s.versions.items s.tables.entries.items s.sound c.args.die.0 c.args.block.0 new long each);
+      same = c.erase_block.ensures.geometry ∙ s.same;
+      few = s.few;
+    }

@@ -1,0 +1,20 @@
+use Rattle.std.proofs.Common.{◌+◌, ◌<◌, true, refl, subst, set}
+use Rattle.fa_types.specs.declared.geometry.Geometry.{Geometry}
+use Rattle.std.specs.Prelude.{map}
+use Rattle.fa_map.specs.Shown.{used_of}
+use Rattle.fa_map.proofs.Plain.{plain_in, told}
+use Rattle.fa_map.proofs.page_map.PageMapMap.bring_in.Goals as goal
+
+pub invariant_of-self : goal.invariant_of-self
+invariant_of-self g c =
+    let s = c.args.self.now in
+    let fits = subst (λ (k : Geometry). c.args.die.0 < k.dies) s.sound.plain.geometry c.requires.die in
+    let after = plain_in s.shown.state s.geometry s.live.items s.live_dies s.versions.items (map (used_of s.versions.items) s.tables.entries.items) s.sound.plain c.args.die.0 fits c.requires.out in
+    record {
+      sound = record {
+        plain = told s.geometry (set s.live.items c.args.die.0 true) s.versions.items _ c.note.new.self.state _ (s.live_dies + 1) _ (map (used_of s.versions.items) s.tables.entries.items) c.note.ensures refl refl after;
+        known = s.sound.known;
+      };
+      same = s.same;
+      few = s.few;
+    }

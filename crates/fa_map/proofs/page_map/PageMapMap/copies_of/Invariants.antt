@@ -1,0 +1,10 @@
+use Rattle.std.proofs.Common.{◌≡◌, ◌≤◌, count_by}
+use Rattle.fa_machine.specs.Copies.{holds_page}
+use Rattle.fa_machine.specs.Maps.{below}
+use Rattle.fa_map.proofs.page_map.PageMapMap.copies_of.Given as goal
+
+abbrev pub invariant-loop-die : goal.invariant-loop-die
+invariant-loop-die g l = record {
+  few : l.copies ≤ l.die;
+  counted : l.copies ≡ count_by (holds_page l.self.shown.state l.page.0) (below l.die);
+}

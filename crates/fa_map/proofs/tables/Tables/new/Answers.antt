@@ -1,0 +1,11 @@
+use Rattle.fa_map.proofs.Tabled.{new_tables, tables_told}
+use Rattle.fa_map.proofs.tables.Tables.new.Goals as goal
+
+pub invariant_of-result : goal.invariant_of-result
+invariant_of-result g c =
+    let entries = c.in_ok-entries.ensures.items_if_clones_equal (λ y same. same) in
+    let links = c.in_ok-links.ensures.items_if_clones_equal (λ y same. same) in
+    let heads = c.in_ok-heads.ensures.items_if_clones_equal (λ y same. same) in
+    let counts = c.in_ok-counts.ensures.items_if_clones_equal (λ y same. same) in
+    let erased = c.in_ok-erased.ensures.items_if_clones_equal (λ y same. same) in
+    record { sound = tables_told c.args.geometry _ _ _ _ _ _ _ _ _ _ entries links heads counts erased (new_tables c.args.geometry) }

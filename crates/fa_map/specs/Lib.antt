@@ -1,0 +1,10 @@
+pub mod Changes
+pub mod Chains
+pub mod Codes
+pub mod Entries
+pub mod Led
+pub mod PageView
+pub mod PlainView
+pub mod Shown
+pub mod Slots
+pub mod Plain

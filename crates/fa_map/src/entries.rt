@@ -1,0 +1,29 @@
+//! What the tables of a page map keep of each slot and of each page.
+
+/// The state of a slot, with the page of a current copy. The write of the page is kept with the page.
+#[derive(Clone, Copy)]
+pub enum Entry {
+    /// Nothing was written there.
+    Erased,
+    /// It is kept for a copy.
+    Reserved,
+    /// It holds the last write of a page.
+    Current {
+        /// The page's number.
+        page: u32,
+    },
+    /// What it holds is of no use.
+    Stale,
+}
+
+/// Where the next copy of a page is: the next die that holds it, and the slot there.
+#[derive(Clone, Copy)]
+pub struct Link {
+    /// None where no other die holds the page.
+    pub die: Option<u8>,
+    /// The slot of that die. It means nothing where there is none.
+    pub slot: u32,
+}
+
+// A slot takes 16 bytes.
+const _: () = prove!(size_of::<Entry>() + size_of::<Link>() <= 16);

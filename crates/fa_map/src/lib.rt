@@ -1,0 +1,19 @@
+//! The page map: which dies are live, the last write of each page, and the state of each slot. It is
+//! the page map's part of the array's state.
+#![tactic(auto)]
+
+mod change;
+mod entries;
+mod map;
+mod page_map;
+mod plain_map;
+mod plain_slots;
+mod shown;
+mod slots;
+mod tables;
+mod tallies;
+
+pub use map::Map;
+pub use page_map::PageMap;
+pub use plain_map::PlainMap;
+pub use slots::{BlockCounts, SlotState};

@@ -1,0 +1,235 @@
+//! The page map in tables.
+ghost use Rattle.std.specs.Prelude.{◌≡◌, ℕ, ◌+◌, ◌*◌, ◌-◌, ◌<◌, ◌≤◌, true, if◌then◌else◌, option_map, IfOk, IfSome};
+ghost use Rattle.fa_map.specs.Shown.{IsShown};
+
+use crate::change::Change;
+use crate::entries::{Entry, Link};
+use crate::map::Map;
+use crate::shown::Shown;
+use crate::slots::{BlockCounts, SlotState};
+use crate::tables::Tables;
+use crate::tallies::{less_one, state_of};
+use fa_machine::{Block, Version};
+use fa_types::{Die, Geometry, Page, Seq, Slot};
+use std::alloc::{AllocError, Allocator, Global};
+
+/// The page map of an array. A slot takes 16 bytes and a page 32. No call but [`PageMap::new`] takes
+/// memory. `drop_die` takes time for each slot of the die, and `block_erased` for each of the block. A slot
+/// is taken in at most as many looks as a die has blocks and a block has slots and one more. The other calls
+/// take at most a step for each die and, of each, for each copy of the page on a die below it.
+#[derive(Drop)]
+pub struct PageMap<A: Allocator = Global> {
+    geometry: Geometry,
+    /// Which dies are live, by their numbers.
+    live: Vec<bool, A>,
+    live_dies: u32,
+    /// The last write of each page.
+    versions: Vec<Option<Version>, A>,
+    tables: Tables<A>,
+    last_looks: u32,
+    shown: Shown,
+    ghost sound: { IsShown shown.state geometry live.items live_dies versions.items tables.entries.items },
+    ghost same: { tables.geometry ≡ geometry },
+    ghost few: { last_looks ≤ geometry.blocks + geometry.slots + 1 },
+}
+
+// A page takes 32 bytes.
+const _: () = prove!(size_of::<Option<Version>>() + size_of::<Link>() <= 32);
+
+impl<A: Allocator + Copy> PageMap<A> {
+    ghost use Rattle.fa_map.specs.Changes.{new_map};
+    ghost use Rattle.fa_map.specs.PageView.{page_view, looks_of};
+
+    /// A map of dies none of which is live, and of pages none of which was written. The error is out of
+    /// memory.
+    pub fn new(alloc: A, geometry: Geometry) -> Result<PageMap<A>, AllocError>
+        ensures view { IfOk result (λ map. page_view map ≡ new_map geometry) }
+        ensures looks { IfOk result (λ map. looks_of map ≡ 0) }
+    {
+        let live = vec![in alloc; false; geometry.dies as usize]?;
+        let versions = vec![in alloc; None; geometry.pages as usize]?;
+        let tables = Tables::new(alloc, geometry)?;
+        Ok(PageMap {
+            geometry,
+            live,
+            live_dies: 0,
+            versions,
+            tables,
+            last_looks: 0,
+            shown: Shown::new(geometry),
+        })
+    }
+}
+
+impl<A: Allocator> PageMap<A> {
+    ghost use Rattle.fa_machine.specs.State.{is_live};
+    ghost use Rattle.fa_map.specs.Changes.{taken};
+    ghost use Rattle.std.specs.FinMap.{get};
+    ghost use Rattle.fa_map.specs.PageView.{page_view, looks_of};
+    ghost use Rattle.fa_map.specs.Shown.{is_number};
+
+    /// How many states and counts the last `take_slot` or `take_slot_outside` read; 0 before the first.
+    pub fn last_looks(&self) -> u32
+        ensures looks { result ≡ looks_of self.now }
+        ensures few { result ≤ (page_view self.now).geometry.blocks + (page_view self.now).geometry.slots + 1 }
+    {
+        self.last_looks
+    }
+
+    /// The slot of the live die is reserved, if there is one.
+    fn reserve(&mut self, die: Die, slot: Option<u32>, looks: u32) -> Option<Slot>
+        requires die { is_live (page_view self.old) die.0 ≡ true }
+        requires slot { IfSome slot (λ slot. slot < (page_view self.old).geometry.blocks * (page_view self.old).geometry.slots) }
+        requires looks { looks ≤ (page_view self.old).geometry.blocks + (page_view self.old).geometry.slots + 1 }
+        ensures slot { option_map (λ slot. slot.0) result ≡ slot }
+        ensures taken { page_view self.new ≡ taken die.0 slot (page_view self.old) }
+    {
+        self.last_looks = looks;
+        match slot {
+            None => None,
+            Some(slot) => {
+                let slot = Slot(slot);
+                self.tables.put(die, slot, Entry::Reserved);
+                self.shown.note(Change::Take { die, slot });
+                Some(slot)
+            }
+        }
+    }
+
+    /// Whether this write is the page's last.
+    fn is_last(&self, page: Page, version: Version) -> bool
+        requires { page.0 < (page_view self.now).geometry.pages }
+        ensures { result ≡ is_number version (get (page_view self.now).numbers page.0) }
+    {
+        match self.versions[page.0 as usize] {
+            Some(last) => last.seq.0 == version.seq.0,
+            None => false,
+        }
+    }
+}
+
+impl<A: Allocator> Map for PageMap<A> {
+    ghost use Rattle.fa_map.specs.PageView.{page_view};
+
+    ghost view = { page_view };
+
+    ghost whole = { λ map. map.sound.plain.whole };
+
+    fn geometry(&self) -> Geometry {
+        self.geometry
+    }
+
+    fn is_live(&self, die: Die) -> bool {
+        let index = die.0 as usize;
+        index < self.live.len() && self.live[index]
+    }
+
+    fn live_dies(&self) -> u32 {
+        self.live_dies
+    }
+
+    fn version(&self, page: Page) -> Option<Version> {
+        self.versions[page.0 as usize]
+    }
+
+    fn seq(&self, page: Page) -> Option<Seq> {
+        match self.versions[page.0 as usize] {
+            Some(version) => Some(version.seq),
+            None => None,
+        }
+    }
+
+    fn copy_on(&self, page: Page, die: Die) -> Option<Slot> {
+        match self.tables.copy_on(page.0 as u32, die.0) {
+            Some(slot) => Some(Slot(slot)),
+            None => None,
+        }
+    }
+
+    fn copies_of(&self, page: Page) -> u32 {
+        let mut copies = 0;
+        for die in 0..self.geometry.dies {
+            if self.copy_on(page, Die(die as u8)).is_some() {
+                copies += 1;
+            }
+        }
+        copies
+    }
+
+    fn state(&self, die: Die, slot: Slot) -> SlotState {
+        state_of(self.tables.entry(die, slot))
+    }
+
+    fn copy_in(&self, die: Die, slot: Slot) -> Option<(Page, Version)> {
+        match self.tables.entry(die, slot) {
+            Entry::Current { page } => match self.versions[page as usize] {
+                Some(version) => Some((Page(page as u64), version)),
+                None => None,
+            },
+            _ => None,
+        }
+    }
+
+    fn counts(&self, die: Die, block: Block) -> BlockCounts {
+        self.tables.counts(die, block.0)
+    }
+
+    fn free(&self, die: Die) -> u32 {
+        self.tables.erased(die)
+    }
+
+    fn room(&self, die: Die) -> u32 {
+        self.free(die).saturating_sub(self.geometry.slots)
+    }
+
+    fn take_slot(&mut self, die: Die) -> Option<Slot> {
+        if self.room(die) == 0 {
+            return self.reserve(die, None, 1);
+        }
+        let found = self.tables.lowest_erased(die, None);
+        self.reserve(die, found.slot, found.looks + 1)
+    }
+
+    fn take_slot_outside(&mut self, die: Die, block: Block) -> Option<Slot> {
+        let found = self.tables.lowest_erased(die, Some(block.0));
+        self.reserve(die, found.slot, found.looks)
+    }
+
+    fn make_current(&mut self, page: Page, version: Version, die: Die, slot: Slot) {
+        let number = page.0 as u32;
+        let is_last = self.is_last(page, version);
+        self.tables.renew(number, is_last);
+        self.tables.add_copy(number, die, slot);
+        self.versions[page.0 as usize] = Some(version);
+        self.shown.note(Change::MakeCurrent {
+            page,
+            version,
+            die,
+            slot,
+        });
+    }
+
+    fn make_stale(&mut self, die: Die, slot: Slot) {
+        self.tables.put(die, slot, Entry::Stale);
+        self.shown.note(Change::MakeStale { die, slot });
+    }
+
+    fn bring_in(&mut self, die: Die) {
+        self.live[die.0 as usize] = true;
+        self.live_dies += 1;
+        self.shown.note(Change::BringIn { die });
+    }
+
+    fn drop_die(&mut self, die: Die) {
+        let index = die.0 as usize;
+        self.live_dies = less_one(self.live_dies, self.live[index]);
+        self.live[index] = false;
+        self.tables.erase_die(die);
+        self.shown.note(Change::DropDie { die });
+    }
+
+    fn block_erased(&mut self, die: Die, block: Block) {
+        self.tables.erase_block(die, block.0);
+        self.shown.note(Change::EraseBlock { die, block });
+    }
+}

@@ -1,0 +1,450 @@
+//! The tables of a page map: the entry of each slot, the counts of each block, and the chains of copies.
+ghost use Rattle.std.specs.Prelude.{◌≡◌, ℕ, ◌+◌, ◌*◌, ◌/◌, ◌-◌, ◌^◌, ◌<◌, ◌≤◌, ◌==◌, ◌&&◌, true, false, not, nat_le, nat_lt, if◌then◌else◌, length, slice_index_or, slice_set, find, is_some, option_map, IfOk, None, Some};
+ghost use Rattle.fa_map.specs.Chains.{IsSeam, IsNext, behind, entry_at, entry_of, link_at, link_from, target};
+ghost use Rattle.fa_map.specs.Entries.{AreTables, AreTallied, count_of, erased_entry, is_current_entry, is_erased_entry, is_left_out, may_take, no_counts, one_if, retired, with_head, with_link};
+ghost use Rattle.fa_map.specs.Plain.{die_slots};
+ghost use Rattle.fa_machine.specs.Maps.{below};
+
+use crate::entries::{Entry, Link};
+use crate::slots::BlockCounts;
+use crate::tallies::{is_erased, moved, state_of};
+use fa_types::{Die, Geometry, Slot};
+use std::alloc::{AllocError, Allocator, Global};
+
+/// The entries of all slots with their counts, and for each page the chain of its copies by rising die.
+#[derive(Drop)]
+pub struct Tables<A: Allocator = Global> {
+    geometry: Geometry,
+    /// The entry of each slot, die by die.
+    entries: Vec<Entry, A>,
+    /// For each slot that holds a copy where the next copy of its page is.
+    links: Vec<Link, A>,
+    /// For each page where its first copy is.
+    heads: Vec<Link, A>,
+    /// The counts of each block, die by die.
+    counts: Vec<BlockCounts, A>,
+    /// How many slots of each die are erased.
+    erased: Vec<u32, A>,
+    ghost sound: { AreTables geometry entries.items links.items heads.items counts.items erased.items },
+}
+
+/// Where a die's copy of a page belongs in the page's chain.
+#[derive(Clone, Copy)]
+pub struct Seam {
+    /// The last copy on a die below; none where there is none.
+    pub last: Link,
+    /// The first copy on the die or one above; none where there is none.
+    pub next: Link,
+}
+
+/// A slot that was looked for, and what that took.
+#[derive(Clone, Copy)]
+pub struct Found {
+    /// The slot; none where there is none.
+    pub slot: Option<u32>,
+    /// How many entries and counts were read.
+    pub looks: u32,
+}
+
+const NO_LINK: Link = Link { die: None, slot: 0 };
+
+/// Where a slot stands in the list of all slots.
+fn index_of(geometry: Geometry, die: Die, slot: Slot) -> usize
+    requires die { die.0 < geometry.dies }
+    requires slot { slot.0 < die_slots geometry }
+    ensures index { result ≡ die.0 * die_slots geometry + slot.0 }
+    ensures fits { result < geometry.dies * die_slots geometry }
+{
+    die.0 as usize * (geometry.blocks * geometry.slots) as usize + slot.0 as usize
+}
+
+/// The link behind a place of a page's chain is written; behind none it is the page's first.
+fn write_link(
+    heads: &mut [Link],
+    links: &mut [Link],
+    size: usize,
+    page: u32,
+    last: Link,
+    link: Link,
+)
+    requires page { page < length heads.old }
+    requires last { (die slot : ℕ) → target last ≡ Some (die, slot) → die * size + slot < length links.old }
+    ensures heads { heads.new ≡ with_head (target last) page link heads.old }
+    ensures links { links.new ≡ with_link (target last) size link links.old }
+{
+    match last.die {
+        None => heads[page as usize] = link,
+        Some(die) => links[die as usize * size + last.slot as usize] = link,
+    }
+}
+
+/// A count after it lost one, gained one, or both.
+fn shifted(count: u32, loses: bool, gains: bool) -> u32
+    requires some { loses ≡ true → 0 < count }
+    requires few { count + 1 < 2 ^ 32 }
+    ensures { result + one_if loses ≡ count + one_if gains }
+{
+    let kept = if loses { count - 1 } else { count };
+    if gains { kept + 1 } else { kept }
+}
+
+/// The entry of a slot is written, and the counts follow.
+fn write_entry(
+    geometry: Geometry,
+    entries: &mut [Entry],
+    counts: &mut [BlockCounts],
+    erased: &mut [u32],
+    die: Die,
+    slot: Slot,
+    entry: Entry,
+)
+    requires die { die.0 < geometry.dies }
+    requires slot { slot.0 < die_slots geometry }
+    requires tallied { AreTallied geometry entries.old counts.old erased.old }
+    ensures entries { entries.new ≡ slice_set entries.old (die.0 * die_slots geometry + slot.0) entry }
+    ensures tallied { AreTallied geometry entries.new counts.new erased.new }
+{
+    let index = index_of(geometry, die, slot);
+    let block = die.0 as usize * geometry.blocks as usize + (slot.0 / geometry.slots) as usize;
+    let from = state_of(entries[index]);
+    let to = state_of(entry);
+    counts[block] = moved(counts[block], from, to);
+    let at = die.0 as usize;
+    erased[at] = shifted(erased[at], is_erased(entries[index]), is_erased(entry));
+    entries[index] = entry;
+}
+
+/// Whether slots of the block may be taken.
+fn may_take_from(block: u32, outside: Option<u32>) -> bool
+    ensures { result ≡ not (is_left_out outside block) }
+{
+    match outside {
+        None => true,
+        Some(outside) => block != outside,
+    }
+}
+
+impl<A: Allocator + Copy> Tables<A> {
+    ghost use Rattle.fa_map.specs.declared.entries.Entry.TheVariants.{Erased};
+
+    /// The tables of slots that are all erased, and of pages with no copy. The error is out of memory.
+    pub fn new(alloc: A, geometry: Geometry) -> Result<Tables<A>, AllocError>
+        ensures geometry { IfOk result (λ tables. tables.geometry ≡ geometry) }
+        ensures entries { IfOk result (λ tables. (k : ℕ) → entry_at tables.entries.items k ≡ Erased) }
+    {
+        let dies = geometry.dies as usize;
+        let blocks = dies * geometry.blocks as usize;
+        let size = (geometry.blocks * geometry.slots) as usize;
+        let slots = dies * size;
+        let entries = vec![in alloc; Entry::Erased; slots]?;
+        let links = vec![in alloc; NO_LINK; slots]?;
+        let heads = vec![in alloc; NO_LINK; geometry.pages as usize]?;
+        let counts = vec![in alloc; BlockCounts {
+            erased: geometry.slots,
+            reserved: 0,
+            current: 0,
+            stale: 0
+        }; blocks]?;
+        let erased = vec![in alloc; geometry.blocks * geometry.slots; dies]?;
+        Ok(Tables {
+            geometry,
+            entries,
+            links,
+            heads,
+            counts,
+            erased,
+        })
+    }
+}
+
+impl<A: Allocator> Tables<A> {
+    ghost use Rattle.fa_map.specs.Entries.{entries_in};
+    ghost use Rattle.fa_map.specs.declared.entries.Entry.TheVariants.{Current, Erased, Stale};
+    ghost use Rattle.fa_map.specs.declared.slots.SlotState.{SlotState};
+
+    /// The entry of a slot.
+    pub fn entry(&self, die: Die, slot: Slot) -> Entry
+        requires die { die.0 < self.now.geometry.dies }
+        requires slot { slot.0 < die_slots self.now.geometry }
+        ensures { result ≡ entry_of self.now.entries.items (die_slots self.now.geometry) die.0 slot.0 }
+    {
+        self.entries[index_of(self.geometry, die, slot)]
+    }
+
+    /// How many slots of the block are in each state.
+    pub fn counts(&self, die: Die, block: u32) -> BlockCounts
+        requires die { die.0 < self.now.geometry.dies }
+        requires block { block < self.now.geometry.blocks }
+        ensures { (state : SlotState) → count_of state result ≡ entries_in self.now.entries.items (die_slots self.now.geometry) die.0
+            (block * self.now.geometry.slots) self.now.geometry.slots state }
+    {
+        self.counts[die.0 as usize * self.geometry.blocks as usize + block as usize]
+    }
+
+    /// How many slots of the die are erased.
+    pub fn erased(&self, die: Die) -> u32
+        requires { die.0 < self.now.geometry.dies }
+        ensures { result ≡ entries_in self.now.entries.items (die_slots self.now.geometry) die.0 0
+            (die_slots self.now.geometry) SlotState.Erased }
+    {
+        self.erased[die.0 as usize]
+    }
+
+    /// Where a die's copy of the page belongs in the page's chain. It takes a step for each copy on a die below.
+    pub fn seam(&self, page: u32, die: u8) -> Seam
+        requires { page < self.now.geometry.pages }
+        ensures { IsSeam (entry_of self.now.entries.items (die_slots self.now.geometry)) (die_slots self.now.geometry)
+            self.now.geometry.dies page die (target result.last) (target result.next) }
+    {
+        let size = (self.geometry.blocks * self.geometry.slots) as usize;
+        let mut last = NO_LINK;
+        let mut next = self.heads[page as usize];
+        while let Some(other) = next.die {
+            if other >= die {
+                break;
+            }
+            let index = other as usize * size + next.slot as usize;
+            last = next;
+            next = self.links[index];
+        }
+        Seam { last, next }
+    }
+
+    /// The slot of the die that holds the page. It takes a step for each copy on a die below.
+    pub fn copy_on(&self, page: u32, die: u8) -> Option<u32>
+        requires { page < self.now.geometry.pages }
+        ensures some { (slot : ℕ) → result ≡ Some slot → (slot < die_slots self.now.geometry)
+            × (entry_of self.now.entries.items (die_slots self.now.geometry) die slot ≡ Current page) }
+        ensures none { result ≡ None → (slot : ℕ) → slot < die_slots self.now.geometry
+            → entry_of self.now.entries.items (die_slots self.now.geometry) die slot ≡ Current page → ⊥ }
+    {
+        let next = self.seam(page, die).next;
+        match next.die {
+            Some(other) => { if other == die { Some(next.slot) } else { None } }
+            None => None,
+        }
+    }
+
+    /// The slot that does not hold a copy, and will hold none, has this entry.
+    fn set_plain(&mut self, die: Die, slot: Slot, entry: Entry)
+        requires die { die.0 < self.old.geometry.dies }
+        requires slot { slot.0 < die_slots self.old.geometry }
+        requires old { is_current_entry (entry_of self.old.entries.items (die_slots self.old.geometry) die.0 slot.0) ≡ false }
+        requires new { is_current_entry entry ≡ false }
+        ensures geometry { self.new.geometry ≡ self.old.geometry }
+        ensures entries { self.new.entries.items
+            ≡ slice_set self.old.entries.items (die.0 * die_slots self.old.geometry + slot.0) entry }
+    {
+        write_entry(
+            self.geometry,
+            &mut self.entries,
+            &mut self.counts,
+            &mut self.erased,
+            die,
+            slot,
+            entry,
+        );
+    }
+
+    /// The slot that holds a copy of the page has this entry, which holds none.
+    fn remove_copy(&mut self, page: u32, die: Die, slot: Slot, entry: Entry)
+        requires die { die.0 < self.old.geometry.dies }
+        requires slot { slot.0 < die_slots self.old.geometry }
+        requires old { entry_of self.old.entries.items (die_slots self.old.geometry) die.0 slot.0 ≡ Current page }
+        requires new { is_current_entry entry ≡ false }
+        ensures geometry { self.new.geometry ≡ self.old.geometry }
+        ensures entries { self.new.entries.items
+            ≡ slice_set self.old.entries.items (die.0 * die_slots self.old.geometry + slot.0) entry }
+    {
+        let last = self.seam(page, die.0).last;
+        let next = self.links[index_of(self.geometry, die, slot)];
+        let size = (self.geometry.blocks * self.geometry.slots) as usize;
+        write_link(&mut self.heads, &mut self.links, size, page, last, next);
+        write_entry(
+            self.geometry,
+            &mut self.entries,
+            &mut self.counts,
+            &mut self.erased,
+            die,
+            slot,
+            entry,
+        );
+    }
+
+    /// The slot, which holds no copy, holds one of the page. No other slot of the die holds the page.
+    pub fn add_copy(&mut self, page: u32, die: Die, slot: Slot)
+        requires page { page < self.old.geometry.pages }
+        requires die { die.0 < self.old.geometry.dies }
+        requires slot { slot.0 < die_slots self.old.geometry }
+        requires free { is_current_entry (entry_of self.old.entries.items (die_slots self.old.geometry) die.0 slot.0) ≡ false }
+        requires once { (other : ℕ) → other < die_slots self.old.geometry
+            → entry_of self.old.entries.items (die_slots self.old.geometry) die.0 other ≡ Current page → ⊥ }
+        ensures geometry { self.new.geometry ≡ self.old.geometry }
+        ensures entries { self.new.entries.items
+            ≡ slice_set self.old.entries.items (die.0 * die_slots self.old.geometry + slot.0) (Current page) }
+    {
+        let seam = self.seam(page, die.0);
+        let size = (self.geometry.blocks * self.geometry.slots) as usize;
+        let index = index_of(self.geometry, die, slot);
+        self.links[index] = seam.next;
+        let link = Link {
+            die: Some(die.0),
+            slot: slot.0,
+        };
+        write_link(
+            &mut self.heads,
+            &mut self.links,
+            size,
+            page,
+            seam.last,
+            link,
+        );
+        write_entry(
+            self.geometry,
+            &mut self.entries,
+            &mut self.counts,
+            &mut self.erased,
+            die,
+            slot,
+            Entry::Current { page },
+        );
+    }
+
+    /// The slot has this entry, which holds no copy.
+    pub fn put(&mut self, die: Die, slot: Slot, entry: Entry)
+        requires die { die.0 < self.old.geometry.dies }
+        requires slot { slot.0 < die_slots self.old.geometry }
+        requires new { is_current_entry entry ≡ false }
+        ensures geometry { self.new.geometry ≡ self.old.geometry }
+        ensures entries { self.new.entries.items
+            ≡ slice_set self.old.entries.items (die.0 * die_slots self.old.geometry + slot.0) entry }
+    {
+        let old = self.entry(die, slot);
+        match old {
+            Entry::Current { page } => self.remove_copy(page, die, slot, entry),
+            _ => self.set_plain(die, slot, entry),
+        }
+    }
+
+    /// No slot holds a copy of the page: those that did are stale. It takes a step for each die.
+    fn retire(&mut self, page: u32)
+        requires { page < self.old.geometry.pages }
+        ensures geometry { self.new.geometry ≡ self.old.geometry }
+        ensures entries { (die slot : ℕ) → die < self.old.geometry.dies → slot < die_slots self.old.geometry
+            → entry_of self.new.entries.items (die_slots self.old.geometry) die slot
+            ≡ retired page (entry_of self.old.entries.items (die_slots self.old.geometry) die slot) }
+    {
+        for die in 0..self.geometry.dies {
+            if let Some(slot) = self.copy_on(page, die as u8) {
+                self.remove_copy(page, Die(die as u8), Slot(slot), Entry::Stale);
+            }
+        }
+    }
+
+    /// No slot holds a copy of the page, unless its copies are those of its last write.
+    pub fn renew(&mut self, page: u32, is_last: bool)
+        requires { page < self.old.geometry.pages }
+        ensures geometry { self.new.geometry ≡ self.old.geometry }
+        ensures entries { (die slot : ℕ) → die < self.old.geometry.dies → slot < die_slots self.old.geometry
+            → entry_of self.new.entries.items (die_slots self.old.geometry) die slot
+            ≡ (if is_last then entry_of self.old.entries.items (die_slots self.old.geometry) die slot
+            else retired page (entry_of self.old.entries.items (die_slots self.old.geometry) die slot)) }
+    {
+        if !is_last {
+            self.retire(page);
+        }
+    }
+
+    /// The slots of the die are erased.
+    pub fn erase_die(&mut self, die: Die)
+        requires { die.0 < self.old.geometry.dies }
+        ensures geometry { self.new.geometry ≡ self.old.geometry }
+        ensures entries { (d slot : ℕ) → slot < die_slots self.old.geometry
+            → entry_of self.new.entries.items (die_slots self.old.geometry) d slot
+            ≡ (if d == die.0 then Erased else entry_of self.old.entries.items (die_slots self.old.geometry) d slot) }
+    {
+        for slot in 0..self.geometry.blocks * self.geometry.slots {
+            self.put(die, Slot(slot), Entry::Erased);
+        }
+    }
+
+    /// The slots of the block are erased, save those that are reserved.
+    pub fn erase_block(&mut self, die: Die, block: u32)
+        requires die { die.0 < self.old.geometry.dies }
+        requires block { block < self.old.geometry.blocks }
+        ensures geometry { self.new.geometry ≡ self.old.geometry }
+        ensures entries { (d slot : ℕ) → slot < die_slots self.old.geometry
+            → entry_of self.new.entries.items (die_slots self.old.geometry) d slot
+            ≡ (if d == die.0 && slot / self.old.geometry.slots == block
+            then erased_entry (entry_of self.old.entries.items (die_slots self.old.geometry) d slot)
+            else entry_of self.old.entries.items (die_slots self.old.geometry) d slot) }
+    {
+        let first = block * self.geometry.slots;
+        for slot in first..first + self.geometry.slots {
+            self.erase_unreserved(die, Slot(slot));
+        }
+    }
+
+    /// The slot is erased, unless it is reserved.
+    fn erase_unreserved(&mut self, die: Die, slot: Slot)
+        requires die { die.0 < self.old.geometry.dies }
+        requires slot { slot.0 < die_slots self.old.geometry }
+        ensures geometry { self.new.geometry ≡ self.old.geometry }
+        ensures entries { self.new.entries.items ≡ slice_set self.old.entries.items (die.0 * die_slots self.old.geometry + slot.0)
+            (erased_entry (entry_of self.old.entries.items (die_slots self.old.geometry) die.0 slot.0)) }
+    {
+        let old = self.entry(die, slot);
+        match old {
+            Entry::Reserved => self.put(die, slot, Entry::Reserved),
+            _ => self.put(die, slot, Entry::Erased),
+        }
+    }
+
+    /// The lowest of a block's slots that is erased.
+    fn lowest_in(&self, die: Die, block: u32) -> Option<u32>
+        requires die { die.0 < self.now.geometry.dies }
+        requires block { block < self.now.geometry.blocks }
+        ensures some { (slot : ℕ) → result ≡ Some slot → (block * self.now.geometry.slots ≤ slot)
+            × (slot < block * self.now.geometry.slots + self.now.geometry.slots)
+            × (is_erased_entry (entry_of self.now.entries.items (die_slots self.now.geometry) die.0 slot) ≡ true)
+            × ((k : ℕ) → block * self.now.geometry.slots ≤ k → k < slot
+            → is_erased_entry (entry_of self.now.entries.items (die_slots self.now.geometry) die.0 k) ≡ false) }
+        ensures none { result ≡ None → (k : ℕ) → block * self.now.geometry.slots ≤ k
+            → k < block * self.now.geometry.slots + self.now.geometry.slots
+            → is_erased_entry (entry_of self.now.entries.items (die_slots self.now.geometry) die.0 k) ≡ false }
+    {
+        let first = block * self.geometry.slots;
+        for slot in first..first + self.geometry.slots {
+            if is_erased(self.entry(die, Slot(slot))) {
+                return Some(slot);
+            }
+        }
+        None
+    }
+
+    /// The lowest erased slot of the die outside a block, if one is named, and how many entries and counts
+    /// were read: at most as many as the die has blocks and a block has slots.
+    pub fn lowest_erased(&self, die: Die, outside: Option<u32>) -> Found
+        requires { die.0 < self.now.geometry.dies }
+        ensures slot { result.slot
+            ≡ find (may_take self.now.entries.items (die_slots self.now.geometry) self.now.geometry.slots die.0 outside)
+            (below (die_slots self.now.geometry)) }
+        ensures looks { result.looks ≤ self.now.geometry.blocks + self.now.geometry.slots }
+    {
+        for block in 0..self.geometry.blocks {
+            if may_take_from(block, outside) && self.counts(die, block).erased > 0 {
+                if let Some(slot) = self.lowest_in(die, block) {
+                    let looks = block + 1 + (slot - block * self.geometry.slots + 1);
+                    return Found {
+                        slot: Some(slot),
+                        looks,
+                    };
+                }
+            }
+        }
+        Found {
+            slot: None,
+            looks: self.geometry.blocks,
+        }
+    }
+}
