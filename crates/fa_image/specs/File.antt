@@ -59,6 +59,16 @@ held_at g start = record { bytes = filled_up (file_bytes g) start.bytes; lefts =
 abbrev pub opened : Geometry → Start → ImageState
 opened g start = state_in g (filled_up (file_bytes g) start.bytes) 0 0
 
+-- what is seen of an image in a file of zeros
+abbrev pub of_zeros : Geometry → ImageState
+of_zeros g = record {
+  geometry = g;
+  slots = replicate (slot_count g) (replicate (slot_bytes g) 0);
+  header = replicate 112 0;
+  syncs = 0;
+  faults = 0;
+}
+
 -- so many bytes of a list, with zeros where it has no more
 abbrev pub fitted : ℕ → List ℕ → List ℕ
 fitted n bytes = take n (bytes ++ replicate n 0)

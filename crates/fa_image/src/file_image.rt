@@ -32,41 +32,48 @@ pub struct FileImage {
 }
 
 impl FileImage {
-    ghost use Rattle.std.specs.Prelude.{List, ℕ, IfOk, IsTrue};
-    ghost use Rattle.fa_image.specs.File.{Start, opened, state_in};
+    ghost use Rattle.std.specs.Prelude.{List, ℕ, IfOk, OnOk, IsTrue};
+    ghost use Rattle.fa_image.specs.File.{Start, opened, state_in, of_zeros};
     ghost use Rattle.fa_image.specs.FileMade.{file_view, file_is_honest};
     ghost use Rattle.fa_image.specs.Image.{slot_bytes as bytes_of_slot, slot_count as slots_of_die};
 
     /// Makes a file of the image's size, or empties the one that has the name: it holds zeros. Nothing
-    /// is written to it yet. The error is that of the file's call, or out of memory.
+    /// is written to it yet. The error is that of [`FileImage::open_or_create`] or of the file's length.
     pub fn create<R: Files<File = File> + AllocGlobal>(
         rt: &R,
         path: Path<'_>,
         geometry: Geometry,
     ) -> io::Result<FileImage>
         ghost lefts: { List (List ℕ) }
-        ensures view { IfOk result (λ image. file_view image ≡ record {
-          geometry = geometry;
-          slots = replicate (slots_of_die geometry) (replicate (bytes_of_slot geometry) 0);
-          header = replicate 112 0;
-          syncs = 0;
-          faults = 0;
-        }) }
+        ensures view { IfOk result (λ image. file_view image ≡ of_zeros geometry) }
+        ensures honest { IfOk result (λ image. IsTrue (file_is_honest image)) }
+    {
+        let mut image = FileImage::open_or_create(rt, path, geometry)?;
+        image.empty()?;
+        Ok(image)
+    }
+
+    /// Opens a file that is there, as [`FileImage::open`] does, or makes an empty one of this name.
+    pub fn open_or_create<R: Files<File = File> + AllocGlobal>(
+        rt: &R,
+        path: Path<'_>,
+        geometry: Geometry,
+    ) -> io::Result<FileImage>
+        ghost start: { Start }
+        ensures view { IfOk result (λ image. file_view image ≡ opened geometry start) }
         ensures honest { IfOk result (λ image. IsTrue (file_is_honest image)) }
     {
         let file = OpenOptions::new()
             .read(true)
             .write(true)
             .create(true)
-            .truncate(true)
             .open(rt, path)?;
-        file.set_len(file_bytes(geometry))?;
-        Ok(FileImage::holding(rt.alloc(), file, geometry)?)
+        FileImage::locked(rt.alloc(), file, geometry)
     }
 
-    /// Opens a file that is there, to read and to write, of whatever length. What cannot be read in one
-    /// that is too short is refused when it is read. The error is that of the file's call, or out of
-    /// memory.
+    /// Opens a file that is there, to read and to write, of whatever length, and locks it until the image
+    /// is let go. What cannot be read in one that is too short is refused when it is read. The error is
+    /// that of the file's call, `WouldBlock` where another process has the image, or out of memory.
     pub fn open<R: Files<File = File> + AllocGlobal>(
         rt: &R,
         path: Path<'_>,
@@ -77,7 +84,38 @@ impl FileImage {
         ensures honest { IfOk result (λ image. IsTrue (file_is_honest image)) }
     {
         let file = OpenOptions::new().read(true).write(true).open(rt, path)?;
-        Ok(FileImage::over(rt.alloc(), file, geometry)?)
+        FileImage::locked(rt.alloc(), file, geometry)
+    }
+
+    /// The image in an open file that no other process has locked, which is locked now.
+    fn locked(alloc: Global, file: File, geometry: Geometry) -> io::Result<FileImage>
+        ghost start: { Start }
+        ensures view { IfOk result (λ image. file_view image ≡ opened geometry start) }
+        ensures honest { IfOk result (λ image. IsTrue (file_is_honest image)) }
+    {
+        file.try_lock()?;
+        Ok(FileImage::over(alloc, file, geometry)?)
+    }
+
+    /// Empties the image: the file has the image's size, and zeros. Nothing is written to it. It counts as
+    /// a new image then, with no syncs and no faults. The error is that of the file's call.
+    pub fn empty(&mut self) -> io::Result<()>
+        ghost lefts: { List (List ℕ) }
+        ensures view { OnOk result (file_view self.new ≡ of_zeros self.old.geometry) }
+        ensures honest { OnOk result (IsTrue (file_is_honest self.new)) }
+        ensures geometry { self.new.geometry ≡ self.old.geometry }
+    {
+        self.file.set_len(0)?;
+        self.file.set_len(file_bytes(self.geometry))?;
+        self.held = Held::anew(self.geometry);
+        self.syncs = 0;
+        self.faults = 0;
+        Ok(())
+    }
+
+    /// Whether the file is as long as an image of the geometry is.
+    pub fn has_its_length(&self) -> io::Result<bool> {
+        Ok(self.file.metadata()?.len() == file_bytes(self.geometry))
     }
 
     /// The image in an open file, whatever the file holds: that is its start, and its contract holds

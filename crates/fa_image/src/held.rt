@@ -4,6 +4,7 @@ ghost use Rattle.std.specs.Borrow.{ftrue};
 ghost use Rattle.fa_image.specs.File.{Contents, after_deed};
 
 use crate::deed::Deed;
+use fa_types::Geometry;
 use std::marker::{Model, PhantomData};
 
 /// The contents of a file, as its calls have led them on. No memory holds them.
@@ -26,6 +27,15 @@ impl Held {
         Held {
             marker: PhantomData,
         }
+    }
+
+    /// Of a file of an image of this geometry that has these contents now. There is nothing to read there:
+    /// the geometry is named only so that the caller can say what the contents are.
+    pub(crate) fn anew(_geometry: Geometry) -> Held
+        ghost contents: { Contents }
+        ensures { result.contents ≡ contents }
+    {
+        Held::new()
     }
 
     /// Leads the contents on by a deed.

@@ -1,4 +1,4 @@
 use Rattle.fa_image.proofs.file_image.FileImage.open.Given as goal
 
-abbrev pub ghost-over : goal.ghost-over
-ghost-over g a = g.start
+abbrev pub ghost-locked : goal.ghost-locked
+ghost-locked g a = g.start
