@@ -1,0 +1,28 @@
+-- The numbers of an array.
+use Rattle.std.specs.Prelude.{◌≡◌, ℕ, min, Bool, true, false, ◌&&◌, nat_lt, List, length, is_some, count_by}
+use Rattle.std.specs.FinMap.{get, len}
+use Rattle.fa_machine.specs.Copies.{holders}
+use Rattle.fa_machine.specs.Maps.{below}
+use Rattle.fa_machine.specs.State.{MapState}
+use Rattle.fa_mount.specs.declared.judging.Standing.{Standing}
+use Rattle.fa_mount.specs.declared.judging.Standing.TheVariants.{Spare}
+use Rattle.fa_mount.specs.declared.mounted.Report.{Report}
+
+abbrev pub is_spare : Standing → Bool
+is_spare (Spare index) = true
+is_spare standing = false
+
+abbrev pub is_written : MapState → ℕ → Bool
+is_written m page = is_some (get m.numbers page)
+
+-- A page has a current copy, fewer than it is to have, and fewer than there are live dies: it is thin, as the array's
+-- machine has it.
+abbrev pub is_thin : ℕ → MapState → ℕ → Bool
+is_thin copies m page = let n = length (holders m page) in nat_lt 0 n && nat_lt n (min copies (len m.live))
+
+pub record IsReportOf (copies : ℕ) (m : MapState) (standings : List Standing) (report : Report) : Type 0 where
+  pub dies : report.dies ≡ m.geometry.dies
+  pub live : report.live ≡ len m.live
+  pub spares : report.spares ≡ count_by is_spare standings
+  pub written : report.written ≡ count_by (is_written m) (below m.geometry.pages)
+  pub thin : report.thin ≡ count_by (is_thin copies m) (below m.geometry.pages)

@@ -1,0 +1,130 @@
+//! Laws of the definitions, each the contract of a function with no code.
+ghost use Rattle.std.specs.Prelude.{◌≡◌, ◌↔◌, ◌⊎◌, ℕ, ◌*◌, ◌<◌, Bool, true, false, Some, None, is_some, List, length, map, IsTrue, Ok};
+ghost use Rattle.std.specs.FinMap.{get};
+ghost use Rattle.std.specs.List.{AllByRecursion};
+ghost use Rattle.fa_types.specs.Geometry.{AreCopies};
+ghost use Rattle.fa_types.specs.declared.geometry.Geometry.{Geometry};
+ghost use Rattle.fa_mount.specs.Formatted.{AreFormatted};
+ghost use Rattle.fa_types.specs.declared.numbers.Page.{Page};
+ghost use Rattle.fa_machine.specs.Beginning.{IsBeginning};
+ghost use Rattle.fa_machine.specs.Cells.{Cell, Empty, Sealed};
+ghost use Rattle.fa_machine.specs.Copies.{is_current};
+ghost use Rattle.fa_machine.specs.State.{MapState, is_live, used_at};
+ghost use Rattle.fa_machine.specs.World.{World};
+ghost use Rattle.fa_machine.specs.declared.places.Used.TheVariants.{Held, Reserved};
+ghost use Rattle.fa_machine.specs.declared.places.Version.{Version};
+ghost use Rattle.fa_mount.specs.Content.{AreContents, Contents, IsMountedContent, found_at};
+ghost use Rattle.fa_mount.specs.ContentCells.{IsCellOf};
+ghost use Rattle.fa_mount.specs.ContentReading.{IsContentOf};
+ghost use Rattle.fa_mount.specs.MountedWorld.{HoldMap, IsMountedWorld, SlotBytes, bytes_of, is_spare_of};
+ghost use Rattle.fa_mount.specs.Mounting.{Mounts};
+ghost use Rattle.fa_mount.specs.declared.judging.Standing.{Standing};
+ghost use Rattle.fa_mount.specs.declared.content.SlotContent.{SlotContent};
+ghost use Rattle.fa_mount.specs.declared.content.SlotContent.TheVariants.{Copy, Erased};
+ghost use Rattle.fa_mount.specs.Found.{ReadsHeaders, AreOnlyRead, AreOf};
+ghost use Rattle.fa_mount.specs.Judged.{IsJudged};
+ghost use Rattle.fa_mount.specs.NewArray.{IsNew, new_founds};
+ghost use Rattle.fa_mount.specs.Rules.{can_hold, header_refusal, is_unread_header, seen_from};
+ghost use Rattle.fa_mount.specs.declared.found.Found.{Found};
+ghost use Rattle.fa_mount.specs.declared.judging.Judged.{Judged};
+
+use fa_image::Image;
+
+/// Reading headers changes nothing of an image but how many faults it has counted. Of images that return what
+/// was written, what was found is what stands there, unless the read was refused.
+pub fn headers_are_only_read<I: Image>()
+    ensures kept { (before after : List I) (founds : List Found) → ReadsHeaders I.view I.made before after founds
+        → AreOnlyRead (map I.view before) (map I.view after) }
+    ensures told { (before after : List I) (founds : List Found) → ReadsHeaders I.view I.made before after founds
+        → AllByRecursion (λ image. IsTrue (I.honest image)) after → AreOf (map I.view before) founds }
+{}
+
+/// What is found of images that were formatted, where they return what was written and no read was refused: the headers
+/// with which an array begins.
+pub fn a_formatted_array_is_found<I: Image>()
+    ensures { (format : ℕ) (geometry : Geometry) (array : List ℕ) (old new read : List I) (founds : List Found)
+        → (format ≡ 2) ⊎ (format ≡ 1) → length array ≡ 16 → length old ≡ geometry.dies
+        → AllByRecursion (λ image. (I.view image).geometry ≡ geometry) old
+        → AreFormatted I.view I.honest format geometry array old new (Ok tt)
+        → ReadsHeaders I.view I.made new read founds → length founds ≡ length new
+        → AllByRecursion (λ image. IsTrue (I.honest image)) read
+        → AllByRecursion (λ found. is_unread_header found.header ≡ false) founds
+        → founds ≡ new_founds geometry array }
+{}
+
+/// The headers with which an array begins are those of an array that is mounted, without leave for an unclean one: it
+/// is clean in epoch 1, each die in use is live, and the others are spares.
+pub fn a_new_array_is_clean<A>()
+    ensures accepted { (geometry : Geometry) (array : List ℕ) (copies : ℕ) → can_hold copies geometry ≡ true
+        → header_refusal copies false (new_founds geometry array) ≡ None }
+    ensures judged { (geometry : Geometry) (array : List ℕ) (judged : Judged A)
+        → IsJudged (seen_from 0 (new_founds geometry array)) judged → IsNew geometry array judged }
+{}
+
+/// The number of copies that an array can hold is judged as [`fa_types::Copies::new`] judges it.
+pub fn copies_are_judged_alike()
+    ensures { (copies : ℕ) (g : Geometry) → IsTrue (can_hold copies g) ↔ AreCopies copies g.dies g.spares g.blocks g.slots g.pages }
+{}
+
+/// The bytes of a slot are one cell of the array's machine.
+pub fn bytes_are_one_cell()
+    ensures { (bytes : List ℕ) (a b : Cell) → IsCellOf bytes a → IsCellOf bytes b → a ≡ b }
+{}
+
+/// The mounted content is a function of what was found: there is one map of it.
+pub fn what_was_found_is_one_map()
+    ensures { (geometry : Geometry) (contents : Contents) (m n : MapState) → IsMountedContent geometry contents m
+        → IsMountedContent geometry contents n → m ≡ n }
+{}
+
+/// What was found in a slot is seen as a cell of the array's machine: an empty one where nothing was found, and a sealed
+/// one of that write at its own place where a copy of a page was.
+pub fn what_was_found_is_what_is_seen()
+    ensures seen { (bytes : List ℕ) (pages die slot : ℕ) (content : SlotContent) → IsContentOf bytes pages die slot content
+        → (cell : Cell) × IsCellOf bytes cell }
+    ensures erased { (bytes : List ℕ) (pages die slot : ℕ) (content : SlotContent) (cell : Cell)
+        → IsContentOf bytes pages die slot content → IsCellOf bytes cell → content ≡ Erased ↔ cell ≡ Empty }
+    ensures copy { (bytes : List ℕ) (pages die slot : ℕ) (content : SlotContent) (cell : Cell) (page : Page) (version : Version)
+        → IsContentOf bytes pages die slot content → IsCellOf bytes cell
+        → content ≡ Copy page version ↔ ((page.0 < pages) × (payload : List ℕ) × (cell ≡ Sealed page.0 version die slot payload)) }
+{}
+
+/// Of the mounted content of an array: live dies are dies of the array, only slots of live dies are used, nothing is
+/// reserved, and what is erased was found so. What a slot holds was found in it with its page's number, a die holds a page
+/// once, and each page that was written is one of the array and is held by some die.
+pub fn the_mounted_content_is_sound()
+    ensures live { (geometry : Geometry) (contents : Contents) (m : MapState) (die : ℕ) → AreContents geometry contents
+        → IsMountedContent geometry contents m → is_live m die ≡ true → die < geometry.dies }
+    ensures used { (geometry : Geometry) (contents : Contents) (m : MapState) (die slot : ℕ) → AreContents geometry contents
+        → IsMountedContent geometry contents m → is_some (used_at m die slot) ≡ true
+        → (is_live m die ≡ true) × (slot < geometry.blocks * geometry.slots) }
+    ensures reserved { (geometry : Geometry) (contents : Contents) (m : MapState) (die slot : ℕ) → AreContents geometry contents
+        → IsMountedContent geometry contents m → ¬ (used_at m die slot ≡ Some Reserved) }
+    ensures erased { (geometry : Geometry) (contents : Contents) (m : MapState) (die slot : ℕ) → AreContents geometry contents
+        → IsMountedContent geometry contents m → is_live m die ≡ true → slot < geometry.blocks * geometry.slots
+        → used_at m die slot ≡ None → found_at contents die slot ≡ Some Erased }
+    ensures held { (geometry : Geometry) (contents : Contents) (m : MapState) (die slot : ℕ) (page : Page) (version : Version)
+        → AreContents geometry contents → IsMountedContent geometry contents m → used_at m die slot ≡ Some (Held page version)
+        → (get m.numbers page.0 ≡ Some version) × (found_at contents die slot ≡ Some (Copy page version)) }
+    ensures once { (geometry : Geometry) (contents : Contents) (m : MapState) (page die slot other : ℕ) → AreContents geometry contents
+        → IsMountedContent geometry contents m → is_current m page die slot ≡ true → is_current m page die other ≡ true
+        → slot ≡ other }
+    ensures written { (geometry : Geometry) (contents : Contents) (m : MapState) (page : Page) (version : Version)
+        → AreContents geometry contents → IsMountedContent geometry contents m → get m.numbers page.0 ≡ Some version
+        → (page.0 < geometry.pages) × (die : ℕ) × (slot : ℕ) × (used_at m die slot ≡ Some (Held page version)) }
+{}
+
+/// What is mounted of images that return what was written is the map of what stands in the slots of the dies that are
+/// live. Nothing is mounted of a spare, and it is erased.
+pub fn what_is_mounted_stands_there<I: Image, A>()
+    ensures { (copies : ℕ) (unclean : Bool) (before after : List I) (array : List ℕ) (epoch : ℕ) (clean : Bool) (dies : List Standing)
+        (m : MapState) → Mounts A I.view I.made copies unclean before after array epoch clean dies m → length dies ≡ m.geometry.dies
+        → AllByRecursion (λ image. IsTrue (I.honest image)) after
+        → HoldMap (bytes_of (map I.view after) dies) (is_spare_of dies) m.geometry m }
+{}
+
+/// The world over what was mounted, with nothing under way, is one from which the array's runs begin, where the current
+/// copies of one page have one payload.
+pub fn what_was_mounted_is_a_beginning()
+    ensures { (bytes : SlotBytes) (is_spare : ℕ → Bool) (w : World) → IsMountedWorld bytes is_spare w → IsBeginning w }
+{}
