@@ -58,6 +58,27 @@ impl Key {
     }
 }
 
+impl Key {
+    /// What the key has to have, in words.
+    pub fn wanted(self) -> &'static str {
+        match self {
+            Key::Array => "32 hexadecimal digits",
+            Key::Images => "a list of 1 to 64 paths",
+            Key::Dies => "a number of 2 to 64",
+            Key::Spares => "a number of 0 to 62",
+            Key::Blocks => "a number of 4 to 4096",
+            Key::Slots => "a number of 4 to 256",
+            Key::PageBytes => "512, 1024, 2048 or 4096",
+            Key::Pages => "a number of 1 to 1048576",
+            Key::WindowRounds => "a number of 1 to 64",
+            Key::Listen => "an IPv4 address, a colon and a port",
+            Key::Export => "1 to 64 printable ASCII characters",
+            Key::Sessions => "a number of 1 to 16",
+            Key::Copies => "2 or 3",
+        }
+    }
+}
+
 /// The keys, in the order in which they are judged.
 const KEYS: [Key; 13] = [
     Key::Array,

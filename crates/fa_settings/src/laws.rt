@@ -1,5 +1,8 @@
-//! A law of the definitions, the contract of a function with no code.
-ghost use Rattle.std.specs.Prelude.{◌≡◌, ℕ, List};
+//! Laws of the definitions, each the contract of a function with no code.
+ghost use Rattle.std.specs.Prelude.{◌≡◌, ℕ, List, [], ◌∷◌, Some, None, true, false, codes};
+ghost use Rattle.clap.specs.declared.error.kind.ErrorKind.TheVariants.{DisplayHelp, DisplayVersion, MissingRequiredArgument};
+ghost use Rattle.clap.specs.declared.error.kind.ErrorKind.TheVariants.{MissingSubcommand, UnknownArgument, ValueValidation};
+ghost use Rattle.fa_settings.specs.CommandLine.{found_instead, wanted_in, Formats, Checks, Dumps, Plans, Talks, Verifies};
 ghost use Rattle.std.specs.declared.alloc.Global.{Global};
 ghost use Rattle.fa_settings.specs.Settings.{IsSettingsText, IsFault};
 ghost use Rattle.fa_settings.specs.declared.settings.Settings.{Settings};
@@ -10,4 +13,35 @@ ghost use Rattle.fa_settings.specs.declared.fault.SettingsFault.TheVariants.{NoM
 pub fn settings_or_fault()
     ensures { (text : List ℕ) (settings : Settings Global) (fault : SettingsFault Global)
         → IsSettingsText text settings → IsFault text fault → fault ≡ NoMemory }
+{}
+
+/// The grammar of the command line has the words that it should: each command with its arguments, help of the
+/// program and of each command, and the version; no words, and a word too many, are mistakes, and so are
+/// settings left out and a die above 63.
+pub fn words_of_the_command_line()
+    ensures format { let words = codes "format" ∷ codes "a.toml" ∷ [] in
+        (found_instead words ≡ []) × (wanted_in words ≡ Some (Formats (codes "a.toml") None)) }
+    ensures format_one { let words = codes "format" ∷ codes "a.toml" ∷ codes "--die" ∷ codes "3" ∷ [] in
+        (found_instead words ≡ []) × (wanted_in words ≡ Some (Formats (codes "a.toml") (Some (codes "3")))) }
+    ensures check { let words = codes "check" ∷ codes "a.toml" ∷ [] in
+        (found_instead words ≡ []) × (wanted_in words ≡ Some (Checks (codes "a.toml") false false)) }
+    ensures check_unclean { let words = codes "check" ∷ codes "a.toml" ∷ codes "--unclean" ∷ [] in
+        (found_instead words ≡ []) × (wanted_in words ≡ Some (Checks (codes "a.toml") true false)) }
+    ensures dump_json { let words = codes "dump" ∷ codes "--json" ∷ codes "a.toml" ∷ [] in
+        (found_instead words ≡ []) × (wanted_in words ≡ Some (Dumps (codes "a.toml") false true)) }
+    ensures no_settings { found_instead (codes "check" ∷ []) ≡ MissingRequiredArgument ∷ [] }
+    ensures die_too_great { found_instead (codes "format" ∷ codes "a.toml" ∷ codes "--die" ∷ codes "64" ∷ []) ≡ ValueValidation ∷ [] }
+    ensures plan { (found_instead (codes "plan" ∷ []) ≡ []) × (wanted_in (codes "plan" ∷ []) ≡ Some Plans) }
+    ensures talk { (found_instead (codes "talk" ∷ []) ≡ []) × (wanted_in (codes "talk" ∷ []) ≡ Some Talks) }
+    ensures verify { (found_instead (codes "verify" ∷ []) ≡ []) × (wanted_in (codes "verify" ∷ []) ≡ Some Verifies) }
+    ensures help { (found_instead (codes "--help" ∷ []) ≡ DisplayHelp ∷ [])
+        × (found_instead (codes "-h" ∷ []) ≡ DisplayHelp ∷ []) }
+    ensures help_of_check { found_instead (codes "check" ∷ codes "--help" ∷ []) ≡ DisplayHelp ∷ [] }
+    ensures help_of_plan { found_instead (codes "plan" ∷ codes "--help" ∷ []) ≡ DisplayHelp ∷ [] }
+    ensures help_of_talk { found_instead (codes "talk" ∷ codes "--help" ∷ []) ≡ DisplayHelp ∷ [] }
+    ensures help_of_verify { found_instead (codes "verify" ∷ codes "--help" ∷ []) ≡ DisplayHelp ∷ [] }
+    ensures version { (found_instead (codes "--version" ∷ []) ≡ DisplayVersion ∷ [])
+        × (found_instead (codes "-V" ∷ []) ≡ DisplayVersion ∷ []) }
+    ensures none { found_instead [] ≡ MissingSubcommand ∷ [] }
+    ensures too_many { found_instead (codes "talk" ∷ codes "talk" ∷ []) ≡ UnknownArgument ∷ [] }
 {}

@@ -1,8 +1,10 @@
-//! The settings of an array and its server, read from a TOML text.
+//! The settings of an array and its server, read from a TOML text, and the command line of the program.
 #![tactic(auto)]
 
 mod address;
+mod command_line;
 mod fault;
+mod help;
 mod key;
 pub mod laws;
 mod names;
@@ -12,6 +14,8 @@ mod shape;
 mod table;
 mod values;
 
+pub use command_line::{Subcommand, command};
 pub use fault::SettingsFault;
 pub use key::Key;
+pub use reader::found_at;
 pub use settings::Settings;

@@ -5,10 +5,10 @@ ghost use Rattle.fa_settings.specs.Faults.{AllKnown};
 ghost use Rattle.fa_settings.specs.Settings.{IsDocument, IsFault, IsFaultOf, AreSettings};
 
 use crate::shape::{judge, shape_at};
-use crate::table::number_at;
+use crate::table::{number_at, value_at};
 use crate::values::{copies_at, export_at, identity_at, images_at, listen_at};
 use crate::{Key, Settings, SettingsFault};
-use std::alloc::{Allocator, Global};
+use std::alloc::{AllocError, Allocator, Global};
 use toml::Table;
 
 /// The table that a text is.
@@ -57,4 +57,15 @@ pub(crate) fn settings_of<A: Allocator + Copy>(
         export,
         sessions,
     })
+}
+
+/// What a text has at a key, as TOML spells it, or `nothing`.
+pub fn found_at(global: Global, text: &[u8], key: Key) -> Result<String, AllocError> {
+    match read_table::<Global>(global, text) {
+        Ok(table) => match value_at(&table, key) {
+            Some(value) => value.to_string(global),
+            None => String::from_str(global, "nothing"),
+        },
+        Err(_) => Err(AllocError),
+    }
 }

@@ -1,0 +1,27 @@
+use Rattle.std.proofs.Common.{refl}
+use Rattle.clap.proofs.OnLiterals.{clap_on_literals}
+use Rattle.fa_settings.specs.CommandLine.{found_instead, wanted_in}
+use Rattle.fa_settings.proofs.laws.words_of_the_command_line.Goals as goal
+
+pub returns : goal.returns
+unfolding found_instead wanted_in clap_on_literals
+returns c = record {
+  format = (refl, refl);
+  format_one = (refl, refl);
+  check = (refl, refl);
+  check_unclean = (refl, refl);
+  dump_json = (refl, refl);
+  no_settings = refl;
+  die_too_great = refl;
+  plan = (refl, refl);
+  talk = (refl, refl);
+  verify = (refl, refl);
+  help = (refl, refl);
+  help_of_check = refl;
+  help_of_plan = refl;
+  help_of_talk = refl;
+  help_of_verify = refl;
+  version = (refl, refl);
+  none = refl;
+  too_many = refl;
+}

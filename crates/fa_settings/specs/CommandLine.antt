@@ -1,0 +1,114 @@
+-- The command line: what the arguments of the program ask for, by the grammar of clap.
+use Rattle.std.specs.Prelude.{◌≡◌, ℕ, ◌<◌, pos, Bool, if◌then◌else◌, true, false, List, [], ◌∷◌, codes, Option, None, Some}
+use Rattle.std.specs.Prelude.{option_map, option_and_then}
+use Rattle.std.specs.Option.{option_map_or}
+use Rattle.std.specs.Str.{bytes_eq}
+use Rattle.std.specs.Str.Parse.{IsNumeral, digits_value, without_leading_plus}
+use Rattle.clap.specs.Simple.{App, Shape, new_rule, new_shape, with_subcommand, subcommand_of}
+use Rattle.clap.specs.Faults.{fault_of}
+use Rattle.clap.specs.Kinds.{Kinds}
+use Rattle.clap.specs.Walk.{Row, Rule, first_of, one_of}
+use Rattle.clap.specs.declared.builder.action.ArgAction.TheVariants.{Set, SetTrue}
+use Rattle.clap.specs.declared.builder.value_parser.ValueParser.TheVariants.{Signed}
+use Rattle.fa_types.specs.declared.numbers.Die.{Die}
+use Rattle.fa_settings.specs.declared.command_line.Subcommand.{Subcommand}
+use Rattle.fa_settings.specs.declared.command_line.Subcommand.TheVariants.{Format, Check, Dump, Plan, Talk, Verify}
+
+-- the path of the settings, which has to be given
+abbrev pub settings_argument : Rule
+settings_argument = record (new_rule (codes "settings")) { action = Some Set; value_names = 1; required = true }
+
+-- a flag
+abbrev pub flag : List ℕ → Rule
+flag name = record (new_rule name) { long = Some name; action = Some SetTrue }
+
+-- a die's number, 0 to 63
+abbrev pub die_argument : Rule
+die_argument = record (new_rule (codes "die")) {
+  long = Some (codes "die");
+  action = Some Set;
+  value_names = 1;
+  parser = Some (Signed (pos 0) (pos 63));
+}
+
+-- a command with its arguments
+abbrev pub with_arguments : List ℕ → List Rule → Shape
+with_arguments name rules = record (new_shape name) { rules = rules }
+
+-- the program: it wants a command, it has a version, and its own name is not among the arguments
+abbrev pub program : Shape
+program = record (new_shape (codes "flasharr")) {
+  no_binary_name = true;
+  disable_help_subcommand = true;
+  has_version = true;
+  subcommand_required = true;
+}
+
+-- the arguments of a command that looks at an array
+abbrev pub look_arguments : List Rule
+look_arguments = settings_argument ∷ flag (codes "unclean") ∷ flag (codes "json") ∷ []
+
+-- the program with its commands, each of which has --help besides
+abbrev pub command_line : App
+command_line =
+    with_subcommand (with_subcommand (with_subcommand (with_subcommand (with_subcommand (with_subcommand (record { top = program; subs = [] })
+    (with_arguments (codes "format") (settings_argument ∷ die_argument ∷ [])))
+    (with_arguments (codes "check") look_arguments)) (with_arguments (codes "dump") look_arguments))
+    (new_shape (codes "plan"))) (new_shape (codes "talk"))) (new_shape (codes "verify"))
+
+-- What the arguments are where they are no command: a request for help or for the version, or a mistake, as the
+-- kinds of it that clap may tell. There is none where they are a command.
+unfoldable pub found_instead : List (List ℕ) → Kinds
+found_instead arguments = fault_of command_line arguments
+
+-- what a command asks for; what follows --die is its text
+pub data Wanted : Type 0 where
+  Formats : (settings : List ℕ) (die : Option (List ℕ)) → Wanted
+  Checks : (settings : List ℕ) (unclean json : Bool) → Wanted
+  Dumps : (settings : List ℕ) (unclean json : Bool) → Wanted
+  Plans : Wanted
+  Talks : Wanted
+  Verifies : Wanted
+
+-- whether a flag was given
+abbrev pub is_given : List ℕ → List Row → Bool
+is_given name rows = option_map_or (λ text. bytes_eq text (codes "true")) (first_of name rows) false
+
+-- what the commands with arguments ask for, by what was found of these; there is always a path
+abbrev pub formats : List Row → Option Wanted
+formats rows = option_map (λ path. Formats path (one_of (codes "die") rows)) (first_of (codes "settings") rows)
+
+abbrev pub checks : List Row → Option Wanted
+checks rows = option_map (λ path. Checks path (is_given (codes "unclean") rows) (is_given (codes "json") rows)) (first_of (codes "settings") rows)
+
+abbrev pub dumps : List Row → Option Wanted
+dumps rows = option_map (λ path. Dumps path (is_given (codes "unclean") rows) (is_given (codes "json") rows)) (first_of (codes "settings") rows)
+
+-- what the command of a name asks for with what was found of its arguments
+abbrev pub wanted_by : List ℕ → List Row → Option Wanted
+wanted_by name rows =
+    if bytes_eq name (codes "format") then formats rows else if bytes_eq name (codes "check") then checks rows
+    else if bytes_eq name (codes "dump") then dumps rows else if bytes_eq name (codes "plan") then Some Plans
+    else if bytes_eq name (codes "talk") then Some Talks else if bytes_eq name (codes "verify") then Some Verifies else None
+
+-- what the arguments ask for
+unfoldable pub wanted_in : List (List ℕ) → Option Wanted
+wanted_in arguments = option_and_then (λ found. wanted_by found.0 found.1) (subcommand_of command_line arguments)
+
+-- the die that a text names: its digits as a number
+abbrev pub IsDie : Option (List ℕ) → Option Die → Type 0
+IsDie None die = die ≡ None
+IsDie (Some text) None = ¬ (IsNumeral 10 (without_leading_plus text) × (digits_value 10 (without_leading_plus text) < 64))
+IsDie (Some text) (Some die) =
+    IsNumeral 10 (without_leading_plus text) × (die.0 ≡ digits_value 10 (without_leading_plus text))
+
+-- the command is the one that is asked for
+abbrev pub IsWanted : Option Subcommand → Option Wanted → Type 0
+IsWanted None None = Unit {0}
+IsWanted (Some (Format settings die)) (Some (Formats path text)) = (settings.now ≡ path) × IsDie text die
+IsWanted (Some (Check settings unclean json)) (Some (Checks path u j)) = (settings.now ≡ path) × (unclean ≡ u) × (json ≡ j)
+IsWanted (Some (Dump settings unclean json)) (Some (Dumps path u j)) = (settings.now ≡ path) × (unclean ≡ u) × (json ≡ j)
+IsWanted (Some Plan) (Some Plans) = Unit {0}
+IsWanted (Some Talk) (Some Talks) = Unit {0}
+IsWanted (Some Verify) (Some Verifies) = Unit {0}
+IsWanted found wanted = ⊥

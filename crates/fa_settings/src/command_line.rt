@@ -1,0 +1,242 @@
+//! The command line, as `clap` reads it.
+ghost use Rattle.std.specs.Prelude.{◌≡◌, [], ◌∷◌, false, map, option_map, string_bytes, codes, IfOk, IfErr};
+ghost use Rattle.clap.specs.Kinds.{HasKind};
+ghost use Rattle.clap.specs.Simple.{app_of, new_app};
+ghost use Rattle.clap.specs.declared.builder.command.Command.TheViews.{out-Command as fields_of};
+ghost use Rattle.clap.specs.Walk.{rows_of, rule_of, first_of, one_of};
+ghost use Rattle.clap.specs.Matches.{found_of};
+ghost use Rattle.fa_settings.specs.CommandLine.{command_line as line, found_instead, wanted_in, wanted_by, formats, checks, dumps, IsWanted, IsDie, is_given as flag_given, with_arguments, look_arguments};
+ghost use Rattle.fa_settings.specs.CommandLine.{settings_argument as settings_rule, die_argument as die_rule, flag as flag_rule};
+
+use crate::help::{self, Help};
+use clap::{Arg, ArgAction, ArgMatches, Command, Error};
+use fa_types::Die;
+use std::alloc::{AllocError, Allocator, Global};
+
+/// What the program is asked to do.
+#[derive(Clone, Copy, Debug, PartialEq, Eq)]
+pub enum Subcommand<'a> {
+    /// Makes the images of an array.
+    Format {
+        /// The path of the settings.
+        settings: &'a str,
+        /// The one die whose image is made, as a spare's.
+        die: Option<Die>,
+    },
+    /// Tells what the images of an array hold.
+    Check {
+        /// The path of the settings.
+        settings: &'a str,
+        /// The array may be one that was not closed, and images may be missing.
+        unclean: bool,
+        /// One JSON document is printed.
+        json: bool,
+    },
+    /// Lists the written pages of an array.
+    Dump {
+        /// The path of the settings.
+        settings: &'a str,
+        /// The array may be one that was not closed, and images may be missing.
+        unclean: bool,
+        /// One JSON document is printed.
+        json: bool,
+    },
+    /// Plans a batch.
+    Plan,
+    /// Serves one client, whose bytes are given as text.
+    Talk,
+    /// Checks a certificate.
+    Verify,
+}
+
+/// The command that the arguments ask for, those behind the program's name. An `Err` is a request for
+/// help or for the version, or a mistake, and has the text for it; or memory was refused.
+///
+/// The arguments are read by `clap`, which takes its memory of the process.
+pub fn command<'a, A: Allocator>(
+    global: Global,
+    arguments: &'a [String<A>],
+) -> Result<Option<Subcommand<'a>>, Error>
+    ensures command { IfOk result (λ found. IsWanted found (wanted_in (map string_bytes arguments.now))) }
+    ensures no_other { IfOk result (λ _. found_instead (map string_bytes arguments.now) ≡ []) }
+    ensures instead { IfErr result (HasKind (found_instead (map string_bytes arguments.now))) }
+{
+    let matches = command_line(global)?.try_get_matches_from(arguments)?;
+    match matches.subcommand() {
+        Some((name, found)) => Ok(wanted(name, found)),
+        None => Ok(None),
+    }
+}
+
+/// The command line that the program has.
+fn command_line<'a>(global: Global) -> Result<Command<'a>, AllocError>
+    ensures { IfOk result (λ command. app_of command ≡ line) }
+{
+    let program = Command::new(global, "flasharr")
+        .about(help::ABOUT)
+        .after_help(help::STATUSES)
+        .version(help::VERSION)
+        .subcommand_required(true)
+        .disable_help_subcommand(true)
+        .no_binary_name(true);
+    program
+        .subcommand(format_line(global)?)?
+        .subcommand(look_line(global, "check", help::CHECK)?)?
+        .subcommand(look_line(global, "dump", help::DUMP)?)?
+        .subcommand(plain_line(global, "plan", help::PLAN))?
+        .subcommand(plain_line(global, "talk", help::TALK))?
+        .subcommand(plain_line(global, "verify", help::VERIFY))
+}
+
+/// A command with no arguments.
+fn plain_line<'a>(global: Global, name: &'a str, help: Help) -> Command<'a>
+    ensures shape { app_of result ≡ new_app name.entry.now }
+    ensures local { (fields_of result).has_globals ≡ false }
+{
+    Command::new(global, name)
+        .about(help.about)
+        .override_usage(help.usage)
+        .after_help(help.more)
+}
+
+/// The command that makes images.
+fn format_line<'a>(global: Global) -> Result<Command<'a>, AllocError>
+    ensures shape { IfOk result (λ c. app_of c ≡ record { top = with_arguments (codes "format") (settings_rule ∷ die_rule ∷ []); subs = [] }) }
+    ensures local { IfOk result (λ c. (fields_of c).has_globals ≡ false) }
+{
+    plain_line(global, "format", help::FORMAT)
+        .arg(settings_argument(global))?
+        .arg(die_argument(global))
+}
+
+/// A command that looks at an array.
+fn look_line<'a>(global: Global, name: &'a str, help: Help) -> Result<Command<'a>, AllocError>
+    ensures shape { IfOk result (λ c. app_of c ≡ record { top = with_arguments name.entry.now look_arguments; subs = [] }) }
+    ensures local { IfOk result (λ c. (fields_of c).has_globals ≡ false) }
+{
+    plain_line(global, name, help)
+        .arg(settings_argument(global))?
+        .arg(flag(global, "unclean", help::ABOUT_UNCLEAN))?
+        .arg(flag(global, "json", help::ABOUT_JSON))
+}
+
+/// The path of the settings.
+fn settings_argument<'a>(global: Global) -> Arg<'a>
+    ensures rule { rule_of result ≡ settings_rule }
+    ensures local { result.global ≡ false }
+{
+    Arg::new(global, "settings")
+        .action(ArgAction::Set)
+        .required(true)
+        .value_name("SETTINGS")
+        .help(help::ABOUT_SETTINGS)
+}
+
+/// A flag.
+fn flag<'a>(global: Global, name: &'a str, about: &'a str) -> Arg<'a>
+    ensures rule { rule_of result ≡ flag_rule name.entry.now }
+    ensures local { result.global ≡ false }
+{
+    Arg::new(global, name)
+        .long(name)
+        .action(ArgAction::SetTrue)
+        .help(about)
+}
+
+/// The die whose image is made.
+fn die_argument<'a>(global: Global) -> Arg<'a>
+    ensures rule { rule_of result ≡ die_rule }
+    ensures local { result.global ≡ false }
+{
+    Arg::new(global, "die")
+        .long("die")
+        .action(ArgAction::Set)
+        .value_parser(clap::value_parser!(u8).range(0..64))
+        .value_name("K")
+        .help(help::ABOUT_DIE)
+}
+
+/// The command of this name, with what was found of its arguments.
+fn wanted<'a>(name: &str, found: &ArgMatches<'a>) -> Option<Subcommand<'a>>
+    ensures { IsWanted result (wanted_by name.now (rows_of (found_of found.now))) }
+{
+    match name {
+        "format" => wanted_format(found),
+        "check" => wanted_check(found),
+        "dump" => wanted_dump(found),
+        "plan" => Some(Subcommand::Plan),
+        "talk" => Some(Subcommand::Talk),
+        "verify" => Some(Subcommand::Verify),
+        _ => None,
+    }
+}
+
+/// What `format` is asked to do.
+fn wanted_format<'a>(found: &ArgMatches<'a>) -> Option<Subcommand<'a>>
+    ensures { IsWanted result (formats (rows_of (found_of found.now))) }
+{
+    match text_of(found, "settings") {
+        Some(settings) => Some(Subcommand::Format {
+            settings,
+            die: die_of(found),
+        }),
+        None => None,
+    }
+}
+
+/// What `check` is asked to do.
+fn wanted_check<'a>(found: &ArgMatches<'a>) -> Option<Subcommand<'a>>
+    ensures { IsWanted result (checks (rows_of (found_of found.now))) }
+{
+    match text_of(found, "settings") {
+        Some(settings) => Some(Subcommand::Check {
+            settings,
+            unclean: is_given(found, "unclean"),
+            json: is_given(found, "json"),
+        }),
+        None => None,
+    }
+}
+
+/// What `dump` is asked to do.
+fn wanted_dump<'a>(found: &ArgMatches<'a>) -> Option<Subcommand<'a>>
+    ensures { IsWanted result (dumps (rows_of (found_of found.now))) }
+{
+    match text_of(found, "settings") {
+        Some(settings) => Some(Subcommand::Dump {
+            settings,
+            unclean: is_given(found, "unclean"),
+            json: is_given(found, "json"),
+        }),
+        None => None,
+    }
+}
+
+/// What was given for an argument.
+
+fn text_of<'a>(found: &ArgMatches<'a>, name: &str) -> Option<&'a str>
+    ensures { option_map (λ text. text.now) result ≡ first_of name.now (rows_of (found_of found.now)) }
+{
+    found.get_str(name)
+}
+
+/// Whether a flag was given.
+fn is_given(found: &ArgMatches<'_>, name: &str) -> bool
+    ensures { result ≡ flag_given name.now (rows_of (found_of found.now)) }
+{
+    match text_of(found, name) {
+        Some(text) => text == "true",
+        None => false,
+    }
+}
+
+/// The die that was named.
+
+fn die_of(found: &ArgMatches<'_>) -> Option<Die>
+    ensures { IsDie (one_of (codes "die") (rows_of (found_of found.now))) result }
+{
+    match found.get_one::<u8>("die") {
+        Some(number) => Some(Die(number)),
+        None => None,
+    }
+}

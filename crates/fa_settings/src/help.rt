@@ -1,0 +1,83 @@
+//! What `--help` and `--version` show.
+
+/// What the help of a command says.
+#[derive(Clone, Copy)]
+pub struct Help {
+    /// What the command does, in a line.
+    pub about: &'static str,
+    /// How it is called.
+    pub usage: &'static str,
+    /// What stands behind that.
+    pub more: &'static str,
+}
+
+/// The version of the program.
+pub const VERSION: &str = "0.1.0";
+
+/// What help says of the program.
+pub const ABOUT: &str = "A block server over mirrored flash dies, proved before it is built";
+
+/// What help says behind the commands.
+pub const STATUSES: &str =
+    "Status: 0 where the work was done, 1 where it was refused or memory, input or output failed,
+2 at a fault of the arguments, the settings or the input's text.";
+
+/// What help says of the settings.
+pub const ABOUT_SETTINGS: &str = "The settings of the array, a TOML file";
+
+/// What help says of `--unclean`.
+pub const ABOUT_UNCLEAN: &str =
+    "Takes an array that was not closed, or whose images are not all there";
+
+/// What help says of `--json`.
+pub const ABOUT_JSON: &str = "Prints one JSON document";
+
+/// What help says of `--die`.
+pub const ABOUT_DIE: &str = "The one die whose image is made, as a spare's: 0 to 63";
+
+/// The help of `format`.
+pub const FORMAT: Help = Help {
+    about: "Makes the images of an array, which holds zeros",
+    usage: "flasharr format SETTINGS [--die K]",
+    more: "What the image files held is lost. Printed is `formatted N images`. With --die only the image of that
+die is made, as a spare's.",
+};
+
+/// The help of `check`.
+pub const CHECK: Help = Help {
+    about: "Reads the images of an array, and tells what they hold",
+    usage: "flasharr check SETTINGS [--unclean] [--json]",
+    more: "Printed are the dies, those that are live and the spares; the epoch, and whether the array was closed
+clean; the pages that were written, and those with fewer copies than there could be. Nothing is written.",
+};
+
+/// The help of `dump`.
+pub const DUMP: Help = Help {
+    about: "Reads the images of an array, and lists its written pages",
+    usage: "flasharr dump SETTINGS [--unclean] [--json]",
+    more: "Printed is, for each written page, its number and the die and slot of each copy. Nothing is written.",
+};
+
+/// The help of `plan`.
+pub const PLAN: Help = Help {
+    about: "Plans a batch of reads, given as a batch text on standard input, in the least number of rounds",
+    usage: "flasharr plan < TEXT",
+    more: "Printed is the text of a certificate, which `verify` takes behind the batch text: the rounds, a place
+for each page, and the pages that show that no plan has fewer rounds.",
+};
+
+/// The help of `talk`.
+pub const TALK: Help = Help {
+    about: "Serves one NBD client, whose bytes are given on standard input as lines of hexadecimal digits",
+    usage: "flasharr talk < LINES",
+    more: "The client finds a store of 64 pages of 512 zero bytes under the name disk. Printed are the server's
+bytes, in hexadecimal on one line, and `end E`, where E is 1 disconnected, 2 aborted, 3 closed for a wrong
+message, 4 input ended, 5 read failed, 6 write failed, 7 no memory in the negotiation.",
+};
+
+/// The help of `verify`.
+pub const VERIFY: Help = Help {
+    about: "Checks a batch text and a certificate text, given one behind the other on standard input",
+    usage: "flasharr verify < TEXTS",
+    more: "Printed is `least R`, or `refused K WORDS` with status 1 for the first rule that is broken.",
+};
