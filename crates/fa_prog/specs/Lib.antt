@@ -1,5 +1,6 @@
-pub mod Arguments
+pub mod Array
 pub mod HexLines
+pub mod Look
 pub mod Output
 pub mod Plan
 pub mod Program

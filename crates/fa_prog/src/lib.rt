@@ -1,16 +1,25 @@
 //! The program `flasharr`, as one call.
 #![tactic(auto)]
 
-mod command_line;
+mod check_text;
+mod dump_text;
+mod format;
 mod hex_lines;
+mod host;
+mod images;
 mod input;
-pub mod laws;
+mod json;
+mod look;
 mod output;
 mod plan;
 mod program;
+mod settings_file;
 mod status;
+mod table;
 mod talk;
 mod verify;
+mod watched;
 
+pub use host::Host;
 pub use program::{run, start};
 pub use status::Status;

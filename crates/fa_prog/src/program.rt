@@ -7,7 +7,9 @@ ghost use Rattle.clap.specs.Values.{kind_of};
 ghost use Rattle.fa_prog.specs.Output.{ShowsUsage, ShowsText, ShowsMistake, RefusesArguments, TellsNoMemory};
 ghost use Rattle.fa_prog.specs.Program.{Runs};
 
-use crate::command_line::{Subcommand, subcommand_of};
+use crate::format::run_format;
+use crate::host::Host;
+use crate::look::{Asked, Look, run_look};
 use crate::output::{DONE, FAULTY, print, refuse_for_memory};
 use crate::plan::run_plan;
 use crate::status::Status;
@@ -16,19 +18,21 @@ use crate::verify::run_verify;
 use clap::Error;
 use clap::error::ErrorKind as Finding;
 use fa_io::send_all;
+use fa_settings::{Subcommand, command};
 use std::alloc::{AllocError, Allocator, Global};
 use std::env::Args;
 use std::io::{self, ErrorKind, Read, Write};
 
 /// What is printed where the arguments cannot be had.
-const USAGE: &[u8] = b"usage: flasharr plan | talk | verify\n";
+const USAGE: &[u8] = b"usage: flasharr format | check | dump | plan | talk | verify\n";
 
 /// Runs the program with all of its arguments, of which the first is its name, as [`run`] does with
 /// those behind it. Where the arguments cannot be had, it prints that memory was refused, with status
 /// 1, or else, as where one is no text, a line of usage, with status 2.
-pub fn start<R: Read, W: Write, A: Allocator + Copy>(
+pub fn start<H: Host, R: Read, W: Write, A: Allocator + Copy>(
+    rt: &H,
     alloc: A,
-    global: Global,
+    watched: bool,
     arguments: io::Result<Args<A>>,
     input: &mut R,
     output: &mut W,
@@ -41,7 +45,7 @@ pub fn start<R: Read, W: Write, A: Allocator + Copy>(
 {
     match arguments {
         Ok(all) => match listed(alloc, all) {
-            Ok(list) => Status::of(run(alloc, global, behind_name(&list), input, output)),
+            Ok(list) => Status::of(run(rt, alloc, watched, behind_name(&list), input, output)),
             Err(AllocError) => Status::of(refuse_for_memory(output)),
         },
         Err(error) => Status::of(refuse_arguments(error.kind(), output)),
@@ -51,6 +55,11 @@ pub fn start<R: Read, W: Write, A: Allocator + Copy>(
 /// Runs the program with these arguments, those behind its name, on an input and an output. Answers the
 /// status with which it ends: 0 where the work was done, 1 where it was refused or memory, input or
 /// output failed, 2 at a fault of the arguments or of the input's text.
+///
+/// `format` makes the images of the array of the settings, or with `--die` one die's image as a spare's.
+/// `check` prints how the dies of an array are and how many pages were written, and `dump` where each page
+/// is; with `--unclean` also of one that was not closed, and with `--json` as one JSON document. These three
+/// read nothing of the input, and tell on standard error what an admin has to look at.
 ///
 /// `talk` reads lines of hexadecimal digits as the bytes of one NBD client, serves them over a plain
 /// store of 64 pages of 512 zero bytes under the name `disk`, and prints the server's bytes, in
@@ -64,10 +73,13 @@ pub fn start<R: Read, W: Write, A: Allocator + Copy>(
 /// `--help` prints what the program or the command before it does, and `--version` the program's version, with
 /// status 0. Other arguments print what is wrong with them, with status 2. All of it goes to the output.
 ///
+/// With `watched` a command that works for seconds on images tells on standard error how far it is.
+///
 /// The arguments are read by `clap`, which takes its memory of the process.
-pub fn run<R: Read, W: Write, A: Allocator + Copy>(
+pub fn run<H: Host, R: Read, W: Write, A: Allocator + Copy>(
+    rt: &H,
     alloc: A,
-    global: Global,
+    watched: bool,
     arguments: &[String<A>],
     input: &mut R,
     output: &mut W,
@@ -75,12 +87,51 @@ pub fn run<R: Read, W: Write, A: Allocator + Copy>(
     ensures { let streams = between (R.remaining input.old) (R.remaining input.new) (W.contents output.old) (W.contents output.new) in
         Runs (map string_bytes arguments.now) streams result }
 {
-    match subcommand_of(global, arguments) {
+    match command(rt.alloc(), arguments) {
+        Ok(Some(Subcommand::Format { settings, die })) => {
+            run_format(rt, alloc, settings, die, watched, output)
+        }
+        Ok(
+            Some(
+                Subcommand::Check {
+                    settings,
+                    unclean,
+                    json,
+                },
+            ),
+        ) => {
+            let asked = Asked::Check;
+            let look = Look {
+                asked,
+                unclean,
+                json,
+                watched,
+            };
+            run_look(rt, alloc, settings, look, output)
+        }
+        Ok(
+            Some(
+                Subcommand::Dump {
+                    settings,
+                    unclean,
+                    json,
+                },
+            ),
+        ) => {
+            let asked = Asked::Dump;
+            let look = Look {
+                asked,
+                unclean,
+                json,
+                watched,
+            };
+            run_look(rt, alloc, settings, look, output)
+        }
         Ok(Some(Subcommand::Plan)) => run_plan(alloc, input, output),
         Ok(Some(Subcommand::Talk)) => run_talk(alloc, input, output),
         Ok(Some(Subcommand::Verify)) => run_verify(alloc, input, output),
         Ok(None) => show_usage(output),
-        Err(error) => show_text(global, &error, output),
+        Err(error) => show_text(rt.alloc(), &error, output),
     }
 }
 

@@ -3,12 +3,15 @@
 #![tactic(auto)]
 
 use fa_prog::Status;
+use std::io::IsTerminal;
 use std::{env, io};
 
 fn main(rt: HostRuntime) -> Status {
+    let watched = rt.stderr().is_terminal();
     fa_prog::start(
+        &rt,
         rt.alloc(),
-        rt.alloc(),
+        watched,
         env::args(&rt),
         &mut rt.stdin(),
         &mut io::writer(&rt),

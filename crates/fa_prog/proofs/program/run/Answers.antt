@@ -1,12 +1,16 @@
-use Rattle.std.proofs.Common.{ℕ, List, [], subst, inl, inr, ◌⊎◌}
+use Rattle.std.proofs.Common.{ℕ, Bool, List, [], Option, Some, None, map, string_bytes, ap, ◌∙◌, subst, inl, inr, ◌⊎◌}
 use Rattle.std.proofs.KnownBytes.{Consumes-nil}
 use Rattle.clap.specs.Kinds.{HasKind}
 use Rattle.clap.specs.Values.{kind_of}
 use Rattle.clap.specs.declared.error.Error.{Error}
 use Rattle.fa_io.specs.Streams.{Streams, Reads}
-use Rattle.fa_prog.specs.Arguments.{found_instead}
+use Rattle.std.specs.Borrow.{Bor}
+use Rattle.fa_types.specs.declared.numbers.Die.{Die}
+use Rattle.fa_settings.specs.CommandLine.{Wanted, Formats, Checks, Dumps, Plans, Talks, Verifies, IsWanted, found_instead, wanted_in}
+use Rattle.fa_settings.specs.declared.command_line.Subcommand.TheVariants.{Format, Check, Dump}
+use Rattle.fa_prog.specs.Array.{TellsFormat, TellsLook}
 use Rattle.fa_prog.specs.Output.{ShowsText, TellsNoMemory}
-use Rattle.fa_prog.specs.Program.{Runs}
+use Rattle.fa_prog.specs.Program.{Runs, RunsCommand}
 use Rattle.fa_prog.proofs.program.run.Goals as goal
 
 -- arguments that are no command, and what was shown for them
@@ -18,3 +22,62 @@ shown arguments s status e kinds reads (inr told) = inr (reads, inr told)
 
 pub returns-in-Err : goal.returns-in-Err
 returns-in-Err g c = shown _ _ _ c.in-Err.error c.in-Err.ensures.instead (Consumes-nil _) c.show_text.ensures
+
+-- a command on an array is the one that was wanted
+ran_format : (settings : Bor (List ℕ)) (die : Option Die) (wanted : Option Wanted) (s : Streams) (status : ℕ) → IsWanted (Some (Format settings die)) wanted
+    → Reads s [] → TellsFormat s.held_before s.held_after status → RunsCommand wanted s status
+ran_format settings die (Some (Formats path text)) s status is reads tells = (reads, tells)
+ran_format settings die None s status is reads tells = absurd is
+ran_format settings die (Some (Checks path u j)) s status is reads tells = absurd is
+ran_format settings die (Some (Dumps path u j)) s status is reads tells = absurd is
+ran_format settings die (Some Plans) s status is reads tells = absurd is
+ran_format settings die (Some Talks) s status is reads tells = absurd is
+ran_format settings die (Some Verifies) s status is reads tells = absurd is
+
+ran_check : (settings : Bor (List ℕ)) (unclean json : Bool) (wanted : Option Wanted) (s : Streams) (status : ℕ) → IsWanted (Some (Check settings unclean json)) wanted
+    → Reads s [] → TellsLook s.held_before s.held_after status → RunsCommand wanted s status
+ran_check settings unclean json (Some (Checks path u j)) s status is reads tells = (reads, tells)
+ran_check settings unclean json None s status is reads tells = absurd is
+ran_check settings unclean json (Some (Formats path text)) s status is reads tells = absurd is
+ran_check settings unclean json (Some (Dumps path u j)) s status is reads tells = absurd is
+ran_check settings unclean json (Some Plans) s status is reads tells = absurd is
+ran_check settings unclean json (Some Talks) s status is reads tells = absurd is
+ran_check settings unclean json (Some Verifies) s status is reads tells = absurd is
+
+ran_dump : (settings : Bor (List ℕ)) (unclean json : Bool) (wanted : Option Wanted) (s : Streams) (status : ℕ) → IsWanted (Some (Dump settings unclean json)) wanted
+    → Reads s [] → TellsLook s.held_before s.held_after status → RunsCommand wanted s status
+ran_dump settings unclean json (Some (Dumps path u j)) s status is reads tells = (reads, tells)
+ran_dump settings unclean json None s status is reads tells = absurd is
+ran_dump settings unclean json (Some (Formats path text)) s status is reads tells = absurd is
+ran_dump settings unclean json (Some (Checks path u j)) s status is reads tells = absurd is
+ran_dump settings unclean json (Some Plans) s status is reads tells = absurd is
+ran_dump settings unclean json (Some Talks) s status is reads tells = absurd is
+ran_dump settings unclean json (Some Verifies) s status is reads tells = absurd is
+
+pub returns-in-Ok-Some-Format : goal.returns-in-Ok-Some-Format
+returns-in-Ok-Some-Format g c =
+    let k = c.in-Ok-Some-Format in
+    inl (
+      k.ensures.no_other,
+      ran_format k.settings k.die (wanted_in (map string_bytes c.args.arguments.now)) _ c.run_format.result
+          (subst (λ o. IsWanted o (wanted_in (map string_bytes c.args.arguments.now))) (k.field-0-is ∙ ap Some k.field-0-0-is) k.ensures.command) (Consumes-nil _) c.run_format.ensures,
+    )
+
+pub returns-in-Ok-Some-Check : goal.returns-in-Ok-Some-Check
+returns-in-Ok-Some-Check g c =
+    let k = c.in-Ok-Some-Check in
+    inl (
+      k.ensures.no_other,
+      ran_check k.settings k.unclean k.json (wanted_in (map string_bytes c.args.arguments.now)) _ c.run_look.result
+          (subst (λ o. IsWanted o (wanted_in (map string_bytes c.args.arguments.now))) (k.field-0-is ∙ ap Some k.field-0-0-is) k.ensures.command) (Consumes-nil _) c.run_look.ensures,
+    )
+
+pub returns-in-Ok-Some-Dump : goal.returns-in-Ok-Some-Dump
+returns-in-Ok-Some-Dump g c =
+    let k = c.in-Ok-Some-Dump in
+    inl (
+      k.ensures.no_other,
+      ran_dump k.settings k.unclean k.json (wanted_in (map string_bytes c.args.arguments.now)) _
+          c.run_look-in-Ok-Some-Dump.result
+          (subst (λ o. IsWanted o (wanted_in (map string_bytes c.args.arguments.now))) (k.field-0-is ∙ ap Some k.field-0-0-is) k.ensures.command) (Consumes-nil _) c.run_look-in-Ok-Some-Dump.ensures,
+    )

@@ -1,0 +1,267 @@
+//! The command `format`.
+ghost use Rattle.std.specs.Prelude.{◌≡◌, ◌⊎◌, ◌+◌, ◌<◌, [], length, IfOk, OnOk, string_bytes};
+ghost use Rattle.std.specs.List.{AllByRecursion};
+ghost use Rattle.fa_prog.specs.Array.{TellsFormat, formatted_line, image_line};
+
+use crate::host::Host;
+use crate::images::tell_refused;
+use crate::output::{DONE, FAULTY, REFUSED, print, refuse_for_memory};
+use crate::settings_file::{refuse_settings, settings_at};
+use fa_image::{FileImage, Image};
+use fa_mount::FormatFault;
+use fa_settings::Settings;
+use fa_tag::open_header;
+use fa_types::{Die, HEADER_BYTES};
+use log::{error, warn};
+use std::alloc::{AllocError, Allocator};
+use std::io::{self, ErrorKind, Write};
+use std::path::Path;
+
+/// What comes of `format`.
+enum Formatted {
+    /// So many images were formatted.
+    Done(u32),
+    /// The settings have another number of images than dies.
+    Images,
+    /// The array has no such die.
+    Die,
+    /// This image, from 0, cannot be made or written.
+    Image(usize),
+    /// Memory was refused.
+    NoMemory,
+}
+
+/// The command `format`: makes the images of an array, or with a die that die's image alone, as a spare's.
+pub(crate) fn run_format<R: Host, W: Write, A: Allocator + Copy>(
+    rt: &R,
+    alloc: A,
+    path: &str,
+    die: Option<Die>,
+    watched: bool,
+    output: &mut W,
+) -> u8
+    ensures { TellsFormat (W.contents output.old) (W.contents output.new) result }
+{
+    match settings_at(rt, alloc, path) {
+        Ok(settings) => tell_format(alloc, made(rt, &settings, die, watched), output),
+        Err(refused) => refuse_settings(alloc, refused, output),
+    }
+}
+
+/// Prints what came of it.
+fn tell_format<W: Write, A: Allocator + Copy>(alloc: A, formatted: Formatted, output: &mut W) -> u8
+    ensures { TellsFormat (W.contents output.old) (W.contents output.new) result }
+{
+    match formatted {
+        Formatted::Done(images) => match counted(alloc, images) {
+            Ok(line) => print(output, DONE, line.as_bytes()),
+            Err(AllocError) => refuse_for_memory(output),
+        },
+        Formatted::Images => print(output, FAULTY, b"settings: 5 images\n"),
+        Formatted::Die => print(output, FAULTY, b"settings: 5 dies\n"),
+        Formatted::Image(image) => match named(alloc, image) {
+            Ok(line) => print(output, REFUSED, line.as_bytes()),
+            Err(AllocError) => refuse_for_memory(output),
+        },
+        Formatted::NoMemory => refuse_for_memory(output),
+    }
+}
+
+/// What is printed of so many images that were formatted.
+#[tactic(auto, unfolding(crate::specs::Array::formatted_line))]
+fn counted<A: Allocator + Copy>(alloc: A, images: u32) -> Result<String<A>, AllocError>
+    ensures { IfOk result (λ line. string_bytes line ≡ formatted_line images) }
+{
+    let number = images.to_string(alloc)?;
+    let mut line = String::from_str(alloc, "formatted ")?;
+    line.push_str(number.as_str())?;
+    line.push_str(" images\n")?;
+    Ok(line)
+}
+
+/// What is printed of an image that cannot be made or written.
+#[tactic(auto, unfolding(crate::specs::Array::image_line))]
+fn named<A: Allocator + Copy>(alloc: A, image: usize) -> Result<String<A>, AllocError>
+    ensures { IfOk result (λ line. string_bytes line ≡ image_line image) }
+{
+    let number = image.to_string(alloc)?;
+    let mut line = String::from_str(alloc, "format: image ")?;
+    line.push_str(number.as_str())?;
+    line.push('\n')?;
+    Ok(line)
+}
+
+/// Makes the images that are asked for.
+fn made<R: Host, A: Allocator>(
+    rt: &R,
+    settings: &Settings<A>,
+    die: Option<Die>,
+    watched: bool,
+) -> Formatted {
+    let dies = settings.geometry.dies;
+    if settings.images.len() != dies as usize {
+        error!(rt; "there are {found} images, and {dies} dies", found = settings.images.len());
+        return Formatted::Images;
+    }
+    match die {
+        None => make_all(rt, settings, watched),
+        Some(die) if u32::from(die.0) < dies => make_spare(rt, settings, die),
+        Some(die) => {
+            error!(rt; "there is no die {die}: the array has {dies}", die = die.0);
+            Formatted::Die
+        }
+    }
+}
+
+/// Makes the images of all dies. None is emptied before all are opened.
+fn make_all<R: Host, A: Allocator>(rt: &R, settings: &Settings<A>, watched: bool) -> Formatted
+    requires { length settings.now.images.items ≡ settings.now.geometry.dies }
+{
+    let mut opened = Vec::new(rt.alloc());
+    if let Err(formatted) = open_all(rt, settings, &mut opened) {
+        return formatted;
+    }
+    let mut images = Vec::new(rt.alloc());
+    if let Err(formatted) = empty_all(rt, settings, opened, &mut images) {
+        return formatted;
+    }
+    match fa_mount::format(&mut images, settings.geometry, settings.array) {
+        Ok(()) => Formatted::Done(settings.geometry.dies),
+        Err(FormatFault { image, fault }) => {
+            error!(rt; "image {image}: {fault}");
+            Formatted::Image(image)
+        }
+    }
+}
+
+/// Opens or makes the file of each image.
+fn open_all<R: Host, A: Allocator>(
+    rt: &R,
+    settings: &Settings<A>,
+    images: &mut Vec<FileImage>,
+) -> Result<(), Formatted>
+    requires { images.old.items ≡ [] }
+    ensures long { OnOk result (length images.new.items ≡ length settings.now.images.items) }
+    ensures shape { OnOk result (AllByRecursion (λ image. image.geometry ≡ settings.now.geometry) images.new.items) }
+{
+    for place in 0..settings.images.len() {
+        let image = opened(rt, settings, place)?;
+        if images.push(image).is_err() {
+            return Err(Formatted::NoMemory);
+        }
+    }
+    Ok(())
+}
+
+/// Empties each image.
+fn empty_all<R: Host, A: Allocator>(
+    rt: &R,
+    settings: &Settings<A>,
+    opened: Vec<FileImage>,
+    images: &mut Vec<FileImage>,
+) -> Result<(), Formatted>
+    requires none { images.old.items ≡ [] }
+    requires long { length opened.items ≡ length settings.now.images.items }
+    requires shape { AllByRecursion (λ image. image.geometry ≡ settings.now.geometry) opened.items }
+    ensures long { OnOk result (length images.new.items ≡ length settings.now.images.items) }
+    ensures shape { OnOk result (AllByRecursion (λ image. image.geometry ≡ settings.now.geometry) images.new.items) }
+{
+    for mut image in opened {
+        empty(rt, settings, images.len(), &mut image)?;
+        if images.push(image).is_err() {
+            return Err(Formatted::NoMemory);
+        }
+    }
+    Ok(())
+}
+
+/// Makes the image of one die, as a spare's.
+fn make_spare<R: Host, A: Allocator>(rt: &R, settings: &Settings<A>, die: Die) -> Formatted
+    requires dies { length settings.now.images.items ≡ settings.now.geometry.dies }
+    requires die { die.0 < settings.now.geometry.dies }
+{
+    match spare_made(rt, settings, die) {
+        Ok(()) => Formatted::Done(1),
+        Err(formatted) => formatted,
+    }
+}
+
+/// Opens, empties and formats the image of one die.
+fn spare_made<R: Host, A: Allocator>(
+    rt: &R,
+    settings: &Settings<A>,
+    die: Die,
+) -> Result<(), Formatted>
+    requires dies { length settings.now.images.items ≡ settings.now.geometry.dies }
+    requires die { die.0 < settings.now.geometry.dies }
+{
+    let place = usize::from(die.0);
+    let mut image = opened(rt, settings, place)?;
+    empty(rt, settings, place, &mut image)?;
+    match fa_mount::format_spare(&mut image, settings.geometry, settings.array, die) {
+        Ok(()) => Ok(()),
+        Err(fault) => {
+            error!(rt; "{path}: {fault}", path = settings.images[place]);
+            Err(Formatted::Image(place))
+        }
+    }
+}
+
+/// The image file at a place of the settings, as it is or new.
+fn opened<R: Host, A: Allocator>(
+    rt: &R,
+    settings: &Settings<A>,
+    place: usize,
+) -> Result<FileImage, Formatted>
+    requires { place < length settings.now.images.items }
+    ensures { IfOk result (λ image. image.geometry ≡ settings.now.geometry) }
+{
+    let path = settings.images[place].as_str();
+    match FileImage::open_or_create(rt, Path::new(path), settings.geometry) {
+        Ok(image) => Ok(image),
+        Err(refused) => Err(refused_image(rt, path, place, &refused)),
+    }
+}
+
+/// Empties the image at a place of the settings. Where it holds a die of an array that was in use, that is
+/// told before it is lost.
+fn empty<R: Host, A: Allocator>(
+    rt: &R,
+    settings: &Settings<A>,
+    place: usize,
+    image: &mut FileImage,
+) -> Result<(), Formatted>
+    requires { place < length settings.now.images.items }
+    ensures { image.new.geometry ≡ image.old.geometry }
+{
+    let path = settings.images[place].as_str();
+    warn_of_loss(rt, path, image);
+    match image.empty() {
+        Ok(()) => Ok(()),
+        Err(refused) => Err(refused_image(rt, path, place, &refused)),
+    }
+}
+
+/// What a refusal of an image file comes to. It is told on standard error.
+fn refused_image<R: Host>(rt: &R, path: &str, place: usize, refused: &io::Error) -> Formatted {
+    tell_refused(rt, path, refused);
+    match refused.kind() {
+        ErrorKind::OutOfMemory => Formatted::NoMemory,
+        _ => Formatted::Image(place),
+    }
+}
+
+/// Tells where an image holds a die of an array that was mounted since it was formatted.
+fn warn_of_loss<R: Host>(rt: &R, path: &str, image: &mut FileImage)
+    ensures { image.new.geometry ≡ image.old.geometry }
+{
+    let mut bytes = [0u8; HEADER_BYTES];
+    if image.read_header(&mut bytes).is_err() {
+        return;
+    }
+    if let Some(header) = open_header(&bytes) {
+        if header.epoch > 1 {
+            warn!(rt; "{path}: die {die} of an array that was mounted is lost", die = header.die.0);
+        }
+    }
+}

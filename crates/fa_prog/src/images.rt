@@ -1,0 +1,89 @@
+//! The image files of an array, opened and locked.
+use crate::host::Host;
+use crate::watched::Watched;
+use fa_image::FileImage;
+use fa_settings::Settings;
+use log::{error, warn};
+use std::alloc::{AllocError, AllocFailed, Allocator};
+use std::io::{self, ErrorKind};
+use std::path::Path;
+
+/// The images that were opened, and for each the place of its path in the settings.
+#[derive(Drop)]
+pub(crate) struct OpenImages<'a, R> {
+    /// The images.
+    pub(crate) images: Vec<Watched<'a, R, FileImage>>,
+    /// The places, from 0.
+    pub(crate) places: Vec<usize>,
+}
+
+/// Why images were not opened.
+pub(crate) enum NotOpened {
+    /// A file cannot be opened, or another process has it.
+    Image,
+    /// Memory was refused.
+    NoMemory,
+}
+
+impl From<AllocError> for NotOpened {
+    fn from(_error: AllocError) -> NotOpened {
+        NotOpened::NoMemory
+    }
+}
+
+impl<T: Drop> From<AllocFailed<T>> for NotOpened {
+    fn from(_error: AllocFailed<T>) -> NotOpened {
+        NotOpened::NoMemory
+    }
+}
+
+/// Opens the images of the settings. One that cannot be opened is told on standard error; where an unclean
+/// array may be mounted it is left aside, and else that is the answer. A file whose length is not that of
+/// an image is told too.
+pub(crate) fn open_images<'a, R: Host, A: Allocator>(
+    rt: &'a R,
+    settings: &'a Settings<A>,
+    unclean: bool,
+    watched: bool,
+) -> Result<OpenImages<'a, R>, NotOpened> {
+    let count = settings.images.len();
+    let mut images = Vec::with_capacity(rt.alloc(), count)?;
+    let mut places = Vec::with_capacity(rt.alloc(), count)?;
+    for place in 0..count {
+        let path = settings.images[place].as_str();
+        match FileImage::open(rt, Path::new(path), settings.geometry) {
+            Ok(image) => {
+                warn_of_length(rt, path, &image);
+                images.push(Watched::new(image, path, rt, watched))?;
+                places.push(place)?;
+            }
+            Err(refused) => {
+                tell_refused(rt, path, &refused);
+                if refused.kind() == ErrorKind::OutOfMemory {
+                    return Err(NotOpened::NoMemory);
+                }
+                if !unclean {
+                    return Err(NotOpened::Image);
+                }
+            }
+        }
+    }
+    Ok(OpenImages { images, places })
+}
+
+/// Tells why an image file cannot be had.
+pub(crate) fn tell_refused<R: Host>(rt: &R, path: &str, refused: &io::Error) {
+    match refused.kind() {
+        ErrorKind::WouldBlock => error!(rt; "{path}: another process has this image"),
+        _ => error!(rt; "{path}: {refused}"),
+    }
+}
+
+/// Tells where a file is shorter or longer than an image.
+fn warn_of_length<R: Host>(rt: &R, path: &str, image: &FileImage) {
+    match image.has_its_length() {
+        Ok(true) => {}
+        Ok(false) => warn!(rt; "{path}: the length of the file is not that of an image"),
+        Err(refused) => warn!(rt; "{path}: the length of the file is not known: {refused}"),
+    }
+}
