@@ -2,6 +2,7 @@
 #![tactic(auto)]
 
 mod client;
+mod mount;
 mod plans;
 mod session;
 mod slots;
@@ -25,6 +26,7 @@ fn main(rt: HostRuntime) -> io::Result<ExitCode> {
         _ => None,
     };
     match wanted {
+        Some(Measurement::Mount) => mount::measure(&rt)?,
         Some(Measurement::Plan) => plans::measure(&rt)?,
         Some(Measurement::Session) => session::measure(&rt)?,
         Some(Measurement::Slots) => slots::measure(&rt)?,
@@ -37,5 +39,5 @@ fn main(rt: HostRuntime) -> io::Result<ExitCode> {
 }
 
 fn tell_usage(rt: &impl Print) -> io::Result<()> {
-    println!(rt; "usage: flasharr_bench plan | session | slots")
+    println!(rt; "usage: flasharr_bench mount | plan | session | slots")
 }

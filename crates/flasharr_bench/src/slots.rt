@@ -11,16 +11,16 @@ use std::rt::Clock;
 use std::time::{Duration, Instant};
 
 /// How many bytes a page has.
-const PAGE_BYTES: usize = 4096;
+pub const PAGE_BYTES: usize = 4096;
 
 /// How many bytes a slot has.
-const SLOT_BYTES: usize = PAGE_BYTES + TAG_BYTES;
+pub const SLOT_BYTES: usize = PAGE_BYTES + TAG_BYTES;
 
 /// How many bytes a digest has (SHA-256, FIPS 180-4).
 const DIGEST_BYTES: usize = 32;
 
 /// How many bytes of a slot its digest is of: all but its own.
-const HASHED_BYTES: usize = SLOT_BYTES - DIGEST_BYTES;
+pub const HASHED_BYTES: usize = SLOT_BYTES - DIGEST_BYTES;
 
 /// How many slots are sealed, and then opened, in a round. They are all in memory at once.
 const ROUND_SLOTS: u32 = 100;
@@ -32,7 +32,7 @@ const ROUNDS: u32 = 1000;
 const SLOTS: u32 = ROUNDS * ROUND_SLOTS;
 
 /// What each page holds.
-static PAYLOAD: [u8; PAGE_BYTES] = [0x5a; PAGE_BYTES];
+pub static PAYLOAD: [u8; PAGE_BYTES] = [0x5a; PAGE_BYTES];
 
 /// What was measured.
 #[derive(Clone, Copy, Debug)]
@@ -119,7 +119,7 @@ fn tag_of(number: u32) -> Tag
 }
 
 /// How many of these slots are good.
-fn count_good(slots: &[[u8; SLOT_BYTES]]) -> u32
+pub fn count_good(slots: &[[u8; SLOT_BYTES]]) -> u32
     requires { length slots.now < 2 ^ 32 }
     ensures { All IsGood slots.now → result ≡ length slots.now }
 {
