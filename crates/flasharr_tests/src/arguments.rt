@@ -6,11 +6,11 @@ use std::io::{self, ErrorKind};
 use std::test::Fail;
 
 /// What the program prints of an input, and its status.
-pub fn printed(alloc: Global, arguments: &[&str], text: &str) -> Result<(u8, Vec<u8>), Fail> {
-    let given = given(alloc, arguments)?;
+pub fn printed(rt: &HostRuntime, arguments: &[&str], text: &str) -> Result<(u8, Vec<u8>), Fail> {
+    let given = given(rt.alloc(), arguments)?;
     let mut input = text.as_bytes();
-    let mut output = Vec::new(alloc);
-    let status = run(alloc, alloc, &given, &mut input, &mut output);
+    let mut output = Vec::new(rt.alloc());
+    let status = run(rt, rt.alloc(), false, &given, &mut input, &mut output);
     Ok((status, output))
 }
 
@@ -33,7 +33,7 @@ fn faulty_lines(rt: HostRuntime) -> Result<(), Fail> {
         ("00\n000\nzz\n", "talk: line 2\n"),
     ];
     for (text, told) in cases {
-        let (status, output) = printed(rt.alloc(), &["talk"], text)?;
+        let (status, output) = printed(&rt, &["talk"], text)?;
         ensure!(status == 2, at text);
         ensure!(output.as_slice() == told.as_bytes(), at text);
     }
@@ -51,7 +51,7 @@ fn lines_are_joined(rt: HostRuntime) -> Result<(), Fail> {
         ("00 0000 0F", "3\n"),
     ];
     for (text, end) in cases {
-        let (status, output) = printed(rt.alloc(), &["talk"], text)?;
+        let (status, output) = printed(&rt, &["talk"], text)?;
         ensure!(status == 0, at text);
         let rest = output.strip_prefix(greeting.as_bytes()).unwrap_or(&[]);
         ensure!(rest == end.as_bytes(), at text);
@@ -63,7 +63,7 @@ fn lines_are_joined(rt: HostRuntime) -> Result<(), Fail> {
 fn other_arguments(rt: HostRuntime) -> Result<(), Fail> {
     let cases: [&[&str]; 5] = [&[], &["serve"], &["talk", "talk"], &["Talk"], &["verif"]];
     for arguments in cases {
-        let (status, output) = printed(rt.alloc(), arguments, "")?;
+        let (status, output) = printed(&rt, arguments, "")?;
         ensure!(status == 2);
         ensure!(output.starts_with(b"error: ".as_slice()));
         ensure!(output.ends_with(b"\n\nFor more information, try '--help'.\n".as_slice()));
@@ -73,17 +73,17 @@ fn other_arguments(rt: HostRuntime) -> Result<(), Fail> {
 
 /// Tries a command with a writer that takes five bytes a call, until a call fails: so many were taken.
 fn fails_at_write(
-    alloc: Global,
+    rt: &HostRuntime,
     name: &str,
     text: &str,
     told: &str,
     call: u64,
     taken: usize,
 ) -> Result<(), Fail> {
-    let arguments = given(alloc, &[name])?;
+    let arguments = given(rt.alloc(), &[name])?;
     let mut input = text.as_bytes();
-    let mut output = Failing::new(Piecewise::new(Vec::new(alloc), 5), call);
-    ensure!(run(alloc, alloc, &arguments, &mut input, &mut output) == 1, at told);
+    let mut output = Failing::new(Piecewise::new(Vec::new(rt.alloc()), 5), call);
+    ensure!(run(rt, rt.alloc(), false, &arguments, &mut input, &mut output) == 1, at told);
     ensure!(output.calls == call, at told);
     let written = output.inner.inner.as_slice();
     ensure!(written.len() == taken, at told);
@@ -103,8 +103,8 @@ fn output_that_fails(rt: HostRuntime) -> Result<(), Fail> {
         ("verify", "batch", "text: line 2\n"),
     ];
     for (name, text, told) in cases {
-        fails_at_write(rt.alloc(), name, text, told, 1, 0)?;
-        fails_at_write(rt.alloc(), name, text, told, 2, 5)?;
+        fails_at_write(&rt, name, text, told, 1, 0)?;
+        fails_at_write(&rt, name, text, told, 2, 5)?;
     }
     Ok(())
 }
@@ -120,7 +120,7 @@ fn input_that_fails(rt: HostRuntime) -> Result<(), Fail> {
             let text = b"batch\nend\nrounds 0\nend".as_slice();
             let mut input = Failing::new(Piecewise::new(text, 7), fails_at);
             let mut output = Vec::new(rt.alloc());
-            ensure!(run(rt.alloc(), rt.alloc(), &arguments, &mut input, &mut output) == 1);
+            ensure!(run(&rt, rt.alloc(), false, &arguments, &mut input, &mut output) == 1);
             ensure!(output.as_slice() == told.as_bytes(), at told);
         }
     }
@@ -128,11 +128,18 @@ fn input_that_fails(rt: HostRuntime) -> Result<(), Fail> {
 }
 
 /// What the program prints that is started with all of these arguments, its name among them.
-fn started(alloc: Global, all: &[&str], text: &str) -> Result<(u8, Vec<u8>), Fail> {
-    let arguments = given(alloc, all)?.into_iter();
+fn started(rt: &HostRuntime, all: &[&str], text: &str) -> Result<(u8, Vec<u8>), Fail> {
+    let arguments = given(rt.alloc(), all)?.into_iter();
     let mut input = text.as_bytes();
-    let mut output = Vec::new(alloc);
-    let status = start(alloc, alloc, Ok(arguments), &mut input, &mut output);
+    let mut output = Vec::new(rt.alloc());
+    let status = start(
+        rt,
+        rt.alloc(),
+        false,
+        Ok(arguments),
+        &mut input,
+        &mut output,
+    );
     Ok((status.number(), output))
 }
 
@@ -155,7 +162,7 @@ fn the_program_ends_with_the_status_of_its_run(rt: HostRuntime) -> Result<(), Fa
         (&["flasharr", "verify"], "", 2, "text: line 1\n"),
     ];
     for (all, text, status, told) in cases {
-        let (ended, output) = started(rt.alloc(), all, text)?;
+        let (ended, output) = started(&rt, all, text)?;
         ensure!(ended == status, at told);
         ensure!(output.as_slice() == told.as_bytes(), at told);
     }
@@ -169,14 +176,14 @@ fn arguments_that_cannot_be_had(rt: HostRuntime) -> Result<(), Fail> {
         (
             ErrorKind::InvalidData,
             2,
-            "usage: flasharr plan | talk | verify\n",
+            "usage: flasharr format | check | dump | plan | talk | verify\n",
         ),
     ];
     for (kind, status, told) in cases {
         let mut input = b"".as_slice();
         let mut output = Vec::new(rt.alloc());
         let refused = Err(io::Error::from(kind));
-        let ended = start(rt.alloc(), rt.alloc(), refused, &mut input, &mut output);
+        let ended = start(&rt, rt.alloc(), false, refused, &mut input, &mut output);
         ensure!(ended.number() == status);
         ensure!(output.as_slice() == told.as_bytes(), at told);
     }

@@ -252,12 +252,12 @@ fn printed_verdicts(rt: HostRuntime) -> Result<(), Fail> {
 }
 
 /// Whether `verify` names this line as the first wrong one of its input, or none where it is 0.
-fn is_first_wrong(alloc: Global, text: &str, line: u64) -> Result<bool, Fail> {
-    let (_, output) = printed_by_the_program(alloc, &["verify"], text)?;
+fn is_first_wrong(rt: &HostRuntime, text: &str, line: u64) -> Result<bool, Fail> {
+    let (_, output) = printed_by_the_program(rt, &["verify"], text)?;
     if line == 0 {
         return Ok(!output.starts_with(b"text:"));
     }
-    let told = format!(in alloc; "text: line {line}\n")?;
+    let told = format!(in rt.alloc(); "text: line {line}\n")?;
     Ok(output.as_slice() == told.as_bytes())
 }
 
@@ -310,7 +310,7 @@ fn first_wrong_lines(rt: HostRuntime) -> Result<(), Fail> {
         ("batch\nend\nrounds 0\nend\nend", 5),
     ];
     for (text, line) in cases {
-        ensure!(is_first_wrong(rt.alloc(), text, line)?, at text);
+        ensure!(is_first_wrong(&rt, text, line)?, at text);
     }
     let bytes: [u8; 12] = [
         b'b', b'a', b't', b'c', b'h', b'\n', 255, b'\n', b'e', b'n', b'd', b'\n',
@@ -331,7 +331,7 @@ fn lines_at_their_limits(rt: HostRuntime) -> Result<(), Fail> {
             text.push_str("closed 0 1 1\n")?;
         }
         text.push_str("end\nrounds 0\nend\n")?;
-        ensure!(is_first_wrong(rt.alloc(), text.as_str(), line)?, at line);
+        ensure!(is_first_wrong(&rt, text.as_str(), line)?, at line);
     }
     Ok(())
 }

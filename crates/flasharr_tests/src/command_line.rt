@@ -8,6 +8,9 @@ const HELP: &str = "A block server over mirrored flash dies, proved before it is
 Usage: flasharr <COMMAND>
 
 Commands:
+  format  Makes the images of an array, which holds zeros
+  check   Reads the images of an array, and tells what they hold
+  dump    Reads the images of an array, and lists its written pages
   plan    Plans a batch of reads, given as a batch text on standard input, in the least number of rounds
   talk    Serves one NBD client, whose bytes are given on standard input as lines of hexadecimal digits
   verify  Checks a batch text and a certificate text, given one behind the other on standard input
@@ -17,7 +20,7 @@ Options:
   -V, --version  Print version
 
 Status: 0 where the work was done, 1 where it was refused or memory, input or output failed,
-2 at a fault of the arguments or of the input's text.
+2 at a fault of the arguments, the settings or the input's text.
 ";
 
 const HELP_OF_PLAN: &str =
@@ -57,7 +60,7 @@ Printed is `least R`, or `refused K WORDS` with status 1 for the first rule that
 ";
 
 const NO_COMMAND: &str = "error: 'flasharr' requires a subcommand but one was not provided
-  [subcommands: plan, talk, verify]
+  [subcommands: format, check, dump, plan, talk, verify]
 
 Usage: flasharr <COMMAND>
 
@@ -72,8 +75,8 @@ For more information, try '--help'.
 ";
 
 /// That these arguments print this text, with this status.
-fn prints(alloc: Global, arguments: &[&str], status: u8, text: &str) -> Result<(), Fail> {
-    let (ended, output) = printed(alloc, arguments, "")?;
+fn prints(rt: &HostRuntime, arguments: &[&str], status: u8, text: &str) -> Result<(), Fail> {
+    let (ended, output) = printed(rt, arguments, "")?;
     ensure!(ended == status);
     ensure!(output.as_slice() == text.as_bytes(), at text);
     Ok(())
@@ -81,15 +84,15 @@ fn prints(alloc: Global, arguments: &[&str], status: u8, text: &str) -> Result<(
 
 #[test]
 fn help_and_version(rt: HostRuntime) -> Result<(), Fail> {
-    prints(rt.alloc(), &["--help"], 0, HELP)?;
-    prints(rt.alloc(), &["plan", "--help"], 0, HELP_OF_PLAN)?;
-    prints(rt.alloc(), &["talk", "--help"], 0, HELP_OF_TALK)?;
-    prints(rt.alloc(), &["verify", "-h"], 0, HELP_OF_VERIFY)?;
-    prints(rt.alloc(), &["--version"], 0, "flasharr 0.1.0\n")
+    prints(&rt, &["--help"], 0, HELP)?;
+    prints(&rt, &["plan", "--help"], 0, HELP_OF_PLAN)?;
+    prints(&rt, &["talk", "--help"], 0, HELP_OF_TALK)?;
+    prints(&rt, &["verify", "-h"], 0, HELP_OF_VERIFY)?;
+    prints(&rt, &["--version"], 0, "flasharr 0.1.0\n")
 }
 
 #[test]
 fn mistakes_in_the_arguments(rt: HostRuntime) -> Result<(), Fail> {
-    prints(rt.alloc(), &[], 2, NO_COMMAND)?;
-    prints(rt.alloc(), &["talk", "talk"], 2, WORD_TOO_MANY)
+    prints(&rt, &[], 2, NO_COMMAND)?;
+    prints(&rt, &["talk", "talk"], 2, WORD_TOO_MANY)
 }

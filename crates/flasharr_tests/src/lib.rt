@@ -17,6 +17,8 @@ macro_rules! ensure {
 #[cfg(test)]
 mod arguments;
 #[cfg(test)]
+mod array_commands;
+#[cfg(test)]
 mod calendars;
 #[cfg(test)]
 mod cert;
@@ -32,6 +34,12 @@ mod fails;
 mod image;
 #[cfg(test)]
 mod io;
+#[cfg(test)]
+mod maps;
+#[cfg(test)]
+mod mount_headers;
+#[cfg(test)]
+mod mounting;
 #[cfg(test)]
 mod nego;
 #[cfg(test)]

@@ -10,34 +10,39 @@ use std::alloc::Global;
 use std::test::Fail;
 
 /// Plans a batch text, and has `verify` read it with its plan behind it.
-fn plans(alloc: Global, text: &str, least: &str) -> Result<Vec<u8>, Fail> {
-    let (status, told) = printed(alloc, &["plan"], text)?;
+fn plans(rt: &HostRuntime, text: &str, least: &str) -> Result<Vec<u8>, Fail> {
+    let (status, told) = printed(rt, &["plan"], text)?;
     ensure!(status == 0, at text);
-    let both = format!(in alloc; "{text}{}", str::from_utf8(&told)?)?;
-    let (status, verdict) = printed(alloc, &["verify"], both.as_str())?;
+    let both = format!(in rt.alloc(); "{text}{}", str::from_utf8(&told)?)?;
+    let (status, verdict) = printed(rt, &["verify"], both.as_str())?;
     ensure!(status == 0, at text);
     ensure!(verdict.as_slice() == least.as_bytes(), at text);
     Ok(told)
 }
 
 /// Tries `plan` on a text with one plan alone.
-fn prints(alloc: Global, text: &str, least: &str, told: &str) -> Result<(), Fail> {
-    let output = plans(alloc, text, least)?;
+fn prints(rt: &HostRuntime, text: &str, least: &str, told: &str) -> Result<(), Fail> {
+    let output = plans(rt, text, least)?;
     ensure!(output.as_slice() == told.as_bytes(), at text);
     Ok(())
 }
 
 /// Tries `plan` on a text of which the first and the last lines of the plan are known.
-fn prints_between(alloc: Global, text: &str, least: &str, ends: (&str, &str)) -> Result<(), Fail> {
-    let output = plans(alloc, text, least)?;
+fn prints_between(
+    rt: &HostRuntime,
+    text: &str,
+    least: &str,
+    ends: (&str, &str),
+) -> Result<(), Fail> {
+    let output = plans(rt, text, least)?;
     ensure!(output.as_slice().starts_with(ends.0.as_bytes()), at text);
     ensure!(output.as_slice().ends_with(ends.1.as_bytes()), at text);
     Ok(())
 }
 
 /// Tries `plan` on a text that it refuses.
-fn refuses(alloc: Global, text: &str, told: &str) -> Result<(), Fail> {
-    let (status, output) = printed(alloc, &["plan"], text)?;
+fn refuses(rt: &HostRuntime, text: &str, told: &str) -> Result<(), Fail> {
+    let (status, output) = printed(rt, &["plan"], text)?;
     ensure!(status == 2, at text);
     ensure!(output.as_slice() == told.as_bytes(), at text);
     Ok(())
@@ -47,45 +52,40 @@ fn refuses(alloc: Global, text: &str, told: &str) -> Result<(), Fail> {
 fn two_on_one_die(rt: HostRuntime) -> Result<(), Fail> {
     let text = "batch\npage 1 on 0\npage 2 on 0\nend\n";
     let told = "rounds 2\nplace 1 0 1\nplace 2 0 2\nshort 1 2\nend\n";
-    prints(rt.alloc(), text, "least 2\n", told)
+    prints(&rt, text, "least 2\n", told)
 }
 
 #[test]
 fn greedy_trap(rt: HostRuntime) -> Result<(), Fail> {
     let text = "batch\npage 1 on 0 1\npage 2 on 0\nend\n";
     let told = "rounds 1\nplace 1 1 1\nplace 2 0 1\nshort 1 2\nend\n";
-    prints(rt.alloc(), text, "least 1\n", told)
+    prints(&rt, text, "least 1\n", told)
 }
 
 #[test]
 fn closed_window(rt: HostRuntime) -> Result<(), Fail> {
     let text = "batch\npage 1 on 0 1\npage 2 on 0 1\npage 3 on 0 1\nclosed 1 1 2\nend\n";
-    prints_between(
-        rt.alloc(),
-        text,
-        "least 3\n",
-        ("rounds 3\n", "short 1 2 3\nend\n"),
-    )
+    prints_between(&rt, text, "least 3\n", ("rounds 3\n", "short 1 2 3\nend\n"))
 }
 
 #[test]
 fn alternating_chain(rt: HostRuntime) -> Result<(), Fail> {
     let text = "batch\npage 1 on 0 1\npage 2 on 1 2\npage 3 on 0\nend\n";
     let told = "rounds 1\nplace 1 1 1\nplace 2 2 1\nplace 3 0 1\nshort 1 2 3\nend\n";
-    prints(rt.alloc(), text, "least 1\n", told)
+    prints(&rt, text, "least 1\n", told)
 }
 
 #[test]
 fn empty_batch(rt: HostRuntime) -> Result<(), Fail> {
     let told = "rounds 0\nend\n";
-    prints(rt.alloc(), "batch\nend\n", "least 0\n", told)
+    prints(&rt, "batch\nend\n", "least 0\n", told)
 }
 
 #[test]
 fn first_round_closed(rt: HostRuntime) -> Result<(), Fail> {
     let text = "batch\npage 1 on 0 1\nclosed 0 1 1\nclosed 1 1 1\nend\n";
     prints_between(
-        rt.alloc(),
+        &rt,
         text,
         "least 2\n",
         ("rounds 2\nplace 1 ", " 2\nshort 1\nend\n"),
@@ -96,23 +96,23 @@ fn first_round_closed(rt: HostRuntime) -> Result<(), Fail> {
 fn unsound_batches(rt: HostRuntime) -> Result<(), Fail> {
     let text = "batch\npage 7 on\nend\n";
     let told = "unsound: page 7 has no holder\n";
-    refuses(rt.alloc(), text, told)?;
+    refuses(&rt, text, told)?;
     let text = "batch\npage 7 on 0\npage 7 on 0\nend\n";
-    refuses(rt.alloc(), text, "unsound: page 7 stands twice\n")
+    refuses(&rt, text, "unsound: page 7 stands twice\n")
 }
 
 #[test]
 fn wrong_lines(rt: HostRuntime) -> Result<(), Fail> {
-    refuses(rt.alloc(), "batch\npage 7\nend\n", "text: line 2\n")?;
-    refuses(rt.alloc(), "batch\nend\nrounds 0\n", "text: line 3\n")?;
-    refuses(rt.alloc(), "", "text: line 1\n")
+    refuses(&rt, "batch\npage 7\nend\n", "text: line 2\n")?;
+    refuses(&rt, "batch\nend\nrounds 0\n", "text: line 3\n")?;
+    refuses(&rt, "", "text: line 1\n")
 }
 
 #[test]
 fn shortage_of_two_of_three(rt: HostRuntime) -> Result<(), Fail> {
     let text = "batch\npage 1 on 0\npage 2 on 0\npage 3 on 1 2\nend\n";
     prints_between(
-        rt.alloc(),
+        &rt,
         text,
         "least 2\n",
         (
@@ -127,7 +127,7 @@ fn closed_for_a_million_rounds(rt: HostRuntime) -> Result<(), Fail> {
     let text = "batch\npage 1 on 0 1\npage 2 on 0 1\npage 3 on 0 1
 closed 0 1 1000000\nclosed 1 1 1000000\nend\n";
     prints_between(
-        rt.alloc(),
+        &rt,
         text,
         "least 1000002\n",
         ("rounds 1000002\n", "short 1 2 3\nend\n"),

@@ -41,18 +41,18 @@ pub fn served<R: Read, W: WriteBoth>(
 
 /// Tries one conversation by the program.
 fn converses_by_the_program(
-    alloc: Global,
+    rt: &HostRuntime,
     said: &[u8],
     answer: &[u8],
     end: u8,
 ) -> Result<(), Fail> {
-    let lines = hex::encode(alloc, said)?;
-    let arguments = [String::from_str(alloc, "talk")?];
+    let lines = hex::encode(rt.alloc(), said)?;
+    let arguments = [String::from_str(rt.alloc(), "talk")?];
     let mut input = lines.as_bytes();
-    let mut printed = Vec::new(alloc);
-    ensure!(run(alloc, alloc, &arguments, &mut input, &mut printed) == 0);
-    let answer = hex::encode(alloc, answer)?;
-    let expected = format!(in alloc; "{answer}\nend {end}\n")?;
+    let mut printed = Vec::new(rt.alloc());
+    ensure!(run(rt, rt.alloc(), false, &arguments, &mut input, &mut printed) == 0);
+    let answer = hex::encode(rt.alloc(), answer)?;
+    let expected = format!(in rt.alloc(); "{answer}\nend {end}\n")?;
     ensure!(printed.as_slice() == expected.as_bytes());
     Ok(())
 }
@@ -140,10 +140,11 @@ fn closes_at_each_magic(alloc: Global, said: &[u8], answer: &[u8], end: u8) -> R
 
 /// Tries one conversation: by the program, in pieces of each length, over streams that are
 /// interrupted, cut after each byte, and with each byte of each magic number changed.
-fn converses(alloc: Global, client: &[&str], server: &[&str], end: u8) -> Result<(), Fail> {
+fn converses(rt: &HostRuntime, client: &[&str], server: &[&str], end: u8) -> Result<(), Fail> {
+    let alloc = rt.alloc();
     let said = joined(alloc, client)?;
     let answer = joined(alloc, server)?;
-    converses_by_the_program(alloc, &said, &answer, end)?;
+    converses_by_the_program(rt, &said, &answer, end)?;
     converses_through_interruptions(alloc, &said, &answer, end)?;
     closes_at_each_magic(alloc, &said, &answer, end)?;
     for most in 1..=said.len() {
@@ -160,7 +161,7 @@ fn converses(alloc: Global, client: &[&str], server: &[&str], end: u8) -> Result
 
 #[test]
 fn hello(rt: HostRuntime) -> Result<(), Fail> {
-    converses(rt.alloc(), &[FLAGS, GO], &[GREETING, GONE], 4)
+    converses(&rt, &[FLAGS, GO], &[GREETING, GONE], 4)
 }
 
 #[test]
@@ -169,12 +170,7 @@ fn read_at_the_end(rt: HostRuntime) -> Result<(), Fail> {
         25609513 0000 0000 0000000000000002 0000000000007e01 00000200";
     let replies = "67446698 00000000 0000000000000001 00x512
         67446698 00000016 0000000000000002";
-    converses(
-        rt.alloc(),
-        &[FLAGS, GO, reads],
-        &[GREETING, GONE, replies],
-        4,
-    )
+    converses(&rt, &[FLAGS, GO, reads], &[GREETING, GONE, replies], 4)
 }
 
 #[test]
@@ -182,12 +178,7 @@ fn write_past_the_end(rt: HostRuntime) -> Result<(), Fail> {
     let requests = "25609513 0000 0001 0000000000000003 0000000000007e01 00000200 11x512
         25609513 0000 0002 0000000000000004 0000000000000000 00000000";
     let replies = "67446698 0000001c 0000000000000003";
-    converses(
-        rt.alloc(),
-        &[FLAGS, GO, requests],
-        &[GREETING, GONE, replies],
-        1,
-    )
+    converses(&rt, &[FLAGS, GO, requests], &[GREETING, GONE, replies], 1)
 }
 
 #[test]
@@ -196,12 +187,7 @@ fn unaligned_write(rt: HostRuntime) -> Result<(), Fail> {
         25609513 0000 0000 0000000000000002 0000000000000000 00000400";
     let replies = "67446698 00000000 0000000000000001
         67446698 00000000 0000000000000002 00x511 aabbcc 00x510";
-    converses(
-        rt.alloc(),
-        &[FLAGS, GO, requests],
-        &[GREETING, GONE, replies],
-        4,
-    )
+    converses(&rt, &[FLAGS, GO, requests], &[GREETING, GONE, replies], 4)
 }
 
 #[test]
@@ -209,12 +195,7 @@ fn unknown_options(rt: HostRuntime) -> Result<(), Fail> {
     let options = "49484156454f5054 00000008 00000000 49484156454f5054 00000005 00000000";
     let replies = "0003e889045565a9 00000008 80000001 00000000
         0003e889045565a9 00000005 80000001 00000000";
-    converses(
-        rt.alloc(),
-        &[FLAGS, options, GO],
-        &[GREETING, replies, GONE],
-        4,
-    )
+    converses(&rt, &[FLAGS, options, GO], &[GREETING, replies, GONE], 4)
 }
 
 #[test]
@@ -223,21 +204,21 @@ fn list_and_abort(rt: HostRuntime) -> Result<(), Fail> {
     let replies = "0003e889045565a9 00000003 00000002 00000008 00000004 6469736b
         0003e889045565a9 00000003 00000001 00000000
         0003e889045565a9 00000002 00000001 00000000";
-    converses(rt.alloc(), &[FLAGS, options], &[GREETING, replies], 2)
+    converses(&rt, &[FLAGS, options], &[GREETING, replies], 2)
 }
 
 #[test]
 fn list_with_data(rt: HostRuntime) -> Result<(), Fail> {
     let option = "49484156454f5054 00000003 00000001 00";
     let reply = "0003e889045565a9 00000003 80000003 00000000";
-    converses(rt.alloc(), &[FLAGS, option], &[GREETING, reply], 4)
+    converses(&rt, &[FLAGS, option], &[GREETING, reply], 4)
 }
 
 #[test]
 fn export_name(rt: HostRuntime) -> Result<(), Fail> {
     let option = "49484156454f5054 00000001 00000004 6469736b";
     let answer = "0000000000008000 016d 00x124";
-    converses(rt.alloc(), &["00000001", option], &[GREETING, answer], 4)
+    converses(&rt, &["00000001", option], &[GREETING, answer], 4)
 }
 
 #[test]
@@ -246,7 +227,7 @@ fn export_name_without_zeroes(rt: HostRuntime) -> Result<(), Fail> {
     let disconnect = "25609513 0000 0002 0000000000000001 0000000000000000 00000000";
     for flags in ["00000002", "00000003"] {
         converses(
-            rt.alloc(),
+            &rt,
             &[flags, option, disconnect],
             &[GREETING, "0000000000008000 016d"],
             1,
@@ -258,7 +239,7 @@ fn export_name_without_zeroes(rt: HostRuntime) -> Result<(), Fail> {
 #[test]
 fn export_name_of_no_export(rt: HostRuntime) -> Result<(), Fail> {
     let option = "49484156454f5054 00000001 00000004 6469736c";
-    converses(rt.alloc(), &[FLAGS, option], &[GREETING], 3)
+    converses(&rt, &[FLAGS, option], &[GREETING], 3)
 }
 
 #[test]
@@ -267,7 +248,7 @@ fn info(rt: HostRuntime) -> Result<(), Fail> {
     let replies = "0003e889045565a9 00000006 00000003 0000000c 0000 0000000000008000 016d
         0003e889045565a9 00000006 00000003 0000000e 0003 00000001 00001000 02000000
         0003e889045565a9 00000006 00000001 00000000";
-    converses(rt.alloc(), &[FLAGS, option], &[GREETING, replies], 4)
+    converses(&rt, &[FLAGS, option], &[GREETING, replies], 4)
 }
 
 // Kinds that are asked for twice, in another order, and such as the server does not know.
@@ -285,7 +266,7 @@ fn each_kind_once(rt: HostRuntime) -> Result<(), Fail> {
         0003e889045565a9 00000007 00000003 0000000e 0003 00000001 00001000 02000000
         0003e889045565a9 00000007 00000001 00000000";
     converses(
-        rt.alloc(),
+        &rt,
         &[FLAGS, info, kinds, go, kinds],
         &[GREETING, told, gone],
         4,
@@ -298,52 +279,47 @@ fn info_that_is_refused(rt: HostRuntime) -> Result<(), Fail> {
         49484156454f5054 00000006 00000007 00000000 0001 03";
     let replies = "0003e889045565a9 00000006 80000006 00000000
         0003e889045565a9 00000006 80000003 00000000";
-    converses(
-        rt.alloc(),
-        &[FLAGS, options, GO],
-        &[GREETING, replies, GONE],
-        4,
-    )
+    converses(&rt, &[FLAGS, options, GO], &[GREETING, replies, GONE], 4)
 }
 
 #[test]
 fn bad_client_flags(rt: HostRuntime) -> Result<(), Fail> {
-    converses(rt.alloc(), &["00000004"], &[GREETING], 3)
+    converses(&rt, &["00000004"], &[GREETING], 3)
 }
 
 #[test]
 fn cut_request(rt: HostRuntime) -> Result<(), Fail> {
     let part = "25609513 0000 0000 0000000000000001 0000000000007e00 000002";
-    converses(rt.alloc(), &[FLAGS, GO, part], &[GREETING, GONE], 4)
+    converses(&rt, &[FLAGS, GO, part], &[GREETING, GONE], 4)
 }
 
 #[test]
 fn go_with_a_short_count(rt: HostRuntime) -> Result<(), Fail> {
     let option = "49484156454f5054 00000007 00000006 00000001 0000";
     let reply = "0003e889045565a9 00000007 80000003 00000000";
-    converses(rt.alloc(), &[FLAGS, option], &[GREETING, reply], 4)
+    converses(&rt, &[FLAGS, option], &[GREETING, reply], 4)
 }
 
 #[test]
 fn go_to_an_unknown_export(rt: HostRuntime) -> Result<(), Fail> {
     let option = "49484156454f5054 00000007 00000007 00000001 78 0000";
     let reply = "0003e889045565a9 00000007 80000006 00000000";
-    converses(rt.alloc(), &[FLAGS, option], &[GREETING, reply], 4)
+    converses(&rt, &[FLAGS, option], &[GREETING, reply], 4)
 }
 
 #[test]
 fn option_with_too_much_data(rt: HostRuntime) -> Result<(), Fail> {
     let option = "49484156454f5054 00000007 00010001";
-    converses(rt.alloc(), &[FLAGS, option], &[GREETING], 3)
+    converses(&rt, &[FLAGS, option], &[GREETING], 3)
 }
 
 #[test]
 fn abort_and_wrong_magic(rt: HostRuntime) -> Result<(), Fail> {
     let abort = "49484156454f5054 00000002 00000000";
     let acknowledged = "0003e889045565a9 00000002 00000001 00000000";
-    converses(rt.alloc(), &[FLAGS, abort], &[GREETING, acknowledged], 2)?;
+    converses(&rt, &[FLAGS, abort], &[GREETING, acknowledged], 2)?;
     let wrong = "25609514 0000 0000 0000000000000001 0000000000007e00 00000200";
-    converses(rt.alloc(), &[FLAGS, GO, wrong], &[GREETING, GONE], 3)
+    converses(&rt, &[FLAGS, GO, wrong], &[GREETING, GONE], 3)
 }
 
 #[test]
@@ -354,12 +330,7 @@ fn flush_with_a_flag(rt: HostRuntime) -> Result<(), Fail> {
     let replies = "67446698 00000016 0000000000000001
         67446698 00000000 0000000000000002
         67446698 00000000 0000000000000003";
-    converses(
-        rt.alloc(),
-        &[FLAGS, GO, requests],
-        &[GREETING, GONE, replies],
-        4,
-    )
+    converses(&rt, &[FLAGS, GO, requests], &[GREETING, GONE, replies], 4)
 }
 
 #[test]
@@ -372,12 +343,7 @@ fn write_zeroes_with_both_flags(rt: HostRuntime) -> Result<(), Fail> {
         67446698 00000000 0000000000000002
         67446698 0000001c 0000000000000003
         67446698 00000000 0000000000000004 0000 11x4";
-    converses(
-        rt.alloc(),
-        &[FLAGS, GO, requests],
-        &[GREETING, GONE, replies],
-        4,
-    )
+    converses(&rt, &[FLAGS, GO, requests], &[GREETING, GONE, replies], 4)
 }
 
 #[test]
@@ -388,10 +354,5 @@ fn trim_over_three_pages(rt: HostRuntime) -> Result<(), Fail> {
     let replies = "67446698 00000000 0000000000000005
         67446698 00000000 0000000000000006
         67446698 00000000 0000000000000007 11x512 00x512 11x512";
-    converses(
-        rt.alloc(),
-        &[FLAGS, GO, requests],
-        &[GREETING, GONE, replies],
-        4,
-    )
+    converses(&rt, &[FLAGS, GO, requests], &[GREETING, GONE, replies], 4)
 }

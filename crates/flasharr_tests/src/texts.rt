@@ -2,7 +2,8 @@
 use fa_cert::TextError;
 use fa_cmds::WrongMagic;
 use fa_image::ImageFault;
-use fa_types::{BlockFault, GeometryFault};
+use fa_mount::{FormatFault, MountFault, MountRefused};
+use fa_types::{BlockFault, Die, GeometryFault};
 use std::alloc::Global;
 use std::fmt::Display;
 use std::test::Fail;
@@ -50,4 +51,36 @@ fn texts_of_faults(rt: HostRuntime) -> Result<(), Fail> {
     tells(rt.alloc(), &WrongMagic, "wrong magic")?;
     tells(rt.alloc(), &TextError::Line(7), "line 7")?;
     tells(rt.alloc(), &TextError::NoMemory, "no memory")
+}
+
+#[test]
+fn texts_of_faults_of_mounting(rt: HostRuntime) -> Result<(), Fail> {
+    let mount = [
+        (MountFault::HeaderBad, "header bad"),
+        (MountFault::ArraysDiffer, "arrays differ"),
+        (MountFault::GeometryDiffers, "geometry differs"),
+        (MountFault::DieTwice, "die twice"),
+        (MountFault::Unclean, "unclean"),
+        (MountFault::NoDieLive, "no die live"),
+        (MountFault::ImageFault, "image fault"),
+        (MountFault::NoMemory, "no memory"),
+    ];
+    for (fault, text) in mount {
+        let refused = MountRefused {
+            fault,
+            image: Some(1),
+            die: Some(Die(1)),
+        };
+        tells(rt.alloc(), &fault, text)?;
+        tells(rt.alloc(), &refused, text)?;
+    }
+    let format = FormatFault {
+        image: 2,
+        fault: ImageFault::Sync,
+    };
+    tells(
+        rt.alloc(),
+        &format,
+        "image 2: the image could not be synced",
+    )
 }

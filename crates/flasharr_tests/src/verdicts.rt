@@ -14,12 +14,12 @@ const CLOSED_WINDOW: &str = "batch\npage 1 on 0 1\npage 2 on 0 1\npage 3 on 0 1\
 rounds 3\nplace 1 0 1\nplace 2 0 2\n";
 
 /// Tries `verify` on a text.
-fn verifies(alloc: Global, text: &[&str], status: u8, told: &str) -> Result<(), Fail> {
-    let mut input = String::new(alloc);
+fn verifies(rt: &HostRuntime, text: &[&str], status: u8, told: &str) -> Result<(), Fail> {
+    let mut input = String::new(rt.alloc());
     for part in text {
         input.push_str(part)?;
     }
-    let (ended, output) = printed(alloc, &["verify"], input.as_str())?;
+    let (ended, output) = printed(rt, &["verify"], input.as_str())?;
     ensure!(ended == status, at told);
     ensure!(output.as_slice() == told.as_bytes(), at told);
     Ok(())
@@ -28,21 +28,16 @@ fn verifies(alloc: Global, text: &[&str], status: u8, told: &str) -> Result<(), 
 #[test]
 fn not_short(rt: HostRuntime) -> Result<(), Fail> {
     let claim = "place 1 0 1\nplace 2 0 2\nshort 1\nend\n";
-    verifies(
-        rt.alloc(),
-        &[TWO_ON_ONE_DIE, claim],
-        1,
-        "refused 8 not short\n",
-    )?;
+    verifies(&rt, &[TWO_ON_ONE_DIE, claim], 1, "refused 8 not short\n")?;
     let claim = "place 1 0 1\nplace 2 0 2\nshort 1 2\nend";
-    verifies(rt.alloc(), &[TWO_ON_ONE_DIE, claim], 0, "least 2\n")
+    verifies(&rt, &[TWO_ON_ONE_DIE, claim], 0, "least 2\n")
 }
 
 #[test]
 fn place_taken_twice(rt: HostRuntime) -> Result<(), Fail> {
     let claim = "place 1 0 1\nplace 2 0 1\nshort 1 2\nend\n";
     verifies(
-        rt.alloc(),
+        &rt,
         &[TWO_ON_ONE_DIE, claim],
         1,
         "refused 5 place taken twice\n",
@@ -52,15 +47,10 @@ fn place_taken_twice(rt: HostRuntime) -> Result<(), Fail> {
 #[test]
 fn closed_window(rt: HostRuntime) -> Result<(), Fail> {
     let claim = "place 3 0 3\nshort 1 2 3\nend\n";
-    verifies(rt.alloc(), &[CLOSED_WINDOW, claim], 0, "least 3\n")?;
+    verifies(&rt, &[CLOSED_WINDOW, claim], 0, "least 3\n")?;
     let claim = "place 3 1 2\nshort 1 2 3\nend\n";
-    verifies(
-        rt.alloc(),
-        &[CLOSED_WINDOW, claim],
-        1,
-        "refused 4 round closed\n",
-    )?;
-    verifies(rt.alloc(), &["batch\nend\nrounds 0\nend\n"], 0, "least 0\n")
+    verifies(&rt, &[CLOSED_WINDOW, claim], 1, "refused 4 round closed\n")?;
+    verifies(&rt, &["batch\nend\nrounds 0\nend\n"], 0, "least 0\n")
 }
 
 // The faults of the texts come before those of the batch.
@@ -88,7 +78,7 @@ fn unsound_batches(rt: HostRuntime) -> Result<(), Fail> {
         ("", "text: line 1\n"),
     ];
     for (text, told) in cases {
-        verifies(rt.alloc(), &[text], 2, told)?;
+        verifies(&rt, &[text], 2, told)?;
     }
     Ok(())
 }
@@ -110,8 +100,9 @@ rounds 2\nplace 1 0 2\nplace 2 0 1\nshort 1 2\nend\n";
         let mut input = text.as_bytes();
         let mut output = Vec::new(rt.alloc());
         let status = run(
+            &rt,
             &heap,
-            rt.alloc(),
+            false,
             slice::from_ref(&name),
             &mut input,
             &mut output,

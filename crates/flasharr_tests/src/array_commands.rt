@@ -1,0 +1,179 @@
+//! The commands on an array, over image files.
+use crate::arguments::printed;
+use crate::mounting::{put, tag};
+use fa_image::{FileImage, Image};
+use fa_tag::{open_header, seal_header};
+use fa_types::{Geometry, HEADER_BYTES, Kind};
+use std::path::Path;
+use std::test::Fail;
+use std::{env, fs, process};
+
+/// The keys of an array of four dies but for its images.
+const KEYS: &str =
+    "array = \"00112233445566778899aabbccddeeff\"\ndies = 4\nspares = 0\nblocks = 16\nslots = 8
+page_bytes = 512\npages = 64\nwindow_rounds = 8\nlisten = \"127.0.0.1:10809\"\nexport = \"disk\"\nsessions = 4\n";
+
+/// A path of this test and this run alone.
+fn path_of(rt: &HostRuntime, test: &str, name: &str) -> Result<String, Fail> {
+    let name = format!(in rt.alloc(); "fa_array_{}_{test}_{name}", process::id(rt.process()))?;
+    let path = env::temp_dir(rt)?.join(rt.alloc(), name.as_str())?;
+    Ok(String::from_str(rt.alloc(), path.as_str())?)
+}
+
+/// Writes the settings of an array with these images, and gives their path.
+fn settings_of(rt: &HostRuntime, test: &str, images: &[&str]) -> Result<String, Fail> {
+    let mut text = String::from_str(rt.alloc(), "images = [")?;
+    for image in images {
+        let path = path_of(rt, test, image)?;
+        text.push_str("\"")?;
+        text.push_str(path.as_str())?;
+        text.push_str("\", ")?;
+    }
+    text.push_str("]\n")?;
+    text.push_str(KEYS)?;
+    let path = path_of(rt, test, "toml")?;
+    fs::write(rt, path.as_str(), text.as_bytes())?;
+    Ok(path)
+}
+
+/// The image of a die, in its file.
+fn image_of(rt: &HostRuntime, test: &str, name: &str) -> Result<FileImage, Fail> {
+    let path = path_of(rt, test, name)?;
+    let geometry = Geometry::new(4, 0, 16, 8, 512, 64)?;
+    Ok(FileImage::open(rt, Path::new(path.as_str()), geometry)?)
+}
+
+/// Takes the clean mark from an image.
+fn unmark(rt: &HostRuntime, test: &str, name: &str) -> Result<(), Fail> {
+    let mut image = image_of(rt, test, name)?;
+    let mut bytes = [0; HEADER_BYTES];
+    image.read_header(&mut bytes)?;
+    if let Some(mut header) = open_header(&bytes) {
+        header.clean = false;
+        image.write_header(&seal_header(&header))?;
+    }
+    Ok(())
+}
+
+/// Programs page 5 with this number, with bytes or as a hole, into a slot of a die.
+fn put_page(
+    rt: &HostRuntime,
+    test: &str,
+    die: u8,
+    slot: u32,
+    seq: u64,
+    kind: Kind,
+) -> Result<(), Fail> {
+    let name = format!(in rt.alloc(); "d{die}")?;
+    let mut image = image_of(rt, test, name.as_str())?;
+    put(&mut image, slot, tag(5, seq, kind, die, slot))
+}
+
+/// Tries a command on the settings of a test.
+fn tells<'x>(
+    rt: &HostRuntime,
+    command: &'x str,
+    flags: &[&'x str],
+    settings: &'x str,
+    status: u8,
+    told: &str,
+) -> Result<(), Fail> {
+    let mut arguments = vec![in rt.alloc(); command, settings]?;
+    arguments.extend_from_slice(flags)?;
+    let (ended, output) = printed(rt, &arguments, "")?;
+    ensure!(ended == status, at told);
+    ensure!(output.as_slice() == told.as_bytes(), at told);
+    Ok(())
+}
+
+const DIES: [&str; 4] = ["d0", "d1", "d2", "d3"];
+
+#[test]
+fn check_after_format(rt: HostRuntime) -> Result<(), Fail> {
+    let at = settings_of(&rt, "format", &DIES)?;
+    let fresh = "dies 4 live 4 spare 0\nepoch 1 clean\nwritten 0 thin 0\n";
+    tells(&rt, "check", &[], at.as_str(), 1, "mount: 7 image fault\n")?;
+    tells(&rt, "format", &[], at.as_str(), 0, "formatted 4 images\n")?;
+    tells(&rt, "check", &[], at.as_str(), 0, fresh)?;
+    tells(&rt, "dump", &[], at.as_str(), 0, "")?;
+    let twice = settings_of(&rt, "format", &["d0", "copy", "d2", "d3"])?;
+    let (from, to) = (
+        path_of(&rt, "format", "d0")?,
+        path_of(&rt, "format", "copy")?,
+    );
+    fs::copy(&rt, from.as_str(), to.as_str())?;
+    tells(&rt, "check", &[], twice.as_str(), 1, "mount: 4 die twice\n")?;
+    unmark(&rt, "format", "d0")?;
+    let at = settings_of(&rt, "format", &DIES)?;
+    tells(&rt, "check", &[], at.as_str(), 1, "mount: 5 unclean\n")?;
+    let unclean = "dies 4 live 4 spare 0\nepoch 1 unclean\nwritten 0 thin 0\n";
+    tells(&rt, "check", &["--unclean"], at.as_str(), 0, unclean)
+}
+
+#[test]
+fn dump_of_pages(rt: HostRuntime) -> Result<(), Fail> {
+    let at = settings_of(&rt, "pages", &DIES)?;
+    tells(&rt, "format", &[], at.as_str(), 0, "formatted 4 images\n")?;
+    put_page(&rt, "pages", 1, 0, 1, Kind::Data)?;
+    put_page(&rt, "pages", 3, 0, 1, Kind::Data)?;
+    tells(
+        &rt,
+        "dump",
+        &[],
+        at.as_str(),
+        0,
+        "page 5 seq 1 at 1:0 3:0\n",
+    )?;
+    put_page(&rt, "pages", 1, 1, 2, Kind::Data)?;
+    tells(&rt, "dump", &[], at.as_str(), 0, "page 5 seq 2 at 1:1\n")?;
+    let thin = "dies 4 live 4 spare 0\nepoch 1 clean\nwritten 1 thin 1\n";
+    tells(&rt, "check", &[], at.as_str(), 0, thin)?;
+    put_page(&rt, "pages", 0, 7, 3, Kind::Hole)?;
+    tells(
+        &rt,
+        "dump",
+        &[],
+        at.as_str(),
+        0,
+        "page 5 seq 3 hole at 0:7\n",
+    )
+}
+
+#[test]
+fn faults_of_format(rt: HostRuntime) -> Result<(), Fail> {
+    let at = settings_of(&rt, "faults", &DIES)?;
+    tells(
+        &rt,
+        "format",
+        &["--die", "4"],
+        at.as_str(),
+        2,
+        "settings: 5 dies\n",
+    )?;
+    tells(&rt, "format", &[], at.as_str(), 0, "formatted 4 images\n")?;
+    let held = image_of(&rt, "faults", "d1")?;
+    tells(&rt, "format", &[], at.as_str(), 1, "format: image 1\n")?;
+    tells(&rt, "check", &[], at.as_str(), 1, "mount: 7 image fault\n")?;
+    drop(held);
+    tells(
+        &rt,
+        "format",
+        &["--die", "2"],
+        at.as_str(),
+        0,
+        "formatted 1 images\n",
+    )?;
+    tells(&rt, "check", &[], at.as_str(), 1, "mount: 5 unclean\n")?;
+    let left = "dies 4 live 3 spare 1\nepoch 1 unclean\nwritten 0 thin 0\n";
+    tells(&rt, "check", &["--unclean"], at.as_str(), 0, left)?;
+    let few = settings_of(&rt, "faults", &["d0", "d1"])?;
+    tells(&rt, "format", &[], few.as_str(), 2, "settings: 5 images\n")?;
+    tells(
+        &rt,
+        "check",
+        &[],
+        "no such file",
+        2,
+        "settings: cannot read\n",
+    )
+}

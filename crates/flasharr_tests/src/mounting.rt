@@ -1,0 +1,224 @@
+//! Images that are mounted: what their slots hold, and what a refused read does.
+ghost use Rattle.std.specs.Prelude.{◌≡◌, IfOk};
+ghost use Rattle.std.specs.List.{AllByRecursion};
+ghost use Rattle.fa_image.specs.Fuse.{fused_view};
+ghost use Rattle.fa_image.specs.Memory.{mem_image_view};
+
+use fa_image::{FuseImage, Image, MemImage};
+use fa_machine::Version;
+use fa_map::{Map, PlainMap, SlotState};
+use fa_mount::{MountFault, MountRefused, Mounted, Standing, format, scan_headers, scan_slots};
+use fa_tag::{Tag, seal};
+use fa_types::{Copies, Die, Geometry, Kind, Page, Seq, Slot};
+use std::test::Fail;
+
+type Images = [FuseImage<MemImage>; 4];
+
+/// Three dies in use and a spare, of four blocks of four slots, with twelve pages.
+fn shape() -> Result<Geometry, Fail> {
+    Ok(Geometry::new(4, 1, 4, 4, 512, 12)?)
+}
+
+fn image(rt: &HostRuntime, geometry: Geometry) -> Result<FuseImage<MemImage>, Fail>
+    ensures { IfOk result (λ image. (fused_view mem_image_view image).geometry ≡ geometry) }
+{
+    Ok(FuseImage::new(MemImage::new(rt.alloc(), geometry)?))
+}
+
+fn images(rt: &HostRuntime, geometry: Geometry) -> Result<Images, Fail>
+    ensures { IfOk result (AllByRecursion (λ image. (fused_view mem_image_view image).geometry ≡ geometry)) }
+{
+    Ok([
+        image(rt, geometry)?,
+        image(rt, geometry)?,
+        image(rt, geometry)?,
+        image(rt, geometry)?,
+    ])
+}
+
+/// New images of an array.
+fn formatted(rt: &HostRuntime) -> Result<Images, Fail> {
+    let geometry = shape()?;
+    ensure!(geometry.dies == 4);
+    let mut images = images(rt, geometry)?;
+    ensure!(format(&mut images, geometry, [7; 16]) == Ok(()));
+    Ok(images)
+}
+
+/// A slot with a write of a page, whose bytes are zeros, of which a tag says where it lies.
+pub fn put<I: Image>(image: &mut I, slot: u32, tag: Tag) -> Result<(), Fail> {
+    let geometry = image.geometry();
+    ensure!(geometry.page_bytes == 512);
+    ensure!(slot < geometry.blocks * geometry.slots);
+    ensure!(tag.page.0 < 1_048_576 && 1 <= tag.seq.0 && tag.seq.0 < 1 << 62);
+    ensure!(tag.die.0 < 64 && tag.slot.0 < 1_048_576);
+    let mut bytes = [0u8; 576];
+    match tag.kind {
+        Kind::Data => seal(tag, &[0; 512], &mut bytes),
+        Kind::Hole => {
+            let hole = Tag {
+                kind: Kind::Hole,
+                ..tag
+            };
+            seal(hole, &[0; 512], &mut bytes);
+        }
+    }
+    Ok(image.program(Slot(slot), &bytes)?)
+}
+
+/// A tag of a write of a page at a place.
+pub fn tag(page: u64, seq: u64, kind: Kind, die: u8, slot: u32) -> Tag {
+    Tag {
+        page: Page(page),
+        seq: Seq(seq),
+        kind,
+        die: Die(die),
+        slot: Slot(slot),
+    }
+}
+
+/// Mounts images.
+fn mounted(
+    rt: &HostRuntime,
+    images: &mut Images,
+    unclean: bool,
+) -> Result<Result<Mounted<PlainMap>, MountRefused>, Fail> {
+    let copies = Copies::new(2, shape()?)?;
+    match scan_headers(rt.alloc(), images, copies, unclean) {
+        Ok(judged) => {
+            let map = PlainMap::new(rt.alloc(), judged.geometry)?;
+            Ok(scan_slots(rt.alloc(), images, judged, map, unclean))
+        }
+        Err(refused) => Ok(Err(refused)),
+    }
+}
+
+/// Whether a slot has this state.
+fn is_at(map: &PlainMap, die: u8, slot: u32, state: SlotState) -> Result<bool, Fail> {
+    let geometry = map.geometry();
+    ensure!(u32::from(die) < geometry.dies);
+    ensure!(slot < geometry.blocks * geometry.slots);
+    Ok(map.state(Die(die), Slot(slot)) == state)
+}
+
+/// Whether a die stands so.
+fn stands(dies: &[Standing], die: usize, standing: Standing) -> Result<bool, Fail> {
+    ensure!(die < dies.len());
+    Ok(dies[die] == standing)
+}
+
+/// Whether this is the last write of a page.
+fn is_last(map: &PlainMap, page: u64, seq: u64, kind: Kind) -> Result<bool, Fail> {
+    ensure!(page < map.geometry().pages);
+    Ok(
+        map.version(Page(page))
+            == Some(Version {
+                seq: Seq(seq),
+                kind,
+            }),
+    )
+}
+
+#[test]
+fn a_new_array_is_mounted_empty(rt: HostRuntime) -> Result<(), Fail> {
+    let mut images = formatted(&rt)?;
+    match mounted(&rt, &mut images, false)? {
+        Ok(array) => {
+            ensure!(array.map.live_dies() == 3 && array.epoch == 1 && array.clean);
+            ensure!(stands(array.dies.as_slice(), 3, Standing::Spare(3))?);
+            ensure!(is_at(&array.map, 0, 0, SlotState::Erased)?);
+            Ok(())
+        }
+        Err(_) => Err(Fail::new("not mounted")),
+    }
+}
+
+/// Images of which page 0 has an older and a newer copy, page 1 copies of one number that are of two kinds,
+/// and page 2 two copies on one die. A tag names another slot, and one another page than there is.
+fn written(rt: &HostRuntime) -> Result<Images, Fail> {
+    let mut images = formatted(rt)?;
+    put(&mut images[0], 0, tag(0, 1, Kind::Data, 0, 0))?;
+    put(&mut images[1], 0, tag(0, 2, Kind::Data, 1, 0))?;
+    put(&mut images[0], 1, tag(1, 3, Kind::Hole, 0, 1))?;
+    put(&mut images[1], 1, tag(1, 3, Kind::Data, 1, 1))?;
+    put(&mut images[2], 2, tag(2, 4, Kind::Data, 2, 2))?;
+    put(&mut images[2], 1, tag(2, 4, Kind::Data, 2, 1))?;
+    put(&mut images[2], 5, tag(3, 9, Kind::Data, 2, 6))?;
+    put(&mut images[2], 7, tag(12, 9, Kind::Data, 2, 7))?;
+    Ok(images)
+}
+
+/// Whether the map is that of these images.
+fn is_of_written(map: &PlainMap) -> Result<(), Fail> {
+    ensure!(is_last(map, 0, 2, Kind::Data)?);
+    ensure!(is_at(map, 0, 0, SlotState::Stale)? && is_at(map, 1, 0, SlotState::Current)?);
+    ensure!(is_last(map, 1, 3, Kind::Hole)?);
+    ensure!(is_at(map, 0, 1, SlotState::Current)? && is_at(map, 1, 1, SlotState::Stale)?);
+    ensure!(is_last(map, 2, 4, Kind::Data)?);
+    ensure!(is_at(map, 2, 1, SlotState::Current)? && is_at(map, 2, 2, SlotState::Stale)?);
+    ensure!(is_at(map, 2, 5, SlotState::Stale)? && is_at(map, 2, 7, SlotState::Stale)?);
+    ensure!(is_at(map, 2, 6, SlotState::Erased)?);
+    Ok(())
+}
+
+#[test]
+fn slots_are_mounted(rt: HostRuntime) -> Result<(), Fail> {
+    let mut images = written(&rt)?;
+    match mounted(&rt, &mut images, false)? {
+        Ok(array) => is_of_written(&array.map),
+        Err(_) => Err(Fail::new("not mounted")),
+    }
+}
+
+/// Images of which die 1 refuses its first slot.
+fn refusing(rt: &HostRuntime) -> Result<Images, Fail> {
+    let mut images = written(rt)?;
+    images[1].arm(2);
+    Ok(images)
+}
+
+#[test]
+fn a_refused_read_is_a_fault(rt: HostRuntime) -> Result<(), Fail> {
+    let mut images = refusing(&rt)?;
+    let fault = MountRefused {
+        fault: MountFault::ImageFault,
+        image: Some(1),
+        die: Some(Die(1)),
+    };
+    match mounted(&rt, &mut images, false)? {
+        Ok(_) => Err(Fail::new("mounted")),
+        Err(refused) => {
+            ensure!(refused == fault);
+            Ok(())
+        }
+    }
+}
+
+#[test]
+fn a_die_that_refuses_a_read_is_out(rt: HostRuntime) -> Result<(), Fail> {
+    let mut images = refusing(&rt)?;
+    match mounted(&rt, &mut images, true)? {
+        Ok(array) => {
+            ensure!(array.map.live_dies() == 2);
+            ensure!(stands(array.dies.as_slice(), 1, Standing::Out(1))?);
+            ensure!(is_last(&array.map, 0, 1, Kind::Data)?);
+            ensure!(is_at(&array.map, 0, 0, SlotState::Current)?);
+            Ok(())
+        }
+        Err(_) => Err(Fail::new("not mounted")),
+    }
+}
+
+#[test]
+fn a_used_spare_is_out(rt: HostRuntime) -> Result<(), Fail> {
+    let mut images = written(&rt)?;
+    put(&mut images[3], 15, tag(0, 50, Kind::Data, 3, 15))?;
+    match mounted(&rt, &mut images, false)? {
+        Ok(array) => {
+            ensure!(stands(array.dies.as_slice(), 3, Standing::Out(3))?);
+            ensure!(is_last(&array.map, 0, 2, Kind::Data)?);
+            Ok(())
+        }
+        Err(_) => Err(Fail::new("not mounted")),
+    }
+}
