@@ -14,7 +14,8 @@ use Rattle.fa_mount.specs.Judged.{IsJudged}
 use Rattle.fa_mount.specs.Rules.{header_refusal, refused, seen_from}
 use Rattle.fa_mount.specs.Scanned.{Outcome, IsScan, IsScanRefused}
 
-module _ {I : Type 0} (A : Type 0) (view : I → ImageState) (made : I → ImageCall → ImageAnswer → I → Type 0) (copies : ℕ) (unclean : Bool) where
+module _ {I : Type 0} (A : Type 0) (view : I → ImageState) (made : I → ImageCall → ImageAnswer → I → Type 0) (copies : ℕ)
+    (unclean : Bool) where
   -- the headers were read, and this is the array that they say
   pub record SayArray (before after : List I) (judged : Judged A) : Type 0 where
     pub founds : List Found

@@ -42,7 +42,8 @@ pub record AreSettled (standings : List Standing) (outcomes : List Outcome) (die
   pub dies_length : length dies ≡ length outcomes
   pub contents_length : length contents ≡ length outcomes
   pub each : (die : ℕ) (standing : Standing) (outcome : Outcome) → slice_get standings die ≡ Some standing
-      → slice_get outcomes die ≡ Some outcome → (slice_get dies die ≡ Some (settled standing outcome)) × (slice_get contents die ≡ Some (mounted_of standing outcome))
+      → slice_get outcomes die ≡ Some outcome
+      → (slice_get dies die ≡ Some (settled standing outcome)) × (slice_get contents die ≡ Some (mounted_of standing outcome))
 
 abbrev pub is_refused : Outcome → Bool
 is_refused (Some (Err fault)) = true

@@ -51,7 +51,8 @@ look_arguments = settings_argument ∷ flag (codes "unclean") ∷ flag (codes "j
 -- the program with its commands, each of which has --help besides
 abbrev pub command_line : App
 command_line =
-    with_subcommand (with_subcommand (with_subcommand (with_subcommand (with_subcommand (with_subcommand (record { top = program; subs = [] })
+    with_subcommand (with_subcommand (with_subcommand (with_subcommand (with_subcommand (with_subcommand
+    (record { top = program; subs = [] })
     (with_arguments (codes "format") (settings_argument ∷ die_argument ∷ [])))
     (with_arguments (codes "check") look_arguments)) (with_arguments (codes "dump") look_arguments))
     (new_shape (codes "plan"))) (new_shape (codes "talk"))) (new_shape (codes "verify"))
@@ -79,10 +80,12 @@ abbrev pub formats : List Row → Option Wanted
 formats rows = option_map (λ path. Formats path (one_of (codes "die") rows)) (first_of (codes "settings") rows)
 
 abbrev pub checks : List Row → Option Wanted
-checks rows = option_map (λ path. Checks path (is_given (codes "unclean") rows) (is_given (codes "json") rows)) (first_of (codes "settings") rows)
+checks rows =
+    option_map (λ path. Checks path (is_given (codes "unclean") rows) (is_given (codes "json") rows)) (first_of (codes "settings") rows)
 
 abbrev pub dumps : List Row → Option Wanted
-dumps rows = option_map (λ path. Dumps path (is_given (codes "unclean") rows) (is_given (codes "json") rows)) (first_of (codes "settings") rows)
+dumps rows =
+    option_map (λ path. Dumps path (is_given (codes "unclean") rows) (is_given (codes "json") rows)) (first_of (codes "settings") rows)
 
 -- what the command of a name asks for with what was found of its arguments
 abbrev pub wanted_by : List ℕ → List Row → Option Wanted

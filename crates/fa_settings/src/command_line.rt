@@ -101,7 +101,8 @@ fn plain_line<'a>(global: Global, name: &'a str, help: Help) -> Command<'a>
 
 /// The command that makes images.
 fn format_line<'a>(global: Global) -> Result<Command<'a>, AllocError>
-    ensures shape { IfOk result (λ c. app_of c ≡ record { top = with_arguments (codes "format") (settings_rule ∷ die_rule ∷ []); subs = [] }) }
+    ensures shape { IfOk result (λ c. app_of c
+        ≡ record { top = with_arguments (codes "format") (settings_rule ∷ die_rule ∷ []); subs = [] }) }
     ensures local { IfOk result (λ c. (fields_of c).has_globals ≡ false) }
 {
     plain_line(global, "format", help::FORMAT)
