@@ -39,6 +39,8 @@ mod maps;
 #[cfg(test)]
 mod mount_headers;
 #[cfg(test)]
+mod mount_refusals;
+#[cfg(test)]
 mod mounting;
 #[cfg(test)]
 mod nego;
