@@ -20,6 +20,7 @@ pub mod Readable
 pub mod Reading
 pub mod Rows
 pub mod Settling
+pub mod SideBySide
 pub mod SlotCells
 pub mod SlotsRead
 pub mod Tallying

@@ -13,6 +13,7 @@ mod headers_scan;
 mod judging;
 pub mod laws;
 mod mounted;
+mod readings;
 mod rules;
 mod scan_die;
 mod scan_dies;

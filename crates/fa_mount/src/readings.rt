@@ -1,0 +1,102 @@
+//! The images of dies, read side by side.
+ghost use Rattle.std.specs.Prelude.{◌≡◌, Some};
+ghost use Rattle.std.specs.Thread.{IsSync, IsSend};
+ghost use Rattle.fa_image.specs.Image.{slot_bytes, slot_count};
+ghost use Rattle.fa_mount.specs.ContentReading.{ReadsDie};
+ghost use Rattle.fa_mount.specs.Readings.{AreImagesRead, AreReady, IsImageRead, IsReady, outcome_of};
+
+use crate::content::SlotContent;
+use crate::scan_die::read_die;
+use fa_image::{Image, ImageFault};
+use fa_types::{Die, Geometry};
+use std::alloc::Allocator;
+use std::thread::{Threads, join_mut};
+
+/// An image that is to be read for a die, and what came of it.
+#[derive(Drop)]
+pub(crate) struct Reading<A: Allocator> {
+    /// The die.
+    pub(crate) die: Die,
+    /// The bytes of one slot.
+    pub(crate) buffer: Vec<u8, A>,
+    /// What was found in its slots, as far as they were read.
+    pub(crate) contents: Vec<SlotContent, A>,
+    /// The fault of the read that was refused.
+    pub(crate) fault: Option<ImageFault>,
+}
+
+/// Reads each image for which a reading stands ready, each in a thread of its own where there is one to be had.
+#[cycle(reads)]
+pub(crate) fn read_images<R: Threads + Sync, I: Image + Send, A: Allocator + Send>(
+    rt: &R,
+    geometry: Geometry,
+    images: &mut [I],
+    readings: &mut [Option<Reading<A>>],
+)
+    requires ready { AreReady I.view geometry images.old readings.old }
+    ensures { AreImagesRead I.made geometry images.old readings.old images.new readings.new }
+{
+    if images.len() == 0 {
+        return;
+    }
+    if images.len() == 1 {
+        read_ready(geometry, &mut images[0], &mut readings[0]);
+        return;
+    }
+    let middle = images.len() / 2;
+    let (front, back) = images.split_at_mut(middle);
+    let (first, last) = readings.split_at_mut(middle);
+    read_side_by_side(rt, geometry, front, first, back, last);
+}
+
+/// Reads the images of both halves side by side.
+#[cycle(reads)]
+fn read_side_by_side<R: Threads + Sync, I: Image + Send, A: Allocator + Send>(
+    rt: &R,
+    geometry: Geometry,
+    front: &mut [I],
+    first: &mut [Option<Reading<A>>],
+    back: &mut [I],
+    last: &mut [Option<Reading<A>>],
+)
+    requires front { AreReady I.view geometry front.old first.old }
+    requires back { AreReady I.view geometry back.old last.old }
+    ensures front { AreImagesRead I.made geometry front.old first.old front.new first.new }
+    ensures back { AreImagesRead I.made geometry back.old last.old back.new last.new }
+{
+    let mut one = ||
+        requires { IsSync R.row × IsSend I.row × IsSend A.row × AreReady I.view geometry front.now first.now }
+        ensures { AreImagesRead I.made geometry front.entry.now first.entry.now front.exit.now first.exit.now }
+    { read_images(rt, geometry, front, first) };
+    let mut other = ||
+        requires { IsSync R.row × IsSend I.row × IsSend A.row × AreReady I.view geometry back.now last.now }
+        ensures { AreImagesRead I.made geometry back.entry.now last.entry.now back.exit.now last.exit.now }
+    { read_images(rt, geometry, back, last) };
+    join_mut(rt, &mut one, &mut other);
+}
+
+/// Reads an image, if a reading stands ready for it.
+fn read_ready<I: Image, A: Allocator>(
+    geometry: Geometry,
+    image: &mut I,
+    reading: &mut Option<Reading<A>>,
+)
+    requires ready { IsReady I.view geometry image.old reading.old }
+    ensures { IsImageRead I.made geometry image.old reading.old image.new reading.new }
+{
+    if let Some(reading) = reading {
+        read_one(geometry, image, reading);
+    }
+}
+
+/// Reads an image for its die.
+fn read_one<I: Image, A: Allocator>(geometry: Geometry, image: &mut I, reading: &mut Reading<A>)
+    requires ready { IsReady I.view geometry image.old (Some reading.old) }
+    ensures { IsImageRead I.made geometry image.old (Some reading.old) image.new (Some reading.new) }
+{
+    let buffer = reading.buffer.as_mut_slice();
+    match read_die(image, reading.die, buffer, &mut reading.contents) {
+        Ok(()) => reading.fault = None,
+        Err(fault) => reading.fault = Some(fault),
+    }
+}
