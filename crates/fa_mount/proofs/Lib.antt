@@ -1,3 +1,4 @@
+pub mod ByDie
 pub mod Cells
 pub mod ContentsRead
 pub mod Erasing

@@ -2,11 +2,12 @@
 use Rattle.std.proofs.Common.{◌≡◌, ◌≢◌, ℕ, ◌<◌, inl, inr, Bool, List, [], ◌∷◌, Some, Result, Ok, Err, length, refl, sym, ap, subst, ◌∙◌, arith}
 use Rattle.std.proofs.Common.{slice_get, set, map, suc}
 use Rattle.std.proofs.lemmas.Bool.{cases_eq}
-use Rattle.std.proofs.lemmas.List.{get_or-set_same, get_or-set_other, length-set}
+use Rattle.std.proofs.lemmas.List.{length-set}
 use Rattle.std.proofs.lemmas.Option.{same_Some, slice_get_within, slice_get-get_or, slice_get_cases}
 use Rattle.fa_types.specs.declared.geometry.Geometry.{Geometry}
 use Rattle.fa_image.specs.declared.fault.ImageFault.{ImageFault}
 use Rattle.fa_image.specs.Image.{ImageState, ImageCall, ImageAnswer, ImageMeets}
+use Rattle.fa_mount.proofs.ByDie.{put_at, put_other}
 use Rattle.fa_mount.specs.ContentReading.{EachOnlyRead, ReadsDie, ReadsSlots}
 use Rattle.fa_mount.specs.Found.{AreOnlyRead, IsOnlyRead}
 use Rattle.fa_mount.specs.declared.content.SlotContent.{SlotContent}
@@ -43,24 +44,6 @@ module _ {I : Type 0} (view : I → ImageState) where
         let two = second.each index one.0 one.1 in
         (two.0, two.1, read_twice (view image) (view one.0) (view two.0) one.2 two.2);
   }
-
-  -- the image at an index is another, and no other changed
-  pub put_at : (images : List I) (index : ℕ) (new : I) → index < length images → slice_get (set images index new) index ≡ Some new
-  put_at images index new within =
-      slice_get-get_or (set images index new) index new (let long = length-set images index new in omega (arith, long, within))
-      ∙ ap Some (get_or-set_same images index new new within)
-
-  pub put_other : (images : List I) (index : ℕ) (new : I) (i : ℕ) → i ≢ index → slice_get (set images index new) i ≡ slice_get images i
-  put_other images index new i apart =
-      elim (slice_get_cases images i).1 [
-        | inl found ↦
-            slice_get-get_or (set images index new) i found.0 (let long = length-set images index new in let below = found.1 in omega (arith, long, below))
-            ∙ ap Some (get_or-set_other images index i new found.0 apart ∙ found.3) ∙ sym found.2
-        | inr past ↦ elim (slice_get_cases (set images index new) i).1 [
-          | inl found ↦ absurd (let long = length-set images index new in let below = found.1 in let over = past.0 in omega (arith, long, below, over))
-          | inr none ↦ none.1 ∙ sym past.1
-        ]
-      ]
 
   pub one_read : (images : List I) (index : ℕ) (image new : I) → slice_get images index ≡ Some image → IsOnlyRead (view image) (view new)
       → EachOnlyRead view images (set images index new)

@@ -55,14 +55,19 @@ image_read (Out index) = None
 abbrev pub HasImageOf : {I : Type 0} → (I → ImageState) → Geometry → List I → ℕ → Type 0
 HasImageOf {I} view geometry images index = (image : I) × (slice_get images index ≡ Some image) × ((view image).geometry ≡ geometry)
 
+-- no image is to be read for two dies
+abbrev pub AreApart : List Standing → Type 0
+AreApart standings =
+    (die other : ℕ) (x y : Standing) (index : ℕ) → slice_get standings die ≡ Some x → slice_get standings other ≡ Some y
+    → image_read x ≡ Some index → image_read y ≡ Some index → die ≡ other
+
 -- the image of each die that is to be read is one of these, made for this geometry, and that of no other die
 pub record AreReadable {I : Type 0} (view : I → ImageState) (geometry : Geometry) (standings : List Standing)
     (images : List I) : Type 0 where
   pub dies : length standings ≡ geometry.dies
   pub image : (die : ℕ) (standing : Standing) (index : ℕ) → slice_get standings die ≡ Some standing → image_read standing ≡ Some index
       → HasImageOf view geometry images index
-  pub apart : (die other : ℕ) (x y : Standing) (index : ℕ) → slice_get standings die ≡ Some x → slice_get standings other ≡ Some y
-      → image_read x ≡ Some index → image_read y ≡ Some index → die ≡ other
+  pub apart : AreApart standings
 
 module _ {I : Type 0} (made : I → ImageCall → ImageAnswer → I → Type 0) (geometry : Geometry) (images after : List I) where
   -- the image at an index was read for a die

@@ -1,11 +1,12 @@
 -- The images of dies that are read side by side: what stands ready for each image, and what came of it.
-use Rattle.std.specs.Prelude.{◌≡◌, ℕ, List, [], ◌∷◌, length, Option, Some, None, Result, Ok, Err}
+use Rattle.std.specs.Prelude.{◌≡◌, ℕ, ◌<◌, List, [], ◌∷◌, length, slice_get, slice_set, Option, Some, None, Result, Ok, Err}
 use Rattle.fa_types.specs.declared.geometry.Geometry.{Geometry}
 use Rattle.fa_image.specs.declared.fault.ImageFault.{ImageFault}
 use Rattle.fa_image.specs.Image.{ImageState, slot_bytes, slot_count, ImageCall, ImageAnswer}
 use Rattle.fa_mount.specs.declared.content.SlotContent.{SlotContent}
+use Rattle.fa_mount.specs.declared.judging.Standing.{Standing}
 use Rattle.fa_mount.specs.declared.readings.Reading.{Reading}
-use Rattle.fa_mount.specs.ContentReading.{ReadsDie}
+use Rattle.fa_mount.specs.ContentReading.{ReadsDie, image_read}
 
 -- what came of reading a die's image
 abbrev pub outcome_of : {A : Type 0} → Reading A → Result (List SlotContent) ImageFault
@@ -15,14 +16,15 @@ outcome_of reading = told reading.fault
     told None = Ok reading.contents.items
     told (Some fault) = Err fault
 
+-- there is room for the bytes of a slot and for what is found in each slot
+abbrev pub IsRoomy : {A : Type 0} → Geometry → Reading A → Type 0
+IsRoomy geometry reading = (length reading.buffer.items ≡ slot_bytes geometry) × (length reading.contents.items ≡ slot_count geometry)
+
 module _ {I A : Type 0} (view : I → ImageState) (geometry : Geometry) where
-  -- An image that is to be read is made for this geometry, and there is room for a slot's bytes and for what is found in each slot.
+  -- an image that is to be read is made for this geometry, and there is room
   abbrev pub IsReady : I → Option (Reading A) → Type 0
   IsReady image None = Unit {0}
-  IsReady image (Some reading) =
-      ((view image).geometry ≡ geometry)
-      × (length reading.buffer.items ≡ slot_bytes geometry)
-      × (length reading.contents.items ≡ slot_count geometry)
+  IsReady image (Some reading) = ((view image).geometry ≡ geometry) × IsRoomy geometry reading
 
   -- the same of each image of a list
   abbrev pub AreReady : List I → List (Option (Reading A)) → Type 0
@@ -44,3 +46,34 @@ module _ {I A : Type 0} (made : I → ImageCall → ImageAnswer → I → Type 0
   AreImagesRead (before ∷ befores) (reading ∷ readings) (after ∷ afters) (read ∷ reads) =
       IsImageRead before reading after read × AreImagesRead befores readings afters reads
   AreImagesRead befores readings afters reads = ⊥
+
+-- what stands ready for the dies below a number, by the places of their images in a list of so many
+pub record AreReadingsOf {A : Type 0} (geometry : Geometry) (standings : List Standing) (dies images : ℕ)
+    (readings : List (Option (Reading A))) : Type 0 where
+  pub as_many : length readings ≡ images
+  pub each : (die index : ℕ) (standing : Standing) → die < dies → slice_get standings die ≡ Some standing
+      → image_read standing ≡ Some index → (reading : Reading A) × (slice_get readings index ≡ Some (Some reading)) × (reading.die.0 ≡ die)
+  pub only : (index : ℕ) (reading : Reading A) → slice_get readings index ≡ Some (Some reading)
+      → (die : ℕ) × (standing : Standing) × (slice_get standings die ≡ Some standing) × (image_read standing ≡ Some index)
+      × IsRoomy geometry reading
+
+-- a reading for a die was put at the place of its image, where one is to be read
+abbrev pub AddsReading : {A : Type 0} → Geometry → ℕ → Option ℕ → List (Option (Reading A)) → List (Option (Reading A)) → Type 0
+AddsReading geometry die None before after = after ≡ before
+AddsReading {A} geometry die (Some index) before after =
+    (reading : Reading A) × (after ≡ slice_set before index (Some reading)) × (reading.die.0 ≡ die) × IsRoomy geometry reading
+
+-- what came of a die, by the reading of its image
+abbrev pub outcome_from : {A : Type 0} → List (Option (Reading A)) → Option ℕ → Option (Result (List SlotContent) ImageFault)
+outcome_from readings None = None
+outcome_from {A = A} readings (Some index) = told (slice_get readings index)
+  where
+    told : Option (Option (Reading A)) → Option (Result (List SlotContent) ImageFault)
+    told (Some (Some reading)) = Some (outcome_of reading)
+    told found = None
+
+-- the same of each die
+abbrev pub AreFrom : {A : Type 0} → List (Option (Reading A)) → List Standing → List (Option (Result (List SlotContent) ImageFault)) → Type 0
+AreFrom readings standings outcomes =
+    (die : ℕ) (standing : Standing) (outcome : Option (Result (List SlotContent) ImageFault)) → slice_get standings die ≡ Some standing
+    → slice_get outcomes die ≡ Some outcome → outcome ≡ outcome_from readings (image_read standing)

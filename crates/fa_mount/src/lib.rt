@@ -14,6 +14,7 @@ mod judging;
 pub mod laws;
 mod mounted;
 mod readings;
+mod readings_of;
 mod rules;
 mod scan_die;
 mod scan_dies;

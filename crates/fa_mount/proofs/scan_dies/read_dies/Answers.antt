@@ -9,7 +9,8 @@ use Rattle.fa_mount.specs.declared.content.SlotContent.{SlotContent}
 use Rattle.fa_mount.specs.declared.judging.Standing.{Standing}
 use Rattle.fa_mount.specs.declared.judging.Standing.TheVariants.{Missing}
 use Rattle.fa_mount.proofs.OnlyReading.{all_read_twice}
-use Rattle.fa_mount.proofs.Outcomes.{next_outcomes, next_untouched}
+use Rattle.fa_mount.proofs.ByDie.{next_untouched}
+use Rattle.fa_mount.proofs.Outcomes.{next_outcomes}
 use Rattle.fa_mount.proofs.scan_dies.read_dies.Goals as goal
 
 pub read_standing-requires-clause-within : goal.read_standing-requires-clause-within
@@ -63,11 +64,11 @@ loop-die-preserved g c =
           );
       long = (let as_many = ap length pushed in omega (arith, as_many, more, long));
       outcomes = subst (AreOutcomes g.I.Image.made c.args.geometry c.args.images.now c.read_standing.new.images c.args.standings.now) (sym pushed)
-          (next_outcomes g.I.Image.view g.I.Image.made c.args.geometry c.args.standings.now c.args.images.now c.loop-die.images c.read_standing.new.images
-          c.loop-die.die standing at c.requires c.loop-die.invariant.untouched c.read_standing.ensures.others before c.in_ok-outcome.outcome long
+          (next_outcomes g.I.Image.made c.args.geometry c.args.standings.now c.requires.apart c.args.images.now c.loop-die.images c.read_standing.new.images
+          c.loop-die.die standing at c.loop-die.invariant.untouched c.read_standing.ensures.others before c.in_ok-outcome.outcome long
           c.loop-die.invariant.outcomes c.in_ok-outcome.ensures.outcome);
-      untouched = next_untouched g.I.Image.view g.I.Image.made c.args.geometry c.args.standings.now c.args.images.now c.loop-die.images c.read_standing.new.images
-          c.loop-die.die standing at c.requires c.loop-die.invariant.untouched c.read_standing.ensures.others;
+      untouched = next_untouched c.args.standings.now c.args.images.now c.loop-die.images c.read_standing.new.images
+          c.loop-die.die standing at c.loop-die.invariant.untouched c.read_standing.ensures.others;
       only_read = all_read_twice g.I.Image.view c.args.images.now c.loop-die.images c.read_standing.new.images c.loop-die.invariant.only_read
           c.read_standing.ensures.only_read;
     }

@@ -4,7 +4,8 @@ use Rattle.fa_types.specs.declared.geometry.Geometry.{Geometry}
 use Rattle.fa_image.specs.Image.{ImageState, slot_bytes}
 use Rattle.fa_mount.specs.ContentReading.{HasOutcome, HasImageOf, ReadsDie, image_read}
 use Rattle.fa_mount.specs.Found.{IsOnlyRead}
-use Rattle.fa_mount.proofs.OnlyReading.{die_only_read, one_read, put_at, put_other, same_read}
+use Rattle.fa_mount.proofs.ByDie.{put_at, put_other}
+use Rattle.fa_mount.proofs.OnlyReading.{die_only_read, one_read, same_read}
 use Rattle.fa_mount.proofs.scan_dies.read_standing.Goals as goal
 
 -- the image at an index is made for the geometry
@@ -40,7 +41,7 @@ returns-clause-outcome g c =
       old = old;
       new = c.read_image.new.image;
       was = slice_get-get_or c.args.images.now c.in-Some.index c.index-images-index.result within;
-      is = put_at g.I.Image.view c.args.images.now c.in-Some.index c.read_image.new.image within;
+      is = put_at c.args.images.now c.in-Some.index c.read_image.new.image within;
       reads = subst (λ (x : Geometry). ReadsDie g.I.Image.made x c.args.die.0 c.in_ok-outcome.outcome old c.read_image.new.image) shape
           c.in_ok-outcome.ensures.read;
     })
@@ -48,7 +49,7 @@ returns-clause-outcome g c =
 pub returns-clause-others : goal.returns-clause-others
 returns-clause-others g c = λ i apart.
     let which : image_read c.args.standing ≡ Some c.in-Some.index = sym c.index_read.ensures ∙ c.in-Some.is in
-    put_other g.I.Image.view c.args.images.now c.in-Some.index c.read_image.new.image i (λ same. apart (which ∙ ap Some (sym same)))
+    put_other c.args.images.now c.in-Some.index c.read_image.new.image i (λ same. apart (which ∙ ap Some (sym same)))
 
 pub returns-clause-only_read : goal.returns-clause-only_read
 returns-clause-only_read g c =
