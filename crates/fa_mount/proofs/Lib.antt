@@ -22,6 +22,7 @@ pub mod Reading
 pub mod Rows
 pub mod Settling
 pub mod SideBySide
+pub mod SideOutcomes
 pub mod SlotCells
 pub mod SlotsRead
 pub mod Tallying

@@ -21,6 +21,7 @@ mod scan_dies;
 mod scan_settle;
 mod scanning;
 mod seen;
+mod side_by_side;
 mod slots_scan;
 
 pub use content::{DieContents, SlotContent};
