@@ -25,4 +25,5 @@ pub mod SideBySide
 pub mod SideOutcomes
 pub mod SlotCells
 pub mod SlotsRead
+pub mod SlotsScanned
 pub mod Tallying

@@ -49,7 +49,7 @@ pub fn scan_slots<I: Image, M: Map + Drop, A: Allocator + Copy>(
 }
 
 /// Mounts what came of reading each die.
-fn mount_outcomes<M: Map + Drop, A: Allocator + Copy>(
+pub(crate) fn mount_outcomes<M: Map + Drop, A: Allocator + Copy>(
     alloc: A,
     judged: Judged<A>,
     outcomes: Vec<Option<DieRead<A>>, A>,

@@ -1,12 +1,7 @@
-use Rattle.std.proofs.Common.{inl, inr, Result, Ok, Err}
-use Rattle.std.specs.Result.{IfOk, MatchResult}
+use Rattle.std.proofs.Common.{inl, inr}
 use Rattle.fa_mount.specs.Mounting.{SayArray}
+use Rattle.fa_mount.proofs.SlotsScanned.{joined}
 use Rattle.fa_mount.proofs.scanning.scan.Goals as goal
-
-joined : {T E : Type 0} {P R P' : T → Type 0} {Q Q' : E → Type 0} (r : Result T E) → MatchResult r P Q → IfOk r R
-    → ((x : T) → P x → R x → P' x) → ((y : E) → Q y → Q' y) → MatchResult r P' Q'
-joined (Ok x) p i f g = f x p i
-joined (Err y) q i f g = g y q
 
 pub returns-in-Ok-clause-mounts : goal.returns-in-Ok-clause-mounts
 returns-in-Ok-clause-mounts g c =
