@@ -3,8 +3,10 @@ use log::Log;
 use std::fs::File;
 use std::io::Eprint;
 use std::rt::Files;
+use std::thread::Threads;
 
-/// Files, the memory of the process, and standard error, where warnings and the progress of a long command go.
-pub trait Host: Files<File = File> + AllocGlobal + Log + Eprint {}
+/// Files, the memory of the process, threads that read the dies of an array side by side, and standard error, where
+/// warnings and the progress of a long command go.
+pub trait Host: Files<File = File> + AllocGlobal + Log + Eprint + Threads + Sync {}
 
-impl<R: Files<File = File> + AllocGlobal + Log + Eprint> Host for R {}
+impl<R: Files<File = File> + AllocGlobal + Log + Eprint + Threads + Sync> Host for R {}

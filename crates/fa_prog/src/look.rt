@@ -14,7 +14,7 @@ use crate::table::{DieRow, all_erased, header_of, slots_of, state_of};
 use crate::watched::clear;
 use fa_image::Image;
 use fa_map::{Map, PageMap};
-use fa_mount::{Found, MountFault, MountRefused, Mounted, Standing, expect, read_headers, scan};
+use fa_mount::{Found, MountFault, MountRefused, Mounted, Standing, expect, read_headers, scan_side_by_side};
 use fa_settings::Settings;
 use fa_types::Die;
 use log::error;
@@ -57,7 +57,7 @@ pub(crate) fn run_look<R: Host, W: Write, A: Allocator + Copy>(
         Ok(settings) => settings,
         Err(refused) => return refuse_settings(alloc, refused, output),
     };
-    match text_of(rt, alloc, &settings, look) {
+    match text_of(rt, &settings, look) {
         Ok(text) => print(output, DONE, text.as_bytes()),
         Err(NotTold::Mount(fault)) => print(output, REFUSED, mount_line(fault)),
         Err(NotTold::NoMemory) => refuse_for_memory(output),
@@ -79,9 +79,8 @@ impl From<AllocError> for NotTold {
 }
 
 /// What is to be told of the array of these settings.
-fn text_of<R: Host, A: Allocator + Copy>(
+fn text_of<R: Host, A: Allocator>(
     rt: &R,
-    alloc: A,
     settings: &Settings<A>,
     look: Look,
 ) -> Result<String, NotTold> {
@@ -90,7 +89,7 @@ fn text_of<R: Host, A: Allocator + Copy>(
         Err(NotOpened::Image) => return Err(NotTold::Mount(MountFault::ImageFault)),
         Err(NotOpened::NoMemory) => return Err(NotTold::NoMemory),
     };
-    let result = mount(alloc, settings, look.unclean, &mut open.images);
+    let result = mount(rt, settings, look.unclean, &mut open.images);
     clear(rt, look.watched);
     let mounted = match result {
         Ok(mounted) => mounted,
@@ -110,23 +109,23 @@ fn text_of<R: Host, A: Allocator + Copy>(
 }
 
 /// Mounts the images, which are to be those of the settings' array.
-fn mount<I: Image, A: Allocator + Copy>(
-    alloc: A,
+fn mount<R: Host, I: Image + Send, A: Allocator>(
+    rt: &R,
     settings: &Settings<A>,
     unclean: bool,
     images: &mut [I],
-) -> Result<Mounted<PageMap<A>, A>, MountRefused> {
-    expect(alloc, images, settings.geometry, settings.array, unclean)?;
-    scan(alloc, images, settings.copies, unclean)
+) -> Result<Mounted<PageMap>, MountRefused> {
+    expect(rt.alloc(), images, settings.geometry, settings.array, unclean)?;
+    scan_side_by_side(rt, rt.alloc(), images, settings.copies, unclean)
 }
 
 /// What is to be told, as one JSON document.
-fn json_of<R: Host, A: Allocator + Copy>(
+fn json_of<R: Host, A: Allocator>(
     global: Global,
     settings: &Settings<A>,
     asked: Asked,
     open: &mut OpenImages<'_, R>,
-    mounted: &Mounted<PageMap<A>, A>,
+    mounted: &Mounted<PageMap>,
 ) -> Result<String, NotTold> {
     let headers = read_headers(global, &mut open.images)?;
     let mut rows = Vec::new(global);
@@ -144,11 +143,11 @@ fn json_of<R: Host, A: Allocator + Copy>(
 }
 
 /// What is known of a die.
-fn row_of<'a, R: Host, A: Allocator + Copy>(
+fn row_of<'a, R: Host, A: Allocator>(
     settings: &'a Settings<A>,
     open: &OpenImages<'_, R>,
     headers: &[Found],
-    mounted: &Mounted<PageMap<A>, A>,
+    mounted: &Mounted<PageMap>,
     die: Die,
 ) -> DieRow<'a>
     requires { die.0 < (page_view mounted.now.map).geometry.dies }

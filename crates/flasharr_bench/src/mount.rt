@@ -7,12 +7,13 @@ ghost use Rattle.fa_tag.specs.SlotGrammar.{IsTag};
 
 use crate::slots::{HASHED_BYTES, PAGE_BYTES, PAYLOAD, SLOT_BYTES, count_good};
 use fa_image::{Image, MemImage};
-use fa_mount::{format, scan};
+use fa_mount::{format, scan, scan_side_by_side};
 use fa_tag::{Tag, seal};
 use fa_types::{Copies, Die, Geometry, Kind, Page, Seq, Slot};
 use std::alloc::Global;
 use std::io::{self, ErrorKind};
 use std::rt::Clock;
+use std::thread::Threads;
 use std::time::{Duration, Instant};
 
 /// How many dies there are, all in use.
@@ -41,17 +42,18 @@ struct Times {
     sealing: Duration,
     opening: Duration,
     mounting: Duration,
+    side_by_side: Duration,
     /// How many slots were opened and found good.
     good: u32,
     /// How many pages the mounted array says were written.
     written: u64,
 }
 
-/// Seals the slots of an array, opens them, and mounts the images that hold them, by turns. Prints seven
-/// lines, each a name and a number: how many slots there are, of how many bytes in all the digests are, the
-/// least nanoseconds that sealing, opening and mounting took, how many of the slots were found good, and how
-/// many pages were found written.
-pub fn measure(rt: &(impl Clock + Print + AllocGlobal)) -> io::Result<()> {
+/// Seals the slots of an array, opens them, and mounts the images that hold them in one thread and side by
+/// side, by turns. Prints eight lines, each a name and a number: how many slots there are, of how many bytes
+/// in all the digests are, the least nanoseconds that sealing, opening and each mounting took, how many of
+/// the slots were found good, and how many pages were found written.
+pub fn measure(rt: &(impl Clock + Print + AllocGlobal + Threads + Sync)) -> io::Result<()> {
     let mut slots = vec![in rt.alloc(); [0u8; SLOT_BYTES]; SLOTS as usize]?;
     seal_all(&mut slots);
     let mut images = written(rt.alloc(), slots.as_slice())?;
@@ -60,6 +62,7 @@ pub fn measure(rt: &(impl Clock + Print + AllocGlobal)) -> io::Result<()> {
     let sealing = times.sealing.as_nanos();
     let opening = times.opening.as_nanos();
     let mounting = times.mounting.as_nanos();
+    let side_by_side = times.side_by_side.as_nanos();
     let good = times.good;
     let written = times.written;
     println!(rt; "slots {SLOTS}")?;
@@ -67,13 +70,14 @@ pub fn measure(rt: &(impl Clock + Print + AllocGlobal)) -> io::Result<()> {
     println!(rt; "seal_nanoseconds {sealing}")?;
     println!(rt; "open_nanoseconds {opening}")?;
     println!(rt; "mount_nanoseconds {mounting}")?;
+    println!(rt; "side_nanoseconds {side_by_side}")?;
     println!(rt; "good {good}")?;
     println!(rt; "written {written}")
 }
 
 /// Seals and opens all slots and mounts the images, turn by turn.
 fn times_of(
-    rt: &(impl Clock + AllocGlobal),
+    rt: &(impl Clock + AllocGlobal + Threads + Sync),
     slots: &mut [[u8; SLOT_BYTES]],
     images: &mut Images,
 ) -> io::Result<Times>
@@ -83,6 +87,7 @@ fn times_of(
         sealing: Duration::MAX,
         opening: Duration::MAX,
         mounting: Duration::MAX,
+        side_by_side: Duration::MAX,
         good: 0,
         written: 0,
     };
@@ -94,9 +99,12 @@ fn times_of(
         let opened = Instant::now(rt)?;
         times.written = mount(rt.alloc(), images)?;
         let mounted = Instant::now(rt)?;
+        mount_side_by_side(rt, images)?;
+        let again = Instant::now(rt)?;
         times.sealing = times.sealing.min(sealed.duration_since(start));
         times.opening = times.opening.min(opened.duration_since(sealed));
         times.mounting = times.mounting.min(mounted.duration_since(opened));
+        times.side_by_side = times.side_by_side.min(again.duration_since(mounted));
     }
     Ok(times)
 }
@@ -106,6 +114,18 @@ fn mount(alloc: Global, images: &mut Images) -> io::Result<u64> {
     let copies = Copies::new(2, shape()?).map_err(|_| ErrorKind::InvalidInput)?;
     match scan(alloc, images, copies, false) {
         Ok(mounted) => Ok(mounted.report(copies).written),
+        Err(_) => Err(ErrorKind::InvalidData.into()),
+    }
+}
+
+/// Mounts the images with their slots read side by side.
+fn mount_side_by_side(
+    rt: &(impl AllocGlobal + Threads + Sync),
+    images: &mut Images,
+) -> io::Result<()> {
+    let copies = Copies::new(2, shape()?).map_err(|_| ErrorKind::InvalidInput)?;
+    match scan_side_by_side(rt, rt.alloc(), images, copies, false) {
+        Ok(_) => Ok(()),
         Err(_) => Err(ErrorKind::InvalidData.into()),
     }
 }

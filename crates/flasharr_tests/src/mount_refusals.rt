@@ -7,7 +7,7 @@ ghost use Rattle.fa_image.specs.Memory.{mem_image_view};
 
 use crate::mounting::{put, tag};
 use fa_image::{FuseImage, Image, MemImage};
-use fa_mount::{MountFault, MountRefused, Report, format, format_1, scan};
+use fa_mount::{MountFault, MountRefused, Report, format, format_1, scan, scan_side_by_side};
 use fa_tag::{Tag, seal_1};
 use fa_types::{Copies, Die, Geometry, HEADER_BYTES, Kind, Page, Seq, Slot};
 use linked_list_allocator::LocalHeap;
@@ -148,8 +148,19 @@ fn reported<A: Allocator + Copy>(
     Ok(scan(alloc, images, copies, unclean)?.report(copies))
 }
 
+/// The same with the dies read side by side.
+fn reported_side_by_side(
+    rt: &HostRuntime,
+    images: &mut Images,
+    copies: Copies,
+    unclean: bool,
+) -> Result<Report, MountRefused> {
+    let mounted = scan_side_by_side(rt, rt.alloc(), images, copies, unclean)?;
+    Ok(mounted.report(copies))
+}
+
 #[test]
-fn two_formats_side_by_side(rt: HostRuntime) -> Result<(), Fail> {
+fn images_in_two_formats(rt: HostRuntime) -> Result<(), Fail> {
     let geometry = shape()?;
     let mut empty = in_both_formats(&rt)?;
     let two = Copies::new(2, geometry)?;
@@ -158,6 +169,7 @@ fn two_formats_side_by_side(rt: HostRuntime) -> Result<(), Fail> {
     ensure!(reported(rt.alloc(), &mut images, two, false) == Ok(told(8, 0)));
     let three = Copies::new(3, geometry)?;
     ensure!(reported(rt.alloc(), &mut images, three, false) == Ok(told(8, 8)));
+    ensure!(reported_side_by_side(&rt, &mut images, three, false) == Ok(told(8, 8)));
     Ok(())
 }
 
@@ -199,6 +211,24 @@ fn arm(images: &mut Images, image: usize, k: u64) {
     }
 }
 
+/// Mounts images of which one refuses this call, die by die and side by side, which come to the same.
+fn mounted_refused(
+    rt: &HostRuntime,
+    images: &mut Images,
+    image: usize,
+    call: u64,
+    unclean: bool,
+) -> Result<Result<Report, MountRefused>, Fail> {
+    let two = Copies::new(2, shape()?)?;
+    arm(images, image, call);
+    let came = reported(rt.alloc(), images, two, unclean);
+    arm(images, image, call);
+    let beside = reported_side_by_side(rt, images, two, unclean);
+    arm(images, image, 0);
+    ensure!(came == beside, at call);
+    Ok(came)
+}
+
 /// Mounts images of which one refuses this call, and tells the fault. What was refused is not asked again.
 fn mount_refused(
     rt: &HostRuntime,
@@ -206,11 +236,7 @@ fn mount_refused(
     image: usize,
     call: u64,
 ) -> Result<Option<MountRefused>, Fail> {
-    let two = Copies::new(2, shape()?)?;
-    arm(images, image, call);
-    let came = reported(rt.alloc(), images, two, false);
-    arm(images, image, 0);
-    Ok(came.err())
+    Ok(mounted_refused(rt, images, image, call, false)?.err())
 }
 
 /// Mounts images of which one refuses this call, though they may be unclean, and tells how many dies are live.
@@ -220,11 +246,7 @@ fn live_without(
     image: usize,
     call: u64,
 ) -> Result<u32, Fail> {
-    let two = Copies::new(2, shape()?)?;
-    arm(images, image, call);
-    let came = reported(rt.alloc(), images, two, true);
-    arm(images, image, 0);
-    match came {
+    match mounted_refused(rt, images, image, call, true)? {
         Ok(report) => Ok(report.live),
         Err(refused) => Err(Fail::new(refused)),
     }
