@@ -18,6 +18,9 @@ impl Model for Held {
     ghost also_owns = { λ _. ftrue };
 }
 
+// It is in no memory, so it may go to another thread.
+unsafe impl Send for Held {}
+
 impl Held {
     /// Of a file that is opened with these contents.
     pub(crate) fn new() -> Held

@@ -1,12 +1,12 @@
 //! The program's arguments, and faulty texts.
 use fa_io::faulty::{Failing, Piecewise};
-use fa_prog::{run, start};
+use fa_prog::{Host, run, start};
 use std::alloc::{AllocError, Global};
 use std::io::{self, ErrorKind};
 use std::test::Fail;
 
 /// What the program prints of an input, and its status.
-pub fn printed(rt: &HostRuntime, arguments: &[&str], text: &str) -> Result<(u8, Vec<u8>), Fail> {
+pub fn printed(rt: &impl Host, arguments: &[&str], text: &str) -> Result<(u8, Vec<u8>), Fail> {
     let given = given(rt.alloc(), arguments)?;
     let mut input = text.as_bytes();
     let mut output = Vec::new(rt.alloc());
@@ -73,7 +73,7 @@ fn other_arguments(rt: HostRuntime) -> Result<(), Fail> {
 
 /// Tries a command with a writer that takes five bytes a call, until a call fails: so many were taken.
 fn fails_at_write(
-    rt: &HostRuntime,
+    rt: &impl Host,
     name: &str,
     text: &str,
     told: &str,
@@ -128,7 +128,7 @@ fn input_that_fails(rt: HostRuntime) -> Result<(), Fail> {
 }
 
 /// What the program prints that is started with all of these arguments, its name among them.
-fn started(rt: &HostRuntime, all: &[&str], text: &str) -> Result<(u8, Vec<u8>), Fail> {
+fn started(rt: &impl Host, all: &[&str], text: &str) -> Result<(u8, Vec<u8>), Fail> {
     let arguments = given(rt.alloc(), all)?.into_iter();
     let mut input = text.as_bytes();
     let mut output = Vec::new(rt.alloc());

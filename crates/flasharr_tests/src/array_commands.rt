@@ -2,6 +2,7 @@
 use crate::arguments::printed;
 use crate::mounting::{put, tag};
 use fa_image::{FileImage, Image};
+use fa_prog::Host;
 use fa_tag::{open_header, seal_header};
 use fa_types::{Geometry, HEADER_BYTES, Kind};
 use std::path::Path;
@@ -71,7 +72,7 @@ fn put_page(
 
 /// Tries a command on the settings of a test.
 fn tells<'x>(
-    rt: &HostRuntime,
+    rt: &impl Host,
     command: &'x str,
     flags: &[&'x str],
     settings: &'x str,

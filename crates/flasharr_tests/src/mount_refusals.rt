@@ -13,6 +13,7 @@ use fa_types::{Copies, Die, Geometry, HEADER_BYTES, Kind, Page, Seq, Slot};
 use linked_list_allocator::LocalHeap;
 use std::alloc::Allocator;
 use std::test::Fail;
+use std::thread::Threads;
 
 type Images = [FuseImage<MemImage>; 4];
 
@@ -150,7 +151,7 @@ fn reported<A: Allocator + Copy>(
 
 /// The same with the dies read side by side.
 fn reported_side_by_side(
-    rt: &HostRuntime,
+    rt: &(impl AllocGlobal + Threads + Sync),
     images: &mut Images,
     copies: Copies,
     unclean: bool,
@@ -213,7 +214,7 @@ fn arm(images: &mut Images, image: usize, k: u64) {
 
 /// Mounts images of which one refuses this call, die by die and side by side, which come to the same.
 fn mounted_refused(
-    rt: &HostRuntime,
+    rt: &(impl AllocGlobal + Threads + Sync),
     images: &mut Images,
     image: usize,
     call: u64,
@@ -231,7 +232,7 @@ fn mounted_refused(
 
 /// Mounts images of which one refuses this call, and tells the fault. What was refused is not asked again.
 fn mount_refused(
-    rt: &HostRuntime,
+    rt: &(impl AllocGlobal + Threads + Sync),
     images: &mut Images,
     image: usize,
     call: u64,
@@ -241,7 +242,7 @@ fn mount_refused(
 
 /// Mounts images of which one refuses this call, though they may be unclean, and tells how many dies are live.
 fn live_without(
-    rt: &HostRuntime,
+    rt: &(impl AllocGlobal + Threads + Sync),
     images: &mut Images,
     image: usize,
     call: u64,

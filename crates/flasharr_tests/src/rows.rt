@@ -2,7 +2,7 @@
 use crate::spelling::joined;
 use fa_io::WriteBoth;
 use fa_io::faulty::{Interrupted, Piecewise};
-use fa_prog::run;
+use fa_prog::{Host, run};
 use fa_session::{SessionEnd, serve_stream};
 use fa_types::MemBlocks;
 use std::alloc::Global;
@@ -41,7 +41,7 @@ pub fn served<R: Read, W: WriteBoth>(
 
 /// Tries one conversation by the program.
 fn converses_by_the_program(
-    rt: &HostRuntime,
+    rt: &impl Host,
     said: &[u8],
     answer: &[u8],
     end: u8,
@@ -140,7 +140,7 @@ fn closes_at_each_magic(alloc: Global, said: &[u8], answer: &[u8], end: u8) -> R
 
 /// Tries one conversation: by the program, in pieces of each length, over streams that are
 /// interrupted, cut after each byte, and with each byte of each magic number changed.
-fn converses(rt: &HostRuntime, client: &[&str], server: &[&str], end: u8) -> Result<(), Fail> {
+fn converses(rt: &impl Host, client: &[&str], server: &[&str], end: u8) -> Result<(), Fail> {
     let alloc = rt.alloc();
     let said = joined(alloc, client)?;
     let answer = joined(alloc, server)?;

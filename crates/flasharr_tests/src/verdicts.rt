@@ -1,6 +1,6 @@
 //! Certificates that are checked alone.
 use crate::arguments::printed;
-use fa_prog::run;
+use fa_prog::{Host, run};
 use linked_list_allocator::LocalHeap;
 use std::alloc::Global;
 use std::slice;
@@ -14,7 +14,7 @@ const CLOSED_WINDOW: &str = "batch\npage 1 on 0 1\npage 2 on 0 1\npage 3 on 0 1\
 rounds 3\nplace 1 0 1\nplace 2 0 2\n";
 
 /// Tries `verify` on a text.
-fn verifies(rt: &HostRuntime, text: &[&str], status: u8, told: &str) -> Result<(), Fail> {
+fn verifies(rt: &impl Host, text: &[&str], status: u8, told: &str) -> Result<(), Fail> {
     let mut input = String::new(rt.alloc());
     for part in text {
         input.push_str(part)?;
