@@ -1,6 +1,7 @@
-use Rattle.std.proofs.Common.{inl, inr, Result, Ok, Err}
+use Rattle.std.proofs.Common.{inl, inr, map, Result, Ok, Err}
 use Rattle.std.specs.Result.{IfOk, MatchResult}
 use Rattle.fa_mount.specs.Mounting.{SayArray}
+use Rattle.fa_mount.proofs.OnlyReading.{list_read_twice}
 use Rattle.fa_mount.proofs.scanning.scan.Goals as goal
 
 joined : {T E : Type 0} {P R P' : T → Type 0} {Q Q' : E → Type 0} (r : Result T E) → MatchResult r P Q → IfOk r R
@@ -27,3 +28,8 @@ returns-in-Ok-clause-mounts g c =
       | inl n ↦ inl n
       | inr s ↦ inr (inr (c.scan_headers.new.images, c.in_ok-judged.judged, say, s.0, s.1, s.2))
     ])
+
+pub returns-in-Ok-clause-only_read : goal.returns-in-Ok-clause-only_read
+returns-in-Ok-clause-only_read g c =
+    list_read_twice (map g.I.Image.view c.args.images.now) (map g.I.Image.view c.scan_headers.new.images) (map g.I.Image.view c.scan_slots.new.images)
+    c.scan_headers.ensures.only_read c.scan_slots.ensures.only_read
