@@ -1,11 +1,12 @@
 -- What a function gives of numbers that follow each other.
-use Rattle.std.proofs.Common.{◌≡◌, ℕ, ◌+◌, ◌-◌, ◌<◌, ◌≤◌, ◌⊎◌, inl, inr, Bool, cond, List, [], ◌∷◌, Option, Some, None, length, refl, sym, ap, ◌∙◌, zero, suc, arith}
+use Rattle.std.proofs.Common.{◌≡◌, ℕ, ◌+◌, ◌-◌, ◌<◌, ◌≤◌, ◌⊎◌, inl, inr, Bool, cond, List, [], ◌∷◌, Option, Some, None, length, refl, ap, ◌∙◌, zero, suc, arith}
 use Rattle.std.proofs.lemmas.Bool.{cases_eq}
 use Rattle.std.proofs.lemmas.List.Elements.{Contains-get_or}
 use Rattle.std.proofs.lemmas.List.Kept.{AllPairs-cons}
 use Rattle.std.proofs.lemmas.List.Sums.{sum_by-cons}
 use Rattle.std.specs.Prelude.{count_by, is_some}
 use Rattle.std.specs.List.{AllPairs, Contains, cons_option, filter_map, range_with_len, slice_index_or}
+use Rattle.fa_map.proofs.Ranges.{count_le}
 use Rattle.fa_mount.specs.Pages.{given_from}
 
 next_number : (first end : ℕ) → first < end → range_with_len first (end - first) ≡ first ∷ range_with_len (first + 1) (end - (first + 1))
@@ -90,3 +91,6 @@ module _ {A : Type 0} (f : ℕ → Option A) where
       let rest = range_with_len (a + 1) n in
       let here = ap {B = ℕ} (λ b. cond b 1 0) (tells a) in
       omega (arith, length_one_more (f a) (filter_map f rest), sum_by-cons (λ k. cond (test k) 1 0) a rest, here, given_counted test tells (a + 1) n)
+
+  pub given_few : (a n : ℕ) → length (filter_map f (range_with_len a n)) ≤ n
+  given_few a n = omega (arith, given_counted (λ k. is_some (f k)) (λ k. refl) a n, count_le (λ k. is_some (f k)) a n)

@@ -1,5 +1,5 @@
 -- Which pages of a page map are given as written, and which places of a page.
-use Rattle.std.proofs.Common.{◌≡◌, ℕ, ◌+◌, ◌*◌, ◌<◌, ◌==◌, inl, inr, Bool, true, false, List, Option, Some, None, length, option_map, refl, sym, ap, subst, ◌∙◌}
+use Rattle.std.proofs.Common.{◌≡◌, ℕ, ◌-◌, ◌*◌, ◌<◌, ◌≤◌, inl, inr, true, List, Option, Some, None, length, option_map, sym, ap, ◌∙◌}
 use Rattle.std.proofs.Common.{arith, eqb-true}
 use Rattle.std.proofs.lemmas.Bool.{and_parts, cases_Bool, false≢true}
 use Rattle.std.proofs.lemmas.Option.{none-some, same_Some}
@@ -19,8 +19,8 @@ use Rattle.fa_map.proofs.Holders.{current_holds, still_some}
 use Rattle.fa_map.proofs.Ranges.{find_some}
 use Rattle.fa_machine.specs.Maps.{below}
 use Rattle.fa_mount.specs.Reported.{is_written}
-use Rattle.fa_mount.specs.Pages.{Written, place_at, place_on, places_of, written_at, written_pages}
-use Rattle.fa_mount.proofs.GivenNumbers.{given_by, given_counted, given_in_order, gives}
+use Rattle.fa_mount.specs.Pages.{Written, place_at, place_on, places_from, places_of, written_at, written_from, written_pages}
+use Rattle.fa_mount.proofs.GivenNumbers.{given_by, given_counted, given_few, given_in_order, gives}
 use Rattle.fa_mount.proofs.Merging.{found_passes}
 
 -- ## Places
@@ -125,3 +125,10 @@ module _ (m : MapState) where
   pub all_counted : length (written_pages m) ≡ count_by (is_written m) (below m.geometry.pages)
   all_counted =
       given_counted (written_at m) (is_written m) (λ page. still_some (written_as page) (get m.numbers page)) 0 m.geometry.pages
+
+  -- no array has more pages, nor more dies
+  pub few_pages : length (written_from m 0) ≤ 1048576
+  few_pages = let most = m.geometry.within.pages_fit.most in omega (arith, given_few (written_at m) 0 (m.geometry.pages - 0), most)
+
+  pub few_places : (page : ℕ) → length (places_from m page 0) ≤ 64
+  few_places page = let most = m.geometry.within.dies_fit.most in omega (arith, given_few (place_on m page) 0 (m.geometry.dies - 0), most)

@@ -1,5 +1,5 @@
 //! The pages of a mounted array that were ever written, and where their current copies stand.
-ghost use Rattle.std.specs.Prelude.{◌≡◌};
+ghost use Rattle.std.specs.Prelude.{◌≡◌, ◌≤◌, length};
 ghost use Rattle.std.specs.Iterator.{YieldsFirst, item_count};
 ghost use Rattle.fa_mount.specs.Pages.{places_of, written_pages};
 
@@ -84,7 +84,8 @@ impl<M: Map + Drop, A: Allocator> Mounted<M, A> {
     /// The pages that were ever written, each with its last write and the places of its current copies. It
     /// takes no memory.
     pub fn pages(&self) -> Pages<'_, M>
-        ensures { result ≡ written_pages (M.view self.now.map) }
+        ensures written { result ≡ written_pages (M.view self.now.map) }
+        ensures few { length result ≤ 1048576 }
     {
         Pages {
             map: &self.map,
@@ -121,7 +122,8 @@ impl<'a, M: Map> FusedIterator for Pages<'a, M> {}
 impl<'a, M: Map> WrittenPage<'a, M> {
     /// The places of the page's current copies, the dies rising. There is none where the page is lost.
     pub fn places(&self) -> Places<'a, M>
-        ensures { result ≡ self.now.places }
+        ensures current { result ≡ self.now.places }
+        ensures few { length result ≤ 64 }
     {
         Places {
             map: self.map,

@@ -1,4 +1,4 @@
-use Rattle.std.proofs.Common.{rules, ◌∙◌, sym, ap, arith, Option}
+use Rattle.std.proofs.Common.{rules, ◌∙◌, sym, ap, arith}
 use Rattle.fa_types.specs.declared.geometry.Geometry.{Geometry}
 use Rattle.fa_mount.proofs.PagesLeft.{page_given, page_passed}
 use Rattle.fa_mount.proofs.pages.PagesIterator.next.Goals as goal
