@@ -1,7 +1,7 @@
 //! The pages of a mounted array that were ever written, and where their current copies stand.
 ghost use Rattle.std.specs.Prelude.{◌≡◌, ◌≤◌, length};
 ghost use Rattle.std.specs.Iterator.{YieldsFirst, item_count};
-ghost use Rattle.fa_mount.specs.Pages.{places_of, written_pages};
+ghost use Rattle.fa_mount.specs.Pages.{written_pages};
 
 use crate::mounted::Mounted;
 use fa_machine::Version;

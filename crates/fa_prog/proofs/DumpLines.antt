@@ -7,8 +7,8 @@ use Rattle.fa_types.specs.declared.numbers.Slot.{Slot}
 use Rattle.fa_machine.specs.declared.places.Version.{Version}
 use Rattle.fa_machine.specs.Copies.{copy_on}
 use Rattle.fa_machine.specs.State.{MapState}
-use Rattle.fa_mount.specs.Pages.{Written, place_at, place_on, places_of, written_at, written_pages}
-use Rattle.fa_prog.specs.Look.{copies_text, dump_text, head_text, line_text, page_text, place_text, places_text, texts_below, written_text}
+use Rattle.fa_mount.specs.Pages.{place_at, place_on, places_of, written_at, written_pages}
+use Rattle.fa_prog.specs.Look.{copies_text, dump_text, head_text, line_text, page_text, place_text, places_text, texts_below}
 
 -- the text of what may be there
 abbrev pub text_if : {A : Type 0} → (A → List ℕ) → Option A → List ℕ

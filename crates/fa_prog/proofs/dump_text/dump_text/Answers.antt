@@ -8,5 +8,5 @@ use Rattle.fa_prog.proofs.dump_text.dump_text.Goals as goal
 pub loop-page-init : goal.loop-page-init
 loop-page-init g c =
     ap (λ bytes. bytes ++ flat_map line_text c.into_iter-page-iterator.result) c.new-out.ensures.bytes
-    ∙ ap (λ (pages : List Written). flat_map line_text pages) (c.into_iter-page-iterator.ensures.into_iter_gives ∙ c.pages-page-items.ensures)
+    ∙ ap (λ (pages : List Written). flat_map line_text pages) (c.into_iter-page-iterator.ensures.into_iter_gives ∙ c.pages-page-items.ensures.written)
     ∙ lines_of_written (g.M.Map.view c.args.mounted.now.map)
