@@ -5,6 +5,7 @@ pub mod Erasing
 pub mod Filling
 pub mod FirstHeaders
 pub mod FoundAgain
+pub mod GivenNumbers
 pub mod HonestSlots
 pub mod Images
 pub mod LastWrites
@@ -17,6 +18,8 @@ pub mod Numbers
 pub mod OneMap
 pub mod OnlyReading
 pub mod Outcomes
+pub mod PagesGiven
+pub mod PagesLeft
 pub mod Readable
 pub mod Reading
 pub mod Rows

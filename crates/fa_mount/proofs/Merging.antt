@@ -23,7 +23,7 @@ use Rattle.fa_mount.specs.ContentMerging.{ChangesDie, IsMountedBefore, last_in}
 use Rattle.fa_mount.proofs.LastWrites.{same_page}
 
 -- where nothing is found no number of the range passes
-none_passes : (test : ℕ → Bool) (a n k : ℕ) → find test (range_with_len a n) ≡ None → a ≤ k → k < a + n → test k ≡ false
+pub none_passes : (test : ℕ → Bool) (a n k : ℕ) → find test (range_with_len a n) ≡ None → a ≤ k → k < a + n → test k ≡ false
 none_passes test a zero k none low high = absurd (omega (arith, low, high))
 none_passes test a (suc n) k none low high =
     elim (cases_Bool (test a)) [
@@ -36,7 +36,7 @@ none_passes test a (suc n) k none low high =
     ]
 
 -- what is found passes
-found_passes : (test : ℕ → Bool) (xs : List ℕ) (k : ℕ) → find test xs ≡ Some k → test k ≡ true
+pub found_passes : (test : ℕ → Bool) (xs : List ℕ) (k : ℕ) → find test xs ≡ Some k → test k ≡ true
 found_passes test [] k e = absurd (none-some k e)
 found_passes test (x ∷ xs) k e =
     elim (cases_Bool (test x)) [

@@ -18,6 +18,14 @@ same_read image = refl
 pub read_twice : (a b c : ImageState) → IsOnlyRead a b → IsOnlyRead b c → IsOnlyRead a c
 read_twice a b c first second = second ∙ ap (λ (x : ImageState). record x { faults = c.faults }) first
 
+pub list_read_twice : (a b c : List ImageState) → AreOnlyRead a b → AreOnlyRead b c → AreOnlyRead a c
+list_read_twice [] [] [] first second = tt
+list_read_twice [] [] (z ∷ c) first second = absurd second
+list_read_twice [] (y ∷ b) c first second = absurd first
+list_read_twice (x ∷ a) [] c first second = absurd first
+list_read_twice (x ∷ a) (y ∷ b) [] first second = absurd second
+list_read_twice (x ∷ a) (y ∷ b) (z ∷ c) first second = (read_twice x y z first.0 second.0, list_read_twice a b c first.1 second.1)
+
 module _ {I : Type 0} (view : I → ImageState) where
   pub none_read : (images : List I) → EachOnlyRead view images images
   none_read images = record { as_many = refl; each = λ index image is. (image, is, same_read (view image)) }

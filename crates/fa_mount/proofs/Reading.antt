@@ -42,7 +42,7 @@ told image (Refused fault) Bad same is = absurd is
 told image (Refused fault) (Good header) same is = absurd is
 
 -- images that were not called are as they were
-as_they_were : (images : List ImageState) → AreOnlyRead images images
+pub as_they_were : (images : List ImageState) → AreOnlyRead images images
 as_they_were [] = tt
 as_they_were (image ∷ images) = (refl, as_they_were images)
 

@@ -11,6 +11,7 @@ pub mod Judged
 pub mod MountedWorld
 pub mod Mounting
 pub mod NewArray
+pub mod Pages
 pub mod Readings
 pub mod Reported
 pub mod Rules

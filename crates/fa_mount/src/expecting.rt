@@ -1,5 +1,7 @@
 //! Images that are expected to be those of an array.
+ghost use Rattle.std.specs.Prelude.{map};
 ghost use Rattle.fa_mount.specs.Expected.{IsExpected};
+ghost use Rattle.fa_mount.specs.Found.{AreOnlyRead};
 
 use crate::fault::{MountFault, MountRefused};
 use crate::found::read_headers;
@@ -20,7 +22,8 @@ pub fn expect<I: Image, A: Allocator + Copy>(
     array: [u8; 16],
     unclean: bool,
 ) -> Result<(), MountRefused>
-    ensures { IsExpected I.view I.made geometry array unclean images.old images.new result }
+    ensures expected { IsExpected I.view I.made geometry array unclean images.old images.new result }
+    ensures only_read { AreOnlyRead (map I.view images.old) (map I.view images.new) }
 {
     let Ok(founds) = read_headers(alloc, images) else {
         return Err(of_nobody(MountFault::NoMemory));

@@ -1,7 +1,7 @@
 //! What is read of images before they are judged.
-ghost use Rattle.std.specs.Prelude.{◌≡◌, length, IfOk, OnErr};
+ghost use Rattle.std.specs.Prelude.{◌≡◌, length, map, IfOk, OnErr};
 ghost use Rattle.fa_image.specs.Image.{Gave};
-ghost use Rattle.fa_mount.specs.Found.{IsFound, ReadsHeader, ReadsHeaders};
+ghost use Rattle.fa_mount.specs.Found.{AreOnlyRead, IsFound, ReadsHeader, ReadsHeaders};
 
 use fa_image::Image;
 use fa_tag::{Header, open_header};
@@ -37,6 +37,7 @@ pub fn read_headers<I: Image, A: Allocator>(
     ensures all { IfOk result (λ founds. length founds.items ≡ length images.old) }
     ensures read { IfOk result (λ founds. ReadsHeaders I.view I.made images.old images.new founds.items) }
     ensures err { OnErr result (images.new ≡ images.old) }
+    ensures only_read { AreOnlyRead (map I.view images.old) (map I.view images.new) }
 {
     let mut founds = Vec::with_capacity(alloc, images.len())?;
     for index in 0..images.len() {

@@ -1,7 +1,7 @@
 //! The headers of an array's images, read and judged.
-ghost use Rattle.std.specs.Prelude.{◌≡◌, ◌⊎◌, List, None, Some, MatchResult, IfOk};
+ghost use Rattle.std.specs.Prelude.{◌≡◌, ◌⊎◌, List, map, None, Some, MatchResult, IfOk};
 ghost use Rattle.fa_mount.specs.ContentReading.{AreReadable};
-ghost use Rattle.fa_mount.specs.Found.{ReadsHeaders};
+ghost use Rattle.fa_mount.specs.Found.{AreOnlyRead, ReadsHeaders};
 ghost use Rattle.fa_mount.specs.Judged.{IsJudged};
 ghost use Rattle.fa_mount.specs.Rules as rules;
 ghost use Rattle.fa_mount.specs.declared.found.Found.{Found as HeadersFound};
@@ -27,6 +27,7 @@ pub fn scan_headers<I: Image, A: Allocator + Copy>(
         (λ judged. (rules.header_refusal copies.number unclean founds ≡ None) × IsJudged (rules.seen_from 0 founds) judged)
         (λ refused. (rules.header_refusal copies.number unclean founds ≡ Some refused) ⊎ (refused ≡ rules.refused MountFault.NoMemory)) }
     ensures readable { IfOk result (λ judged. AreReadable I.view judged.geometry judged.dies.items images.new) }
+    ensures only_read { AreOnlyRead (map I.view images.old) (map I.view images.new) }
 {
     match read_headers(alloc, images) {
         Ok(founds) => judge(alloc, founds.as_slice(), copies, unclean),

@@ -1,14 +1,18 @@
 //! Laws of the definitions, each the contract of a function with no code.
-ghost use Rattle.std.specs.Prelude.{◌≡◌, ◌↔◌, ◌⊎◌, ℕ, ◌*◌, ◌<◌, Bool, true, false, Some, None, is_some, List, length, map, IsTrue, Ok};
+ghost use Rattle.std.specs.Prelude.{◌≡◌, ◌↔◌, ◌⊎◌, ℕ, ◌*◌, ◌<◌, Bool, true, false, Some, None, is_some};
+ghost use Rattle.std.specs.Prelude.{List, count_by, length, map, IsTrue, Ok};
 ghost use Rattle.std.specs.FinMap.{get};
-ghost use Rattle.std.specs.List.{AllByRecursion};
+ghost use Rattle.std.specs.List.{AllByRecursion, AllPairs, Contains};
 ghost use Rattle.fa_types.specs.Geometry.{AreCopies};
 ghost use Rattle.fa_types.specs.declared.geometry.Geometry.{Geometry};
 ghost use Rattle.fa_mount.specs.Formatted.{AreFormatted};
+ghost use Rattle.fa_types.specs.declared.numbers.Die.{Die};
 ghost use Rattle.fa_types.specs.declared.numbers.Page.{Page};
+ghost use Rattle.fa_types.specs.declared.numbers.Slot.{Slot};
 ghost use Rattle.fa_machine.specs.Beginning.{IsBeginning};
 ghost use Rattle.fa_machine.specs.Cells.{Cell, Empty, Sealed};
 ghost use Rattle.fa_machine.specs.Copies.{is_current};
+ghost use Rattle.fa_machine.specs.Maps.{below};
 ghost use Rattle.fa_machine.specs.State.{MapState, is_live, used_at};
 ghost use Rattle.fa_machine.specs.World.{World};
 ghost use Rattle.fa_machine.specs.declared.places.Used.TheVariants.{Held, Reserved};
@@ -23,7 +27,10 @@ ghost use Rattle.fa_mount.specs.declared.content.SlotContent.{SlotContent};
 ghost use Rattle.fa_mount.specs.declared.content.SlotContent.TheVariants.{Copy, Erased};
 ghost use Rattle.fa_mount.specs.Found.{ReadsHeaders, AreOnlyRead, AreOf};
 ghost use Rattle.fa_mount.specs.Judged.{IsJudged};
+ghost use Rattle.fa_map.specs.Slots.{IsPageMap};
 ghost use Rattle.fa_mount.specs.NewArray.{IsNew, new_founds};
+ghost use Rattle.fa_mount.specs.Pages.{Written, places_of, written_pages};
+ghost use Rattle.fa_mount.specs.Reported.{is_written};
 ghost use Rattle.fa_mount.specs.Rules.{can_hold, header_refusal, is_unread_header, seen_from};
 ghost use Rattle.fa_mount.specs.declared.found.Found.{Found};
 ghost use Rattle.fa_mount.specs.declared.judging.Judged.{Judged};
@@ -127,4 +134,18 @@ pub fn what_is_mounted_stands_there<I: Image, A>()
 /// copies of one page have one payload.
 pub fn what_was_mounted_is_a_beginning()
     ensures { (bytes : SlotBytes) (is_spare : ℕ → Bool) (w : World) → IsMountedWorld bytes is_spare w → IsBeginning w }
+{}
+
+/// Of a page map: a page is one of its written pages exactly where it was ever written, with its last write, and its places
+/// are exactly those of its current copies. The pages rise, and so do the dies of a page's places, so none comes twice; and
+/// there are as many pages as [`crate::Mounted::report`] counts.
+pub fn written_pages_are_those_of_the_map()
+    ensures written { (m : MapState) (page : Written) → IsPageMap m
+        → Contains (written_pages m) page
+        ↔ ((get m.numbers page.page.0 ≡ Some page.version) × (page.places ≡ places_of m page.page.0)) }
+    ensures places { (m : MapState) (page : ℕ) (die : Die) (slot : Slot) → IsPageMap m
+        → Contains (places_of m page) (die, slot) ↔ (is_current m page die.0 slot.0 ≡ true) }
+    ensures pages_rise { (m : MapState) → AllPairs (λ a b. a.page.0 < b.page.0) (written_pages m) }
+    ensures dies_rise { (m : MapState) (page : ℕ) → AllPairs (λ a b. a.0.0 < b.0.0) (places_of m page) }
+    ensures counted { (m : MapState) → length (written_pages m) ≡ count_by (is_written m) (below m.geometry.pages) }
 {}

@@ -1,3 +1,4 @@
+pub mod DumpLines
 pub mod Lines
 pub mod PlanLemmas
 pub mod TalkLemmas

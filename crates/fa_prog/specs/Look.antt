@@ -2,10 +2,14 @@
 use Rattle.std.specs.Prelude.{ℕ, zero, suc, if◌then◌else◌, List, [], ◌∷◌, ◌++◌, codes, Option, Some, None}
 use Rattle.std.specs.Fmt.{decimal}
 use Rattle.std.specs.FinMap.{get}
+use Rattle.std.specs.List.{flat_map}
+use Rattle.fa_types.specs.declared.numbers.Die.{Die}
+use Rattle.fa_types.specs.declared.numbers.Slot.{Slot}
 use Rattle.fa_types.specs.declared.kind.Kind.{Kind}
 use Rattle.fa_types.specs.declared.kind.Kind.TheVariants.{Data, Hole}
 use Rattle.fa_machine.specs.declared.places.Version.{Version}
 use Rattle.fa_mount.specs.declared.mounted.Report.{Report}
+use Rattle.fa_mount.specs.Pages.{Written}
 use Rattle.fa_machine.specs.Copies.{copy_on}
 use Rattle.fa_machine.specs.State.{MapState}
 
@@ -57,3 +61,10 @@ page_text m page = line_of (get m.numbers page)
 -- a line for each page that was written, the pages rising
 abbrev pub dump_text : MapState → List ℕ
 dump_text m = texts_below (page_text m) m.geometry.pages
+
+-- the same line, of a page that is given with its places
+abbrev pub copies_text : List (Die × Slot) → List ℕ
+copies_text places = flat_map (λ place. place_text place.0.0 (Some place.1.0)) places
+
+abbrev pub line_text : Written → List ℕ
+line_text page = head_text page.page.0 page.version ++ copies_text page.places ++ 10 ∷ []

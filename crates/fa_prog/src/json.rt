@@ -1,12 +1,10 @@
 //! What `check` and `dump` print as one JSON document.
-ghost use Rattle.std.specs.Prelude.{◌<◌};
-
 use crate::table::DieRow;
 use fa_map::Map;
-use fa_mount::Report;
-use fa_types::{Die, Kind, Page};
+use fa_mount::{Mounted, Report, WrittenPage};
+use fa_types::Kind;
 use serde_json::{Value, json};
-use std::alloc::{AllocError, Global};
+use std::alloc::{AllocError, Allocator, Global};
 
 /// What `check` tells, with the table of dies.
 pub(crate) fn check_json(
@@ -29,17 +27,15 @@ pub(crate) fn check_json(
 }
 
 /// What `dump` tells, with the table of dies.
-pub(crate) fn dump_json<M: Map>(
+pub(crate) fn dump_json<M: Map + Drop, A: Allocator>(
     global: Global,
-    map: &M,
+    mounted: &Mounted<M, A>,
     rows: &[DieRow<'_>],
 ) -> Result<String, AllocError> {
     let table = table_value(global, rows)?;
     let mut pages = Vec::new(global);
-    for page in 0..map.geometry().pages {
-        if let Some(value) = page_value(global, map, Page(page))? {
-            pages.push(value)?;
-        }
+    for page in mounted.pages() {
+        pages.push(page_value(global, &page)?)?;
     }
     let pages = Value::from(pages);
     let document = json!(in global; {"pages": pages, "table": table})?;
@@ -53,31 +49,23 @@ fn line_of(global: Global, document: &Value) -> Result<String, AllocError> {
     Ok(line)
 }
 
-/// A page, if it was written: its last write, and the places of its copies.
-fn page_value<M: Map>(global: Global, map: &M, page: Page) -> Result<Option<Value>, AllocError>
-    requires { page.0 < (M.view map.now).geometry.pages }
-{
-    let Some(version) = map.version(page) else {
-        return Ok(None);
-    };
-    let kind = match version.kind {
+/// A page that was written: its last write, and the places of its copies.
+fn page_value<M: Map>(global: Global, page: &WrittenPage<'_, M>) -> Result<Value, AllocError> {
+    let kind = match page.version.kind {
         Kind::Data => "data",
         Kind::Hole => "hole",
     };
     let mut copies = Vec::new(global);
-    for die in 0..map.geometry().dies {
-        if let Some(slot) = map.copy_on(page, Die(die as u8)) {
-            copies.push(json!(in global; {"die": die, "slot": slot.0})?)?;
-        }
+    for (die, slot) in page.places() {
+        copies.push(json!(in global; {"die": die.0, "slot": slot.0})?)?;
     }
     let copies = Value::from(copies);
-    let value = json!(in global; {
-        "page": page.0,
-        "seq": version.seq.0,
+    json!(in global; {
+        "page": page.page.0,
+        "seq": page.version.seq.0,
         "kind": kind,
         "copies": copies,
-    })?;
-    Ok(Some(value))
+    })
 }
 
 /// The table of dies.

@@ -103,7 +103,7 @@ fn text_of<R: Host, A: Allocator>(
     }
     let text = match look.asked {
         Asked::Check => check_text(rt.alloc(), &mounted.report(settings.copies))?,
-        Asked::Dump => dump_text(rt.alloc(), &mounted.map)?,
+        Asked::Dump => dump_text(rt.alloc(), &mounted)?,
     };
     Ok(text)
 }
@@ -137,7 +137,7 @@ fn json_of<R: Host, A: Allocator>(
     }
     let text = match asked {
         Asked::Check => check_json(global, &mounted.report(settings.copies), &rows)?,
-        Asked::Dump => dump_json(global, &mounted.map, &rows)?,
+        Asked::Dump => dump_json(global, mounted, &rows)?,
     };
     Ok(text)
 }

@@ -41,6 +41,8 @@ mod mount_headers;
 #[cfg(test)]
 mod mount_refusals;
 #[cfg(test)]
+mod mounted_pages;
+#[cfg(test)]
 mod mounting;
 #[cfg(test)]
 mod nego;

@@ -12,10 +12,11 @@ use fa_tag::{Tag, seal};
 use fa_types::{Copies, Die, Geometry, Kind, Page, Seq, Slot};
 use std::test::Fail;
 
-type Images = [FuseImage<MemImage>; 4];
+/// The images of such an array.
+pub type Images = [FuseImage<MemImage>; 4];
 
 /// Three dies in use and a spare, of four blocks of four slots, with twelve pages.
-fn shape() -> Result<Geometry, Fail> {
+pub fn shape() -> Result<Geometry, Fail> {
     Ok(Geometry::new(4, 1, 4, 4, 512, 12)?)
 }
 
@@ -37,7 +38,7 @@ fn images(rt: &HostRuntime, geometry: Geometry) -> Result<Images, Fail>
 }
 
 /// New images of an array.
-fn formatted(rt: &HostRuntime) -> Result<Images, Fail> {
+pub fn formatted(rt: &HostRuntime) -> Result<Images, Fail> {
     let geometry = shape()?;
     ensure!(geometry.dies == 4);
     let mut images = images(rt, geometry)?;
@@ -78,7 +79,7 @@ pub fn tag(page: u64, seq: u64, kind: Kind, die: u8, slot: u32) -> Tag {
 }
 
 /// Mounts images.
-fn mounted(
+pub fn mounted(
     rt: &HostRuntime,
     images: &mut Images,
     unclean: bool,
@@ -135,7 +136,7 @@ fn a_new_array_is_mounted_empty(rt: HostRuntime) -> Result<(), Fail> {
 
 /// Images of which page 0 has an older and a newer copy, page 1 copies of one number that are of two kinds,
 /// and page 2 two copies on one die. A tag names another slot, and one another page than there is.
-fn written(rt: &HostRuntime) -> Result<Images, Fail> {
+pub fn written(rt: &HostRuntime) -> Result<Images, Fail> {
     let mut images = formatted(rt)?;
     put(&mut images[0], 0, tag(0, 1, Kind::Data, 0, 0))?;
     put(&mut images[1], 0, tag(0, 2, Kind::Data, 1, 0))?;

@@ -1,8 +1,8 @@
-use Rattle.std.proofs.Common.{◌≡◌, ℕ, ◌<◌, List, ◌∷◌, [], ◌++◌, length, set, get_or, ◌+◌, ap, ◌∙◌, sym, subst, arith}
+use Rattle.std.proofs.Common.{◌≡◌, ℕ, ◌<◌, List, ◌∷◌, [], ◌++◌, length, set, get_or, ◌+◌, map, ap, ◌∙◌, sym, subst, arith}
 use Rattle.std.proofs.lemmas.List.{length_push}
 use Rattle.fa_mount.specs.Found.{ReadsHeader, ReadsHeaders}
 use Rattle.fa_mount.specs.declared.found.Found.{Found}
-use Rattle.fa_mount.proofs.Reading.{reads_more}
+use Rattle.fa_mount.proofs.Reading.{are_only_read, as_they_were, reads_more}
 use Rattle.fa_mount.proofs.found.read_headers.Goals as goal
 
 pub loop-index-preserved : goal.loop-index-preserved
@@ -25,3 +25,11 @@ loop-index-preserved g c =
       count = ap length c.in_ok-push.ensures.items ∙ length_push founds f ∙ ap (λ (n : ℕ). n + 1) count;
       room = omega (arith, c.in_ok-push.ensures.capacity, c.loop-index.invariant.room);
     }
+
+pub returns-in_err-founds-clause-only_read : goal.returns-in_err-founds-clause-only_read
+returns-in_err-founds-clause-only_read g c = as_they_were (map g.I.Image.view c.args.images.now)
+
+pub returns-clause-only_read : goal.returns-clause-only_read
+returns-clause-only_read g c =
+    are_only_read g.I.Image.view g.I.Image.honest g.I.Image.made g.met.I.Image.meets c.args.images.now c.loop-index.images c.loop-index.founds.items
+    c.loop-index.invariant.read

@@ -1,5 +1,6 @@
-use Rattle.std.proofs.Common.{inl, inr}
+use Rattle.std.proofs.Common.{inl, inr, map}
 use Rattle.fa_mount.specs.Mounting.{SayArray}
+use Rattle.fa_mount.proofs.OnlyReading.{list_read_twice}
 use Rattle.fa_mount.proofs.SlotsScanned.{joined}
 use Rattle.fa_mount.proofs.scanning.scan.Goals as goal
 
@@ -22,3 +23,8 @@ returns-in-Ok-clause-mounts g c =
       | inl n ↦ inl n
       | inr s ↦ inr (inr (c.scan_headers.new.images, c.in_ok-judged.judged, say, s.0, s.1, s.2))
     ])
+
+pub returns-in-Ok-clause-only_read : goal.returns-in-Ok-clause-only_read
+returns-in-Ok-clause-only_read g c =
+    list_read_twice (map g.I.Image.view c.args.images.now) (map g.I.Image.view c.scan_headers.new.images) (map g.I.Image.view c.scan_slots.new.images)
+    c.scan_headers.ensures.only_read c.scan_slots.ensures.only_read
