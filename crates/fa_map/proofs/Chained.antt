@@ -21,10 +21,10 @@ pub place_or_none : (o : Option (ℕ × ℕ)) → (o ≡ None) ⊎ ((d : ℕ) ×
 place_or_none None = inl refl
 place_or_none (Some (d, s)) = inr (d, s, refl)
 
-before_none : (d : ℕ) (o : Option (ℕ × ℕ)) → o ≡ None → is_before d o ≡ true
+pub before_none : (d : ℕ) (o : Option (ℕ × ℕ)) → o ≡ None → is_before d o ≡ true
 before_none d o e = ap (is_before d) e
 
-before_some : (d d' s' : ℕ) (o : Option (ℕ × ℕ)) → o ≡ Some (d', s') → d < d' → is_before d o ≡ true
+pub before_some : (d d' s' : ℕ) (o : Option (ℕ × ℕ)) → o ≡ Some (d', s') → d < d' → is_before d o ≡ true
 before_some d d' s' o e less = ap (is_before d) e ∙ lt-ltb d d' less
 
 before_lt : (d d' s' : ℕ) (o : Option (ℕ × ℕ)) → o ≡ Some (d', s') → is_before d o ≡ true → d < d'

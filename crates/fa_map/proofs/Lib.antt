@@ -1,5 +1,6 @@
 pub mod Chained
 pub mod Changed
+pub mod Counted
 pub mod Holders
 pub mod Indices
 pub mod Kept

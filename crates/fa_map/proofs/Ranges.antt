@@ -5,6 +5,7 @@ use Rattle.std.proofs.lemmas.Bool.{cases_Bool, cases_eq, cases_lt, false≢true}
 use Rattle.std.proofs.lemmas.Option.{none-some, same_Some}
 use Rattle.std.proofs.lemmas.List.Sums.{sum_by-cons}
 use Rattle.std.specs.List.{find, range_with_len, count_by}
+use Rattle.std.specs.Prelude.{is_some}
 
 first_is : (test : ℕ → Bool) (a i : ℕ) → a ≤ i → ((k : ℕ) → a ≤ k → k < i → test k ≡ false) → test a ≡ true → i ≡ a
 first_is test a i low fails here =
@@ -28,6 +29,18 @@ find_none test a (suc n) fails =
     ap (λ (b : Bool). cond b (Some a) (find test (range_with_len (a + 1) n))) (fails a (omega arith) (omega arith))
     ∙ find_none test (a + 1) n (λ k low high. fails k (omega arith) (omega arith))
 
+-- what passes is found, or something before it
+pub found_some : (test : ℕ → Bool) (a n i : ℕ) → a ≤ i → i < a + n → test i ≡ true → is_some (find test (range_with_len a n)) ≡ true
+found_some test a zero i low high passes = absurd (omega arith)
+found_some test a (suc n) i low high passes =
+    elim (cases_Bool (test a)) [
+      | inl here ↦ ap (λ (b : Bool). is_some (cond b (Some a) (find test (range_with_len (a + 1) n)))) here
+      | inr later ↦
+          let past : a < i = beyond test a i low passes later in
+          ap (λ (b : Bool). is_some (cond b (Some a) (find test (range_with_len (a + 1) n)))) later
+          ∙ found_some test (a + 1) n i (omega arith) (omega arith) passes
+    ]
+
 pub find_some : (test : ℕ → Bool) (a n i : ℕ) → a ≤ i → i < a + n → test i ≡ true → ((k : ℕ) → a ≤ k → k < i → test k ≡ false)
     → find test (range_with_len a n) ≡ Some i
 find_some test a zero i low high passes fails = absurd (omega arith)
@@ -47,7 +60,7 @@ find_agree f g a (suc n) agree =
     let rest = find_agree f g (a + 1) n (λ k low high. agree k (omega arith) (omega arith)) in
     (λ i. cond (here i) (Some a) (rest i))
 
-count_cons : (f : ℕ → Bool) (a n : ℕ) → count_by f (range_with_len a (suc n)) ≡ cond (f a) 1 0 + count_by f (range_with_len (a + 1) n)
+pub count_cons : (f : ℕ → Bool) (a n : ℕ) → count_by f (range_with_len a (suc n)) ≡ cond (f a) 1 0 + count_by f (range_with_len (a + 1) n)
 count_cons f a n = sum_by-cons (λ x. cond (f x) 1 0) a (range_with_len (a + 1) n)
 
 pub count_agree : (f g : ℕ → Bool) (a n : ℕ) → ((k : ℕ) → a ≤ k → k < a + n → f k ≡ g k) → count_by f (range_with_len a n) ≡ count_by g (range_with_len a n)
@@ -57,6 +70,24 @@ count_agree f g a (suc n) agree =
     let rest = count_agree f g (a + 1) n (λ k low high. agree k (omega arith) (omega arith)) in
     count_cons f a n ∙ (λ i. cond (here i) 1 0 + rest i) ∙ sym (count_cons g a n)
 
+abbrev pub bit : Bool → ℕ
+bit b = cond b 1 0
+
+-- numbers of which none counts are passed over
+pub count_past : (f : ℕ → Bool) (a n m : ℕ) → ((k : ℕ) → a ≤ k → k < a + n → f k ≡ false)
+    → count_by f (range_with_len a (n + m)) ≡ count_by f (range_with_len (a + n) m)
+count_past f a zero m fails =
+    let same : a ≡ a + 0 = omega arith in
+    let as_many : zero + m ≡ m = omega arith in
+    (λ i. count_by f (range_with_len (same i) (as_many i)))
+count_past f a (suc n) m fails =
+    let longer : suc n + m ≡ suc (n + m) = omega arith in
+    let same : a + 1 + n ≡ a + suc n = omega arith in
+    let none = ap bit (fails a (omega arith) (omega arith)) in
+    let rest = count_past f (a + 1) n m (λ k low high. fails k (omega arith) (omega arith)) in
+    let from = ap (λ (k : ℕ). count_by f (range_with_len k m)) same in
+    ap (λ (k : ℕ). count_by f (range_with_len a k)) longer ∙ omega (arith, count_cons f a (n + m), none, rest, from)
+
 -- the same numbers, counted from elsewhere
 pub count_shift : (f g : ℕ → Bool) (a b n : ℕ) → ((k : ℕ) → k < n → f (a + k) ≡ g (b + k)) → count_by f (range_with_len a n) ≡ count_by g (range_with_len b n)
 count_shift f g a b zero agree = refl
@@ -64,9 +95,6 @@ count_shift f g a b (suc n) agree =
     let here : f a ≡ g b = ap f (omega arith) ∙ agree 0 (omega arith) ∙ ap g (omega arith) in
     let rest = count_shift f g (a + 1) (b + 1) n (λ k below. ap f (omega arith) ∙ agree (k + 1) (omega arith) ∙ ap g (omega arith)) in
     count_cons f a n ∙ (λ i. cond (here i) 1 0 + rest i) ∙ sym (count_cons g b n)
-
-abbrev pub bit : Bool → ℕ
-bit b = cond b 1 0
 
 pub count_more : (f : ℕ → Bool) (a n : ℕ) → count_by f (range_with_len a (n + 1)) ≡ count_by f (range_with_len a n) + cond (f (a + n)) 1 0
 count_more f a zero = let same : a ≡ a + 0 = omega arith in ap (λ (k : ℕ). 0 + bit (f k)) same

@@ -12,13 +12,13 @@ use Rattle.fa_machine.specs.declared.places.Used.{Used}
 use Rattle.fa_machine.specs.declared.places.Used.TheVariants.{Held, Stale as StaleSlot}
 use Rattle.fa_machine.specs.declared.places.Version.{Version}
 use Rattle.fa_machine.specs.Collecting.{count_in, move_place}
-use Rattle.fa_machine.specs.Copies.{copy_on, is_held_slot, is_reserved_slot, is_stale_slot}
+use Rattle.fa_machine.specs.Copies.{copy_on, holders, holds_page, is_held_slot, is_reserved_slot, is_stale_slot}
 use Rattle.fa_machine.specs.Maps.{below}
 use Rattle.fa_machine.specs.Placement.{free, is_erased_slot, lowest_erased}
 use Rattle.fa_machine.specs.State.{MapState, is_live, slots_of, used_at}
 use Rattle.fa_map.specs.Chains.{entry_at, entry_of}
 use Rattle.fa_map.specs.Changes.{MayHold, dropped, made_current, new_map, outdated, with_used, without_block}
-use Rattle.fa_map.specs.Entries.{entries_in, erased_entry, is_current_entry, is_erased_entry, is_same_state, may_take, retired, state_of_entry}
+use Rattle.fa_map.specs.Entries.{die_holds, entries_in, erased_entry, is_copy_of, is_current_entry, is_erased_entry, is_same_state, may_take, retired, state_of_entry}
 use Rattle.fa_map.specs.Shown.{IsShown, held, is_number, used_of, version_at}
 use Rattle.fa_map.specs.Plain.{die_slots, holds, slot_at}
 use Rattle.fa_map.specs.declared.entries.Entry.{Entry}
@@ -28,7 +28,7 @@ use Rattle.fa_map.specs.declared.slots.SlotState.TheVariants as states
 use Rattle.std.proofs.Math.Nat.{mul-le-mul_right}
 use Rattle.fa_map.proofs.Chained.{same_page}
 use Rattle.fa_map.proofs.Changed.{place_cases}
-use Rattle.fa_map.proofs.Holders.{copy_found}
+use Rattle.fa_map.proofs.Holders.{copy_found, holders_counted}
 use Rattle.fa_map.proofs.Indices.{die_fits, index_fits}
 use Rattle.fa_map.proofs.Plain.{live_fits, plain_alike, plain_current, plain_dropped, plain_erased, plain_new, plain_used, told}
 use Rattle.fa_map.proofs.Ranges.{count_agree, find_agree, find_none, find_some}
@@ -90,6 +90,17 @@ holds_current versions page (Current p) h = ap Current (held_holds page p (versi
 held_self : (page : ℕ) (o : Option Version) → is_some o ≡ true → holds page (held page o) ≡ true
 held_self page None h = absurd (false≢true h)
 held_self page (Some v) h = eq-eqb page page refl
+
+held_alike : (page p : ℕ) (o : Option Version) → is_some o ≡ true → (p == page) ≡ holds page (held p o)
+held_alike page p None h = absurd (false≢true h)
+held_alike page p (Some v) h = refl
+
+-- an entry is a copy of a page where what it stands for holds the page
+copies_alike : (versions : List (Option Version)) (page : ℕ) (e : Entry) → IsKnown versions e → is_copy_of page e ≡ holds page (used_of versions e)
+copies_alike versions page Erased known = refl
+copies_alike versions page Reserved known = refl
+copies_alike versions page Stale known = refl
+copies_alike versions page (Current p) known = held_alike page p (version_at versions p) (known p refl)
 
 -- an entry of a block that was erased
 pub erased_seen : (versions : List (Option Version)) (b : Bool) (e : Entry)
@@ -285,6 +296,22 @@ module _ (m : MapState) (g : Geometry) (on : List Bool) (count : ℕ) (versions 
             let inside : k < n = omega (arith, high) in
             absurd (bare k inside (holds_current versions page (entry_of entries n die k) (sym (ap (holds page) (seen die k inside)) ∙ passes)))
       ]))
+
+  -- how many dies hold a page
+  pub shown_holders : (page : ℕ) → count_by (die_holds entries n page) (below g.dies) ≡ length (holders m page)
+  shown_holders page =
+      count_agree (die_holds entries n page) (holds_page m page) 0 g.dies (λ die low high. same die)
+      ∙ ap (λ (k : Geometry). count_by (holds_page m page) (below k.dies)) (sym shown.plain.geometry)
+      ∙ sym (holders_counted m page)
+    where
+      same : (die : ℕ) → die_holds entries n page die ≡ holds_page m page die
+      same die =
+          ap is_some (find_agree (λ s. is_copy_of page (entry_of entries n die s)) (λ s. holds page (used_at m die s)) 0 n
+          (λ k low high.
+          let inside : k < n = omega (arith, high) in
+          copies_alike versions page (entry_of entries n die k) (λ p is. shown.known die k p inside is) ∙ ap (holds page) (sym (seen die k inside)))
+          ∙ ap (λ k. find (λ s. holds page (used_at m die s)) (below k)) (sym size)
+          ∙ sym (copy_found m shown.plain.whole page die))
 
   pub shown_dropped : (die : ℕ) (new : List Entry) → die < g.dies → length new ≡ length entries
       → ((d s : ℕ) → s < n → entry_of new n d s ≡ (if d == die then Erased else entry_of entries n d s))

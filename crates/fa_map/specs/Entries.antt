@@ -1,7 +1,8 @@
 -- What the tables of a page map keep.
-use Rattle.std.specs.Prelude.{◌≡◌, ℕ, ◌+◌, ◌*◌, ◌/◌, ◌<◌, ◌==◌, ◌&&◌, not, nat_le, nat_lt, Bool, true, false, if◌then◌else◌, List, Option, Some, None, length, slice_index_or, slice_set, count_by}
+use Rattle.std.specs.Prelude.{◌≡◌, ℕ, ◌+◌, ◌*◌, ◌/◌, ◌<◌, ◌==◌, ◌&&◌, not, nat_le, nat_lt, Bool, true, false, if◌then◌else◌, List, Option, Some, None, is_some, length, slice_index_or, slice_set, find, count_by}
 use Rattle.std.specs.List.{range_with_len}
 use Rattle.fa_types.specs.declared.geometry.Geometry.{Geometry}
+use Rattle.fa_machine.specs.Maps.{below}
 use Rattle.fa_map.specs.Chains.{IsChained, entry_of, link_at, link_from}
 use Rattle.fa_map.specs.Plain.{die_slots}
 use Rattle.fa_map.specs.declared.entries.Entry.{Entry}
@@ -45,6 +46,15 @@ no_counts = record { erased = 0; reserved = 0; current = 0; stale = 0 }
 abbrev pub is_current_entry : Entry → Bool
 is_current_entry (Current page) = true
 is_current_entry entry = false
+
+-- whether a slot with this entry holds the page
+abbrev pub is_copy_of : ℕ → Entry → Bool
+is_copy_of page (Current p) = p == page
+is_copy_of page entry = false
+
+-- whether a die, which has n slots, holds the page
+abbrev pub die_holds : List Entry → ℕ → ℕ → ℕ → Bool
+die_holds entries n page die = is_some (find (λ slot. is_copy_of page (entry_of entries n die slot)) (below n))
 
 -- The counts of each block, and how many slots of each die are erased, are those of the entries.
 pub record AreTallied (g : Geometry) (entries : List Entry) (counts : List BlockCounts) (erased : List ℕ) : Type 0 where

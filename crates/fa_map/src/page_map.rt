@@ -15,8 +15,9 @@ use std::alloc::{AllocError, Allocator, Global};
 
 /// The page map of an array. A slot takes 16 bytes and a page 32. No call but [`PageMap::new`] takes
 /// memory. `drop_die` takes time for each slot of the die, and `block_erased` for each of the block. A slot
-/// is taken in at most as many looks as a die has blocks and a block has slots and one more. The other calls
-/// take at most a step for each die and, of each, for each copy of the page on a die below it.
+/// is taken in at most as many looks as a die has blocks and a block has slots and one more. `copies_of`
+/// takes a step for each copy of the page. The other calls take at most a step for each die and, of each,
+/// for each copy of the page on a die below it.
 #[derive(Drop)]
 pub struct PageMap<A: Allocator = Global> {
     geometry: Geometry,
@@ -147,13 +148,7 @@ impl<A: Allocator> Map for PageMap<A> {
     }
 
     fn copies_of(&self, page: Page) -> u32 {
-        let mut copies = 0;
-        for die in 0..self.geometry.dies {
-            if self.copy_on(page, Die(die as u8)).is_some() {
-                copies += 1;
-            }
-        }
-        copies
+        self.tables.copies_of(page.0 as u32)
     }
 
     fn state(&self, die: Die, slot: Slot) -> SlotState {

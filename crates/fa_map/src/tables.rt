@@ -1,7 +1,7 @@
 //! The tables of a page map: the entry of each slot, the counts of each block, and the chains of copies.
-ghost use Rattle.std.specs.Prelude.{◌≡◌, ℕ, ◌+◌, ◌*◌, ◌/◌, ◌-◌, ◌^◌, ◌<◌, ◌≤◌, ◌==◌, ◌&&◌, true, false, not, nat_le, nat_lt, if◌then◌else◌, length, slice_index_or, slice_set, find, is_some, option_map, IfOk, None, Some};
+ghost use Rattle.std.specs.Prelude.{◌≡◌, ℕ, ◌+◌, ◌*◌, ◌/◌, ◌-◌, ◌^◌, ◌<◌, ◌≤◌, ◌==◌, ◌&&◌, true, false, not, nat_le, nat_lt, if◌then◌else◌, length, slice_index_or, slice_set, find, count_by, is_some, option_map, IfOk, None, Some};
 ghost use Rattle.fa_map.specs.Chains.{IsSeam, IsNext, behind, entry_at, entry_of, link_at, link_from, target};
-ghost use Rattle.fa_map.specs.Entries.{AreTables, AreTallied, count_of, erased_entry, is_current_entry, is_erased_entry, is_left_out, may_take, no_counts, one_if, retired, with_head, with_link};
+ghost use Rattle.fa_map.specs.Entries.{AreTables, AreTallied, count_of, die_holds, erased_entry, is_current_entry, is_erased_entry, is_left_out, may_take, no_counts, one_if, retired, with_head, with_link};
 ghost use Rattle.fa_map.specs.Plain.{die_slots};
 ghost use Rattle.fa_machine.specs.Maps.{below};
 
@@ -223,6 +223,21 @@ impl<A: Allocator> Tables<A> {
             Some(other) => { if other == die { Some(next.slot) } else { None } }
             None => None,
         }
+    }
+
+    /// How many dies hold the page. It takes a step for each of them.
+    pub fn copies_of(&self, page: u32) -> u32
+        requires { page < self.now.geometry.pages }
+        ensures { result ≡ count_by (die_holds self.now.entries.items (die_slots self.now.geometry) page) (below self.now.geometry.dies) }
+    {
+        let size = (self.geometry.blocks * self.geometry.slots) as usize;
+        let mut copies = 0;
+        let mut next = self.heads[page as usize];
+        while let Some(die) = next.die {
+            copies += 1;
+            next = self.links[die as usize * size + next.slot as usize];
+        }
+        copies
     }
 
     /// The slot that does not hold a copy, and will hold none, has this entry.

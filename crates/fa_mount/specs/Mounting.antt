@@ -1,6 +1,6 @@
 -- What mounting comes to: the headers of all images are read and judged, and then the slots of the dies in use and of
 -- the spares.
-use Rattle.std.specs.Prelude.{◌≡◌, ◌⊎◌, ℕ, Bool, List, Some, None}
+use Rattle.std.specs.Prelude.{◌≡◌, ◌⊎◌, ℕ, Bool, List, length, Some, None}
 use Rattle.fa_image.specs.Image.{ImageState, ImageCall, ImageAnswer}
 use Rattle.fa_machine.specs.State.{MapState}
 use Rattle.fa_mount.specs.declared.fault.MountFault.TheVariants.{NoMemory}
@@ -16,10 +16,11 @@ use Rattle.fa_mount.specs.Scanned.{Outcome, IsScan, IsScanRefused}
 
 module _ {I : Type 0} (A : Type 0) (view : I → ImageState) (made : I → ImageCall → ImageAnswer → I → Type 0) (copies : ℕ)
     (unclean : Bool) where
-  -- the headers were read, and this is the array that they say
+  -- the header of each image was read, and this is the array that they say
   pub record SayArray (before after : List I) (judged : Judged A) : Type 0 where
     pub founds : List Found
     pub read : ReadsHeaders view made before after founds
+    pub each : length founds ≡ length before
     pub fine : header_refusal copies unclean founds ≡ None
     pub judges : IsJudged (seen_from 0 founds) judged
 
@@ -37,7 +38,8 @@ module _ {I : Type 0} (A : Type 0) (view : I → ImageState) (made : I → Image
   abbrev pub RefusesMount : List I → List I → MountRefused → Type 0
   RefusesMount before after refusal =
       (refusal ≡ refused NoMemory)
-      ⊎ ((founds : List Found) × ReadsHeaders view made before after founds × (header_refusal copies unclean founds ≡ Some refusal))
+      ⊎ ((founds : List Found) × ReadsHeaders view made before after founds × (length founds ≡ length before)
+      × (header_refusal copies unclean founds ≡ Some refusal))
       ⊎ ((between : List I) × (judged : Judged A) × SayArray before between judged × (outcomes : List Outcome)
       × AreOutcomes made judged.geometry between after judged.dies.items outcomes
       × IsScanRefused judged.dies.items unclean outcomes refusal)

@@ -74,8 +74,9 @@ pub record IsScan (geometry : Geometry) (standings : List Standing) (unclean : B
   pub some_live : any_live contents ≡ true
   pub mounts : IsMountedContent geometry contents m
 
--- no image refused a read, or none that is told, and no die is live
+-- each die was read that is to be, no image refused a read, or none that is told, and no die is live
 pub record IsNoneLive (standings : List Standing) (unclean : Bool) (outcomes : List Outcome) : Type 0 where
+  pub all : length outcomes ≡ length standings
   pub dies : List Standing
   pub contents : Contents
   pub settles : AreSettled standings outcomes dies contents

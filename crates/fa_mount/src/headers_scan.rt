@@ -1,5 +1,5 @@
 //! The headers of an array's images, read and judged.
-ghost use Rattle.std.specs.Prelude.{◌≡◌, ◌⊎◌, List, map, None, Some, MatchResult, IfOk};
+ghost use Rattle.std.specs.Prelude.{◌≡◌, ◌⊎◌, List, length, map, None, Some, MatchResult, IfOk};
 ghost use Rattle.fa_mount.specs.ContentReading.{AreReadable};
 ghost use Rattle.fa_mount.specs.Found.{AreOnlyRead, ReadsHeaders};
 ghost use Rattle.fa_mount.specs.Judged.{IsJudged};
@@ -24,8 +24,10 @@ pub fn scan_headers<I: Image, A: Allocator + Copy>(
 ) -> Result<Judged<A>, MountRefused>
     ensures judged { (founds : List HeadersFound) × ReadsHeaders I.view I.made images.old images.new founds
         × MatchResult result
-        (λ judged. (rules.header_refusal copies.number unclean founds ≡ None) × IsJudged (rules.seen_from 0 founds) judged)
-        (λ refused. (rules.header_refusal copies.number unclean founds ≡ Some refused) ⊎ (refused ≡ rules.refused MountFault.NoMemory)) }
+        (λ judged. (length founds ≡ length images.old) × (rules.header_refusal copies.number unclean founds ≡ None)
+        × IsJudged (rules.seen_from 0 founds) judged)
+        (λ refused. ((length founds ≡ length images.old) × (rules.header_refusal copies.number unclean founds ≡ Some refused))
+        ⊎ (refused ≡ rules.refused MountFault.NoMemory)) }
     ensures readable { IfOk result (λ judged. AreReadable I.view judged.geometry judged.dies.items images.new) }
     ensures only_read { AreOnlyRead (map I.view images.old) (map I.view images.new) }
 {

@@ -219,7 +219,7 @@ fn opened<R: Host, A: Allocator>(
     let path = settings.images[place].as_str();
     match FileImage::open_or_create(rt, Path::new(path), settings.geometry) {
         Ok(image) => Ok(image),
-        Err(refused) => Err(refused_image(rt, path, place, &refused)),
+        Err(refused) => Err(refused_image(rt, settings, place, &refused)),
     }
 }
 
@@ -238,13 +238,20 @@ fn empty<R: Host, A: Allocator>(
     warn_of_loss(rt, path, image);
     match image.empty() {
         Ok(()) => Ok(()),
-        Err(refused) => Err(refused_image(rt, path, place, &refused)),
+        Err(refused) => Err(refused_image(rt, settings, place, &refused)),
     }
 }
 
 /// What a refusal of an image file comes to. It is told on standard error.
-fn refused_image<R: Host>(rt: &R, path: &str, place: usize, refused: &io::Error) -> Formatted {
-    tell_refused(rt, path, refused);
+fn refused_image<R: Host, A: Allocator>(
+    rt: &R,
+    settings: &Settings<A>,
+    place: usize,
+    refused: &io::Error,
+) -> Formatted
+    requires { place < length settings.now.images.items }
+{
+    tell_refused(rt, settings, place, refused);
     match refused.kind() {
         ErrorKind::OutOfMemory => Formatted::NoMemory,
         _ => Formatted::Image(place),

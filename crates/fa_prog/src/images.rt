@@ -1,4 +1,6 @@
 //! The image files of an array, opened and locked.
+ghost use Rattle.std.specs.Prelude.{◌<◌, length};
+
 use crate::host::Host;
 use crate::watched::Watched;
 use fa_image::FileImage;
@@ -58,7 +60,7 @@ pub(crate) fn open_images<'a, R: Host, A: Allocator>(
                 places.push(place)?;
             }
             Err(refused) => {
-                tell_refused(rt, path, &refused);
+                tell_refused(rt, settings, place, &refused);
                 if refused.kind() == ErrorKind::OutOfMemory {
                     return Err(NotOpened::NoMemory);
                 }
@@ -71,12 +73,35 @@ pub(crate) fn open_images<'a, R: Host, A: Allocator>(
     Ok(OpenImages { images, places })
 }
 
-/// Tells why an image file cannot be had.
-pub(crate) fn tell_refused<R: Host>(rt: &R, path: &str, refused: &io::Error) {
+/// Tells why the image file at a place of the settings cannot be had.
+pub(crate) fn tell_refused<R: Host, A: Allocator>(
+    rt: &R,
+    settings: &Settings<A>,
+    place: usize,
+    refused: &io::Error,
+)
+    requires { place < length settings.now.images.items }
+{
+    let path = settings.images[place].as_str();
     match refused.kind() {
-        ErrorKind::WouldBlock => error!(rt; "{path}: another process has this image"),
+        ErrorKind::WouldBlock if stands_before(settings, place) => {
+            error!(rt; "{path}: this path stands twice among the images");
+        }
+        ErrorKind::WouldBlock => {
+            error!(rt; "{path}: another process has this image, or another of the paths leads to it");
+        }
         _ => error!(rt; "{path}: {refused}"),
     }
+}
+
+/// Whether the path of an image stands at an earlier place of the settings too.
+fn stands_before<A: Allocator>(settings: &Settings<A>, place: usize) -> bool
+    requires { place < length settings.now.images.items }
+{
+    let path = settings.images[place].as_str();
+    settings.images[..place]
+        .iter()
+        .any(|earlier| earlier.as_str() == path)
 }
 
 /// Tells where a file is shorter or longer than an image.

@@ -14,7 +14,8 @@ pub fn printed(rt: &impl Host, arguments: &[&str], text: &str) -> Result<(u8, Ve
     Ok((status, output))
 }
 
-fn given(alloc: Global, arguments: &[&str]) -> Result<Vec<String>, AllocError> {
+/// Arguments, as the program is given them.
+pub fn given(alloc: Global, arguments: &[&str]) -> Result<Vec<String>, AllocError> {
     let mut given = Vec::new(alloc);
     for argument in arguments {
         given.push(String::from_str(alloc, argument)?)?;

@@ -236,6 +236,28 @@ fn the_last_slot_of_a_large_die(rt: HostRuntime) -> Result<(), Fail> {
     Ok(())
 }
 
+// A slot is found by the die's count, the counts of the blocks up to its own, and the states of that block's
+// slots up to it. Where the die has no room, its count is all that is read.
+#[test]
+fn looks_for_a_slot(rt: HostRuntime) -> Result<(), Fail> {
+    let mut map = PageMap::new(rt.alloc(), Geometry::new(2, 0, 4, 4, 512, 4)?)?;
+    let call = Call {
+        kind: 0,
+        die: 0,
+        slot: 0,
+        block: 0,
+        page: 0,
+        seq: 1,
+    };
+    make(&mut map, call);
+    for (slot, looks) in [3, 4, 5, 6, 4, 5, 6, 7, 5, 6, 7, 8].iter().enumerate() {
+        ensure!(take(&mut map, Die(0)) == Some(Slot(slot as u32)), at slot);
+        ensure!(map.last_looks() == *looks, at slot);
+    }
+    ensure!(take(&mut map, Die(0)) == None && map.last_looks() == 1);
+    Ok(())
+}
+
 // The map's memory is a heap that grows by little from run to run, so that each of its allocations is the
 // first that doesn't fit in some run.
 #[test]

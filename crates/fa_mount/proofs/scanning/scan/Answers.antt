@@ -8,7 +8,7 @@ pub returns-in-Ok-clause-mounts : goal.returns-in-Ok-clause-mounts
 returns-in-Ok-clause-mounts g c =
     let h = c.in_ok-judged.ensures.judged in
     let say : SayArray g.row.A.Denot g.I.Image.view g.I.Image.made c.args.copies.number c.args.unclean c.args.images.now c.scan_headers.new.images
-    c.in_ok-judged.judged = record { founds = h.0; read = h.1; fine = h.2.0; judges = h.2.1 } in
+    c.in_ok-judged.judged = record { founds = h.0; read = h.1; each = h.2.0; fine = h.2.1; judges = h.2.2 } in
     joined c.scan_slots.result c.scan_slots.ensures.scanned c.scan_slots.ensures.array
     (λ x p e. record {
       between = c.scan_headers.new.images;
