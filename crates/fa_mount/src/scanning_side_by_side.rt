@@ -1,6 +1,7 @@
 //! An array's images, mounted in one call that reads their slots side by side.
-ghost use Rattle.std.specs.Prelude.{◌≡◌, IfOk, MatchResult, length};
+ghost use Rattle.std.specs.Prelude.{◌≡◌, IfOk, MatchResult, length, map};
 ghost use Rattle.fa_map.specs.PageView.{page_view};
+ghost use Rattle.fa_mount.specs.Found.{AreOnlyRead};
 ghost use Rattle.fa_mount.specs.Mounting.{Mounts, RefusesMount};
 
 use crate::fault::{MountFault, MountRefused};
@@ -29,6 +30,7 @@ pub fn scan_side_by_side<R: Threads + Sync, I: Image + Send, A: Allocator + Copy
         mounted.array mounted.epoch mounted.clean mounted.dies.items (page_view mounted.map))
         (RefusesMount A I.view I.made copies.number unclean images.old images.new) }
     ensures dies { IfOk result (λ mounted. length mounted.dies.items ≡ (page_view mounted.map).geometry.dies) }
+    ensures only_read { AreOnlyRead (map I.view images.old) (map I.view images.new) }
 {
     let judged = scan_headers(alloc, images, copies, unclean)?;
     let Ok(map) = PageMap::new(alloc, judged.geometry) else {
