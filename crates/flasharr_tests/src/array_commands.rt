@@ -5,9 +5,10 @@ use fa_image::{FileImage, Image};
 use fa_prog::{Host, run};
 use fa_tag::{open_header, seal_header};
 use fa_types::{Geometry, HEADER_BYTES, Kind};
-use log::sink::Memory;
+use log::sink::Locked;
 use log::{Level, Logged};
 use std::path::Path;
+use std::sync::Wait;
 use std::test::Fail;
 use std::{env, fs, process};
 
@@ -183,14 +184,14 @@ fn faults_of_format(rt: HostRuntime) -> Result<(), Fail> {
 
 /// Whether a command on the settings of a test tells these words of an image on standard error, first of all.
 fn tells_of_image(
-    rt: &HostRuntime,
+    rt: &(impl Host + Wait),
     command: &str,
     settings: &str,
     image: &str,
     words: &str,
 ) -> Result<bool, Fail> {
     let arguments = given(rt.alloc(), &[command, settings])?;
-    let logged = Logged::new(rt, Level::Warn, Memory::new(rt.alloc()));
+    let logged = Logged::new(rt, Level::Warn, Locked::new(rt, Vec::new(rt.alloc())));
     let mut input = b"".as_slice();
     let mut output = Vec::new(rt.alloc());
     let status = run(
@@ -201,12 +202,12 @@ fn tells_of_image(
         &mut input,
         &mut output,
     );
-    let lines = logged.into_parts().1.into_lines();
+    let bytes = logged.into_parts().1.into_inner();
     let told = format!(in rt.alloc(); "{image}: {words}")?;
-    let is_told = lines
-        .as_slice()
-        .first()
-        .is_some_and(|line| line.ends_with(told.as_str()));
+    let is_told = match str::from_utf8(bytes.as_slice())?.split_once('\n') {
+        Some((first, _)) => first.ends_with(told.as_str()),
+        None => false,
+    };
     Ok(status == 1 && is_told)
 }
 

@@ -9,6 +9,7 @@ use fa_cert::{
 };
 use fa_types::{Die, Page, Round, Rounds};
 use std::alloc::Global;
+use fa_prog::Host;
 use std::test::Fail;
 
 fn holders_of(alloc: Global, dies: &[u8]) -> Result<Vec<Die>, Fail> {
@@ -252,7 +253,7 @@ fn printed_verdicts(rt: HostRuntime) -> Result<(), Fail> {
 }
 
 /// Whether `verify` names this line as the first wrong one of its input, or none where it is 0.
-fn is_first_wrong(rt: &HostRuntime, text: &str, line: u64) -> Result<bool, Fail> {
+fn is_first_wrong(rt: &impl Host, text: &str, line: u64) -> Result<bool, Fail> {
     let (_, output) = printed_by_the_program(rt, &["verify"], text)?;
     if line == 0 {
         return Ok(!output.starts_with(b"text:"));

@@ -1,6 +1,7 @@
 //! Help, the version, and arguments that are no command.
 use crate::arguments::printed;
 use std::alloc::Global;
+use fa_prog::Host;
 use std::test::Fail;
 
 const HELP: &str = "A block server over mirrored flash dies, proved before it is built
@@ -75,7 +76,7 @@ For more information, try '--help'.
 ";
 
 /// That these arguments print this text, with this status.
-fn prints(rt: &HostRuntime, arguments: &[&str], status: u8, text: &str) -> Result<(), Fail> {
+fn prints(rt: &impl Host, arguments: &[&str], status: u8, text: &str) -> Result<(), Fail> {
     let (ended, output) = printed(rt, arguments, "")?;
     ensure!(ended == status);
     ensure!(output.as_slice() == text.as_bytes(), at text);

@@ -5,12 +5,13 @@ ghost use Rattle.fa_cert.specs.Closed.{current_of};
 use crate::arguments::printed;
 use fa_cert::{Batch, Closed, Verdict, check, end_soon};
 use fa_plan::plan;
+use fa_prog::Host;
 use fa_types::{Die, Page, Round};
 use std::alloc::Global;
 use std::test::Fail;
 
 /// Plans a batch text, and has `verify` read it with its plan behind it.
-fn plans(rt: &HostRuntime, text: &str, least: &str) -> Result<Vec<u8>, Fail> {
+fn plans(rt: &impl Host, text: &str, least: &str) -> Result<Vec<u8>, Fail> {
     let (status, told) = printed(rt, &["plan"], text)?;
     ensure!(status == 0, at text);
     let both = format!(in rt.alloc(); "{text}{}", str::from_utf8(&told)?)?;
@@ -21,7 +22,7 @@ fn plans(rt: &HostRuntime, text: &str, least: &str) -> Result<Vec<u8>, Fail> {
 }
 
 /// Tries `plan` on a text with one plan alone.
-fn prints(rt: &HostRuntime, text: &str, least: &str, told: &str) -> Result<(), Fail> {
+fn prints(rt: &impl Host, text: &str, least: &str, told: &str) -> Result<(), Fail> {
     let output = plans(rt, text, least)?;
     ensure!(output.as_slice() == told.as_bytes(), at text);
     Ok(())
@@ -29,7 +30,7 @@ fn prints(rt: &HostRuntime, text: &str, least: &str, told: &str) -> Result<(), F
 
 /// Tries `plan` on a text of which the first and the last lines of the plan are known.
 fn prints_between(
-    rt: &HostRuntime,
+    rt: &impl Host,
     text: &str,
     least: &str,
     ends: (&str, &str),
@@ -41,7 +42,7 @@ fn prints_between(
 }
 
 /// Tries `plan` on a text that it refuses.
-fn refuses(rt: &HostRuntime, text: &str, told: &str) -> Result<(), Fail> {
+fn refuses(rt: &impl Host, text: &str, told: &str) -> Result<(), Fail> {
     let (status, output) = printed(rt, &["plan"], text)?;
     ensure!(status == 2, at text);
     ensure!(output.as_slice() == told.as_bytes(), at text);
