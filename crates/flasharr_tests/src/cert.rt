@@ -134,8 +134,7 @@ fn unsound_batches(rt: HostRuntime) -> Result<(), Fail> {
     let twice = batch_of(rt.alloc(), &[(7, &[0]), (3, &[1]), (7, &[0, 1]), (8, &[])])?;
     ensure!(twice.unsound() == Some(Unsound::Twice(Page(7))));
     let unnamed_then_twice = batch_of(rt.alloc(), &[(7, &[0]), (7, &[])])?;
-    ensure!(unnamed_then_twice.unsound() == Some(Unsound::NoHolder(Page(7))));
-    ensure!(!twice.is_sound());
+    ensure!(unnamed_then_twice.unsound() == Some(Unsound::NoHolder(Page(7))) && !twice.is_sound());
     Ok(())
 }
 

@@ -31,8 +31,7 @@ fn a_writer_that_takes_nothing(rt: HostRuntime) -> Result<(), Fail> {
     let mut reader = Piecewise::new(said.as_slice(), 4096);
     let mut writer = Piecewise::new(Vec::new(rt.alloc()), 0);
     ensure!(served(rt.alloc(), &mut reader, &mut writer)? == SessionEnd::WriteFailed);
-    ensure!(writer.calls == 1);
-    ensure!(reader.calls == 0);
+    ensure!(writer.calls == 1 && reader.calls == 0);
     Ok(())
 }
 
@@ -85,9 +84,7 @@ fn each_allocation_fails(rt: HostRuntime) -> Result<(), Fail> {
             || replies == both_refused.as_slice();
         ensure!(is_right, at room);
     }
-    ensure!(in_negotiation > 1);
-    ensure!(of_requests > 1);
-    ensure!(whole > 1);
+    ensure!(in_negotiation > 1 && of_requests > 1 && whole > 1);
     Ok(())
 }
 
@@ -114,8 +111,7 @@ fn the_longest_read_and_write(rt: HostRuntime) -> Result<(), Fail> {
     let front = writer.inner.strip_suffix(bytes.as_slice()).unwrap_or(&[]);
     ensure!(front.ends_with(replies.as_slice()));
     // A call takes a million bytes: 33 or so for the data, and few for all else.
-    ensure!(reader.calls < 50);
-    ensure!(writer.calls < 50);
+    ensure!(reader.calls < 50 && writer.calls < 50);
     Ok(())
 }
 
@@ -130,9 +126,11 @@ fn the_data_of_a_refused_write(rt: HostRuntime) -> Result<(), Fail> {
     let mut reader = Piecewise::new(said.as_slice(), 1_000_000);
     let mut writer = Vec::new(rt.alloc());
     let ended = served(rt.alloc(), &mut reader, &mut writer)?;
-    ensure!(ended == SessionEnd::InputEnded);
-    ensure!(writer.as_slice() == answer.as_slice());
-    ensure!(reader.calls < 40);
+    ensure!(
+        ended == SessionEnd::InputEnded
+            && writer.as_slice() == answer.as_slice()
+            && reader.calls < 40
+    );
     Ok(())
 }
 
@@ -149,8 +147,10 @@ fn the_data_of_a_write_that_is_too_long(rt: HostRuntime) -> Result<(), Fail> {
     let mut reader = Piecewise::new(said.as_slice(), 1_000_000);
     let mut writer = Vec::new(rt.alloc());
     let ended = served(rt.alloc(), &mut reader, &mut writer)?;
-    ensure!(ended == SessionEnd::InputEnded);
-    ensure!(writer.as_slice() == answer.as_slice());
-    ensure!(reader.calls < 540);
+    ensure!(
+        ended == SessionEnd::InputEnded
+            && writer.as_slice() == answer.as_slice()
+            && reader.calls < 540
+    );
     Ok(())
 }

@@ -1,12 +1,7 @@
 //! Each call of an image and each allocation, refused in turn while images are formatted and mounted, and
 //! images in two formats side by side.
-ghost use Rattle.std.specs.Prelude.{◌≡◌, IfOk};
-ghost use Rattle.std.specs.List.{AllByRecursion};
-ghost use Rattle.fa_image.specs.Fuse.{fused_view};
-ghost use Rattle.fa_image.specs.Memory.{mem_image_view};
-
-use crate::mounting::{put, tag};
-use fa_image::{FuseImage, Image, MemImage};
+use crate::mounting::{Images, images, put, tag};
+use fa_image::Image;
 use fa_mount::{MountFault, MountRefused, Report, format, format_1, scan};
 use fa_tag::{Tag, seal_1};
 use fa_types::{Copies, Die, Geometry, HEADER_BYTES, Kind, Page, Seq, Slot};
@@ -14,32 +9,9 @@ use linked_list_allocator::LocalHeap;
 use std::alloc::Allocator;
 use std::test::Fail;
 
-type Images = [FuseImage<MemImage>; 4];
-
 /// Four dies in use, of four blocks of four slots, with eight pages.
 fn shape() -> Result<Geometry, Fail> {
     Ok(Geometry::new(4, 0, 4, 4, 512, 8)?)
-}
-
-/// An image in memory, whose k-th call fails, k from 1.
-fn image(rt: &HostRuntime, geometry: Geometry, k: u64) -> Result<FuseImage<MemImage>, Fail>
-    ensures { IfOk result (λ image. (fused_view mem_image_view image).geometry ≡ geometry) }
-{
-    let mut image = FuseImage::new(MemImage::new(rt.alloc(), geometry)?);
-    image.arm(k);
-    Ok(image)
-}
-
-/// Four of them.
-fn images(rt: &HostRuntime, geometry: Geometry, calls: [u64; 4]) -> Result<Images, Fail>
-    ensures { IfOk result (AllByRecursion (λ image. (fused_view mem_image_view image).geometry ≡ geometry)) }
-{
-    Ok([
-        image(rt, geometry, calls[0])?,
-        image(rt, geometry, calls[1])?,
-        image(rt, geometry, calls[2])?,
-        image(rt, geometry, calls[3])?,
-    ])
 }
 
 /// Which image is told as refusing while images are formatted, of which one refuses this call.

@@ -12,27 +12,32 @@ use fa_tag::{Tag, seal};
 use fa_types::{Copies, Die, Geometry, Kind, Page, Seq, Slot};
 use std::test::Fail;
 
-type Images = [FuseImage<MemImage>; 4];
+/// The images of an array.
+pub type Images = [FuseImage<MemImage>; 4];
 
 /// Three dies in use and a spare, of four blocks of four slots, with twelve pages.
-fn shape() -> Result<Geometry, Fail> {
+pub fn shape() -> Result<Geometry, Fail> {
     Ok(Geometry::new(4, 1, 4, 4, 512, 12)?)
 }
 
-fn image(rt: &HostRuntime, geometry: Geometry) -> Result<FuseImage<MemImage>, Fail>
+/// An image in memory, whose k-th call fails, k from 1, or none where it is 0.
+pub fn image(rt: &HostRuntime, geometry: Geometry, k: u64) -> Result<FuseImage<MemImage>, Fail>
     ensures { IfOk result (λ image. (fused_view mem_image_view image).geometry ≡ geometry) }
 {
-    Ok(FuseImage::new(MemImage::new(rt.alloc(), geometry)?))
+    let mut image = FuseImage::new(MemImage::new(rt.alloc(), geometry)?);
+    image.arm(k);
+    Ok(image)
 }
 
-fn images(rt: &HostRuntime, geometry: Geometry) -> Result<Images, Fail>
+/// Four of them.
+pub fn images(rt: &HostRuntime, geometry: Geometry, calls: [u64; 4]) -> Result<Images, Fail>
     ensures { IfOk result (AllByRecursion (λ image. (fused_view mem_image_view image).geometry ≡ geometry)) }
 {
     Ok([
-        image(rt, geometry)?,
-        image(rt, geometry)?,
-        image(rt, geometry)?,
-        image(rt, geometry)?,
+        image(rt, geometry, calls[0])?,
+        image(rt, geometry, calls[1])?,
+        image(rt, geometry, calls[2])?,
+        image(rt, geometry, calls[3])?,
     ])
 }
 
@@ -40,7 +45,7 @@ fn images(rt: &HostRuntime, geometry: Geometry) -> Result<Images, Fail>
 fn formatted(rt: &HostRuntime) -> Result<Images, Fail> {
     let geometry = shape()?;
     ensure!(geometry.dies == 4);
-    let mut images = images(rt, geometry)?;
+    let mut images = images(rt, geometry, [0; 4])?;
     ensure!(format(&mut images, geometry, [7; 16]) == Ok(()));
     Ok(images)
 }

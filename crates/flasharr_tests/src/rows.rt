@@ -1,8 +1,8 @@
 //! Conversations with their answers, also cut after each byte and in pieces of each length.
+use crate::arguments::printed as printed_by_the_program;
 use crate::spelling::joined;
 use fa_io::WriteBoth;
 use fa_io::faulty::{Interrupted, Piecewise};
-use fa_prog::run;
 use fa_session::{SessionEnd, serve_stream};
 use fa_types::MemBlocks;
 use std::alloc::Global;
@@ -47,13 +47,10 @@ fn converses_by_the_program(
     end: u8,
 ) -> Result<(), Fail> {
     let lines = hex::encode(rt.alloc(), said)?;
-    let arguments = [String::from_str(rt.alloc(), "talk")?];
-    let mut input = lines.as_bytes();
-    let mut printed = Vec::new(rt.alloc());
-    ensure!(run(rt, rt.alloc(), false, &arguments, &mut input, &mut printed) == 0);
+    let (status, printed) = printed_by_the_program(rt, &["talk"], lines.as_str())?;
     let answer = hex::encode(rt.alloc(), answer)?;
     let expected = format!(in rt.alloc(); "{answer}\nend {end}\n")?;
-    ensure!(printed.as_slice() == expected.as_bytes());
+    ensure!(status == 0 && printed.as_slice() == expected.as_bytes());
     Ok(())
 }
 
@@ -83,8 +80,7 @@ fn converses_through_interruptions(
     let mut reader = Interrupted::new(Piecewise::new(said, 7));
     let mut writer = Interrupted::new(Piecewise::new(Vec::new(alloc), 5));
     let ended = served(alloc, &mut reader, &mut writer)?;
-    ensure!(ended.number() == end);
-    ensure!(writer.inner.inner.as_slice() == answer);
+    ensure!(ended.number() == end && writer.inner.inner.as_slice() == answer);
     Ok(())
 }
 
