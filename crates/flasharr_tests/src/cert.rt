@@ -67,6 +67,20 @@ fn closed_of(alloc: Global, list: &[(u8, u64, u64)]) -> Result<Closed, Fail>
     Ok(Closed::new(alloc, Round(1), runs)?)
 }
 
+/// The check's verdict on a batch, which has to be sound. What the check promises is told here alone.
+pub fn checked(
+    alloc: Global,
+    batch: &Batch,
+    closed: &Closed,
+    plan: &Plan,
+    shortage: &Shortage,
+) -> Result<Verdict, Fail> {
+    if !batch.is_sound() {
+        return Err("the batch is not sound")?;
+    }
+    Ok(check(alloc, batch, closed, plan, shortage)?)
+}
+
 /// The check's verdict on a plan and a shortage.
 fn verdict_of(
     alloc: Global,
@@ -77,10 +91,7 @@ fn verdict_of(
 ) -> Result<Verdict, Fail> {
     let plan = plan_of(alloc, plan.0, plan.1)?;
     let shortage = shortage_of(alloc, shortage)?;
-    if !batch.is_sound() {
-        return Err("the batch is not sound")?;
-    }
-    Ok(check(alloc, batch, closed, &plan, &shortage)?)
+    checked(alloc, batch, closed, &plan, &shortage)
 }
 
 #[test]
@@ -207,8 +218,7 @@ fn large_batch(rt: HostRuntime) -> Result<(), Fail> {
     for page in 0..1024u64 {
         shortage.push(Page(page))?;
     }
-    ensure!(batch.is_sound());
-    ensure!(check(rt.alloc(), &batch, &closed, &plan, &shortage)? == Verdict::Least(1616));
+    ensure!(checked(rt.alloc(), &batch, &closed, &plan, &shortage)? == Verdict::Least(1616));
     Ok(())
 }
 

@@ -1,8 +1,8 @@
 //! Connections whose memory, reader or writer fails.
-use crate::rows::{FLAGS, GO, GONE, GREETING, served};
+use crate::rows::{FLAGS, GO, GONE, GREETING, end_of, served};
 use crate::spelling::{joined, spelled};
 use fa_io::faulty::Piecewise;
-use fa_session::{SessionEnd, serve_stream};
+use fa_session::SessionEnd;
 use fa_types::MemBlocks;
 use linked_list_allocator::LocalHeap;
 use std::alloc::Global;
@@ -35,6 +35,16 @@ fn a_writer_that_takes_nothing(rt: HostRuntime) -> Result<(), Fail> {
     Ok(())
 }
 
+/// How a session in a heap of so many bytes ends, and what it writes.
+fn served_in(alloc: Global, said: &[u8], heap_bytes: usize) -> Result<(SessionEnd, Vec<u8>), Fail> {
+    let heap = LocalHeap::new(alloc, heap_bytes)?;
+    let mut store = MemBlocks::new(alloc, 64 * 512)?;
+    let mut reader = Piecewise::new(said, 100);
+    let mut writer = Vec::new(alloc);
+    let ended = end_of(&heap, &mut reader, &mut writer, &mut store);
+    Ok((ended, writer))
+}
+
 // The session's memory is a heap that grows by little from run to run, so that each of its
 // allocations is the first that doesn't fit in some run.
 #[test]
@@ -61,12 +71,8 @@ fn each_allocation_fails(rt: HostRuntime) -> Result<(), Fail> {
     let mut of_requests = 0u32;
     let mut whole = 0u32;
     for room in 0..200usize {
-        let heap = LocalHeap::new(rt.alloc(), room * 16)?;
-        let mut store = MemBlocks::new(rt.alloc(), 64 * 512)?;
-        let mut reader = Piecewise::new(said.as_slice(), 100);
-        let mut writer = Vec::new(rt.alloc());
-        let ended = serve_stream(&heap, &mut reader, &mut writer, &mut store, "disk");
-        let taken = writer.as_slice();
+        let (ended, written) = served_in(rt.alloc(), &said, room * 16)?;
+        let taken = written.as_slice();
         if ended == SessionEnd::NoMemory {
             in_negotiation = in_negotiation.saturating_add(1);
             ensure!(begun.starts_with(taken), at room);
@@ -103,7 +109,7 @@ fn the_longest_read_and_write(rt: HostRuntime) -> Result<(), Fail> {
     let mut store = MemBlocks::new(rt.alloc(), 33_554_432)?;
     let mut reader = Piecewise::new(said.as_slice(), 1_000_000);
     let mut writer = Piecewise::new(Vec::new(rt.alloc()), 1_000_000);
-    let ended = serve_stream(rt.alloc(), &mut reader, &mut writer, &mut store, "disk");
+    let ended = end_of(rt.alloc(), &mut reader, &mut writer, &mut store);
     ensure!(ended == SessionEnd::InputEnded);
 
     let replies = "67446698 00000000 0000000000000001 67446698 00000000 0000000000000002";

@@ -138,10 +138,9 @@ fn a_new_array_is_mounted_empty(rt: HostRuntime) -> Result<(), Fail> {
     }
 }
 
-/// Images of which page 0 has an older and a newer copy, page 1 copies of one number that are of two kinds,
-/// and page 2 two copies on one die. A tag names another slot, and one another page than there is.
-fn written(rt: &HostRuntime) -> Result<Images, Fail> {
-    let mut images = formatted(rt)?;
+/// Writes page 0 in an older and a newer copy, page 1 in copies of one number that are of two kinds, and page
+/// 2 in two copies on one die. A tag names another slot, and one another page than there is.
+fn write_pages(images: &mut Images) -> Result<(), Fail> {
     put(&mut images[0], 0, tag(0, 1, Kind::Data, 0, 0))?;
     put(&mut images[1], 0, tag(0, 2, Kind::Data, 1, 0))?;
     put(&mut images[0], 1, tag(1, 3, Kind::Hole, 0, 1))?;
@@ -149,7 +148,13 @@ fn written(rt: &HostRuntime) -> Result<Images, Fail> {
     put(&mut images[2], 2, tag(2, 4, Kind::Data, 2, 2))?;
     put(&mut images[2], 1, tag(2, 4, Kind::Data, 2, 1))?;
     put(&mut images[2], 5, tag(3, 9, Kind::Data, 2, 6))?;
-    put(&mut images[2], 7, tag(12, 9, Kind::Data, 2, 7))?;
+    put(&mut images[2], 7, tag(12, 9, Kind::Data, 2, 7))
+}
+
+/// Images of an array with these pages.
+fn written(rt: &HostRuntime) -> Result<Images, Fail> {
+    let mut images = formatted(rt)?;
+    write_pages(&mut images)?;
     Ok(images)
 }
 

@@ -4,8 +4,8 @@ use crate::spelling::joined;
 use fa_io::WriteBoth;
 use fa_io::faulty::{Interrupted, Piecewise};
 use fa_session::{SessionEnd, serve_stream};
-use fa_types::MemBlocks;
-use std::alloc::Global;
+use fa_types::{Blocks, MemBlocks};
+use std::alloc::{Allocator, Global};
 use std::io::Read;
 use std::test::Fail;
 
@@ -28,6 +28,17 @@ pub const GO: &str = "49484156454f5054 00000007 00000006 00000000 0000";
 pub const GONE: &str = "0003e889045565a9 00000007 00000003 0000000c 0000 0000000000008000 016d
     0003e889045565a9 00000007 00000001 00000000";
 
+/// How a connection for the export `disk` ends. What a session promises is told here alone: a test looks at
+/// what it wrote.
+pub fn end_of<R: Read, W: WriteBoth, B: Blocks, A: Allocator + Copy>(
+    alloc: A,
+    reader: &mut R,
+    writer: &mut W,
+    store: &mut B,
+) -> SessionEnd {
+    serve_stream(alloc, reader, writer, store, "disk")
+}
+
 /// What the server says to a client's bytes over a plain store of 64 pages of 512 zeros, and how the
 /// connection ends.
 pub fn served<R: Read, W: WriteBoth>(
@@ -36,7 +47,7 @@ pub fn served<R: Read, W: WriteBoth>(
     writer: &mut W,
 ) -> Result<SessionEnd, Fail> {
     let mut store = MemBlocks::new(alloc, 64 * 512)?;
-    Ok(serve_stream(alloc, reader, writer, &mut store, "disk"))
+    Ok(end_of(alloc, reader, writer, &mut store))
 }
 
 /// Tries one conversation by the program.

@@ -1,8 +1,8 @@
 //! Connections that are cut, changed, or whose streams and memory fail.
-use crate::rows::{FLAGS, GO, GONE, GREETING, served};
+use crate::rows::{FLAGS, GO, GONE, GREETING, end_of, served};
 use crate::spelling::{joined, spelled};
 use fa_io::faulty::{Failing, Piecewise};
-use fa_session::{SessionEnd, serve_stream};
+use fa_session::SessionEnd;
 use fa_types::MemBlocks;
 use linked_list_allocator::LocalHeap;
 use std::alloc::Global;
@@ -144,7 +144,7 @@ fn answered_in(alloc: Global, said: &[u8], heap_bytes: usize) -> Result<Vec<u8>,
     let mut store = MemBlocks::new(alloc, 1_000_000)?;
     let mut reader = said;
     let mut writer = Vec::new(alloc);
-    let ended = serve_stream(&heap, &mut reader, &mut writer, &mut store, "disk");
+    let ended = end_of(&heap, &mut reader, &mut writer, &mut store);
     ensure!(ended == SessionEnd::InputEnded);
     Ok(writer.get(70..).unwrap_or(&[]).to_vec(alloc)?)
 }
