@@ -1,16 +1,28 @@
 //! The program's arguments, and faulty texts.
 use fa_io::faulty::{Failing, Piecewise};
 use fa_prog::{Host, run, start};
-use std::alloc::{AllocError, Global};
-use std::io::{self, ErrorKind};
+use std::alloc::{AllocError, Allocator, Global};
+use std::env::Args;
+use std::io::{self, ErrorKind, Read, Write};
 use std::test::Fail;
+
+/// The status of the program's run. What the run promises is told here alone: a test looks at what it did.
+pub fn status_of<H: Host, R: Read, W: Write, A: Allocator + Copy>(
+    rt: &H,
+    alloc: A,
+    arguments: &[String<A>],
+    input: &mut R,
+    output: &mut W,
+) -> u8 {
+    run(rt, alloc, false, arguments, input, output)
+}
 
 /// What the program prints of an input, and its status.
 pub fn printed(rt: &impl Host, arguments: &[&str], text: &str) -> Result<(u8, Vec<u8>), Fail> {
     let given = given(rt.alloc(), arguments)?;
     let mut input = text.as_bytes();
     let mut output = Vec::new(rt.alloc());
-    let status = run(rt, rt.alloc(), false, &given, &mut input, &mut output);
+    let status = status_of(rt, rt.alloc(), &given, &mut input, &mut output);
     Ok((status, output))
 }
 
@@ -65,9 +77,11 @@ fn other_arguments(rt: HostRuntime) -> Result<(), Fail> {
     let cases: [&[&str]; 5] = [&[], &["serve"], &["talk", "talk"], &["Talk"], &["verif"]];
     for arguments in cases {
         let (status, output) = printed(&rt, arguments, "")?;
-        ensure!(status == 2);
-        ensure!(output.starts_with(b"error: ".as_slice()));
-        ensure!(output.ends_with(b"\n\nFor more information, try '--help'.\n".as_slice()));
+        ensure!(
+            status == 2
+                && output.starts_with(b"error: ".as_slice())
+                && output.ends_with(b"\n\nFor more information, try '--help'.\n".as_slice())
+        );
     }
     Ok(())
 }
@@ -84,7 +98,7 @@ fn fails_at_write(
     let arguments = given(rt.alloc(), &[name])?;
     let mut input = text.as_bytes();
     let mut output = Failing::new(Piecewise::new(Vec::new(rt.alloc()), 5), call);
-    ensure!(run(rt, rt.alloc(), false, &arguments, &mut input, &mut output) == 1, at told);
+    ensure!(status_of(rt, rt.alloc(), &arguments, &mut input, &mut output) == 1, at told);
     ensure!(output.calls == call, at told);
     let written = output.inner.inner.as_slice();
     ensure!(written.len() == taken, at told);
@@ -121,27 +135,19 @@ fn input_that_fails(rt: HostRuntime) -> Result<(), Fail> {
             let text = b"batch\nend\nrounds 0\nend".as_slice();
             let mut input = Failing::new(Piecewise::new(text, 7), fails_at);
             let mut output = Vec::new(rt.alloc());
-            ensure!(run(&rt, rt.alloc(), false, &arguments, &mut input, &mut output) == 1);
+            ensure!(status_of(&rt, rt.alloc(), &arguments, &mut input, &mut output) == 1);
             ensure!(output.as_slice() == told.as_bytes(), at told);
         }
     }
     Ok(())
 }
 
-/// What the program prints that is started with all of these arguments, its name among them.
-fn started(rt: &impl Host, all: &[&str], text: &str) -> Result<(u8, Vec<u8>), Fail> {
-    let arguments = given(rt.alloc(), all)?.into_iter();
+/// What the program prints that is started with all of its arguments, its name among them, and its status.
+fn started(rt: &impl Host, all: io::Result<Args>, text: &str) -> (u8, Vec<u8>) {
     let mut input = text.as_bytes();
     let mut output = Vec::new(rt.alloc());
-    let status = start(
-        rt,
-        rt.alloc(),
-        false,
-        Ok(arguments),
-        &mut input,
-        &mut output,
-    );
-    Ok((status.number(), output))
+    let status = start(rt, rt.alloc(), false, all, &mut input, &mut output);
+    (status.number(), output)
 }
 
 #[test]
@@ -163,7 +169,8 @@ fn the_program_ends_with_the_status_of_its_run(rt: HostRuntime) -> Result<(), Fa
         (&["flasharr", "verify"], "", 2, "text: line 1\n"),
     ];
     for (all, text, status, told) in cases {
-        let (ended, output) = started(&rt, all, text)?;
+        let all = given(rt.alloc(), all)?.into_iter();
+        let (ended, output) = started(&rt, Ok(all), text);
         ensure!(ended == status, at told);
         ensure!(output.as_slice() == told.as_bytes(), at told);
     }
@@ -181,11 +188,8 @@ fn arguments_that_cannot_be_had(rt: HostRuntime) -> Result<(), Fail> {
         ),
     ];
     for (kind, status, told) in cases {
-        let mut input = b"".as_slice();
-        let mut output = Vec::new(rt.alloc());
-        let refused = Err(io::Error::from(kind));
-        let ended = start(&rt, rt.alloc(), false, refused, &mut input, &mut output);
-        ensure!(ended.number() == status);
+        let (ended, output) = started(&rt, Err(io::Error::from(kind)), "");
+        ensure!(ended == status);
         ensure!(output.as_slice() == told.as_bytes(), at told);
     }
     Ok(())

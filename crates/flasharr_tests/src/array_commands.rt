@@ -92,94 +92,107 @@ fn tells<'x>(
 
 const DIES: [&str; 4] = ["d0", "d1", "d2", "d3"];
 
+/// An array before and after it is formatted.
+fn tells_a_new_array(rt: &impl Host, at: &str) -> Result<(), Fail> {
+    let fresh = "dies 4 live 4 spare 0\nepoch 1 clean\nwritten 0 thin 0\n";
+    tells(rt, "check", &[], at, 1, "mount: 7 image fault\n")?;
+    tells(rt, "format", &[], at, 0, "formatted 4 images\n")?;
+    tells(rt, "check", &[], at, 0, fresh)?;
+    tells(rt, "dump", &[], at, 0, "")
+}
+
+/// Of an array one image is there twice.
+fn tells_a_copied_image(rt: &HostRuntime, host: &impl Host, test: &str) -> Result<(), Fail> {
+    let from = path_of(rt, test, "d0")?;
+    let to = path_of(rt, test, "copy")?;
+    fs::copy(rt, from.as_str(), to.as_str())?;
+    let at = settings_of(rt, test, &["d0", "copy", "d2", "d3"])?;
+    tells(host, "check", &[], at.as_str(), 1, "mount: 4 die twice\n")
+}
+
+/// Of an array one image has no clean mark.
+fn tells_an_unclean_array(rt: &HostRuntime, host: &impl Host, test: &str) -> Result<(), Fail> {
+    unmark(rt, test, "d0")?;
+    let at = settings_of(rt, test, &DIES)?;
+    let unclean = "dies 4 live 4 spare 0\nepoch 1 unclean\nwritten 0 thin 0\n";
+    tells(host, "check", &[], at.as_str(), 1, "mount: 5 unclean\n")?;
+    tells(host, "check", &["--unclean"], at.as_str(), 0, unclean)
+}
+
 #[test]
 fn check_after_format(rt: HostRuntime) -> Result<(), Fail> {
     let at = settings_of(&rt, "format", &DIES)?;
-    let fresh = "dies 4 live 4 spare 0\nepoch 1 clean\nwritten 0 thin 0\n";
-    tells(&rt, "check", &[], at.as_str(), 1, "mount: 7 image fault\n")?;
-    tells(&rt, "format", &[], at.as_str(), 0, "formatted 4 images\n")?;
-    tells(&rt, "check", &[], at.as_str(), 0, fresh)?;
-    tells(&rt, "dump", &[], at.as_str(), 0, "")?;
-    let twice = settings_of(&rt, "format", &["d0", "copy", "d2", "d3"])?;
-    let (from, to) = (
-        path_of(&rt, "format", "d0")?,
-        path_of(&rt, "format", "copy")?,
-    );
-    fs::copy(&rt, from.as_str(), to.as_str())?;
-    tells(&rt, "check", &[], twice.as_str(), 1, "mount: 4 die twice\n")?;
-    unmark(&rt, "format", "d0")?;
-    let at = settings_of(&rt, "format", &DIES)?;
-    tells(&rt, "check", &[], at.as_str(), 1, "mount: 5 unclean\n")?;
-    let unclean = "dies 4 live 4 spare 0\nepoch 1 unclean\nwritten 0 thin 0\n";
-    tells(&rt, "check", &["--unclean"], at.as_str(), 0, unclean)
+    tells_a_new_array(&rt, at.as_str())?;
+    tells_a_copied_image(&rt, &rt, "format")?;
+    tells_an_unclean_array(&rt, &rt, "format")
+}
+
+/// Dumps the page of an array after each write of it.
+fn dumps_pages(rt: &HostRuntime, host: &impl Host, at: &str) -> Result<(), Fail> {
+    tells(host, "format", &[], at, 0, "formatted 4 images\n")?;
+    put_page(rt, "pages", 1, 0, 1, Kind::Data)?;
+    put_page(rt, "pages", 3, 0, 1, Kind::Data)?;
+    tells(host, "dump", &[], at, 0, "page 5 seq 1 at 1:0 3:0\n")?;
+    put_page(rt, "pages", 1, 1, 2, Kind::Data)?;
+    tells(host, "dump", &[], at, 0, "page 5 seq 2 at 1:1\n")?;
+    let thin = "dies 4 live 4 spare 0\nepoch 1 clean\nwritten 1 thin 1\n";
+    tells(host, "check", &[], at, 0, thin)?;
+    put_page(rt, "pages", 0, 7, 3, Kind::Hole)?;
+    tells(host, "dump", &[], at, 0, "page 5 seq 3 hole at 0:7\n")
 }
 
 #[test]
 fn dump_of_pages(rt: HostRuntime) -> Result<(), Fail> {
     let at = settings_of(&rt, "pages", &DIES)?;
-    tells(&rt, "format", &[], at.as_str(), 0, "formatted 4 images\n")?;
-    put_page(&rt, "pages", 1, 0, 1, Kind::Data)?;
-    put_page(&rt, "pages", 3, 0, 1, Kind::Data)?;
-    tells(
-        &rt,
-        "dump",
-        &[],
-        at.as_str(),
-        0,
-        "page 5 seq 1 at 1:0 3:0\n",
-    )?;
-    put_page(&rt, "pages", 1, 1, 2, Kind::Data)?;
-    tells(&rt, "dump", &[], at.as_str(), 0, "page 5 seq 2 at 1:1\n")?;
-    let thin = "dies 4 live 4 spare 0\nepoch 1 clean\nwritten 1 thin 1\n";
-    tells(&rt, "check", &[], at.as_str(), 0, thin)?;
-    put_page(&rt, "pages", 0, 7, 3, Kind::Hole)?;
-    tells(
-        &rt,
-        "dump",
-        &[],
-        at.as_str(),
-        0,
-        "page 5 seq 3 hole at 0:7\n",
-    )
+    dumps_pages(&rt, &rt, at.as_str())
 }
 
-#[test]
-fn faults_of_format(rt: HostRuntime) -> Result<(), Fail> {
-    let at = settings_of(&rt, "faults", &DIES)?;
-    tells(
-        &rt,
-        "format",
-        &["--die", "4"],
-        at.as_str(),
-        2,
-        "settings: 5 dies\n",
-    )?;
-    tells(&rt, "format", &[], at.as_str(), 0, "formatted 4 images\n")?;
-    let held = image_of(&rt, "faults", "d1")?;
-    tells(&rt, "format", &[], at.as_str(), 1, "format: image 1\n")?;
-    tells(&rt, "check", &[], at.as_str(), 1, "mount: 7 image fault\n")?;
+/// While a process has an image, no command takes the array.
+fn tells_a_held_image(rt: &HostRuntime, host: &impl Host, at: &str) -> Result<(), Fail> {
+    let held = image_of(rt, "faults", "d1")?;
+    tells(host, "format", &[], at, 1, "format: image 1\n")?;
+    tells(host, "check", &[], at, 1, "mount: 7 image fault\n")?;
     drop(held);
+    Ok(())
+}
+
+/// A die that there is not, an image that is held, and a die that is formatted alone.
+fn tells_one_die(rt: &HostRuntime, host: &impl Host, at: &str) -> Result<(), Fail> {
+    let left = "dies 4 live 3 spare 1\nepoch 1 unclean\nwritten 0 thin 0\n";
+    tells(host, "format", &["--die", "4"], at, 2, "settings: 5 dies\n")?;
+    tells(host, "format", &[], at, 0, "formatted 4 images\n")?;
+    tells_a_held_image(rt, host, at)?;
     tells(
-        &rt,
+        host,
         "format",
         &["--die", "2"],
-        at.as_str(),
+        at,
         0,
         "formatted 1 images\n",
     )?;
-    tells(&rt, "check", &[], at.as_str(), 1, "mount: 5 unclean\n")?;
-    let left = "dies 4 live 3 spare 1\nepoch 1 unclean\nwritten 0 thin 0\n";
-    tells(&rt, "check", &["--unclean"], at.as_str(), 0, left)?;
-    let few = settings_of(&rt, "faults", &["d0", "d1"])?;
-    tells(&rt, "format", &[], few.as_str(), 2, "settings: 5 images\n")?;
+    tells(host, "check", &[], at, 1, "mount: 5 unclean\n")?;
+    tells(host, "check", &["--unclean"], at, 0, left)
+}
+
+/// Settings that are not those of the images, or cannot be read.
+fn tells_other_settings(rt: &HostRuntime, host: &impl Host) -> Result<(), Fail> {
+    let few = settings_of(rt, "faults", &["d0", "d1"])?;
+    tells(host, "format", &[], few.as_str(), 2, "settings: 5 images\n")?;
     tells(
-        &rt,
+        host,
         "check",
         &[],
         "no such file",
         2,
         "settings: cannot read\n",
     )
+}
+
+#[test]
+fn faults_of_format(rt: HostRuntime) -> Result<(), Fail> {
+    let at = settings_of(&rt, "faults", &DIES)?;
+    tells_one_die(&rt, &rt, at.as_str())?;
+    tells_other_settings(&rt, &rt)
 }
 
 /// Whether a command on the settings of a test tells these words of an image on standard error, first of all.

@@ -99,76 +99,120 @@ fn closed_but<A: Allocator + Copy>(
     Ok(calendar.closed(alloc, &[place(die, round)]))
 }
 
+// A test makes its calendar and lends it to the function that has the calls: where each of them may end the
+// test with the calendar still there, it is proved once more for each that it is let go.
+
+/// Books rounds of a die, which have to be open.
+fn book_all<A: Allocator>(calendar: &mut Calendar<A>, die: u8, rounds: &[u64]) -> Result<(), Fail> {
+    for round in rounds {
+        book(calendar, die, *round)??;
+    }
+    Ok(())
+}
+
+/// Keeps a window, and tells its first round.
+fn first_kept<A: Allocator>(calendar: &mut Calendar<A>, die: u8, rounds: u64) -> Result<u64, Fail> {
+    let first = keep_window(calendar, die, rounds)??;
+    Ok(first.0)
+}
+
+fn is_open<R: Rounds>(rounds: &R, die: u8, round: u64) -> bool {
+    rounds.is_open(Die(die), Round(round))
+}
+
+fn is_booked<A: Allocator>(calendar: &Calendar<A>, die: u8, round: u64) -> bool {
+    calendar.is_booked(Die(die), Round(round))
+}
+
+fn keeps_beside_a_booking<A: Allocator>(calendar: &mut Calendar<A>) -> Result<(), Fail> {
+    book_all(calendar, 0, &[67])?;
+    ensure!(first_kept(calendar, 0, 64)? == 2);
+    ensure!(calendar.window(Die(0)) == Some((Round(2), Round(65))));
+    ensure!(opens(calendar, 65, 2)? == (1, 66));
+    ensure!(opens(calendar, 65, 3)? == (1, 68));
+    Ok(())
+}
+
 #[test]
 fn a_window_beside_a_booking(rt: HostRuntime) -> Result<(), Fail> {
     let mut calendar = Calendar::new(rt.alloc(), Round(1))?;
-    book(&mut calendar, 0, 67)??;
-    ensure!(keep_window(&mut calendar, 0, 64)?? == Round(2));
-    ensure!(calendar.window(Die(0)) == Some((Round(2), Round(65))));
-    ensure!(opens(&calendar, 65, 2)? == (1, 66));
-    ensure!(opens(&calendar, 65, 3)? == (1, 68));
-    Ok(())
+    keeps_beside_a_booking(&mut calendar)
 }
 
 #[test]
 fn a_window_of_an_open_die(rt: HostRuntime) -> Result<(), Fail> {
     let mut calendar = Calendar::new(rt.alloc(), Round(1))?;
-    ensure!(keep_window(&mut calendar, 0, 8)?? == Round(2));
-    ensure!(calendar.is_open(Die(0), Round(1)));
-    ensure!(calendar.is_open(Die(1), Round(2)));
-    ensure!(!calendar.is_booked(Die(0), Round(2)));
+    let first = first_kept(&mut calendar, 0, 8)?;
+    ensure!(
+        first == 2
+            && is_open(&calendar, 0, 1)
+            && is_open(&calendar, 1, 2)
+            && !is_booked(&calendar, 0, 2)
+    );
+    Ok(())
+}
+
+fn moves_and_releases<A: Allocator>(calendar: &mut Calendar<A>) -> Result<(), Fail> {
+    book_all(calendar, 3, &[4, 6, 5])?;
+    release(calendar, 3, 5)?;
+    ensure!(is_open(calendar, 3, 5) && is_booked(calendar, 3, 4));
+    rebook(calendar, (3, 6), (2, 6))??;
+    ensure!(is_open(calendar, 3, 6) && is_booked(calendar, 2, 6));
+    calendar.drop_die(Die(3));
+    ensure!(is_open(calendar, 3, 4) && is_booked(calendar, 2, 6));
     Ok(())
 }
 
 #[test]
 fn a_booking_is_moved_and_released(rt: HostRuntime) -> Result<(), Fail> {
     let mut calendar = Calendar::new(rt.alloc(), Round(1))?;
-    for round in [4, 6, 5] {
-        book(&mut calendar, 3, round)??;
-    }
-    release(&mut calendar, 3, 5)?;
-    ensure!(calendar.is_open(Die(3), Round(5)));
-    ensure!(calendar.is_booked(Die(3), Round(4)));
-    rebook(&mut calendar, (3, 6), (2, 6))??;
-    ensure!(calendar.is_open(Die(3), Round(6)));
-    ensure!(calendar.is_booked(Die(2), Round(6)));
-    calendar.drop_die(Die(3));
-    ensure!(calendar.is_open(Die(3), Round(4)));
-    ensure!(calendar.is_booked(Die(2), Round(6)));
+    moves_and_releases(&mut calendar)
+}
+
+fn lets_rounds_pass<A: Allocator>(calendar: &mut Calendar<A>) -> Result<(), Fail> {
+    book_all(calendar, 0, &[1])?;
+    first_kept(calendar, 0, 2)?;
+    pass(calendar)?;
+    ensure!(calendar.now() == Round(2) && !is_booked(calendar, 0, 1));
+    pass(calendar)?;
+    ensure!(calendar.window(Die(0)) == Some((Round(2), Round(3))));
+    ensure!(!is_open(calendar, 0, 3));
+    pass(calendar)?;
+    ensure!(calendar.window(Die(0)) == None);
+    ensure!(opens(calendar, 10, 1)? == (10, 4));
     Ok(())
 }
 
 #[test]
 fn rounds_pass(rt: HostRuntime) -> Result<(), Fail> {
     let mut calendar = Calendar::new(rt.alloc(), Round(1))?;
-    book(&mut calendar, 0, 1)??;
-    keep_window(&mut calendar, 0, 2)??;
-    pass(&mut calendar)?;
-    ensure!(calendar.now() == Round(2));
-    ensure!(!calendar.is_booked(Die(0), Round(1)));
-    pass(&mut calendar)?;
-    ensure!(calendar.window(Die(0)) == Some((Round(2), Round(3))));
-    ensure!(!calendar.is_open(Die(0), Round(3)));
-    pass(&mut calendar)?;
-    ensure!(calendar.window(Die(0)) == None);
-    ensure!(opens(&calendar, 10, 1)? == (10, 4));
-    Ok(())
+    lets_rounds_pass(&mut calendar)
+}
+
+/// The closed rounds without one that is booked, where there is memory for them.
+fn closed_without<A: Allocator + Copy>(
+    alloc: A,
+    calendar: &Calendar<A>,
+    die: u8,
+    round: u64,
+) -> Result<Closed<A>, Fail> {
+    Ok(closed_but(alloc, calendar, die, round)??)
 }
 
 #[test]
 fn the_closed_rounds(rt: HostRuntime) -> Result<(), Fail> {
     let mut calendar = Calendar::new(rt.alloc(), Round(1))?;
-    for round in [4, 5, 6] {
-        book(&mut calendar, 1, round)??;
-    }
-    keep_window(&mut calendar, 0, 2)??;
-    let closed = closed_but(rt.alloc(), &calendar, 1, 5)??;
-    ensure!(closed.now() == Round(1));
-    ensure!(!closed.is_open(Die(1), Round(4)));
-    ensure!(closed.is_open(Die(1), Round(5)));
-    ensure!(!closed.is_open(Die(1), Round(6)));
-    ensure!(!closed.is_open(Die(0), Round(3)));
-    ensure!(!calendar.is_open(Die(1), Round(5)));
+    book_all(&mut calendar, 1, &[4, 5, 6])?;
+    first_kept(&mut calendar, 0, 2)?;
+    let closed = closed_without(rt.alloc(), &calendar, 1, 5)?;
+    ensure!(
+        closed.now() == Round(1)
+            && !is_open(&closed, 1, 4)
+            && is_open(&closed, 1, 5)
+            && !is_open(&closed, 1, 6)
+            && !is_open(&closed, 0, 3)
+            && !is_open(&calendar, 1, 5)
+    );
     Ok(())
 }
 

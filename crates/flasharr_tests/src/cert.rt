@@ -7,9 +7,9 @@ use fa_cert::{
     Batch, Closed, Place, Places, Plan, Refusal, Run, Shortage, TextError, Unsound, Verdict, check,
     end_soon, print, read_batch, read_certificate,
 };
+use fa_prog::Host;
 use fa_types::{Die, Page, Round, Rounds};
 use std::alloc::Global;
-use fa_prog::Host;
 use std::test::Fail;
 
 fn holders_of(alloc: Global, dies: &[u8]) -> Result<Vec<Die>, Fail> {
@@ -68,6 +68,20 @@ fn closed_of(alloc: Global, list: &[(u8, u64, u64)]) -> Result<Closed, Fail>
     Ok(Closed::new(alloc, Round(1), runs)?)
 }
 
+/// The check's verdict on a batch, which has to be sound. What the check promises is told here alone.
+pub fn checked(
+    alloc: Global,
+    batch: &Batch,
+    closed: &Closed,
+    plan: &Plan,
+    shortage: &Shortage,
+) -> Result<Verdict, Fail> {
+    if !batch.is_sound() {
+        return Err("the batch is not sound")?;
+    }
+    Ok(check(alloc, batch, closed, plan, shortage)?)
+}
+
 /// The check's verdict on a plan and a shortage.
 fn verdict_of(
     alloc: Global,
@@ -78,10 +92,7 @@ fn verdict_of(
 ) -> Result<Verdict, Fail> {
     let plan = plan_of(alloc, plan.0, plan.1)?;
     let shortage = shortage_of(alloc, shortage)?;
-    if !batch.is_sound() {
-        return Err("the batch is not sound")?;
-    }
-    Ok(check(alloc, batch, closed, &plan, &shortage)?)
+    checked(alloc, batch, closed, &plan, &shortage)
 }
 
 #[test]
@@ -135,8 +146,7 @@ fn unsound_batches(rt: HostRuntime) -> Result<(), Fail> {
     let twice = batch_of(rt.alloc(), &[(7, &[0]), (3, &[1]), (7, &[0, 1]), (8, &[])])?;
     ensure!(twice.unsound() == Some(Unsound::Twice(Page(7))));
     let unnamed_then_twice = batch_of(rt.alloc(), &[(7, &[0]), (7, &[])])?;
-    ensure!(unnamed_then_twice.unsound() == Some(Unsound::NoHolder(Page(7))));
-    ensure!(!twice.is_sound());
+    ensure!(unnamed_then_twice.unsound() == Some(Unsound::NoHolder(Page(7))) && !twice.is_sound());
     Ok(())
 }
 
@@ -209,8 +219,7 @@ fn large_batch(rt: HostRuntime) -> Result<(), Fail> {
     for page in 0..1024u64 {
         shortage.push(Page(page))?;
     }
-    ensure!(batch.is_sound());
-    ensure!(check(rt.alloc(), &batch, &closed, &plan, &shortage)? == Verdict::Least(1616));
+    ensure!(checked(rt.alloc(), &batch, &closed, &plan, &shortage)? == Verdict::Least(1616));
     Ok(())
 }
 

@@ -1,7 +1,7 @@
 //! Help, the version, and arguments that are no command.
 use crate::arguments::printed;
-use std::alloc::Global;
 use fa_prog::Host;
+use std::alloc::Global;
 use std::test::Fail;
 
 const HELP: &str = "A block server over mirrored flash dies, proved before it is built

@@ -1,21 +1,13 @@
-//! What a test wants to be so. Where it is not, the test ends with an error that has the words.
-ghost use Rattle.std.specs.Prelude.{IfOk, IsTrue};
-
+//! What a test says that is not so: an error that has the words of what was to be so.
 use std::fmt::Debug;
 use std::test::Fail;
 
-/// Fails with these words, unless it is so.
-pub fn ensured(is_so: bool, words: &str) -> Result<(), Fail>
-    ensures { IfOk result (λ done. IsTrue is_so) }
-{
-    if is_so { Ok(()) } else { Err(Fail::new(words)) }
+/// The error with these words.
+pub fn failed(words: &str) -> Fail {
+    Fail::new(words)
 }
 
-/// Fails with these words and with where, unless it is so.
-pub fn ensured_at<D: Debug + Drop>(is_so: bool, words: &str, place: D) -> Result<(), Fail> {
-    if is_so {
-        Ok(())
-    } else {
-        Err(Fail::new(format_args!("{words}, at {place:?}")))
-    }
+/// The error with these words and with where.
+pub fn failed_at<D: Debug + Drop>(words: &str, place: D) -> Fail {
+    Fail::new(format_args!("{words}, at {place:?}"))
 }

@@ -1,8 +1,8 @@
 //! Connections whose memory, reader or writer fails.
-use crate::rows::{FLAGS, GO, GONE, GREETING, served};
+use crate::rows::{FLAGS, GO, GONE, GREETING, end_of, served};
 use crate::spelling::{joined, spelled};
 use fa_io::faulty::Piecewise;
-use fa_session::{SessionEnd, serve_stream};
+use fa_session::SessionEnd;
 use fa_types::MemBlocks;
 use linked_list_allocator::LocalHeap;
 use std::alloc::Global;
@@ -31,9 +31,18 @@ fn a_writer_that_takes_nothing(rt: HostRuntime) -> Result<(), Fail> {
     let mut reader = Piecewise::new(said.as_slice(), 4096);
     let mut writer = Piecewise::new(Vec::new(rt.alloc()), 0);
     ensure!(served(rt.alloc(), &mut reader, &mut writer)? == SessionEnd::WriteFailed);
-    ensure!(writer.calls == 1);
-    ensure!(reader.calls == 0);
+    ensure!(writer.calls == 1 && reader.calls == 0);
     Ok(())
+}
+
+/// How a session in a heap of so many bytes ends, and what it writes.
+fn served_in(alloc: Global, said: &[u8], heap_bytes: usize) -> Result<(SessionEnd, Vec<u8>), Fail> {
+    let heap = LocalHeap::new(alloc, heap_bytes)?;
+    let mut store = MemBlocks::new(alloc, 64 * 512)?;
+    let mut reader = Piecewise::new(said, 100);
+    let mut writer = Vec::new(alloc);
+    let ended = end_of(&heap, &mut reader, &mut writer, &mut store);
+    Ok((ended, writer))
 }
 
 // The session's memory is a heap that grows by little from run to run, so that each of its
@@ -62,12 +71,8 @@ fn each_allocation_fails(rt: HostRuntime) -> Result<(), Fail> {
     let mut of_requests = 0u32;
     let mut whole = 0u32;
     for room in 0..200usize {
-        let heap = LocalHeap::new(rt.alloc(), room * 16)?;
-        let mut store = MemBlocks::new(rt.alloc(), 64 * 512)?;
-        let mut reader = Piecewise::new(said.as_slice(), 100);
-        let mut writer = Vec::new(rt.alloc());
-        let ended = serve_stream(&heap, &mut reader, &mut writer, &mut store, "disk");
-        let taken = writer.as_slice();
+        let (ended, written) = served_in(rt.alloc(), &said, room * 16)?;
+        let taken = written.as_slice();
         if ended == SessionEnd::NoMemory {
             in_negotiation = in_negotiation.saturating_add(1);
             ensure!(begun.starts_with(taken), at room);
@@ -85,9 +90,7 @@ fn each_allocation_fails(rt: HostRuntime) -> Result<(), Fail> {
             || replies == both_refused.as_slice();
         ensure!(is_right, at room);
     }
-    ensure!(in_negotiation > 1);
-    ensure!(of_requests > 1);
-    ensure!(whole > 1);
+    ensure!(in_negotiation > 1 && of_requests > 1 && whole > 1);
     Ok(())
 }
 
@@ -106,7 +109,7 @@ fn the_longest_read_and_write(rt: HostRuntime) -> Result<(), Fail> {
     let mut store = MemBlocks::new(rt.alloc(), 33_554_432)?;
     let mut reader = Piecewise::new(said.as_slice(), 1_000_000);
     let mut writer = Piecewise::new(Vec::new(rt.alloc()), 1_000_000);
-    let ended = serve_stream(rt.alloc(), &mut reader, &mut writer, &mut store, "disk");
+    let ended = end_of(rt.alloc(), &mut reader, &mut writer, &mut store);
     ensure!(ended == SessionEnd::InputEnded);
 
     let replies = "67446698 00000000 0000000000000001 67446698 00000000 0000000000000002";
@@ -114,8 +117,7 @@ fn the_longest_read_and_write(rt: HostRuntime) -> Result<(), Fail> {
     let front = writer.inner.strip_suffix(bytes.as_slice()).unwrap_or(&[]);
     ensure!(front.ends_with(replies.as_slice()));
     // A call takes a million bytes: 33 or so for the data, and few for all else.
-    ensure!(reader.calls < 50);
-    ensure!(writer.calls < 50);
+    ensure!(reader.calls < 50 && writer.calls < 50);
     Ok(())
 }
 
@@ -130,9 +132,11 @@ fn the_data_of_a_refused_write(rt: HostRuntime) -> Result<(), Fail> {
     let mut reader = Piecewise::new(said.as_slice(), 1_000_000);
     let mut writer = Vec::new(rt.alloc());
     let ended = served(rt.alloc(), &mut reader, &mut writer)?;
-    ensure!(ended == SessionEnd::InputEnded);
-    ensure!(writer.as_slice() == answer.as_slice());
-    ensure!(reader.calls < 40);
+    ensure!(
+        ended == SessionEnd::InputEnded
+            && writer.as_slice() == answer.as_slice()
+            && reader.calls < 40
+    );
     Ok(())
 }
 
@@ -149,8 +153,10 @@ fn the_data_of_a_write_that_is_too_long(rt: HostRuntime) -> Result<(), Fail> {
     let mut reader = Piecewise::new(said.as_slice(), 1_000_000);
     let mut writer = Vec::new(rt.alloc());
     let ended = served(rt.alloc(), &mut reader, &mut writer)?;
-    ensure!(ended == SessionEnd::InputEnded);
-    ensure!(writer.as_slice() == answer.as_slice());
-    ensure!(reader.calls < 540);
+    ensure!(
+        ended == SessionEnd::InputEnded
+            && writer.as_slice() == answer.as_slice()
+            && reader.calls < 540
+    );
     Ok(())
 }

@@ -70,27 +70,55 @@ fn has(bytes: &[u8], from: usize, to: usize, byte: u8) -> bool {
     }
 }
 
-#[test]
-fn a_new_image_is_zeros(rt: HostRuntime) -> Result<(), Fail> {
-    let path = path_of(&rt, "new")?;
-    let old = vec![in rt.alloc(); 0x77u8; 100_000]?;
-    fs::write(&rt, path.as_str(), old.as_slice())?;
-    let mut image = create(&rt, &path)?;
-    let bytes = fs::read(&rt, path.as_str())?;
-    ensure!(bytes.len() == 77_824);
-    ensure!(has(&bytes, 0, 77_824, 0));
-    let mut slot = [1; SLOT];
-    let mut header = [1; HEADER_BYTES];
-    ensure!(read(&mut image, 127, &mut slot) == Ok(()));
-    ensure!(has(&slot, 0, SLOT, 0));
-    ensure!(image.read_header(&mut header) == Ok(()));
-    ensure!(has(&header, 0, HEADER_BYTES, 0));
-    ensure!((image.syncs(), image.faults()) == (0, 0));
-    fs::remove_file(&rt, path.as_str())?;
-    Ok(())
+/// Whether a slot reads as this byte alone.
+fn slot_is<I: Image>(image: &mut I, slot: u32, byte: u8) -> bool {
+    let mut bytes = [!byte; SLOT];
+    read(image, slot, &mut bytes) == Ok(()) && has(&bytes, 0, SLOT, byte)
 }
 
-/// The file is longer than the image, and full of 77.
+/// Whether the header reads as this byte alone.
+fn header_is<I: Image>(image: &mut I, byte: u8) -> bool {
+    let mut bytes = [!byte; HEADER_BYTES];
+    image.read_header(&mut bytes) == Ok(()) && has(&bytes, 0, HEADER_BYTES, byte)
+}
+
+/// What a slot that is not to be had is refused with.
+fn slot_refused<I: Image>(image: &mut I, slot: u32) -> Option<ImageFault> {
+    read(image, slot, &mut [0; SLOT]).err()
+}
+
+/// What a header that is not to be had is refused with.
+fn header_refused<I: Image>(image: &mut I) -> Option<ImageFault> {
+    image.read_header(&mut [0; HEADER_BYTES]).err()
+}
+
+/// Whether an image has counted so many syncs and faults.
+fn has_counted<I: Image>(image: &I, syncs: u64, faults: u64) -> bool {
+    image.syncs() == syncs && image.faults() == faults
+}
+
+/// A file full of 77, longer than an image.
+fn full_of_77(rt: &HostRuntime, name: &str, length: usize) -> Result<PathBuf, Fail> {
+    let path = path_of(rt, name)?;
+    let old = vec![in rt.alloc(); 0x77u8; length]?;
+    fs::write(rt, path.as_str(), old.as_slice())?;
+    Ok(path)
+}
+
+/// Removes the file of a test.
+fn remove(rt: &HostRuntime, path: &PathBuf) -> Result<(), Fail> {
+    Ok(fs::remove_file(rt, path.as_str())?)
+}
+
+#[test]
+fn a_new_image_is_zeros(rt: HostRuntime) -> Result<(), Fail> {
+    let path = full_of_77(&rt, "new", 100_000)?;
+    let mut image = create(&rt, &path)?;
+    ensure!(reads_as(&rt, path.as_str(), 77_824, &[(0, 77_824, 0)])?);
+    ensure!(slot_is(&mut image, 127, 0) && header_is(&mut image, 0) && has_counted(&image, 0, 0));
+    remove(&rt, &path)
+}
+
 /// Whether a file has so many bytes, and in each part, from an offset to another, nothing but one byte.
 fn reads_as(
     rt: &HostRuntime,
@@ -107,12 +135,10 @@ fn reads_as(
 
 #[test]
 fn writes_touch_nothing_around(rt: HostRuntime) -> Result<(), Fail> {
-    let path = path_of(&rt, "around")?;
-    let old = vec![in rt.alloc(); 0x77u8; 78_000]?;
-    fs::write(&rt, path.as_str(), old.as_slice())?;
+    let path = full_of_77(&rt, "around", 78_000)?;
     let mut image = open(&rt, &path)?;
-    ensure!(program(&mut image, 17, &[0x5a; SLOT]) == Ok(()));
-    ensure!(program(&mut image, 127, &[0x33; SLOT]) == Ok(()));
+    program(&mut image, 17, &[0x5a; SLOT])?;
+    program(&mut image, 127, &[0x33; SLOT])?;
     let parts = [
         (0, 13_888, 0x77),
         (13_888, 14_464, 0x5a),
@@ -121,19 +147,16 @@ fn writes_touch_nothing_around(rt: HostRuntime) -> Result<(), Fail> {
         (77_824, 78_000, 0x77),
     ];
     ensure!(reads_as(&rt, path.as_str(), 78_000, &parts)?);
-    fs::remove_file(&rt, path.as_str())?;
-    Ok(())
+    remove(&rt, &path)
 }
 
 #[test]
 fn an_erase_and_a_header_touch_nothing_around(rt: HostRuntime) -> Result<(), Fail> {
-    let path = path_of(&rt, "header")?;
-    let old = vec![in rt.alloc(); 0x77u8; 78_000]?;
-    fs::write(&rt, path.as_str(), old.as_slice())?;
+    let path = full_of_77(&rt, "header", 78_000)?;
     let mut image = open(&rt, &path)?;
-    ensure!(erase(&mut image, 2) == Ok(()));
-    ensure!(image.write_header(&[0x11; HEADER_BYTES]) == Ok(()));
-    ensure!((image.syncs(), image.faults()) == (0, 0));
+    erase(&mut image, 2)?;
+    image.write_header(&[0x11; HEADER_BYTES])?;
+    ensure!(has_counted(&image, 0, 0));
     let parts = [
         (0, 112, 0x11),
         (112, 13_312, 0x77),
@@ -141,8 +164,7 @@ fn an_erase_and_a_header_touch_nothing_around(rt: HostRuntime) -> Result<(), Fai
         (17_920, 78_000, 0x77),
     ];
     ensure!(reads_as(&rt, path.as_str(), 78_000, &parts)?);
-    fs::remove_file(&rt, path.as_str())?;
-    Ok(())
+    remove(&rt, &path)
 }
 
 /// How many writes of files this process has made, where the system counts them.
@@ -152,22 +174,24 @@ fn writes_made(rt: &HostRuntime) -> Option<u64> {
     count.parse().ok()
 }
 
+/// Whether a count is the next one, or neither is known.
+fn is_next(count: Option<u64>, before: Option<u64>) -> bool {
+    count == before.map(|count| count.wrapping_add(1))
+}
+
 #[test]
 fn each_write_is_one_call_of_the_file(rt: HostRuntime) -> Result<(), Fail> {
     let path = path_of(&rt, "calls")?;
     let mut image = create(&rt, &path)?;
     let before = writes_made(&rt);
-    ensure!(program(&mut image, 17, &[0x5a; SLOT]) == Ok(()));
+    program(&mut image, 17, &[0x5a; SLOT])?;
     let programmed = writes_made(&rt);
-    ensure!(erase(&mut image, 2) == Ok(()));
+    erase(&mut image, 2)?;
     let erased = writes_made(&rt);
-    ensure!(image.write_header(&[0x11; HEADER_BYTES]) == Ok(()));
+    image.write_header(&[0x11; HEADER_BYTES])?;
     let written = writes_made(&rt);
-    ensure!(programmed == before.map(|count| count.wrapping_add(1)));
-    ensure!(erased == programmed.map(|count| count.wrapping_add(1)));
-    ensure!(written == erased.map(|count| count.wrapping_add(1)));
-    fs::remove_file(&rt, path.as_str())?;
-    Ok(())
+    ensure!(is_next(programmed, before) && is_next(erased, programmed) && is_next(written, erased));
+    remove(&rt, &path)
 }
 
 #[test]
@@ -181,10 +205,8 @@ fn what_was_left_is_read_again(rt: HostRuntime) -> Result<(), Fail> {
         return Err(Fail::from("another geometry"));
     }
     let (image, found) = left_and_opened(&rt, path.as_path(), geometry, Slot(5), &slot)?;
-    ensure!(found.as_slice() == slot.as_slice());
-    ensure!((image.syncs(), image.faults()) == (0, 0));
-    fs::remove_file(&rt, path.as_str())?;
-    Ok(())
+    ensure!(found.as_slice() == slot.as_slice() && has_counted(&image, 0, 0));
+    remove(&rt, &path)
 }
 
 #[test]
@@ -203,10 +225,8 @@ fn a_sealed_page_is_opened_again(rt: HostRuntime) -> Result<(), Fail> {
         slot: Slot(17),
     };
     let (image, opened) = sealed_and_opened(&rt, path.as_path(), geometry, tag, &payload)?;
-    ensure!(opened == Opened::Good(tag));
-    ensure!((image.syncs(), image.faults()) == (0, 0));
-    fs::remove_file(&rt, path.as_str())?;
-    Ok(())
+    ensure!(opened == Opened::Good(tag) && has_counted(&image, 0, 0));
+    remove(&rt, &path)
 }
 
 /// Leaves an image with a header and one slot.
@@ -265,57 +285,39 @@ fn a_header_is_left_for_the_next_process(rt: HostRuntime) -> Result<(), Fail> {
 
 #[test]
 fn a_file_that_is_too_short_refuses_what_it_lacks(rt: HostRuntime) -> Result<(), Fail> {
-    let path = path_of(&rt, "short")?;
-    let mut slot = [0; SLOT];
-    let mut header = [0; HEADER_BYTES];
-    let old = vec![in rt.alloc(); 7u8; 4096 + 3 * SLOT - 1]?;
-    fs::write(&rt, path.as_str(), old.as_slice())?;
+    let path = full_of_77(&rt, "short", 4096 + 3 * SLOT - 1)?;
     let mut image = open(&rt, &path)?;
-    ensure!(image.read_header(&mut header) == Ok(()));
-    ensure!(has(&header, 0, HEADER_BYTES, 7));
-    ensure!(read(&mut image, 1, &mut slot) == Ok(()));
-    ensure!(has(&slot, 0, SLOT, 7));
-    ensure!(read(&mut image, 2, &mut slot) == Err(ImageFault::ReadSlot));
-    ensure!(read(&mut image, 127, &mut slot) == Err(ImageFault::ReadSlot));
-    ensure!((image.syncs(), image.faults()) == (0, 2));
-    fs::remove_file(&rt, path.as_str())?;
-    Ok(())
+    ensure!(header_is(&mut image, 0x77) && slot_is(&mut image, 1, 0x77));
+    ensure!(slot_refused(&mut image, 2) == Some(ImageFault::ReadSlot));
+    ensure!(slot_refused(&mut image, 127) == Some(ImageFault::ReadSlot));
+    ensure!(has_counted(&image, 0, 2));
+    remove(&rt, &path)
 }
 
 #[test]
 fn an_empty_file_has_no_header(rt: HostRuntime) -> Result<(), Fail> {
-    let path = path_of(&rt, "empty")?;
-    let mut header = [0; HEADER_BYTES];
-    fs::write(&rt, path.as_str(), [].as_slice())?;
+    let path = full_of_77(&rt, "empty", 0)?;
     let mut image = open(&rt, &path)?;
-    ensure!(image.read_header(&mut header) == Err(ImageFault::ReadHeader));
-    ensure!(image.faults() == 1);
-    fs::remove_file(&rt, path.as_str())?;
-    Ok(())
+    ensure!(
+        header_refused(&mut image) == Some(ImageFault::ReadHeader) && has_counted(&image, 0, 1)
+    );
+    remove(&rt, &path)
 }
 
 /// A file can lose bytes while it is open.
 #[test]
 fn a_file_that_shrinks_refuses_reads(rt: HostRuntime) -> Result<(), Fail> {
     let path = path_of(&rt, "shrinks")?;
-    let mut slot = [0; SLOT];
-    let mut header = [0; HEADER_BYTES];
     let mut image = create(&rt, &path)?;
-    fs::write(
-        &rt,
-        path.as_str(),
-        vec![in rt.alloc(); 7u8; 4096 + 3 * SLOT]?.as_slice(),
-    )?;
-    ensure!(read(&mut image, 2, &mut slot) == Ok(()));
-    ensure!(has(&slot, 0, SLOT, 7));
-    ensure!(read(&mut image, 3, &mut slot) == Err(ImageFault::ReadSlot));
-    ensure!(image.read_header(&mut header) == Ok(()));
-    ensure!((image.syncs(), image.faults()) == (0, 1));
-    fs::write(&rt, path.as_str(), [7u8; 111].as_slice())?;
-    ensure!(image.read_header(&mut header) == Err(ImageFault::ReadHeader));
-    ensure!(image.faults() == 2);
-    fs::remove_file(&rt, path.as_str())?;
-    Ok(())
+    full_of_77(&rt, "shrinks", 4096 + 3 * SLOT)?;
+    ensure!(slot_is(&mut image, 2, 0x77));
+    ensure!(slot_refused(&mut image, 3) == Some(ImageFault::ReadSlot));
+    ensure!(header_is(&mut image, 0x77) && has_counted(&image, 0, 1));
+    full_of_77(&rt, "shrinks", 111)?;
+    ensure!(
+        header_refused(&mut image) == Some(ImageFault::ReadHeader) && has_counted(&image, 0, 2)
+    );
+    remove(&rt, &path)
 }
 
 #[test]
@@ -331,8 +333,7 @@ fn a_folder_is_no_image(rt: HostRuntime) -> Result<(), Fail> {
     let path = path_of(&rt, "folder")?;
     fs::create_dir(&rt, path.as_str())?;
     let folder = open(&rt, &path).err().ok_or("opened")?;
-    ensure!(folder.kind() == io::ErrorKind::IsADirectory);
-    ensure!(create(&rt, &path).is_err());
+    ensure!(folder.kind() == io::ErrorKind::IsADirectory && create(&rt, &path).is_err());
     fs::remove_dir(&rt, path.as_str())?;
     Ok(())
 }
@@ -365,14 +366,11 @@ fn a_full_file_refuses_writes(rt: HostRuntime) -> Result<(), Fail> {
         .write(true)
         .open(&rt, "/dev/full")?;
     let mut image = FileImage::over(rt.alloc(), file, shape()?)?;
-    let mut slot = [1; SLOT];
-    ensure!(program(&mut image, 3, &slot) == Err(ImageFault::Program));
+    ensure!(program(&mut image, 3, &[1; SLOT]) == Err(ImageFault::Program));
     ensure!(erase(&mut image, 1) == Err(ImageFault::EraseBlock));
     ensure!(image.write_header(&[1; HEADER_BYTES]) == Err(ImageFault::WriteHeader));
     ensure!(image.sync() == Err(ImageFault::Sync));
-    ensure!((image.syncs(), image.faults()) == (0, 4));
-    ensure!(read(&mut image, 3, &mut slot) == Ok(()));
-    ensure!(has(&slot, 0, SLOT, 0));
+    ensure!(has_counted(&image, 0, 4) && slot_is(&mut image, 3, 0));
     Ok(())
 }
 
@@ -384,9 +382,9 @@ fn a_header_that_is_not_synced_is_refused(rt: HostRuntime) -> Result<(), Fail> {
         .write(true)
         .open(&rt, "/dev/null")?;
     let mut image = FileImage::over(rt.alloc(), file, shape()?)?;
-    ensure!(program(&mut image, 3, &[1; SLOT]) == Ok(()));
+    program(&mut image, 3, &[1; SLOT])?;
     ensure!(image.write_header(&[1; HEADER_BYTES]) == Err(ImageFault::WriteHeader));
-    ensure!((image.syncs(), image.faults()) == (0, 1));
+    ensure!(has_counted(&image, 0, 1));
     Ok(())
 }
 
@@ -410,16 +408,14 @@ fn memory_counts_what_is_overwritten(rt: HostRuntime) -> Result<(), Fail> {
         (8, Some(8), 1),
     ];
     for (number, byte, overwrites) in changes {
-        ensure!(change(&mut image, number, byte) == Ok(()));
-        ensure!(image.sync() == Ok(()));
+        change(&mut image, number, byte)?;
+        image.sync()?;
         ensure!(image.overwrites() == overwrites, at number);
     }
     for (number, byte) in [(15, 0xff), (16, 16), (127, 0xff)] {
-        let mut slot = [0; SLOT];
-        ensure!(read(&mut image, number, &mut slot) == Ok(()));
-        ensure!(has(&slot, 0, SLOT, byte), at number);
+        ensure!(slot_is(&mut image, number, byte), at number);
     }
-    ensure!((image.syncs(), image.faults()) == (6, 0));
+    ensure!(has_counted(&image, 6, 0));
     Ok(())
 }
 
@@ -433,6 +429,15 @@ fn call<I: Image>(image: &mut I, number: u32) -> Result<(), ImageFault> {
         5 => image.write_header(&[5; HEADER_BYTES]),
         _ => image.sync(),
     }
+}
+
+/// Makes the six calls, of which one comes to this and the others are done.
+fn fails_at<I: Image>(image: &mut I, armed: u32, came: Result<(), ImageFault>) -> Result<(), Fail> {
+    for number in 1..7u32 {
+        let want = if number == armed { came } else { Ok(()) };
+        ensure!(call(image, number) == want, at armed);
+    }
+    Ok(())
 }
 
 #[test]
@@ -449,17 +454,11 @@ fn a_fuse_fails_the_armed_call(rt: HostRuntime) -> Result<(), Fail> {
         let armed = k as u32 + 1;
         ensure!(u32::from(fault.number()) == armed);
         let mut image = FuseImage::new(MemImage::new(rt.alloc(), shape()?)?);
-        ensure!(program(&mut image, 16, &[16; SLOT]) == Ok(()));
+        program(&mut image, 16, &[16; SLOT])?;
         image.arm(u64::from(armed));
-        for number in 1..7u32 {
-            let want = if number == armed { Err(*fault) } else { Ok(()) };
-            ensure!(call(&mut image, number) == want, at armed);
-        }
-        for number in 1..7u32 {
-            ensure!(call(&mut image, number) == Ok(()), at armed);
-        }
-        ensure!(image.faults() == 1);
-        ensure!(image.inner().faults() == 0);
+        fails_at(&mut image, armed, Err(*fault))?;
+        fails_at(&mut image, armed, Ok(()))?;
+        ensure!(image.faults() == 1 && image.inner().faults() == 0);
     }
     Ok(())
 }
@@ -467,21 +466,14 @@ fn a_fuse_fails_the_armed_call(rt: HostRuntime) -> Result<(), Fail> {
 #[test]
 fn a_blown_fuse_leaves_the_image_alone(rt: HostRuntime) -> Result<(), Fail> {
     let mut image = FuseImage::new(MemImage::new(rt.alloc(), shape()?)?);
-    ensure!(program(&mut image, 16, &[16; SLOT]) == Ok(()));
+    program(&mut image, 16, &[16; SLOT])?;
     for number in [2, 3, 5, 6] {
         image.arm(1);
         ensure!(call(&mut image, number).is_err(), at number);
     }
     ensure!(image.faults() == 4);
     let mut inner = image.into_inner();
-    let mut slot = [0; SLOT];
-    ensure!(read(&mut inner, 9, &mut slot) == Ok(()));
-    ensure!(has(&slot, 0, SLOT, 0xff));
-    ensure!(read(&mut inner, 16, &mut slot) == Ok(()));
-    ensure!(has(&slot, 0, SLOT, 16));
-    let mut header = [1; HEADER_BYTES];
-    ensure!(inner.read_header(&mut header) == Ok(()));
-    ensure!(has(&header, 0, HEADER_BYTES, 0));
-    ensure!((inner.syncs(), inner.faults()) == (0, 0));
+    ensure!(slot_is(&mut inner, 9, 0xff) && slot_is(&mut inner, 16, 16));
+    ensure!(header_is(&mut inner, 0) && has_counted(&inner, 0, 0));
     Ok(())
 }

@@ -14,8 +14,7 @@ fn cuts_lines() -> Result<(), Fail> {
     let (second, rest) = cut_line(rest).ok_or("an empty line")?;
     ensure!(second == b"".as_slice());
     let (third, rest) = cut_line(rest).ok_or("a line with no end")?;
-    ensure!(third == b"two".as_slice());
-    ensure!(cut_line(rest).is_none());
+    ensure!(third == b"two".as_slice() && cut_line(rest).is_none());
     Ok(())
 }
 
@@ -24,14 +23,18 @@ fn reads_and_writes_through_interruptions(rt: HostRuntime) -> Result<(), Fail> {
     let mut calls = Calls::new();
     let mut reader = Interrupted::new(Piecewise::new(BYTES, 7));
     let mut into = [0u8; 20];
-    ensure!(fill(&mut reader, &mut calls, &mut into) == Ok(()));
-    ensure!(into.as_slice() == BYTES);
-    ensure!(calls.reads == 6);
+    ensure!(
+        fill(&mut reader, &mut calls, &mut into) == Ok(())
+            && into.as_slice() == BYTES
+            && calls.reads == 6
+    );
 
     let mut writer = Interrupted::new(Piecewise::new(Vec::new(rt.alloc()), 1));
-    ensure!(send(&mut writer, &mut calls, BYTES) == Ok(()));
-    ensure!(writer.inner.inner.as_slice() == BYTES);
-    ensure!(calls.writes == 40);
+    ensure!(
+        send(&mut writer, &mut calls, BYTES) == Ok(())
+            && writer.inner.inner.as_slice() == BYTES
+            && calls.writes == 40
+    );
     Ok(())
 }
 
@@ -44,17 +47,21 @@ fn fails_with_what_was_read_or_written(rt: HostRuntime) -> Result<(), Fail> {
         let Err(ReadEnd::Failed(fault)) = fill(&mut reader, &mut Calls::new(), &mut into) else {
             return Err("a failed read".into());
         };
-        ensure!(fault.kind() == ErrorKind::BrokenPipe);
-        ensure!(reader.inner.inner.len() == 20 - before);
-        ensure!(reader.calls == fails_at);
+        ensure!(
+            fault.kind() == ErrorKind::BrokenPipe
+                && reader.inner.inner.len() == 20 - before
+                && reader.calls == fails_at
+        );
 
         let mut writer = Failing::new(Piecewise::new(Vec::new(rt.alloc()), 7), fails_at);
         let Err(SendFailed::Failed(fault)) = send_all(&mut writer, BYTES) else {
             return Err("a failed write".into());
         };
-        ensure!(fault.kind() == ErrorKind::BrokenPipe);
-        ensure!(writer.inner.inner.len() == before);
-        ensure!(writer.calls == fails_at);
+        ensure!(
+            fault.kind() == ErrorKind::BrokenPipe
+                && writer.inner.inner.len() == before
+                && writer.calls == fails_at
+        );
     }
     Ok(())
 }
@@ -63,8 +70,10 @@ fn fails_with_what_was_read_or_written(rt: HostRuntime) -> Result<(), Fail> {
 fn tells_the_end_of_input() -> Result<(), Fail> {
     let mut reader = BYTES;
     let mut calls = Calls::new();
-    ensure!(skip(&mut reader, &mut calls, 20) == Ok(()));
-    ensure!(read_some(&mut reader, &mut calls, &mut [0; 4]) == Err(ReadEnd::EndOfInput));
+    ensure!(
+        skip(&mut reader, &mut calls, 20) == Ok(())
+            && read_some(&mut reader, &mut calls, &mut [0; 4]) == Err(ReadEnd::EndOfInput)
+    );
     Ok(())
 }
 
@@ -74,8 +83,7 @@ fn fails_where_a_writer_takes_nothing(rt: HostRuntime) -> Result<(), Fail> {
     let Err(SendFailed::Failed(fault)) = send_all(&mut writer, BYTES) else {
         return Err("a failed write".into());
     };
-    ensure!(fault.kind() == ErrorKind::WriteZero);
-    ensure!(writer.calls == 1);
+    ensure!(fault.kind() == ErrorKind::WriteZero && writer.calls == 1);
     Ok(())
 }
 
@@ -85,8 +93,8 @@ fn skips_as_much_as_the_buffer_holds(rt: HostRuntime) -> Result<(), Fail> {
     let bytes = vec![in rt.alloc(); 0u8; 9000]?;
     let mut reader = bytes.as_slice();
     let mut calls = Calls::new();
-    ensure!(skip(&mut reader, &mut calls, 8500) == Ok(()));
-    ensure!(reader.len() == 500);
-    ensure!(calls.reads == 3);
+    ensure!(
+        skip(&mut reader, &mut calls, 8500) == Ok(()) && reader.len() == 500 && calls.reads == 3
+    );
     Ok(())
 }

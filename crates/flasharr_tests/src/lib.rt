@@ -7,10 +7,14 @@
 #[cfg(test)]
 macro_rules! ensure {
     ($is_so:expr) => {
-        crate::ensure::ensured($is_so, stringify!($is_so))?
+        if !$is_so {
+            return Err(crate::ensure::failed(stringify!($is_so)));
+        }
     };
     ($is_so:expr, at $place:expr) => {
-        crate::ensure::ensured_at($is_so, stringify!($is_so), $place)?
+        if !$is_so {
+            return Err(crate::ensure::failed_at(stringify!($is_so), $place));
+        }
     };
 }
 

@@ -3,7 +3,7 @@
 ghost use Rattle.std.specs.Prelude.{◌≡◌, ◌<◌};
 
 use fa_machine::{Block, Version};
-use fa_map::{Map, PageMap, PlainMap};
+use fa_map::{BlockCounts, Map, PageMap, PlainMap, SlotState};
 use fa_types::{Die, Geometry, Kind, Page, Seq, Slot};
 use linked_list_allocator::LocalHeap;
 use std::test::Fail;
@@ -119,71 +119,69 @@ fn make<M: Map>(map: &mut M, call: Call) -> Option<Slot> {
     None
 }
 
-fn same_page<A: Map, B: Map>(a: &A, b: &B, page: u64) -> bool {
-    if page >= a.geometry().pages || page >= b.geometry().pages {
-        return false;
+/// What a map answers of a page.
+fn page_of<M: Map>(map: &M, page: u64) -> Option<(Option<Version>, Option<Seq>, u32)> {
+    if page >= map.geometry().pages {
+        return None;
     }
     let page = Page(page);
-    a.version(page) == b.version(page)
-        && a.seq(page) == b.seq(page)
-        && a.copies_of(page) == b.copies_of(page)
+    Some((map.version(page), map.seq(page), map.copies_of(page)))
 }
 
-fn same_copy<A: Map, B: Map>(a: &A, b: &B, page: u64, die: u8) -> bool {
-    let one = a.geometry();
-    let two = b.geometry();
-    if page >= one.pages || page >= two.pages {
-        return false;
+/// What a map answers of a page's copy on a die.
+fn copy_of<M: Map>(map: &M, page: u64, die: u8) -> Option<Option<Slot>> {
+    let g = map.geometry();
+    if page >= g.pages || die as u32 >= g.dies {
+        return None;
     }
-    if die as u32 >= one.dies || die as u32 >= two.dies {
-        return false;
-    }
-    a.copy_on(Page(page), Die(die)) == b.copy_on(Page(page), Die(die))
+    Some(map.copy_on(Page(page), Die(die)))
 }
 
-fn same_slot<A: Map, B: Map>(a: &A, b: &B, die: u8, slot: u32) -> bool {
-    let one = a.geometry();
-    let two = b.geometry();
-    if die as u32 >= one.dies || die as u32 >= two.dies {
-        return false;
+/// What a map answers of a slot.
+fn slot_of<M: Map>(map: &M, die: u8, slot: u32) -> Option<(SlotState, Option<(Page, Version)>)> {
+    let g = map.geometry();
+    if die as u32 >= g.dies || slot >= g.blocks * g.slots {
+        return None;
     }
-    if slot >= one.blocks * one.slots || slot >= two.blocks * two.slots {
-        return false;
-    }
-    a.state(Die(die), Slot(slot)) == b.state(Die(die), Slot(slot))
-        && a.copy_in(Die(die), Slot(slot)) == b.copy_in(Die(die), Slot(slot))
+    let (die, slot) = (Die(die), Slot(slot));
+    Some((map.state(die, slot), map.copy_in(die, slot)))
 }
 
-fn same_block<A: Map, B: Map>(a: &A, b: &B, die: u8, block: u32) -> bool {
-    let one = a.geometry();
-    let two = b.geometry();
-    if die as u32 >= one.dies || die as u32 >= two.dies {
-        return false;
+/// What a map answers of a die, and of one of its blocks.
+fn block_of<M: Map>(map: &M, die: u8, block: u32) -> Option<(BlockCounts, bool, u32, u32)> {
+    let g = map.geometry();
+    if die as u32 >= g.dies || block >= g.blocks {
+        return None;
     }
-    if block >= one.blocks || block >= two.blocks {
-        return false;
-    }
-    a.counts(Die(die), Block(block)) == b.counts(Die(die), Block(block))
-        && a.is_live(Die(die)) == b.is_live(Die(die))
-        && a.free(Die(die)) == b.free(Die(die))
-        && a.room(Die(die)) == b.room(Die(die))
+    let (die, block) = (Die(die), Block(block));
+    Some((
+        map.counts(die, block),
+        map.is_live(die),
+        map.free(die),
+        map.room(die),
+    ))
+}
+
+/// Whether both maps answer, and alike.
+fn are_same<T: PartialEq + Drop>(a: Option<T>, b: Option<T>) -> bool {
+    a.is_some() && a == b
 }
 
 /// Whether two maps of four dies of 12 blocks of 4 slots and of 64 pages answer every look alike.
 fn are_alike<A: Map, B: Map>(a: &A, b: &B) -> bool {
     let mut alike = a.live_dies() == b.live_dies();
     for page in 0..64u64 {
-        alike = alike && same_page(a, b, page);
+        alike = alike && are_same(page_of(a, page), page_of(b, page));
     }
     for die in 0..4u8 {
         for page in 0..64u64 {
-            alike = alike && same_copy(a, b, page, die);
+            alike = alike && are_same(copy_of(a, page, die), copy_of(b, page, die));
         }
         for slot in 0..48u32 {
-            alike = alike && same_slot(a, b, die, slot);
+            alike = alike && are_same(slot_of(a, die, slot), slot_of(b, die, slot));
         }
         for block in 0..12u32 {
-            alike = alike && same_block(a, b, die, block);
+            alike = alike && are_same(block_of(a, die, block), block_of(b, die, block));
         }
     }
     alike
@@ -230,9 +228,11 @@ fn the_last_slot_of_a_large_die(rt: HostRuntime) -> Result<(), Fail> {
     for number in 0..4_031u32 {
         ensure!(take(&mut map, Die(0)) == Some(Slot(number)), at number);
     }
-    ensure!(take(&mut map, Die(0)) == Some(Slot(4_031)));
-    ensure!(map.last_looks() <= 129);
-    ensure!(take(&mut map, Die(0)) == None);
+    ensure!(
+        take(&mut map, Die(0)) == Some(Slot(4_031))
+            && map.last_looks() <= 129
+            && take(&mut map, Die(0)) == None
+    );
     Ok(())
 }
 

@@ -1,11 +1,7 @@
 //! New images, and what headers say. The bytes of headers were made by another program.
-ghost use Rattle.std.specs.Prelude.{◌≡◌, IfOk};
-ghost use Rattle.std.specs.List.{AllByRecursion};
-ghost use Rattle.fa_image.specs.Fuse.{fused_view};
-ghost use Rattle.fa_image.specs.Memory.{mem_image_view};
-
+use crate::mounting::{Images, images, shape};
 use crate::spelling::spelled;
-use fa_image::{FuseImage, Image, ImageFault, MemImage};
+use fa_image::{Image, ImageFault};
 use fa_mount::{
     FormatFault, Judged, MountFault, MountRefused, Standing, expect, format, format_1, judge,
     read_headers,
@@ -84,34 +80,6 @@ const SPARE_1: &str = "464c53484152523100000002000000010000000400000001000000040
     00112233445566778899aabbccddeeff \
     2bfdefaee5ea132a1589e16a0eb3fff3541561468e01bdd8f0334d5a749254cb";
 
-type Images = [FuseImage<MemImage>; 4];
-
-/// Three dies in use and a spare, of four blocks of four slots, with twelve pages.
-fn shape() -> Result<Geometry, Fail> {
-    Ok(Geometry::new(4, 1, 4, 4, 512, 12)?)
-}
-
-/// An image in memory, whose k-th call fails, k from 1.
-fn image(rt: &HostRuntime, geometry: Geometry, k: u64) -> Result<FuseImage<MemImage>, Fail>
-    ensures { IfOk result (λ image. (fused_view mem_image_view image).geometry ≡ geometry) }
-{
-    let mut image = FuseImage::new(MemImage::new(rt.alloc(), geometry)?);
-    image.arm(k);
-    Ok(image)
-}
-
-/// Four of them.
-fn images(rt: &HostRuntime, geometry: Geometry, calls: [u64; 4]) -> Result<Images, Fail>
-    ensures { IfOk result (AllByRecursion (λ image. (fused_view mem_image_view image).geometry ≡ geometry)) }
-{
-    Ok([
-        image(rt, geometry, calls[0])?,
-        image(rt, geometry, calls[1])?,
-        image(rt, geometry, calls[2])?,
-        image(rt, geometry, calls[3])?,
-    ])
-}
-
 /// New images, and what came of formatting them.
 fn formatted(rt: &HostRuntime, calls: [u64; 4]) -> Result<(Images, Result<(), FormatFault>), Fail> {
     let geometry = shape()?;
@@ -188,8 +156,7 @@ fn is_judged(
 #[test]
 fn a_new_array_is_clean_in_epoch_1(rt: HostRuntime) -> Result<(), Fail> {
     let (mut images, came) = formatted(&rt, [0; 4])?;
-    ensure!(came == Ok(()));
-    ensure!((images[0].syncs(), images[3].syncs()) == (1, 1));
+    ensure!(came == Ok(()) && (images[0].syncs(), images[3].syncs()) == (1, 1));
     ensure!(has_header(&rt, &mut images[1], DIE_1)?);
     ensure!(has_header(&rt, &mut images[3], SPARE_3)?);
     let came = judged(&rt, &mut images, Copies::new(2, shape()?)?, false)?;

@@ -1,12 +1,7 @@
 //! Each call of an image and each allocation, refused in turn while images are formatted and mounted, and
 //! images in two formats side by side.
-ghost use Rattle.std.specs.Prelude.{◌≡◌, IfOk};
-ghost use Rattle.std.specs.List.{AllByRecursion};
-ghost use Rattle.fa_image.specs.Fuse.{fused_view};
-ghost use Rattle.fa_image.specs.Memory.{mem_image_view};
-
-use crate::mounting::{put, tag};
-use fa_image::{FuseImage, Image, MemImage};
+use crate::mounting::{Images, images, put, tag};
+use fa_image::Image;
 use fa_mount::{MountFault, MountRefused, Report, format, format_1, scan, scan_side_by_side};
 use fa_tag::{Tag, seal_1};
 use fa_types::{Copies, Die, Geometry, HEADER_BYTES, Kind, Page, Seq, Slot};
@@ -15,32 +10,9 @@ use std::alloc::Allocator;
 use std::test::Fail;
 use std::thread::Threads;
 
-type Images = [FuseImage<MemImage>; 4];
-
 /// Four dies in use, of four blocks of four slots, with eight pages.
 fn shape() -> Result<Geometry, Fail> {
     Ok(Geometry::new(4, 0, 4, 4, 512, 8)?)
-}
-
-/// An image in memory, whose k-th call fails, k from 1.
-fn image(rt: &HostRuntime, geometry: Geometry, k: u64) -> Result<FuseImage<MemImage>, Fail>
-    ensures { IfOk result (λ image. (fused_view mem_image_view image).geometry ≡ geometry) }
-{
-    let mut image = FuseImage::new(MemImage::new(rt.alloc(), geometry)?);
-    image.arm(k);
-    Ok(image)
-}
-
-/// Four of them.
-fn images(rt: &HostRuntime, geometry: Geometry, calls: [u64; 4]) -> Result<Images, Fail>
-    ensures { IfOk result (AllByRecursion (λ image. (fused_view mem_image_view image).geometry ≡ geometry)) }
-{
-    Ok([
-        image(rt, geometry, calls[0])?,
-        image(rt, geometry, calls[1])?,
-        image(rt, geometry, calls[2])?,
-        image(rt, geometry, calls[3])?,
-    ])
 }
 
 /// Which image is told as refusing while images are formatted, of which one refuses this call.
@@ -95,34 +67,51 @@ fn copy_header<I: Image>(from: &mut I, to: &mut I) -> Result<(), Fail> {
     Ok(to.write_header(&header)?)
 }
 
-/// An array whose dies 0 and 2 have headers of format 1, and dies 1 and 3 headers of format 2.
-fn in_both_formats(rt: &HostRuntime) -> Result<Images, Fail> {
+/// Makes images an array in this format.
+fn formatted(rt: &HostRuntime, older: bool) -> Result<Images, Fail> {
     let geometry = shape()?;
     ensure!(geometry.dies == 4);
-    let mut older = images(rt, geometry, [0; 4])?;
-    ensure!(format_1(&mut older, geometry, [7; 16]) == Ok(()));
-    let mut newer = images(rt, geometry, [0; 4])?;
-    ensure!(format(&mut newer, geometry, [7; 16]) == Ok(()));
-    copy_header(&mut newer[1], &mut older[1])?;
-    copy_header(&mut newer[3], &mut older[3])?;
+    let mut images = images(rt, geometry, [0; 4])?;
+    let came = if older {
+        format_1(&mut images, geometry, [7; 16])
+    } else {
+        format(&mut images, geometry, [7; 16])
+    };
+    ensure!(came == Ok(()));
+    Ok(images)
+}
+
+/// Gives dies 1 and 3 their headers of another array.
+fn copy_headers(from: &mut Images, to: &mut Images) -> Result<(), Fail> {
+    copy_header(&mut from[1], &mut to[1])?;
+    copy_header(&mut from[3], &mut to[3])
+}
+
+/// An array whose dies 0 and 2 have headers of format 1, and dies 1 and 3 headers of format 2.
+fn in_both_formats(rt: &HostRuntime) -> Result<Images, Fail> {
+    let mut older = formatted(rt, true)?;
+    let mut newer = formatted(rt, false)?;
+    copy_headers(&mut newer, &mut older)?;
     Ok(older)
 }
 
-/// The array in both formats with two copies of each page: one on die 0 in the older version of slots and
-/// one on die 1 in the newer one. Page 7 became a hole then, on dies 2 and 3.
-fn written(rt: &HostRuntime) -> Result<Images, Fail> {
-    let mut images = in_both_formats(rt)?;
+/// Writes two copies of each page: one on die 0 in the older version of slots and one on die 1 in the newer
+/// one. Page 7 becomes a hole then, on dies 2 and 3.
+fn write_pages(images: &mut Images) -> Result<(), Fail> {
     for page in 0..8u32 {
         let seq = u64::from(page) + 1;
         put_1(&mut images[0], u64::from(page), seq, 0, page)?;
-        put(
-            &mut images[1],
-            page,
-            tag(u64::from(page), seq, Kind::Data, 1, page),
-        )?;
+        let newer = tag(u64::from(page), seq, Kind::Data, 1, page);
+        put(&mut images[1], page, newer)?;
     }
     put(&mut images[2], 0, tag(7, 9, Kind::Hole, 2, 0))?;
-    put(&mut images[3], 5, tag(7, 9, Kind::Hole, 3, 5))?;
+    put(&mut images[3], 5, tag(7, 9, Kind::Hole, 3, 5))
+}
+
+/// The array in both formats with these pages.
+fn written(rt: &HostRuntime) -> Result<Images, Fail> {
+    let mut images = in_both_formats(rt)?;
+    write_pages(&mut images)?;
     Ok(images)
 }
 

@@ -12,7 +12,7 @@ use fa_tag::{Tag, seal};
 use fa_types::{Copies, Die, Geometry, Kind, Page, Seq, Slot};
 use std::test::Fail;
 
-/// The images of such an array.
+/// The images of an array.
 pub type Images = [FuseImage<MemImage>; 4];
 
 /// Three dies in use and a spare, of four blocks of four slots, with twelve pages.
@@ -20,20 +20,24 @@ pub fn shape() -> Result<Geometry, Fail> {
     Ok(Geometry::new(4, 1, 4, 4, 512, 12)?)
 }
 
-fn image(rt: &HostRuntime, geometry: Geometry) -> Result<FuseImage<MemImage>, Fail>
+/// An image in memory, whose k-th call fails, k from 1, or none where it is 0.
+pub fn image(rt: &HostRuntime, geometry: Geometry, k: u64) -> Result<FuseImage<MemImage>, Fail>
     ensures { IfOk result (λ image. (fused_view mem_image_view image).geometry ≡ geometry) }
 {
-    Ok(FuseImage::new(MemImage::new(rt.alloc(), geometry)?))
+    let mut image = FuseImage::new(MemImage::new(rt.alloc(), geometry)?);
+    image.arm(k);
+    Ok(image)
 }
 
-fn images(rt: &HostRuntime, geometry: Geometry) -> Result<Images, Fail>
+/// Four of them.
+pub fn images(rt: &HostRuntime, geometry: Geometry, calls: [u64; 4]) -> Result<Images, Fail>
     ensures { IfOk result (AllByRecursion (λ image. (fused_view mem_image_view image).geometry ≡ geometry)) }
 {
     Ok([
-        image(rt, geometry)?,
-        image(rt, geometry)?,
-        image(rt, geometry)?,
-        image(rt, geometry)?,
+        image(rt, geometry, calls[0])?,
+        image(rt, geometry, calls[1])?,
+        image(rt, geometry, calls[2])?,
+        image(rt, geometry, calls[3])?,
     ])
 }
 
@@ -41,7 +45,7 @@ fn images(rt: &HostRuntime, geometry: Geometry) -> Result<Images, Fail>
 pub fn formatted(rt: &HostRuntime) -> Result<Images, Fail> {
     let geometry = shape()?;
     ensure!(geometry.dies == 4);
-    let mut images = images(rt, geometry)?;
+    let mut images = images(rt, geometry, [0; 4])?;
     ensure!(format(&mut images, geometry, [7; 16]) == Ok(()));
     Ok(images)
 }
@@ -134,10 +138,9 @@ fn a_new_array_is_mounted_empty(rt: HostRuntime) -> Result<(), Fail> {
     }
 }
 
-/// Images of which page 0 has an older and a newer copy, page 1 copies of one number that are of two kinds,
-/// and page 2 two copies on one die. A tag names another slot, and one another page than there is.
-pub fn written(rt: &HostRuntime) -> Result<Images, Fail> {
-    let mut images = formatted(rt)?;
+/// Writes page 0 in an older and a newer copy, page 1 in copies of one number that are of two kinds, and page
+/// 2 in two copies on one die. A tag names another slot, and one another page than there is.
+fn write_pages(images: &mut Images) -> Result<(), Fail> {
     put(&mut images[0], 0, tag(0, 1, Kind::Data, 0, 0))?;
     put(&mut images[1], 0, tag(0, 2, Kind::Data, 1, 0))?;
     put(&mut images[0], 1, tag(1, 3, Kind::Hole, 0, 1))?;
@@ -145,7 +148,13 @@ pub fn written(rt: &HostRuntime) -> Result<Images, Fail> {
     put(&mut images[2], 2, tag(2, 4, Kind::Data, 2, 2))?;
     put(&mut images[2], 1, tag(2, 4, Kind::Data, 2, 1))?;
     put(&mut images[2], 5, tag(3, 9, Kind::Data, 2, 6))?;
-    put(&mut images[2], 7, tag(12, 9, Kind::Data, 2, 7))?;
+    put(&mut images[2], 7, tag(12, 9, Kind::Data, 2, 7))
+}
+
+/// Images of an array with these pages.
+pub fn written(rt: &HostRuntime) -> Result<Images, Fail> {
+    let mut images = formatted(rt)?;
+    write_pages(&mut images)?;
     Ok(images)
 }
 

@@ -3,8 +3,9 @@ ghost use Rattle.std.specs.Prelude.{◌≡◌, IfOk};
 ghost use Rattle.fa_cert.specs.Closed.{current_of};
 
 use crate::arguments::printed;
-use fa_cert::{Batch, Closed, Verdict, check, end_soon};
-use fa_plan::plan;
+use crate::cert::checked;
+use fa_cert::{Batch, Closed, Verdict, end_soon};
+use fa_plan::{Planned, plan};
 use fa_prog::Host;
 use fa_types::{Die, Page, Round};
 use std::alloc::Global;
@@ -29,12 +30,7 @@ fn prints(rt: &impl Host, text: &str, least: &str, told: &str) -> Result<(), Fai
 }
 
 /// Tries `plan` on a text of which the first and the last lines of the plan are known.
-fn prints_between(
-    rt: &impl Host,
-    text: &str,
-    least: &str,
-    ends: (&str, &str),
-) -> Result<(), Fail> {
+fn prints_between(rt: &impl Host, text: &str, least: &str, ends: (&str, &str)) -> Result<(), Fail> {
     let output = plans(rt, text, least)?;
     ensure!(output.as_slice().starts_with(ends.0.as_bytes()), at text);
     ensure!(output.as_slice().ends_with(ends.1.as_bytes()), at text);
@@ -159,16 +155,24 @@ fn all_open(alloc: Global) -> Result<Closed, Fail>
     Ok(Closed::new(alloc, Round(1), runs)?)
 }
 
+/// The plan of a batch, which has to be sound. What the planner promises is told here alone.
+fn planned(alloc: Global, batch: &Batch, closed: &Closed) -> Result<Planned, Fail>
+    requires { current_of closed.now ≡ 1 }
+{
+    if !batch.is_sound() {
+        return Err("the batch is not sound")?;
+    }
+    Ok(plan(alloc, batch, closed)?)
+}
+
 #[test]
 fn a_full_batch_on_one_die(rt: HostRuntime) -> Result<(), Fail> {
     let batch = batch_on(rt.alloc(), 1024, &[0])?;
     let closed = all_open(rt.alloc())?;
-    ensure!(batch.is_sound());
-    let planned = plan(rt.alloc(), &batch, &closed)?;
-    ensure!(planned.rounds == 1024);
-    ensure!(planned.searches == 1024);
-    ensure!(planned.shortage.as_slice().len() == 1024);
-    let verdict = check(
+    let planned = planned(rt.alloc(), &batch, &closed)?;
+    let pages = planned.shortage.as_slice().len();
+    ensure!(planned.rounds == 1024 && planned.searches == 1024 && pages == 1024);
+    let verdict = checked(
         rt.alloc(),
         &batch,
         &closed,
@@ -185,10 +189,7 @@ fn one_failed_search(rt: HostRuntime) -> Result<(), Fail> {
     let holders = [Die(1), Die(2)].to_vec(rt.alloc())?;
     batch.push(Page(2), holders)?;
     let closed = all_open(rt.alloc())?;
-    ensure!(batch.is_sound());
-    let planned = plan(rt.alloc(), &batch, &closed)?;
-    ensure!(planned.rounds == 2);
-    ensure!(planned.searches == 4);
-    ensure!(planned.looks == 5);
+    let planned = planned(rt.alloc(), &batch, &closed)?;
+    ensure!(planned.rounds == 2 && planned.searches == 4 && planned.looks == 5);
     Ok(())
 }

@@ -1,11 +1,12 @@
 //! Conversations with their answers, also cut after each byte and in pieces of each length.
+use crate::arguments::printed as printed_by_the_program;
 use crate::spelling::joined;
 use fa_io::WriteBoth;
 use fa_io::faulty::{Interrupted, Piecewise};
-use fa_prog::{Host, run};
+use fa_prog::Host;
 use fa_session::{SessionEnd, serve_stream};
-use fa_types::MemBlocks;
-use std::alloc::Global;
+use fa_types::{Blocks, MemBlocks};
+use std::alloc::{Allocator, Global};
 use std::io::Read;
 use std::test::Fail;
 
@@ -28,6 +29,17 @@ pub const GO: &str = "49484156454f5054 00000007 00000006 00000000 0000";
 pub const GONE: &str = "0003e889045565a9 00000007 00000003 0000000c 0000 0000000000008000 016d
     0003e889045565a9 00000007 00000001 00000000";
 
+/// How a connection for the export `disk` ends. What a session promises is told here alone: a test looks at
+/// what it wrote.
+pub fn end_of<R: Read, W: WriteBoth, B: Blocks, A: Allocator + Copy>(
+    alloc: A,
+    reader: &mut R,
+    writer: &mut W,
+    store: &mut B,
+) -> SessionEnd {
+    serve_stream(alloc, reader, writer, store, "disk")
+}
+
 /// What the server says to a client's bytes over a plain store of 64 pages of 512 zeros, and how the
 /// connection ends.
 pub fn served<R: Read, W: WriteBoth>(
@@ -36,7 +48,7 @@ pub fn served<R: Read, W: WriteBoth>(
     writer: &mut W,
 ) -> Result<SessionEnd, Fail> {
     let mut store = MemBlocks::new(alloc, 64 * 512)?;
-    Ok(serve_stream(alloc, reader, writer, &mut store, "disk"))
+    Ok(end_of(alloc, reader, writer, &mut store))
 }
 
 /// Tries one conversation by the program.
@@ -47,13 +59,10 @@ fn converses_by_the_program(
     end: u8,
 ) -> Result<(), Fail> {
     let lines = hex::encode(rt.alloc(), said)?;
-    let arguments = [String::from_str(rt.alloc(), "talk")?];
-    let mut input = lines.as_bytes();
-    let mut printed = Vec::new(rt.alloc());
-    ensure!(run(rt, rt.alloc(), false, &arguments, &mut input, &mut printed) == 0);
+    let (status, printed) = printed_by_the_program(rt, &["talk"], lines.as_str())?;
     let answer = hex::encode(rt.alloc(), answer)?;
     let expected = format!(in rt.alloc(); "{answer}\nend {end}\n")?;
-    ensure!(printed.as_slice() == expected.as_bytes());
+    ensure!(status == 0 && printed.as_slice() == expected.as_bytes());
     Ok(())
 }
 
@@ -83,8 +92,7 @@ fn converses_through_interruptions(
     let mut reader = Interrupted::new(Piecewise::new(said, 7));
     let mut writer = Interrupted::new(Piecewise::new(Vec::new(alloc), 5));
     let ended = served(alloc, &mut reader, &mut writer)?;
-    ensure!(ended.number() == end);
-    ensure!(writer.inner.inner.as_slice() == answer);
+    ensure!(ended.number() == end && writer.inner.inner.as_slice() == answer);
     Ok(())
 }
 

@@ -96,15 +96,17 @@ fn names_and_addresses_of_the_example(rt: HostRuntime) -> Result<(), Fail> {
 fn numbers_of_the_example(rt: HostRuntime) -> Result<(), Fail> {
     let text = edited(rt.alloc(), &[])?;
     let settings = whole(rt.alloc(), rt.alloc(), text.as_str())?;
-    ensure!(settings.geometry.dies == 4);
-    ensure!(settings.geometry.spares == 0);
-    ensure!(settings.geometry.blocks == 16);
-    ensure!(settings.geometry.slots == 8);
-    ensure!(settings.geometry.page_bytes == 512);
-    ensure!(settings.geometry.pages == 64);
-    ensure!(settings.window_rounds == 8);
-    ensure!(settings.sessions == 4);
-    ensure!(settings.copies.number == 2);
+    ensure!(
+        settings.geometry.dies == 4
+            && settings.geometry.spares == 0
+            && settings.geometry.blocks == 16
+            && settings.geometry.slots == 8
+            && settings.geometry.page_bytes == 512
+            && settings.geometry.pages == 64
+            && settings.window_rounds == 8
+            && settings.sessions == 4
+            && settings.copies.number == 2
+    );
     Ok(())
 }
 
@@ -372,8 +374,7 @@ fn each_allocation_refused(rt: HostRuntime) -> Result<(), Fail> {
         let room = 64 + 16 * usize::from(step);
         refused = refused.saturating_add(u32::from(is_refused(rt.alloc(), room, text.as_str())?));
     }
-    ensure!(4 < refused);
-    ensure!(refused < 128);
+    ensure!(4 < refused && refused < 128);
     Ok(())
 }
 

@@ -1,6 +1,6 @@
 //! Certificates that are checked alone.
-use crate::arguments::printed;
-use fa_prog::{Host, run};
+use crate::arguments::{printed, status_of};
+use fa_prog::Host;
 use linked_list_allocator::LocalHeap;
 use std::alloc::Global;
 use std::slice;
@@ -99,14 +99,7 @@ rounds 2\nplace 1 0 2\nplace 2 0 1\nshort 1 2\nend\n";
         };
         let mut input = text.as_bytes();
         let mut output = Vec::new(rt.alloc());
-        let status = run(
-            &rt,
-            &heap,
-            false,
-            slice::from_ref(&name),
-            &mut input,
-            &mut output,
-        );
+        let status = status_of(&rt, &heap, slice::from_ref(&name), &mut input, &mut output);
         if status == 0 {
             whole = whole.saturating_add(1);
             ensure!(output.as_slice() == b"least 2\n".as_slice(), at room);
@@ -116,7 +109,6 @@ rounds 2\nplace 1 0 2\nplace 2 0 1\nshort 1 2\nend\n";
             ensure!(output.as_slice() == b"no memory\n".as_slice(), at room);
         }
     }
-    ensure!(refused > 10);
-    ensure!(whole > 1);
+    ensure!(refused > 10 && whole > 1);
     Ok(())
 }

@@ -1,8 +1,8 @@
 //! Connections that are cut, changed, or whose streams and memory fail.
-use crate::rows::{FLAGS, GO, GONE, GREETING, served};
+use crate::rows::{FLAGS, GO, GONE, GREETING, end_of, served};
 use crate::spelling::{joined, spelled};
 use fa_io::faulty::{Failing, Piecewise};
-use fa_session::{SessionEnd, serve_stream};
+use fa_session::SessionEnd;
 use fa_types::MemBlocks;
 use linked_list_allocator::LocalHeap;
 use std::alloc::Global;
@@ -60,8 +60,7 @@ fn cut_at_each_byte(rt: HostRuntime) -> Result<(), Fail> {
         before = told.len();
     }
     let (ended, told) = answered(rt.alloc(), &said)?;
-    ensure!(ended == SessionEnd::Disconnected);
-    ensure!(told.as_slice() == answer.as_slice());
+    ensure!(ended == SessionEnd::Disconnected && told.as_slice() == answer.as_slice());
     Ok(())
 }
 
@@ -119,8 +118,7 @@ fn each_socket_call_fails(rt: HostRuntime) -> Result<(), Fail> {
             writes = writes.saturating_add(1);
         }
     }
-    ensure!(reads == 18);
-    ensure!(writes == 26);
+    ensure!(reads == 18 && writes == 26);
     Ok(())
 }
 
@@ -132,9 +130,11 @@ fn a_reply_and_its_data_by_one_call(rt: HostRuntime) -> Result<(), Fail> {
     let mut reader = said.as_slice();
     let mut writer = Piecewise::new(Vec::new(rt.alloc()), 1_000_000);
     let ended = served(rt.alloc(), &mut reader, &mut writer)?;
-    ensure!(ended == SessionEnd::InputEnded);
-    ensure!(writer.inner.len() == 18 + 52 + 16 + 32_768);
-    ensure!(writer.calls == 3);
+    ensure!(
+        ended == SessionEnd::InputEnded
+            && writer.inner.len() == 18 + 52 + 16 + 32_768
+            && writer.calls == 3
+    );
     Ok(())
 }
 
@@ -144,7 +144,7 @@ fn answered_in(alloc: Global, said: &[u8], heap_bytes: usize) -> Result<Vec<u8>,
     let mut store = MemBlocks::new(alloc, 1_000_000)?;
     let mut reader = said;
     let mut writer = Vec::new(alloc);
-    let ended = serve_stream(&heap, &mut reader, &mut writer, &mut store, "disk");
+    let ended = end_of(&heap, &mut reader, &mut writer, &mut store);
     ensure!(ended == SessionEnd::InputEnded);
     Ok(writer.get(70..).unwrap_or(&[]).to_vec(alloc)?)
 }
@@ -170,7 +170,6 @@ fn each_growth_fails(rt: HostRuntime) -> Result<(), Fail> {
         ensure!(told.as_slice() == refused.as_slice(), at room);
         refusals = refusals.saturating_add(1);
     }
-    ensure!(refusals > 10);
-    ensure!(whole > 1);
+    ensure!(refusals > 10 && whole > 1);
     Ok(())
 }
