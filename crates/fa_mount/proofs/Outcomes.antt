@@ -1,8 +1,8 @@
 -- What came of one die more.
-use Rattle.std.proofs.Common.{◌≡◌, ℕ, ◌+◌, ◌<◌, List, [], ◌∷◌, ◌++◌, Option, Some, None, Result, length, refl, sym, ◌∙◌, arith, slice_get}
+use Rattle.std.proofs.Common.{◌≡◌, ℕ, ◌<◌, List, [], ◌∷◌, ◌++◌, Option, Some, None, Result, length, refl, sym, ◌∙◌, arith, slice_get}
 use Rattle.fa_types.specs.declared.geometry.Geometry.{Geometry}
 use Rattle.fa_image.specs.declared.fault.ImageFault.{ImageFault}
-use Rattle.fa_image.specs.Image.{ImageState, ImageCall, ImageAnswer}
+use Rattle.fa_image.specs.Image.{ImageCall, ImageAnswer}
 use Rattle.fa_mount.specs.ContentReading.{AreApart, AreOutcomes, HasOutcome, image_read}
 use Rattle.fa_mount.specs.declared.content.SlotContent.{SlotContent}
 use Rattle.fa_mount.specs.declared.judging.Standing.{Standing}

@@ -81,7 +81,7 @@ module _ {A : Type 0} (geometry : Geometry) (standings : List Standing) (apart :
     as_many = ap (λ (l : List (Option (Reading A))). length l) same ∙ old.as_many;
     each = each_of (λ d index. (reading : Reading A) × (slice_get after index ≡ Some (Some reading)) × (reading.die.0 ≡ d))
         (λ d index x below is which.
-            let found = old.each d index x below is which in (found.0, ap (λ (l : List (Option (Reading A))). slice_get l index) same ∙ found.1, found.2))
+        let found = old.each d index x below is which in (found.0, ap (λ (l : List (Option (Reading A))). slice_get l index) same ∙ found.1, found.2))
         (λ index which. absurd (none-some index (sym none ∙ which)));
     only = λ index reading is. old.only index reading (ap (λ (l : List (Option (Reading A))). slice_get l index) (sym same) ∙ is);
   }
@@ -94,8 +94,8 @@ module _ {A : Type 0} (geometry : Geometry) (standings : List Standing) (apart :
         as_many = ap (λ (l : List (Option (Reading A))). length l) adds.1 ∙ length-set before i (Some adds.0) ∙ old.as_many;
         each = each_of (λ d index. (reading : Reading A) × (slice_get after index ≡ Some (Some reading)) × (reading.die.0 ≡ d))
             (λ d index x below is which_x.
-                let found = old.each d index x below is which_x in
-                (found.0, others index (λ same. let one = apart d die x standing i is at (which_x ∙ ap Some same) which in omega (arith, below, one)) ∙ found.1, found.2))
+            let found = old.each d index x below is which_x in
+            (found.0, others index (λ same. let one = apart d die x standing i is at (which_x ∙ ap Some same) which in omega (arith, below, one)) ∙ found.1, found.2))
             (λ index which_index. (adds.0, ap (slice_get after) (sym (same_Some i index (sym which ∙ which_index))) ∙ here, adds.2));
         only = λ index reading is. elim (cases_eq index i) [
           | inl same ↦

@@ -1,11 +1,11 @@
 -- What was read of dies, and what is mounted of it.
-use Rattle.std.proofs.Common.{◌≡◌, ◌∙◌, ◌⊎◌, inl, inr, ℕ, Bool, List, Result, Ok, Err, length, subst, ap}
+use Rattle.std.proofs.Common.{◌≡◌, ◌∙◌, List, Result, Ok, Err, length, subst, ap}
 use Rattle.std.specs.Result.{IfOk, MatchResult}
 use Rattle.fa_types.specs.declared.geometry.Geometry.{Geometry}
 use Rattle.fa_image.specs.Image.{ImageCall, ImageAnswer}
 use Rattle.fa_mount.specs.Content.{AreContents, Contents}
 use Rattle.fa_mount.specs.ContentReading.{AreOutcomes}
-use Rattle.fa_mount.specs.Scanned.{AreSettled, IsScan, IsScanRefused, Outcome}
+use Rattle.fa_mount.specs.Scanned.{AreSettled, Outcome}
 use Rattle.fa_mount.specs.declared.judging.Standing.{Standing}
 use Rattle.fa_mount.proofs.ContentsRead.{are_contents}
 

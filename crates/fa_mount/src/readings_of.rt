@@ -26,13 +26,22 @@ pub(crate) fn readings_of<A: Allocator + Copy>(
 {
     let mut readings = none_ready(alloc, images)?;
     for die in 0..standings.len() {
-        make_ready(alloc, geometry, Die(die as u8), standings[die], &mut readings)?;
+        make_ready(
+            alloc,
+            geometry,
+            Die(die as u8),
+            standings[die],
+            &mut readings,
+        )?;
     }
     Ok(readings)
 }
 
 /// So many places with no reading.
-fn none_ready<A: Allocator>(alloc: A, images: usize) -> Result<Vec<Option<Reading<A>>, A>, AllocError>
+fn none_ready<A: Allocator>(
+    alloc: A,
+    images: usize,
+) -> Result<Vec<Option<Reading<A>>, A>, AllocError>
     ensures as_many { IfOk result (λ readings. length readings.items ≡ images) }
     ensures none { IfOk result (λ readings. All (λ reading. reading ≡ None) readings.items) }
 {

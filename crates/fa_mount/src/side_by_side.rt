@@ -14,7 +14,11 @@ use std::thread::Threads;
 /// Reads the slots of each die that is in the mask or has the mark of a spare, each slot once, and each
 /// die in a thread of its own where there is one to be had. Nothing is written. Out of memory, none was
 /// read.
-pub(crate) fn read_dies_side_by_side<R: Threads + Sync, I: Image + Send, A: Allocator + Copy + Send>(
+pub(crate) fn read_dies_side_by_side<
+    R: Threads + Sync,
+    I: Image + Send,
+    A: Allocator + Copy + Send,
+>(
     rt: &R,
     alloc: A,
     images: &mut [I],

@@ -14,7 +14,9 @@ use crate::table::{DieRow, all_erased, header_of, slots_of, state_of};
 use crate::watched::clear;
 use fa_image::Image;
 use fa_map::{Map, PageMap};
-use fa_mount::{Found, MountFault, MountRefused, Mounted, Standing, expect, read_headers, scan_side_by_side};
+use fa_mount::{
+    Found, MountFault, MountRefused, Mounted, Standing, expect, read_headers, scan_side_by_side,
+};
 use fa_settings::Settings;
 use fa_types::Die;
 use log::error;
@@ -115,7 +117,13 @@ fn mount<R: Host, I: Image + Send, A: Allocator>(
     unclean: bool,
     images: &mut [I],
 ) -> Result<Mounted<PageMap>, MountRefused> {
-    expect(rt.alloc(), images, settings.geometry, settings.array, unclean)?;
+    expect(
+        rt.alloc(),
+        images,
+        settings.geometry,
+        settings.array,
+        unclean,
+    )?;
     scan_side_by_side(rt, rt.alloc(), images, settings.copies, unclean)
 }
 

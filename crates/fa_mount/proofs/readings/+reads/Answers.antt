@@ -1,5 +1,4 @@
-use Rattle.std.proofs.Common.{rules, ◌≡◌, ℕ, ◌+◌, ◌≤◌, length, ◌/◌, ◌++◌, ◌∙◌, arith, sym}
-use Rattle.fa_mount.specs.Readings.{AreImagesRead, AreReady}
+use Rattle.std.proofs.Common.{◌∙◌, arith, sym}
 use Rattle.fa_mount.proofs.SideBySide.{as_many_ready, halves_read, halves_ready}
 use Rattle.fa_mount.proofs.readings.+reads.Goals as goal
 

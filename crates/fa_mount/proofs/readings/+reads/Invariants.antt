@@ -1,4 +1,4 @@
-use Rattle.std.proofs.Common.{ℕ, ◌+◌, ◌*◌, length}
+use Rattle.std.proofs.Common.{◌+◌, ◌*◌, length}
 use Rattle.std.specs.Prelude.{max}
 use Rattle.fa_mount.proofs.readings.+reads.Given as goal
 

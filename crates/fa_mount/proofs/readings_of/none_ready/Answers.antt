@@ -12,5 +12,5 @@ loop-preserved g c =
     let more = length_push before None in (
       (let as_many = ap length pushed in omega (arith, as_many, more, long)),
       subst (λ (l : List (Option (Reading g.row.A.Denot))). All (λ reading. reading ≡ None) l) (sym pushed)
-      (All-push (λ reading. reading ≡ None) before None c.loop.invariant.1 refl),
+          (All-push (λ reading. reading ≡ None) before None c.loop.invariant.1 refl),
     )

@@ -1,4 +1,4 @@
-use Rattle.std.proofs.Common.{◌≡◌, ◌∙◌, ◌<◌, ℕ, Some, None, length, refl, sym, slice_get, get_or, arith}
+use Rattle.std.proofs.Common.{◌≡◌, Some, refl, slice_get, get_or, arith}
 use Rattle.std.proofs.lemmas.Option.{slice_get-get_or}
 use Rattle.fa_mount.specs.ContentReading.{image_read}
 use Rattle.fa_mount.specs.declared.judging.Standing.{Standing}

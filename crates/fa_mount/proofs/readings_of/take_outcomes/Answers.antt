@@ -1,11 +1,10 @@
-use Rattle.std.proofs.Common.{◌≡◌, ◌∙◌, ◌<◌, ℕ, List, Option, Some, length, refl, sym, ap, subst, slice_get, get_or, arith}
+use Rattle.std.proofs.Common.{◌≡◌, ◌∙◌, Some, length, sym, ap, subst, slice_get, get_or, arith}
 use Rattle.std.proofs.lemmas.List.{length_push}
 use Rattle.std.proofs.lemmas.Option.{slice_get-get_or}
-use Rattle.fa_mount.specs.ContentReading.{image_read}
 use Rattle.fa_mount.specs.Readings.{AreFrom, outcome_from}
 use Rattle.fa_mount.specs.declared.judging.Standing.{Standing}
 use Rattle.fa_mount.specs.declared.judging.Standing.TheVariants.{Missing}
-use Rattle.fa_mount.proofs.ByDie.{next_each, next_untouched, still_there}
+use Rattle.fa_mount.proofs.ByDie.{next_each, next_untouched}
 use Rattle.fa_mount.proofs.SideBySide.{same_outcome}
 use Rattle.fa_mount.proofs.readings_of.take_outcomes.Goals as goal
 

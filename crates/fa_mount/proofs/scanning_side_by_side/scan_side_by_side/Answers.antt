@@ -18,8 +18,8 @@ returns-in-Ok-read_dies_side_by_side-clause-mounts g c =
     let say : SayArray g.row.A.Denot g.I.Image.view g.I.Image.made c.args.copies.number c.args.unclean c.args.images.now c.scan_headers.new.images
     c.in_ok-judged.judged = record { founds = h.0; read = h.1; each = h.2.0; fine = h.2.1; judges = h.2.2 } in
     let read = outcomes_of g.I.Image.made c.in_ok-judged.judged.geometry c.scan_headers.new.images c.read_dies_side_by_side.new.images _
-      c.in_ok-judged.judged.dies.items c.in-Ok-read_dies_side_by_side.outcomes.items c.as_slice-standings.ensures.value
-      c.in-Ok-read_dies_side_by_side.ensures.outcomes c.in-Ok-read_dies_side_by_side.ensures.length in
+    c.in_ok-judged.judged.dies.items c.in-Ok-read_dies_side_by_side.outcomes.items c.as_slice-standings.ensures.value
+    c.in-Ok-read_dies_side_by_side.ensures.outcomes c.in-Ok-read_dies_side_by_side.ensures.length in
     joined c.mount_outcomes.result c.mount_outcomes.ensures.scanned c.mount_outcomes.ensures.array
     (λ x p e. record {
       between = c.scan_headers.new.images;
@@ -39,8 +39,8 @@ pub returns-in-Ok-read_dies_side_by_side-clause-dies :
     goal.returns-in-Ok-read_dies_side_by_side-clause-dies
 returns-in-Ok-read_dies_side_by_side-clause-dies g c =
     let many = as_many_of g.I.Image.made c.in_ok-judged.judged.geometry c.scan_headers.new.images c.read_dies_side_by_side.new.images _
-      c.in_ok-judged.judged.dies.items c.in-Ok-read_dies_side_by_side.outcomes.items c.as_slice-standings.ensures.value
-      c.in-Ok-read_dies_side_by_side.ensures.outcomes c.in-Ok-read_dies_side_by_side.ensures.length in
+    c.in_ok-judged.judged.dies.items c.in-Ok-read_dies_side_by_side.outcomes.items c.as_slice-standings.ensures.value
+    c.in-Ok-read_dies_side_by_side.ensures.outcomes c.in-Ok-read_dies_side_by_side.ensures.length in
     on_ok _ _ _ c.mount_outcomes.result c.mount_outcomes.ensures.scanned
     (λ mounted scan. scan.settles.dies_length ∙ many ∙ c.in_ok-judged.ensures.readable.dies
     ∙ sym (ap (λ (g : Geometry). g.dies) scan.mounts.shape))

@@ -1,7 +1,6 @@
-use Rattle.std.proofs.Common.{◌≡◌, ◌<◌, ℕ, List, Option, length, sym, subst, ap, arith}
+use Rattle.std.proofs.Common.{List, Option, length, sym, subst, arith}
 use Rattle.std.proofs.lemmas.Option.{slice_get_within}
-use Rattle.fa_mount.specs.ContentReading.{EachOnlyRead}
-use Rattle.fa_mount.specs.Readings.{AreReadingsOf, AreReady}
+use Rattle.fa_mount.specs.Readings.{AreReadingsOf}
 use Rattle.fa_mount.specs.declared.readings.Reading.{Reading}
 use Rattle.fa_mount.proofs.SideOutcomes.{all_ready, side_only_read, side_outcomes}
 use Rattle.fa_mount.proofs.side_by_side.read_dies_side_by_side.Goals as goal

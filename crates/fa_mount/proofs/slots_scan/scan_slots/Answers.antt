@@ -12,7 +12,7 @@ mount_outcomes-requires-clause-contents g c =
 pub returns-in-Ok-clause-scanned : goal.returns-in-Ok-clause-scanned
 returns-in-Ok-clause-scanned g c =
     let read = outcomes_of g.I.Image.made c.args.judged.geometry c.args.images.now c.read_dies.new.images _ c.args.judged.dies.items
-      c.in-Ok.outcomes.items c.as_slice.ensures.value c.in-Ok.ensures.outcomes c.in-Ok.ensures.length in
+    c.in-Ok.outcomes.items c.as_slice.ensures.value c.in-Ok.ensures.outcomes c.in-Ok.ensures.length in
     either _ _ _ _ c.mount_outcomes.result c.mount_outcomes.ensures.scanned
     (λ mounted scan. (c.in-Ok.outcomes.items, read, scan))
     (λ refusal why. elim why [ inl none ↦ inl none | inr is ↦ inr (c.in-Ok.outcomes.items, read, is) ])
@@ -20,7 +20,7 @@ returns-in-Ok-clause-scanned g c =
 pub returns-in-Ok-clause-dies : goal.returns-in-Ok-clause-dies
 returns-in-Ok-clause-dies g c =
     let many = as_many_of g.I.Image.made c.args.judged.geometry c.args.images.now c.read_dies.new.images _ c.args.judged.dies.items
-      c.in-Ok.outcomes.items c.as_slice.ensures.value c.in-Ok.ensures.outcomes c.in-Ok.ensures.length in
+    c.in-Ok.outcomes.items c.as_slice.ensures.value c.in-Ok.ensures.outcomes c.in-Ok.ensures.length in
     on_ok _ _ _ c.mount_outcomes.result c.mount_outcomes.ensures.scanned
     (λ mounted scan. scan.settles.dies_length ∙ many ∙ c.requires.images.dies ∙ sym (ap (λ (g : Geometry). g.dies) scan.mounts.shape))
 
