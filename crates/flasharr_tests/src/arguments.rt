@@ -27,7 +27,7 @@ pub fn printed(rt: &impl Host, arguments: &[&str], text: &str) -> Result<(u8, Ve
 }
 
 /// Arguments, as the program is given them.
-pub fn given(alloc: Global, arguments: &[&str]) -> Result<Vec<String>, AllocError> {
+fn given(alloc: Global, arguments: &[&str]) -> Result<Vec<String>, AllocError> {
     let mut given = Vec::new(alloc);
     for argument in arguments {
         given.push(String::from_str(alloc, argument)?)?;

@@ -1,14 +1,11 @@
 //! The commands on an array, over image files.
-use crate::arguments::{given, printed};
+use crate::arguments::printed;
 use crate::mounting::{put, tag};
 use fa_image::{FileImage, Image};
-use fa_prog::{Host, run};
+use fa_prog::Host;
 use fa_tag::{open_header, seal_header};
 use fa_types::{Geometry, HEADER_BYTES, Kind};
-use log::sink::Locked;
-use log::{Level, Logged};
 use std::path::Path;
-use std::sync::Wait;
 use std::test::Fail;
 use std::{env, fs, process};
 
@@ -195,35 +192,6 @@ fn faults_of_format(rt: HostRuntime) -> Result<(), Fail> {
     tells_other_settings(&rt, &rt)
 }
 
-/// Whether a command on the settings of a test tells these words of an image on standard error, first of all.
-fn tells_of_image(
-    rt: &(impl Host + Wait),
-    command: &str,
-    settings: &str,
-    image: &str,
-    words: &str,
-) -> Result<bool, Fail> {
-    let arguments = given(rt.alloc(), &[command, settings])?;
-    let logged = Logged::new(rt, Level::Warn, Locked::new(rt, Vec::new(rt.alloc())));
-    let mut input = b"".as_slice();
-    let mut output = Vec::new(rt.alloc());
-    let status = run(
-        &logged,
-        rt.alloc(),
-        false,
-        &arguments,
-        &mut input,
-        &mut output,
-    );
-    let bytes = logged.into_parts().1.into_inner();
-    let told = format!(in rt.alloc(); "{image}: {words}")?;
-    let is_told = match str::from_utf8(bytes.as_slice())?.split_once('\n') {
-        Some((first, _)) => first.ends_with(told.as_str()),
-        None => false,
-    };
-    Ok(status == 1 && is_told)
-}
-
 #[test]
 fn a_path_that_stands_twice(rt: HostRuntime) -> Result<(), Fail> {
     let test = "twice";
@@ -233,15 +201,5 @@ fn a_path_that_stands_twice(rt: HostRuntime) -> Result<(), Fail> {
     tells(&rt, "check", &[], at.as_str(), 1, "mount: 7 image fault\n")?;
     tells(&rt, "format", &[], at.as_str(), 1, "format: image 2\n")?;
     let left = "dies 4 live 3 spare 0\nepoch 1 unclean\nwritten 0 thin 0\n";
-    tells(&rt, "check", &["--unclean"], at.as_str(), 0, left)?;
-    let image = path_of(&rt, test, "d0")?;
-    let twice = "this path stands twice among the images";
-    ensure!(tells_of_image(&rt, "check", at.as_str(), image.as_str(), twice)?);
-    ensure!(tells_of_image(&rt, "format", at.as_str(), image.as_str(), twice)?);
-    let at = settings_of(&rt, test, &DIES)?;
-    let held = image_of(&rt, test, "d0")?;
-    let other = "another process has this image, or another of the paths leads to it";
-    ensure!(tells_of_image(&rt, "check", at.as_str(), image.as_str(), other)?);
-    drop(held);
-    Ok(())
+    tells(&rt, "check", &["--unclean"], at.as_str(), 0, left)
 }
