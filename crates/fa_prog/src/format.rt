@@ -3,6 +3,7 @@ ghost use Rattle.std.specs.Prelude.{◌≡◌, ◌⊎◌, ◌+◌, ◌<◌, [], 
 ghost use Rattle.std.specs.List.{AllByRecursion};
 ghost use Rattle.fa_prog.specs.Array.{TellsFormat, formatted_line, image_line};
 
+use crate::complaint::complain;
 use crate::host::Host;
 use crate::images::tell_refused;
 use crate::output::{DONE, FAULTY, REFUSED, print, refuse_for_memory};
@@ -201,7 +202,7 @@ fn spare_made<R: Host, A: Allocator>(
     match fa_mount::format_spare(&mut image, settings.geometry, settings.array, die) {
         Ok(()) => Ok(()),
         Err(fault) => {
-            error!(rt; "{path}: {fault}", path = settings.images[place]);
+            complain(rt, settings.images[place].as_str(), &fault);
             Err(Formatted::Image(place))
         }
     }

@@ -1,11 +1,12 @@
 //! The image files of an array, opened and locked.
 ghost use Rattle.std.specs.Prelude.{◌<◌, length};
 
+use crate::complaint::complain;
 use crate::host::Host;
 use crate::watched::Watched;
 use fa_image::FileImage;
 use fa_settings::Settings;
-use log::{error, warn};
+use log::warn;
 use std::alloc::{AllocError, AllocFailed, Allocator};
 use std::io::{self, ErrorKind};
 use std::path::Path;
@@ -85,12 +86,13 @@ pub(crate) fn tell_refused<R: Host, A: Allocator>(
     let path = settings.images[place].as_str();
     match refused.kind() {
         ErrorKind::WouldBlock if stands_before(settings, place) => {
-            error!(rt; "{path}: this path stands twice among the images");
+            complain(rt, path, &"this path stands twice among the images");
         }
         ErrorKind::WouldBlock => {
-            error!(rt; "{path}: another process has this image, or another of the paths leads to it");
+            let held = "another process has this image, or another of the paths leads to it";
+            complain(rt, path, &held);
         }
-        _ => error!(rt; "{path}: {refused}"),
+        _ => complain(rt, path, refused),
     }
 }
 

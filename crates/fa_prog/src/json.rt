@@ -55,17 +55,22 @@ fn page_value<M: Map>(global: Global, page: &WrittenPage<'_, M>) -> Result<Value
         Kind::Data => "data",
         Kind::Hole => "hole",
     };
-    let mut copies = Vec::new(global);
-    for (die, slot) in page.places() {
-        copies.push(json!(in global; {"die": die.0, "slot": slot.0})?)?;
-    }
-    let copies = Value::from(copies);
+    let copies = copies_value(global, page)?;
     json!(in global; {
         "page": page.page.0,
         "seq": page.version.seq.0,
         "kind": kind,
         "copies": copies,
     })
+}
+
+/// The places of the copies of a page.
+fn copies_value<M: Map>(global: Global, page: &WrittenPage<'_, M>) -> Result<Value, AllocError> {
+    let mut copies = Vec::new(global);
+    for (die, slot) in page.places() {
+        copies.push(json!(in global; {"die": die.0, "slot": slot.0})?)?;
+    }
+    Ok(Value::from(copies))
 }
 
 /// The table of dies.
@@ -84,16 +89,12 @@ fn row_value(global: Global, row: &DieRow<'_>) -> Result<Value, AllocError> {
         None => Value::Null,
     };
     let (epoch, clean) = match &row.header {
-        Some(header) => (Value::from(header.epoch), Value::from(header.clean)),
-        None => (Value::Null, Value::Null),
+        Some(header) => (Some(header.epoch), Some(header.clean)),
+        None => (None, None),
     };
     let (erased, current, stale) = match &row.slots {
-        Some(slots) => (
-            Value::from(slots.erased),
-            Value::from(slots.current),
-            Value::from(slots.stale),
-        ),
-        None => (Value::Null, Value::Null, Value::Null),
+        Some(slots) => (Some(slots.erased), Some(slots.current), Some(slots.stale)),
+        None => (None, None, None),
     };
     json!(in global; {
         "die": row.die.0,

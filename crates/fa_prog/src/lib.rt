@@ -2,6 +2,7 @@
 #![tactic(auto)]
 
 mod check_text;
+mod complaint;
 mod dump_text;
 mod format;
 mod hex_lines;

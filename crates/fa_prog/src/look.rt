@@ -4,6 +4,7 @@ ghost use Rattle.fa_map.specs.PageView.{page_view};
 ghost use Rattle.fa_prog.specs.Array.{TellsLook, mount_line as line_of};
 
 use crate::check_text::check_text;
+use crate::complaint::complain;
 use crate::dump_text::dump_text;
 use crate::host::Host;
 use crate::images::{NotOpened, OpenImages, open_images};
@@ -202,11 +203,11 @@ fn explain<R: Host, A: Allocator>(
     refused: &MountRefused,
 ) {
     let fault = refused.fault;
-    match (refused.image, refused.die) {
-        (Some(index), _) => match path_of(settings, open, index) {
-            Some(path) => error!(rt; "{path}: {fault}"),
-            None => error!(rt; "image {index}: {fault}"),
-        },
+    let path = refused
+        .image
+        .and_then(|index| path_of(settings, open, index));
+    match (path, refused.die) {
+        (Some(path), _) => complain(rt, path, &fault),
         (None, Some(die)) => error!(rt; "die {die}: {fault}", die = die.0),
         (None, None) => error!(rt; "{fault}"),
     }

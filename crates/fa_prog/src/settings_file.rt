@@ -3,6 +3,7 @@ ghost use Rattle.std.specs.Prelude.{ℕ, List, IfOk};
 ghost use Rattle.fa_settings.specs.Settings.{IsSettingsText};
 ghost use Rattle.fa_prog.specs.Array.{RefusesSettings};
 
+use crate::complaint::complain;
 use crate::host::Host;
 use crate::output::{FAULTY, print, refuse_for_memory};
 use fa_settings::{Settings, SettingsFault};
@@ -35,7 +36,7 @@ pub(crate) fn settings_at<R: Host, A: Allocator + Copy>(
             return Err(NoSettings::NoMemory);
         }
         Err(refused) => {
-            error!(rt; "{path}: {refused}");
+            complain(rt, path, &refused);
             return Err(NoSettings::Unread);
         }
     };
@@ -52,7 +53,7 @@ pub(crate) fn settings_at<R: Host, A: Allocator + Copy>(
 /// Tells on standard error which key is at fault, what was found there and what was wanted.
 fn explain<R: Host, A: Allocator>(rt: &R, path: &str, text: &[u8], fault: &SettingsFault<A>) {
     match fault {
-        SettingsFault::NotToml => error!(rt; "{path}: the text is no TOML"),
+        SettingsFault::NotToml => complain(rt, path, &"the text is no TOML"),
         SettingsFault::Missing(key) => {
             error!(rt; "{path}: {key} is missing: {wanted}", wanted = key.wanted());
         }
@@ -67,8 +68,8 @@ fn explain<R: Host, A: Allocator>(rt: &R, path: &str, text: &[u8], fault: &Setti
             }
         }
         SettingsFault::Unknown(name) => error!(rt; "{path}: there is no key {name}"),
-        SettingsFault::Geometry(fault) => error!(rt; "{path}: {fault}"),
-        SettingsFault::NoMemory => error!(rt; "{path}: no memory"),
+        SettingsFault::Geometry(fault) => complain(rt, path, fault),
+        SettingsFault::NoMemory => complain(rt, path, &"no memory"),
     }
 }
 
