@@ -1,39 +1,28 @@
-//! The tests of all crates, over their public calls: what no clause says. They stand in a crate of their
-//! own, since a crate with tests is proved once with them and once without.
+//! The tests of the crates below the program, over their public calls: what no clause says. They stand in a
+//! crate of their own, since a crate with tests is proved once with them and once without. What the tests of the
+//! program need too is public.
 #![tactic(auto)]
 
 /// Ends a test with an error, unless the condition holds: `ensure!(CONDITION)`, and in a loop
 /// `ensure!(CONDITION, at WHERE)`.
-#[cfg(test)]
+#[macro_export]
 macro_rules! ensure {
     ($is_so:expr) => {
         if !$is_so {
-            return Err(crate::ensure::failed(stringify!($is_so)));
+            return Err($crate::told::failed(stringify!($is_so)));
         }
     };
     ($is_so:expr, at $place:expr) => {
         if !$is_so {
-            return Err(crate::ensure::failed_at(stringify!($is_so), $place));
+            return Err($crate::told::failed_at(stringify!($is_so), $place));
         }
     };
 }
 
 #[cfg(test)]
-mod arguments;
-#[cfg(test)]
-mod array_commands;
-#[cfg(test)]
 mod calendars;
 #[cfg(test)]
-mod cert;
-#[cfg(test)]
 mod cmds;
-#[cfg(test)]
-mod command_line;
-#[cfg(test)]
-mod ensure;
-#[cfg(test)]
-mod fails;
 #[cfg(test)]
 mod image;
 #[cfg(test)]
@@ -51,22 +40,13 @@ mod mounting;
 #[cfg(test)]
 mod nego;
 #[cfg(test)]
-mod plans;
-#[cfg(test)]
 mod reopened;
-#[cfg(test)]
-mod rows;
-#[cfg(test)]
-mod settings;
-#[cfg(test)]
-mod spelling;
+pub mod slots;
+pub mod spelling;
 #[cfg(test)]
 mod tag;
 #[cfg(test)]
 mod texts;
+pub mod told;
 #[cfg(test)]
 mod types;
-#[cfg(test)]
-mod verdicts;
-#[cfg(test)]
-mod wire;

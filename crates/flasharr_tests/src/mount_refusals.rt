@@ -1,6 +1,7 @@
 //! Each call of an image and each allocation, refused in turn while images are formatted and mounted, and
 //! images in two formats side by side.
-use crate::mounting::{Images, images, put, tag};
+use crate::mounting::{Images, images};
+use crate::slots::{put, tag};
 use fa_image::Image;
 use fa_mount::{MountFault, MountRefused, Report, format, format_1, scan, scan_side_by_side};
 use fa_tag::{Tag, seal_1};

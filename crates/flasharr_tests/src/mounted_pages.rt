@@ -1,5 +1,6 @@
 //! The pages of mounted arrays that were ever written, with the places of their current copies.
-use crate::mounting::{Images, formatted, mounted, put, shape, tag, written};
+use crate::mounting::{Images, formatted, mounted, shape, written};
+use crate::slots::{put, tag};
 use fa_machine::Version;
 use fa_map::Map;
 use fa_mount::{Mounted, WrittenPage, scan};

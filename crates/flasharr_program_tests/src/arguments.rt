@@ -1,6 +1,7 @@
 //! The program's arguments, and faulty texts.
 use fa_io::faulty::{Failing, Piecewise};
 use fa_prog::{Host, run, start};
+use flasharr_tests::ensure;
 use std::alloc::{AllocError, Allocator, Global};
 use std::env::Args;
 use std::io::{self, ErrorKind, Read, Write};

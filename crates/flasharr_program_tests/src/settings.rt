@@ -1,5 +1,6 @@
 //! Texts of settings: what they say, the line of each fault, and which of two faults is told.
 use fa_settings::{Settings, SettingsFault};
+use flasharr_tests::ensure;
 use linked_list_allocator::LocalHeap;
 use std::alloc::{Allocator, Global};
 use std::test::Fail;

@@ -8,6 +8,7 @@ use fa_cert::{Batch, Closed, Verdict, end_soon};
 use fa_plan::{Planned, plan};
 use fa_prog::Host;
 use fa_types::{Die, Page, Round};
+use flasharr_tests::ensure;
 use std::alloc::Global;
 use std::test::Fail;
 

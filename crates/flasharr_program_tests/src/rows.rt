@@ -1,11 +1,12 @@
 //! Conversations with their answers, also cut after each byte and in pieces of each length.
 use crate::arguments::printed as printed_by_the_program;
-use crate::spelling::joined;
 use fa_io::WriteBoth;
 use fa_io::faulty::{Interrupted, Piecewise};
 use fa_prog::Host;
 use fa_session::{SessionEnd, serve_stream};
 use fa_types::{Blocks, MemBlocks};
+use flasharr_tests::ensure;
+use flasharr_tests::spelling::joined;
 use std::alloc::{Allocator, Global};
 use std::io::Read;
 use std::test::Fail;

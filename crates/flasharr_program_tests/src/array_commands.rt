@@ -1,10 +1,11 @@
 //! The commands on an array, over image files.
 use crate::arguments::printed;
-use crate::mounting::{put, tag};
 use fa_image::{FileImage, Image};
 use fa_prog::Host;
 use fa_tag::{open_header, seal_header};
 use fa_types::{Geometry, HEADER_BYTES, Kind};
+use flasharr_tests::ensure;
+use flasharr_tests::slots::{put, tag};
 use std::path::Path;
 use std::test::Fail;
 use std::{env, fs, process};

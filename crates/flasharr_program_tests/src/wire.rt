@@ -1,9 +1,10 @@
 //! Connections that are cut, changed, or whose streams and memory fail.
 use crate::rows::{FLAGS, GO, GONE, GREETING, end_of, served};
-use crate::spelling::{joined, spelled};
 use fa_io::faulty::{Failing, Piecewise};
 use fa_session::SessionEnd;
 use fa_types::MemBlocks;
+use flasharr_tests::ensure;
+use flasharr_tests::spelling::{joined, spelled};
 use linked_list_allocator::LocalHeap;
 use std::alloc::Global;
 use std::test::Fail;

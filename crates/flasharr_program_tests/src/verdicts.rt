@@ -1,6 +1,7 @@
 //! Certificates that are checked alone.
 use crate::arguments::{printed, status_of};
 use fa_prog::Host;
+use flasharr_tests::ensure;
 use linked_list_allocator::LocalHeap;
 use std::alloc::Global;
 use std::slice;

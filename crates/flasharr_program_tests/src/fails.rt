@@ -1,9 +1,10 @@
 //! Connections whose memory, reader or writer fails.
 use crate::rows::{FLAGS, GO, GONE, GREETING, end_of, served};
-use crate::spelling::{joined, spelled};
 use fa_io::faulty::Piecewise;
 use fa_session::SessionEnd;
 use fa_types::MemBlocks;
+use flasharr_tests::ensure;
+use flasharr_tests::spelling::{joined, spelled};
 use linked_list_allocator::LocalHeap;
 use std::alloc::Global;
 use std::test::Fail;

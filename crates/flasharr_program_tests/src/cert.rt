@@ -9,6 +9,7 @@ use fa_cert::{
 };
 use fa_prog::Host;
 use fa_types::{Die, Page, Round, Rounds};
+use flasharr_tests::ensure;
 use std::alloc::Global;
 use std::test::Fail;
 

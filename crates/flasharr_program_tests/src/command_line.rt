@@ -1,6 +1,7 @@
 //! Help, the version, and arguments that are no command.
 use crate::arguments::printed;
 use fa_prog::Host;
+use flasharr_tests::ensure;
 use std::alloc::Global;
 use std::test::Fail;
 
