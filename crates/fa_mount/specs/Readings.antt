@@ -7,6 +7,7 @@ use Rattle.fa_mount.specs.declared.content.SlotContent.{SlotContent}
 use Rattle.fa_mount.specs.declared.judging.Standing.{Standing}
 use Rattle.fa_mount.specs.declared.readings.Reading.{Reading}
 use Rattle.fa_mount.specs.ContentReading.{ReadsDie, image_read}
+use Rattle.fa_mount.specs.Scanned.{Outcome}
 
 -- what came of reading a die's image
 abbrev pub outcome_of : {A : Type 0} → Reading A → Result (List SlotContent) ImageFault
@@ -52,28 +53,30 @@ pub record AreReadingsOf {A : Type 0} (geometry : Geometry) (standings : List St
     (readings : List (Option (Reading A))) : Type 0 where
   pub as_many : length readings ≡ images
   pub each : (die index : ℕ) (standing : Standing) → die < dies → slice_get standings die ≡ Some standing
-      → image_read standing ≡ Some index → (reading : Reading A) × (slice_get readings index ≡ Some (Some reading)) × (reading.die.0 ≡ die)
+      → image_read standing ≡ Some index
+      → (reading : Reading A) × (slice_get readings index ≡ Some (Some reading)) × (reading.die.0 ≡ die)
   pub only : (index : ℕ) (reading : Reading A) → slice_get readings index ≡ Some (Some reading)
       → (die : ℕ) × (standing : Standing) × (slice_get standings die ≡ Some standing) × (image_read standing ≡ Some index)
       × IsRoomy geometry reading
 
 -- a reading for a die was put at the place of its image, where one is to be read
-abbrev pub AddsReading : {A : Type 0} → Geometry → ℕ → Option ℕ → List (Option (Reading A)) → List (Option (Reading A)) → Type 0
+abbrev pub AddsReading : {A : Type 0} → Geometry → ℕ → Option ℕ
+    → List (Option (Reading A)) → List (Option (Reading A)) → Type 0
 AddsReading geometry die None before after = after ≡ before
 AddsReading {A} geometry die (Some index) before after =
     (reading : Reading A) × (after ≡ slice_set before index (Some reading)) × (reading.die.0 ≡ die) × IsRoomy geometry reading
 
 -- what came of a die, by the reading of its image
-abbrev pub outcome_from : {A : Type 0} → List (Option (Reading A)) → Option ℕ → Option (Result (List SlotContent) ImageFault)
+abbrev pub outcome_from : {A : Type 0} → List (Option (Reading A)) → Option ℕ → Outcome
 outcome_from readings None = None
 outcome_from {A = A} readings (Some index) = told (slice_get readings index)
   where
-    told : Option (Option (Reading A)) → Option (Result (List SlotContent) ImageFault)
+    told : Option (Option (Reading A)) → Outcome
     told (Some (Some reading)) = Some (outcome_of reading)
     told found = None
 
 -- the same of each die
-abbrev pub AreFrom : {A : Type 0} → List (Option (Reading A)) → List Standing → List (Option (Result (List SlotContent) ImageFault)) → Type 0
+abbrev pub AreFrom : {A : Type 0} → List (Option (Reading A)) → List Standing → List Outcome → Type 0
 AreFrom readings standings outcomes =
-    (die : ℕ) (standing : Standing) (outcome : Option (Result (List SlotContent) ImageFault)) → slice_get standings die ≡ Some standing
+    (die : ℕ) (standing : Standing) (outcome : Outcome) → slice_get standings die ≡ Some standing
     → slice_get outcomes die ≡ Some outcome → outcome ≡ outcome_from readings (image_read standing)
