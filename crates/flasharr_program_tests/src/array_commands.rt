@@ -23,7 +23,7 @@ fn path_of(rt: &HostRuntime, test: &str, name: &str) -> Result<String, Fail> {
 }
 
 /// Writes the settings of an array with these images, and gives their path.
-fn settings_of(rt: &HostRuntime, test: &str, images: &[&str]) -> Result<String, Fail> {
+pub fn settings_of(rt: &HostRuntime, test: &str, images: &[&str]) -> Result<String, Fail> {
     let mut text = String::from_str(rt.alloc(), "images = [")?;
     for image in images {
         let path = path_of(rt, test, image)?;
@@ -58,7 +58,7 @@ fn unmark(rt: &HostRuntime, test: &str, name: &str) -> Result<(), Fail> {
 }
 
 /// Programs page 5 with this number, with bytes or as a hole, into a slot of a die.
-fn put_page(
+pub fn put_page(
     rt: &HostRuntime,
     test: &str,
     die: u8,
@@ -72,7 +72,7 @@ fn put_page(
 }
 
 /// Tries a command on the settings of a test.
-fn tells<'x>(
+pub fn tells<'x>(
     rt: &impl Host,
     command: &'x str,
     flags: &[&'x str],
@@ -88,7 +88,7 @@ fn tells<'x>(
     Ok(())
 }
 
-const DIES: [&str; 4] = ["d0", "d1", "d2", "d3"];
+pub const DIES: [&str; 4] = ["d0", "d1", "d2", "d3"];
 
 /// An array before and after it is formatted.
 fn tells_a_new_array(rt: &impl Host, at: &str) -> Result<(), Fail> {

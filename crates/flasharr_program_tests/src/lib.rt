@@ -11,6 +11,8 @@ mod cert;
 #[cfg(test)]
 mod command_line;
 #[cfg(test)]
+mod documents;
+#[cfg(test)]
 mod fails;
 #[cfg(test)]
 mod plans;
