@@ -7,13 +7,14 @@ use Rattle.std.proofs.lemmas.List.{get_or_default, get_or-set_same, get_or-set_o
 use Rattle.std.proofs.Math.Bool.{and-true}
 use Rattle.fa_types.specs.Open.{rounds_that, max_closed, FewClosed, IsOpen}
 use Rattle.fa_cert.specs.declared.plan.Place.{Place}
-use Rattle.fa_cert.specs.declared.spans.Span.{Span}
+use Rattle.fa_types.specs.declared.window.Window.{Window}
 use Rattle.fa_cert.specs.Runs.{is_covered, is_from}
 use Rattle.fa_cert.proofs.Covered.{before, outside}
 use Rattle.fa_cert.proofs.Windows.{rounds_that-same, rounds_that-none, rounds_that-join}
 use Rattle.fa_calendar.specs.DieState.{DieState, HasRoom, IsRoomy}
 use Rattle.fa_calendar.specs.Dies.{booked_by, closed_by, no_rounds, room_by, state_of, taken_by, window_by, is_at, AllHaveRoom, HasRoomFor, IsCalendar, KeepsDies}
-use Rattle.fa_calendar.specs.Windows.{is_in_window, left_window, IsFirstWindow, IsFull}
+use Rattle.fa_types.specs.Windows.{is_in_window, IsFirstWindow, IsFull}
+use Rattle.fa_calendar.specs.Windows.{left_window}
 use Rattle.fa_calendar.specs.declared.refused.CalendarRefused.{CalendarRefused}
 use Rattle.fa_calendar.proofs.Cases.{taken_is, exchanged_is, with_is, free_is, outside_is, closed_is, apart_is, restored_is, window_is}
 use Rattle.fa_calendar.proofs.Gaps.{open_in}
@@ -207,7 +208,7 @@ module _ (current : ℕ) (d : List DieState) (sound : IsCalendar current d) (i :
 
   -- a window comes, or the die stays as it was
   pub window_sound : (rounds : ℕ) (r : Result ℕ CalendarRefused) → 1 ≤ rounds → IsRoomy v
-      → IfOk r (λ first. IsFirstWindow current (is_covered s.spans) rounds first) → IfOk r (λ first. v.window ≡ Some (record { first = first; last = first + rounds - 1 }))
+      → IfOk r (λ first. IsFirstWindow current (is_covered s.spans) rounds first) → IfOk r (λ first. v.window ≡ Some (record { first = record { 0 = first }; last = record { 0 = first + rounds - 1 } }))
       → IfOk r (λ first. (x : ℕ) → is_covered v.spans x ≡ (is_covered s.spans x || is_from first (first + rounds - 1) x))
       → OnErr r ((v.spans ≡ s.spans) × (v.window ≡ s.window)) → IsCalendar current (set d i v)
   window_sound rounds (Ok first) some is run window closed same =
@@ -222,7 +223,7 @@ module _ (current : ℕ) (d : List DieState) (sound : IsCalendar current d) (i :
       ∙ sound.held i x late (ap (λ (y : DieState). is_in_window y.window x) state_here ∙ ap (λ y. is_in_window y x) (sym same.1) ∙ inside))
 
   -- what is booked stays when a window comes
-  pub window_booked : (rounds first : ℕ) → 1 ≤ rounds → s.window ≡ None → IsFirstWindow current (is_covered s.spans) rounds first → v.window ≡ Some (record { first = first; last = first + rounds - 1 })
+  pub window_booked : (rounds first : ℕ) → 1 ≤ rounds → s.window ≡ None → IsFirstWindow current (is_covered s.spans) rounds first → v.window ≡ Some (record { first = record { 0 = first }; last = record { 0 = first + rounds - 1 } })
       → ((x : ℕ) → is_covered v.spans x ≡ (is_covered s.spans x || is_from first (first + rounds - 1) x)) → (die r : ℕ) → booked_by (set d i v) die r ≡ booked_by d die r
   window_booked rounds first some none run window closed die r =
       let booked_of : DieState → Bool = λ x. is_covered x.spans r && not (is_in_window x.window r) in
@@ -259,20 +260,20 @@ neq-eqb a b off = elim (cases_bool (nat_eq a b)) [
     cases_bool true = inl refl
     cases_bool false = inr refl
 
-in_left : (round : ℕ) (window : Option Span) (r : ℕ) → is_in_window (left_window round window) r ≡ true → is_in_window window r ≡ true
+in_left : (round : ℕ) (window : Option Window) (r : ℕ) → is_in_window (left_window round window) r ≡ true → is_in_window window r ≡ true
 in_left round None r inside = inside
 in_left round (Some w) r inside =
-    elim (cases_lt round w.last) [
-      | inl on ↦ ap (λ o. is_in_window o r) (sym (cond-true (nat_lt round w.last) (Some w) None (lt-ltb round w.last on))) ∙ inside
-      | inr gone ↦ (let none = ap (λ o. is_in_window o r) (sym (cond-false (nat_lt round w.last) (Some w) None (le-ltb round w.last gone))) ∙ inside in let no : ⊥ = cc in absurd no)
+    elim (cases_lt round w.last.0) [
+      | inl on ↦ ap (λ o. is_in_window o r) (sym (cond-true (nat_lt round w.last.0) (Some w) None (lt-ltb round w.last.0 on))) ∙ inside
+      | inr gone ↦ (let none = ap (λ o. is_in_window o r) (sym (cond-false (nat_lt round w.last.0) (Some w) None (le-ltb round w.last.0 gone))) ∙ inside in let no : ⊥ = cc in absurd no)
     ]
 
-left_later : (round : ℕ) (window : Option Span) (r : ℕ) → round < r → is_in_window (left_window round window) r ≡ is_in_window window r
+left_later : (round : ℕ) (window : Option Window) (r : ℕ) → round < r → is_in_window (left_window round window) r ≡ is_in_window window r
 left_later round None r later = refl
 left_later round (Some w) r later =
-    elim (cases_lt round w.last) [
-      | inl on ↦ ap (λ o. is_in_window o r) (cond-true (nat_lt round w.last) (Some w) None (lt-ltb round w.last on))
-      | inr gone ↦ ap (λ o. is_in_window o r) (cond-false (nat_lt round w.last) (Some w) None (le-ltb round w.last gone)) ∙ sym (outside w.first w.last r (omega (arith, gone, later)))
+    elim (cases_lt round w.last.0) [
+      | inl on ↦ ap (λ o. is_in_window o r) (cond-true (nat_lt round w.last.0) (Some w) None (lt-ltb round w.last.0 on))
+      | inr gone ↦ ap (λ o. is_in_window o r) (cond-false (nat_lt round w.last.0) (Some w) None (le-ltb round w.last.0 gone)) ∙ sym (outside w.first.0 w.last.0 r (omega (arith, gone, later)))
     ]
 
 module _ (current : ℕ) (d e : List DieState) (sound : IsCalendar current d) (long : length e ≡ 256) (roomy : AllHaveRoom e)

@@ -1,10 +1,10 @@
 -- What contracts see of a calendar: the current round, which rounds of which dies are booked, and the window of each die.
 use Rattle.std.specs.Prelude.{◌≡◌, ℕ, Bool, not, ◌&&◌, ◌||◌, List, Option}
+use Rattle.fa_types.specs.Windows.{is_in_window}
+use Rattle.fa_types.specs.declared.window.Window.{Window}
 use Rattle.fa_cert.specs.declared.plan.Place.{Place}
-use Rattle.fa_cert.specs.declared.spans.Span.{Span}
 use Rattle.fa_calendar.specs.declared.calendar.Calendar.{Calendar}
 use Rattle.fa_calendar.specs.Dies.{booked_by, window_by, is_at}
-use Rattle.fa_calendar.specs.Windows.{is_in_window}
 
 module _ {A : Type 0} where
   abbrev pub current_of : Calendar A → ℕ
@@ -13,7 +13,7 @@ module _ {A : Type 0} where
   abbrev pub is_booked : Calendar A → ℕ → ℕ → Bool
   is_booked calendar die round = booked_by calendar.dies.items die round
 
-  abbrev pub window_of : Calendar A → ℕ → Option Span
+  abbrev pub window_of : Calendar A → ℕ → Option Window
   window_of calendar die = window_by calendar.dies.items die
 
   -- A round of a die is closed where it is booked or in the die's window.

@@ -1,13 +1,15 @@
 -- The calendar of one die.
 use Rattle.std.specs.Prelude.{ℕ, ◌≤◌, List, Option}
 use Rattle.fa_types.specs.Open.{rounds_that, max_closed}
+use Rattle.fa_types.specs.declared.window.Window.{Window}
 use Rattle.fa_cert.specs.declared.spans.Span.{Span}
-use Rattle.fa_cert.specs.Runs.{is_covered, total_rounds, AreMerged}
+use Rattle.fa_cert.specs.Runs.{is_covered}
+use Rattle.fa_calendar.specs.Merging.{total_rounds, AreMerged}
 
 -- its closed rounds as spans, its window, and how many spans there is room for
 pub record DieState : Type 0 where
   pub spans : List Span
-  pub window : Option Span
+  pub window : Option Window
   pub room : ℕ
 
 -- The spans are merged, their rounds are no more than may be, and there is room for a span for each of them.

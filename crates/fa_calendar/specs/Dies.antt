@@ -2,11 +2,11 @@
 use Rattle.std.specs.Prelude.{◌≡◌, ℕ, ◌<◌, ◌≤◌, Bool, true, false, not, ◌&&◌, ◌||◌, ◌==◌, List, [], length, slice_index_or, Option, None}
 use Rattle.std.specs.List.{list_any}
 use Rattle.fa_types.specs.Open.{rounds_that, max_closed, FewClosed}
+use Rattle.fa_types.specs.Windows.{is_in_window}
+use Rattle.fa_types.specs.declared.window.Window.{Window}
 use Rattle.fa_cert.specs.declared.plan.Place.{Place}
-use Rattle.fa_cert.specs.declared.spans.Span.{Span}
 use Rattle.fa_cert.specs.Runs.{is_covered}
 use Rattle.fa_calendar.specs.DieState.{DieState, HasRoom}
-use Rattle.fa_calendar.specs.Windows.{is_in_window}
 
 abbrev pub no_rounds : DieState
 no_rounds = record { spans = []; window = None; room = 0 }
@@ -14,7 +14,7 @@ no_rounds = record { spans = []; window = None; room = 0 }
 abbrev pub state_of : List DieState → ℕ → DieState
 state_of dies die = slice_index_or dies die no_rounds
 
-abbrev pub window_by : List DieState → ℕ → Option Span
+abbrev pub window_by : List DieState → ℕ → Option Window
 window_by dies die = (state_of dies die).window
 
 abbrev pub room_by : List DieState → ℕ → ℕ

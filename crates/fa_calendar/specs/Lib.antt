@@ -1,4 +1,5 @@
 pub mod Calendar
 pub mod Dies
 pub mod DieState
+pub mod Merging
 pub mod Windows

@@ -1,16 +1,17 @@
 //! The calendar of all dies.
-ghost use Rattle.std.specs.Prelude.{◌≡◌, ℕ, ◌+◌, ◌-◌, ◌^◌, ◌<◌, ◌≤◌, ◌||◌, ◌&&◌, ◌==◌, not, nat_lt, if◌then◌else◌, Bool, true, false, List, IfOk, IsOk, OnOk, OnErr, IsErrOf, IsTrue, Some, None, option_map};
+ghost use Rattle.std.specs.Prelude.{◌≡◌, ℕ, ◌+◌, ◌-◌, ◌^◌, ◌<◌, ◌≤◌, ◌||◌, ◌&&◌, ◌==◌, not, nat_lt, if◌then◌else◌, Bool, true, false, List, IfOk, IsOk, OnOk, OnErr, IsErrOf, IsTrue, Some, None};
 ghost use Rattle.std.specs.List.{AllByRecursion};
 ghost use Rattle.fa_types.specs.Open.{rounds_that, max_closed, FewClosed, IsOpen};
 ghost use Rattle.fa_cert.specs.Plan.{AreApart};
 ghost use Rattle.fa_calendar.specs.Dies.{IsCalendar, is_at};
-ghost use Rattle.fa_calendar.specs.Windows.{ends_of, left_window, IsFirstWindow, IsFull};
+ghost use Rattle.fa_types.specs.Windows.{AreEntries, IsFirstWindow, IsFull};
+ghost use Rattle.fa_calendar.specs.Windows.{left_window};
 
 use crate::die::DieCalendar;
 use crate::dies::{book_all, open_all, open_dies, open_one, pass_all, restore_all, spans_without};
 use crate::refused::CalendarRefused;
 use fa_cert::{Closed, Place};
-use fa_types::{Die, Round, Rounds};
+use fa_types::{Die, Round, Rounds, Window};
 use std::alloc::{AllocError, Allocator, Global};
 
 /// A current round, the rounds of each die that are booked for reads, and the window of each die that has
@@ -41,7 +42,6 @@ impl<A: Allocator + Copy> Calendar<A> {
 }
 
 impl<A: Allocator> Calendar<A> {
-    ghost use Rattle.fa_cert.specs.declared.spans.Span.{Span};
     ghost use Rattle.fa_calendar.specs.Calendar.{current_of, is_booked, window_of, is_closed, is_closed_without, is_closed_with, IsUnchanged};
 
     /// Releases the booked places `old` and books `new`, which are open once `old` is free, no two the
@@ -97,7 +97,7 @@ impl<A: Allocator> Calendar<A> {
         ensures booked { (d r : ℕ) → is_booked self.new d r ≡ is_booked self.old d r }
         ensures first { IfOk result (λ first. IsFirstWindow (current_of self.old) (is_closed self.old die.0) rounds first.0) }
         ensures windows { IfOk result (λ first. (d : ℕ) → window_of self.new d
-            ≡ (if die.0 == d then Some (record { first = first.0; last = first.0 + rounds - 1 }) else window_of self.old d)) }
+            ≡ (if die.0 == d then Some (record { first = first; last = record { 0 = first.0 + rounds - 1 } }) else window_of self.old d)) }
         ensures fits { IsOk result → (n : ℕ) → rounds_that (is_closed self.old die.0) (current_of self.old) n + rounds ≤ max_closed }
         ensures full { IsErrOf result CalendarRefused.Full → IsFull (current_of self.old) (is_closed self.old die.0) rounds }
         ensures no_memory { IsErrOf result CalendarRefused.NoMemory
@@ -110,14 +110,19 @@ impl<A: Allocator> Calendar<A> {
         }
     }
 
-    /// The first and the last round of a die's window, if it has one that has not passed.
-    pub fn window(&self, die: Die) -> Option<(Round, Round)>
-        ensures { result ≡ option_map ends_of (window_of self.now die.0) }
+    /// A die's window, if it has one that has not passed.
+    pub fn window(&self, die: Die) -> Option<Window>
+        ensures { result ≡ window_of self.now die.0 }
     {
-        match self.dies[die.0 as usize].window() {
-            Some(window) => Some((Round(window.first), Round(window.last))),
-            None => None,
-        }
+        self.dies[die.0 as usize].window()
+    }
+
+    /// How many entries a die has: its booked rounds, and the rounds of its window that have not passed. It
+    /// reads a counter.
+    pub fn entries(&self, die: Die) -> u64
+        ensures { AreEntries (current_of self.now) (is_closed self.now die.0) result }
+    {
+        self.dies[die.0 as usize].entries()
     }
 
     /// Opens all rounds of a die: nothing is booked there, and it has no window. It takes no memory.

@@ -2,14 +2,18 @@
 ghost use Rattle.std.specs.Prelude.{◌≡◌, ℕ, ◌+◌, ◌-◌, ◌^◌, ◌<◌, ◌≤◌, ◌==◌, ◌&&◌, ◌||◌, Bool, true, false, not, [], OnOk, OnErr, IfOk, IsOk, IsErrOf, Some, None};
 ghost use Rattle.std.specs.VecDeque.{deque_len, deque_capacity};
 ghost use Rattle.fa_types.specs.Open.{rounds_that, max_closed};
-ghost use Rattle.fa_cert.specs.Runs.{is_covered, is_from, total_rounds, AddsRun, AreMerged, DropsRound, IsNthFree};
+ghost use Rattle.fa_cert.specs.Runs.{is_covered, is_from, IsNthFree};
+ghost use Rattle.fa_calendar.specs.Merging.{total_rounds, AddsRun, AreMerged, DropsRound};
 ghost use Rattle.fa_calendar.specs.DieState.{IsRoomy};
 ghost use Rattle.fa_calendar.specs.Dies.{is_at};
-ghost use Rattle.fa_calendar.specs.Windows.{is_in_window, left_window, IsFirstWindow};
+ghost use Rattle.fa_types.specs.Windows.{is_in_window, IsFirstWindow};
+ghost use Rattle.fa_calendar.specs.Windows.{left_window};
 
 use crate::gap::first_gap;
+use crate::merging::{pass, put_in, take_out};
 use crate::refused::CalendarRefused;
-use fa_cert::{Place, Span, Spans, count_covered, covers, nth_uncovered, pass, put_in, take_out};
+use fa_cert::{Place, Span, Spans, count_covered, covers, nth_uncovered};
+use fa_types::{Round, Window};
 use std::alloc::{AllocError, Allocator, Global};
 use std::collections::VecDeque;
 use std::marker::Model;
@@ -22,7 +26,7 @@ const MAX_ENTRIES: u64 = 1_048_576;
 #[derive(Debug, Drop)]
 pub struct DieCalendar<A: Allocator = Global> {
     spans: VecDeque<Span, A>,
-    window: Option<Span>,
+    window: Option<Window>,
     entries: u64,
 }
 
@@ -30,7 +34,7 @@ impl<A: Allocator> Model for DieCalendar<A> {
     ghost use Rattle.std.specs.Prelude.{◌≡◌, ◌≤◌};
     ghost use Rattle.std.specs.VecDeque.{deque_capacity};
     ghost use Rattle.fa_types.specs.Open.{max_closed};
-    ghost use Rattle.fa_cert.specs.Runs.{total_rounds, AreMerged};
+    ghost use Rattle.fa_calendar.specs.Merging.{total_rounds, AreMerged};
     ghost use Rattle.fa_calendar.specs.DieState.{DieState};
 
     ghost Value = { DieState };
@@ -70,7 +74,7 @@ impl<A: Allocator> DieCalendar<A> {
         ensures { result ≡ (is_covered self.now.spans round && not (is_in_window self.now.window round)) }
     {
         if let Some(window) = self.window {
-            if window.first <= round && round <= window.last {
+            if window.first.0 <= round && round <= window.last.0 {
                 return false;
             }
         }
@@ -96,8 +100,16 @@ impl<A: Allocator> DieCalendar<A> {
         nth_uncovered(&self.spans, from, n)
     }
 
+    /// How many rounds are closed. It reads a counter.
+    pub fn entries(&self) -> u64
+        ensures most { (from n : ℕ) → rounds_that (is_covered self.now.spans) from n ≤ result }
+        ensures reached { (n : ℕ) × (rounds_that (is_covered self.now.spans) 0 n ≡ result) }
+    {
+        self.entries
+    }
+
     /// The window that has not passed.
-    pub fn window(&self) -> Option<Span>
+    pub fn window(&self) -> Option<Window>
         ensures { result ≡ self.now.window }
     {
         self.window
@@ -160,7 +172,7 @@ impl<A: Allocator> DieCalendar<A> {
         requires short { rounds ≤ 64 }
         requires early { now ≤ 2 ^ 56 }
         ensures first { IfOk result (λ first. IsFirstWindow now (is_covered self.old.spans) rounds first) }
-        ensures window { IfOk result (λ first. self.new.window ≡ Some (record { first = first; last = first + rounds - 1 })) }
+        ensures window { IfOk result (λ first. self.new.window ≡ Some (record { first = record { 0 = first }; last = record { 0 = first + rounds - 1 } })) }
         ensures closed { IfOk result (λ first.
             (r : ℕ) → is_covered self.new.spans r ≡ (is_covered self.old.spans r || is_from first (first + rounds - 1) r)) }
         ensures full { IsErrOf result CalendarRefused.Full → (n : ℕ) × (max_closed < rounds_that (is_covered self.old.spans) 0 n + rounds) }
@@ -181,7 +193,10 @@ impl<A: Allocator> DieCalendar<A> {
         let last = first + rounds - 1;
         close(&mut self.spans, first, last);
         self.entries += rounds;
-        self.window = Some(Span { first, last });
+        self.window = Some(Window {
+            first: Round(first),
+            last: Round(last),
+        });
         Ok(first)
     }
 
@@ -224,7 +239,7 @@ impl<A: Allocator> DieCalendar<A> {
             self.entries -= 1;
         }
         if let Some(window) = self.window {
-            if window.last <= round {
+            if window.last.0 <= round {
                 self.window = None;
             }
         }

@@ -1,8 +1,9 @@
 //! The first run of open rounds between spans of closed ones.
 ghost use Rattle.std.specs.Prelude.{◌≡◌, ℕ, ◌+◌, ◌*◌, ◌^◌, ◌<◌, ◌≤◌};
 ghost use Rattle.fa_types.specs.Open.{max_closed};
-ghost use Rattle.fa_cert.specs.Runs.{is_covered, total_rounds, AreMerged};
-ghost use Rattle.fa_calendar.specs.Windows.{IsFirstWindow};
+ghost use Rattle.fa_cert.specs.Runs.{is_covered};
+ghost use Rattle.fa_calendar.specs.Merging.{total_rounds, AreMerged};
+ghost use Rattle.fa_types.specs.Windows.{IsFirstWindow};
 
 use fa_cert::Span;
 use std::alloc::Allocator;

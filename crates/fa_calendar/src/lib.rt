@@ -6,6 +6,7 @@ mod calendar;
 mod die;
 mod dies;
 mod gap;
+mod merging;
 mod refused;
 
 pub use calendar::Calendar;

@@ -1,12 +1,8 @@
 pub mod Batch
-pub mod BatchText
 pub mod Certificate
-pub mod CertificateText
 pub mod Closed
 pub mod Index
 pub mod Marks
-pub mod Numbers
 pub mod Plan
 pub mod Runs
-pub mod Text
 pub mod Verdict

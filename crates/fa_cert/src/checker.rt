@@ -36,22 +36,22 @@ struct Seen {
 pub fn check<R: Rounds, A: Allocator + Copy>(
     alloc: A,
     batch: &Batch<A>,
-    rounds: &R,
+    calendar: &R,
     plan: &Plan<A>,
     shortage: &Shortage<A>,
 ) -> Result<Verdict, AllocError>
     requires { IsSound batch.now }
-    ensures verdict { IfOk result (λ verdict. IsVerdict batch.now (R.current rounds.now) (R.closed rounds.now)
+    ensures verdict { IfOk result (λ verdict. IsVerdict batch.now (R.current calendar.now) (R.closed calendar.now)
         plan.now.rounds plan.now.places shortage.now verdict) }
     ensures least { IfOk result (λ verdict. (verdict ≡ Verdict.Least plan.now.rounds) ↔
-        IsCertificate batch.now (R.current rounds.now) (R.closed rounds.now) plan.now.rounds plan.now.places shortage.now) }
+        IsCertificate batch.now (R.current calendar.now) (R.closed calendar.now) plan.now.rounds plan.now.places shortage.now) }
 {
     let pages = shortage.as_slice();
     let places = plan.places.as_slice();
-    if let Some(refusal) = refusal_of(alloc, batch, rounds, plan.rounds, places)? {
+    if let Some(refusal) = refusal_of(alloc, batch, calendar, plan.rounds, places)? {
         return Ok(Verdict::Refused(refusal));
     }
-    if let Some(refusal) = refusal_of_shortage(batch, rounds, plan.rounds, pages) {
+    if let Some(refusal) = refusal_of_shortage(batch, calendar, plan.rounds, pages) {
         return Ok(Verdict::Refused(refusal));
     }
     Ok(Verdict::Least(plan.rounds))
@@ -61,27 +61,27 @@ pub fn check<R: Rounds, A: Allocator + Copy>(
 fn refusal_of<R: Rounds, A: Allocator + Copy>(
     alloc: A,
     batch: &Batch<A>,
-    rounds: &R,
-    number: u64,
+    calendar: &R,
+    rounds: u64,
     places: &[Place],
 ) -> Result<Option<Refusal>, AllocError>
     requires { IsSound batch.now }
     ensures found { IfOk result (λ refusal. MatchOption refusal
-        (IsPlan batch.now (R.current rounds.now) (R.closed rounds.now) places.now
-        × (rounds_of (R.current rounds.now) places.now ≡ number))
-        (λ r. (pages : List Page) → IsRefused batch.now (R.current rounds.now) (R.closed rounds.now) number places.now pages r)) }
-    ensures fits { IfOk result (λ refusal. IsNone refusal → 0 < number → R.current rounds.now + number ≤ 2 ^ 64) }
+        (IsPlan batch.now (R.current calendar.now) (R.closed calendar.now) places.now
+        × (rounds_of (R.current calendar.now) places.now ≡ rounds))
+        (λ r. (pages : List Page) → IsRefused batch.now (R.current calendar.now) (R.closed calendar.now) rounds places.now pages r)) }
+    ensures fits { IfOk result (λ refusal. IsNone refusal → 0 < rounds → R.current calendar.now + rounds ≤ 2 ^ 64) }
 {
     if let Some(refusal) = refusal_of_pages(alloc, batch, places)? {
         return Ok(Some(refusal));
     }
-    if !are_open(rounds, places) {
+    if !are_open(calendar, places) {
         return Ok(Some(Refusal::RoundClosed));
     }
     if !are_apart(alloc, places)? {
         return Ok(Some(Refusal::PlaceTwice));
     }
-    if !take_rounds(places, rounds.now(), number) {
+    if !take_rounds(places, calendar.now(), rounds) {
         return Ok(Some(Refusal::LastRound));
     }
     Ok(None)
@@ -162,10 +162,10 @@ fn come_once<A: Allocator + Copy>(alloc: A, places: &[Place]) -> Result<bool, Al
 }
 
 /// Whether each place is open.
-fn are_open<R: Rounds>(rounds: &R, places: &[Place]) -> bool
-    ensures { IsTrue result ↔ AreOpen (R.current rounds.now) (R.closed rounds.now) places.now }
+fn are_open<R: Rounds>(calendar: &R, places: &[Place]) -> bool
+    ensures { IsTrue result ↔ AreOpen (R.current calendar.now) (R.closed calendar.now) places.now }
 {
-    places.iter().all(|x| rounds.is_open(x.die, x.round))
+    places.iter().all(|x| calendar.is_open(x.die, x.round))
 }
 
 /// Whether no two of the places are at one die in one round.
@@ -229,25 +229,25 @@ fn last_round(places: &[Place]) -> u64
 /// The first thing that is wrong with the pages that are to show that no plan has fewer rounds.
 fn refusal_of_shortage<R: Rounds, A: Allocator>(
     batch: &Batch<A>,
-    rounds: &R,
-    number: u64,
+    calendar: &R,
+    rounds: u64,
     pages: &[Page],
 ) -> Option<Refusal>
     requires sound { IsSound batch.now }
-    requires fits { 0 < number → R.current rounds.now + number ≤ 2 ^ 64 }
-    ensures { MatchOption result (ShowsNoFewer batch.now (R.current rounds.now) (R.closed rounds.now) number pages.now)
-        (λ r. (places : List Place) → IsPlan batch.now (R.current rounds.now) (R.closed rounds.now) places
-        → rounds_of (R.current rounds.now) places ≡ number
-        → IsRefused batch.now (R.current rounds.now) (R.closed rounds.now) number places pages.now r) }
+    requires fits { 0 < rounds → R.current calendar.now + rounds ≤ 2 ^ 64 }
+    ensures { MatchOption result (ShowsNoFewer batch.now (R.current calendar.now) (R.closed calendar.now) rounds pages.now)
+        (λ r. (places : List Place) → IsPlan batch.now (R.current calendar.now) (R.closed calendar.now) places
+        → rounds_of (R.current calendar.now) places ≡ rounds
+        → IsRefused batch.now (R.current calendar.now) (R.closed calendar.now) rounds places pages.now r) }
 {
     let Some(dies) = named_holders(batch, pages) else {
         return Some(Refusal::ShortagePage);
     };
-    if number == 0 {
+    if rounds == 0 {
         if !pages.is_empty() {
             return Some(Refusal::NotShort);
         }
-    } else if !are_more(rounds, number - 1, &dies, pages.len()) {
+    } else if !are_more(calendar, rounds - 1, &dies, pages.len()) {
         return Some(Refusal::NotShort);
     }
     None
@@ -312,14 +312,14 @@ fn mark(marks: &mut [bool; 256], dies: &[Die])
 }
 
 /// Whether so many pages are more than the marked dies have open places in so many rounds.
-pub fn are_more<R: Rounds>(rounds: &R, number: u64, marks: &[bool; 256], pages: usize) -> bool
-    requires { R.current rounds.now + number < 2 ^ 64 }
-    ensures { IsTrue result ↔ (open_places (R.current rounds.now) (R.closed rounds.now) (marked marks.now 256) number < pages) }
+pub fn are_more<R: Rounds>(calendar: &R, rounds: u64, marks: &[bool; 256], pages: usize) -> bool
+    requires { R.current calendar.now + rounds < 2 ^ 64 }
+    ensures { IsTrue result ↔ (open_places (R.current calendar.now) (R.closed calendar.now) (marked marks.now 256) rounds < pages) }
 {
     let mut left = pages as u64;
     for die in 0..256usize {
         if marks[die] {
-            let open = rounds.open_count(Die(die as u8), number);
+            let open = calendar.open_count(Die(die as u8), rounds);
             if left <= open {
                 return false;
             }

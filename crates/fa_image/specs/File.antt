@@ -1,4 +1,4 @@
--- The bytes of an image file, led from call to call by what its calls did. A file that answers otherwise is not honest.
+-- The bytes of an image file after each call, by what the calls did. A file that answers otherwise is not honest.
 use Rattle.std.specs.Prelude.{ℕ, ◌+◌, ◌-◌, ◌*◌, Bool, true, ◌&&◌, List, [], ◌++◌, length, take, drop, replicate, slice_index_or, bytes_eq}
 use Rattle.std.specs.List.{concat}
 use Rattle.fa_types.specs.Store.{with_bytes, bytes_at}

@@ -242,8 +242,8 @@ pub file_meets : (before after : FileImage) (call : ImageCall) (answer : ImageAn
     → ImageMeets (file_view before) (file_is_honest before) call answer (file_view after) (file_is_honest after)
 file_meets before later call answer made =
     let g = before.geometry in
-    let file = before.held.contents in
-    led (file_view before) (file_is_honest before) call answer g later.geometry (after_call g call answer file) later.held.contents
+    let file = before.held.shown in
+    led (file_view before) (file_is_honest before) call answer g later.geometry (after_call g call answer file) later.held.shown
     (syncs_after call answer before.syncs) later.syncs (faults_after answer before.faults) later.faults
     made.geometry made.contents made.syncs made.faults
     (met g file before.syncs before.faults before.sized call answer made.allowed made.answers)
@@ -252,7 +252,7 @@ pub file_whole : (image : FileImage) → IsImage (file_view image)
 file_whole image =
     let g = image.geometry in
     let n = slot_count g * slot_bytes g in
-    let bytes = image.held.contents.bytes in record {
+    let bytes = image.held.shown.bytes in record {
       whole = AreSlots-cut (slot_count g) (slot_bytes g) (bytes_at 4096 n bytes) (length-bytes_at 4096 n bytes image.sized);
       headed = length-take 112 bytes ∙ omega (arith, image.sized);
     }

@@ -1,4 +1,9 @@
-//! What one call of a file did, as its image tells it.
+//! What one call of a file did, as its image tells it, and what the file holds then.
+ghost use Rattle.std.specs.Prelude.{◌≡◌};
+ghost use Rattle.fa_image.specs.File.{after_deed};
+
+use fa_ghost::History;
+use std::marker::Model;
 
 /// A call of a file that counts for what the file holds. Offsets and lengths are in bytes.
 #[derive(Clone, Copy)]
@@ -9,4 +14,23 @@ pub enum Deed<'a> {
     Wrote { offset: u64, bytes: &'a [u8] },
     /// A write of so many bytes at an offset was refused.
     Failed { offset: u64, len: usize },
+}
+
+/// What a file holds, for a history that shows it. No value of it is made.
+pub struct FileContents {}
+
+impl Model for FileContents {
+    ghost use Rattle.std.specs.Prelude.{[], true};
+    ghost use Rattle.fa_image.specs.File.{Contents};
+
+    ghost Value = { Contents };
+
+    ghost view = { λ _. record { bytes = []; lefts = []; honest = true } };
+}
+
+/// Tells a file's history of a deed.
+pub fn note(held: &mut History<FileContents>, deed: Deed<'_>)
+    ensures { held.new.shown ≡ after_deed deed.entry held.old.shown }
+{
+    held.note(&deed);
 }

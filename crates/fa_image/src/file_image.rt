@@ -2,11 +2,11 @@
 ghost use Rattle.std.specs.Prelude.{◌≡◌, ◌+◌, ◌*◌, ◌≤◌, length, replicate};
 ghost use Rattle.fa_image.specs.File.{Contents, file_bytes as bytes_of_file};
 
-use crate::deed::Deed;
+use crate::deed::{Deed, FileContents, note};
 use crate::fault::{ImageFault, refuse};
-use crate::held::Held;
 use crate::image::Image;
 use crate::shape::{file_bytes, slot_bytes, slot_offset};
+use fa_ghost::History;
 use fa_types::{Geometry, HEADER_BYTES, Slot};
 use std::alloc::{AllocError, Global};
 use std::fs::{File, OpenOptions};
@@ -26,9 +26,9 @@ pub struct FileImage {
     erased: Vec<u8>,
     syncs: u64,
     faults: u64,
-    held: Held,
+    held: History<FileContents>,
     ghost block: { erased.items ≡ replicate (geometry.slots * (geometry.page_bytes + 64)) 0xff },
-    ghost sized: { bytes_of_file geometry ≤ length held.contents.bytes },
+    ghost sized: { bytes_of_file geometry ≤ length held.shown.bytes },
 }
 
 impl FileImage {
@@ -107,7 +107,7 @@ impl FileImage {
     {
         self.file.set_len(0)?;
         self.file.set_len(file_bytes(self.geometry))?;
-        self.held = Held::anew(self.geometry);
+        self.held = History::begin(&self.geometry);
         self.syncs = 0;
         self.faults = 0;
         Ok(())
@@ -136,7 +136,7 @@ impl FileImage {
         ensures honest { IfOk result (λ image. file_is_honest image ≡ contents.honest) }
     {
         let erased = vec![in alloc; 0xffu8; geometry.slots as usize * slot_bytes(geometry)]?;
-        let held = Held::new();
+        let held = History::new();
         Ok(FileImage {
             file,
             geometry,
@@ -170,7 +170,7 @@ impl Image for FileImage {
             return refuse(ImageFault::ReadSlot, &mut self.faults);
         }
         let bytes: &[u8] = into;
-        self.held.note(Deed::Read { offset, bytes });
+        note(&mut self.held, Deed::Read { offset, bytes });
         Ok(())
     }
 
@@ -178,10 +178,10 @@ impl Image for FileImage {
         let offset = slot_offset(self.geometry, slot.0);
         if self.file.write_all_at(bytes, offset).is_err() {
             let len = bytes.len();
-            self.held.note(Deed::Failed { offset, len });
+            note(&mut self.held, Deed::Failed { offset, len });
             return refuse(ImageFault::Program, &mut self.faults);
         }
-        self.held.note(Deed::Wrote { offset, bytes });
+        note(&mut self.held, Deed::Wrote { offset, bytes });
         Ok(())
     }
 
@@ -190,10 +190,10 @@ impl Image for FileImage {
         let bytes = self.erased.as_slice();
         if self.file.write_all_at(bytes, offset).is_err() {
             let len = bytes.len();
-            self.held.note(Deed::Failed { offset, len });
+            note(&mut self.held, Deed::Failed { offset, len });
             return refuse(ImageFault::EraseBlock, &mut self.faults);
         }
-        self.held.note(Deed::Wrote { offset, bytes });
+        note(&mut self.held, Deed::Wrote { offset, bytes });
         Ok(())
     }
 
@@ -201,22 +201,28 @@ impl Image for FileImage {
         if self.file.read_exact_at(into, 0).is_err() {
             return refuse(ImageFault::ReadHeader, &mut self.faults);
         }
-        self.held.note(Deed::Read {
-            offset: 0,
-            bytes: into,
-        });
+        note(
+            &mut self.held,
+            Deed::Read {
+                offset: 0,
+                bytes: into,
+            },
+        );
         Ok(())
     }
 
     fn write_header(&mut self, bytes: &[u8; HEADER_BYTES]) -> Result<(), ImageFault> {
         if self.file.write_all_at(bytes, 0).is_err() || self.file.sync_data().is_err() {
-            self.held.note(Deed::Failed {
-                offset: 0,
-                len: HEADER_BYTES,
-            });
+            note(
+                &mut self.held,
+                Deed::Failed {
+                    offset: 0,
+                    len: HEADER_BYTES,
+                },
+            );
             return refuse(ImageFault::WriteHeader, &mut self.faults);
         }
-        self.held.note(Deed::Wrote { offset: 0, bytes });
+        note(&mut self.held, Deed::Wrote { offset: 0, bytes });
         Ok(())
     }
 

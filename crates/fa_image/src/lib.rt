@@ -6,7 +6,6 @@ mod deed;
 mod fault;
 mod file_image;
 mod fuse_image;
-mod held;
 mod image;
 pub mod laws;
 mod mem_image;

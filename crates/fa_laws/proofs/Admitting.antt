@@ -126,7 +126,7 @@ module _ (w : World) (h : Holds w) (batch : ℕ) (pages : List ℕ) (calendar : 
   }
 
   -- a hole's zeros are what was reserved for it
-  told_zeros : (page : ℕ) (o : Option Version) (t : Told) → get w.core.page_map.numbers page ≡ o → not (has_data o) ≡ true
+  told_zeros : (page : ℕ) (o : Option Version) (t : Told) → get w.core.page_map.versions page ≡ o → not (has_data o) ≡ true
       → option_map {T = Version} (λ v. record { page = page; seq = v.seq.0; bytes = zeros w.core.page_map }) o ≡ Some t
       → (t.bytes ≡ w.payloads t.page t.seq) × (t.seq ≤ w.core.last)
   told_zeros page None t is no_data e = absurd (none-some t e)
@@ -141,10 +141,10 @@ module _ (w : World) (h : Holds w) (batch : ℕ) (pages : List ℕ) (calendar : 
       elim (among-append t w.told (told_at_once w.core pages) i) [
         | inl before ↦ h.told t before
         | inr new ↦
-            let found = among-filter_map (λ page. option_map {T = Version} (λ v. record { page = page; seq = v.seq.0; bytes = zeros w.core.page_map }) (get w.core.page_map.numbers page)) t
+            let found = among-filter_map (λ page. option_map {T = Version} (λ v. record { page = page; seq = v.seq.0; bytes = zeros w.core.page_map }) (get w.core.page_map.versions page)) t
             (at_once w.core.page_map pages) new in
-            told_zeros found.0 (get w.core.page_map.numbers found.0) t refl
-            (among-filter (λ page. not (has_data (get w.core.page_map.numbers page))) found.0 pages found.1).1 found.2
+            told_zeros found.0 (get w.core.page_map.versions found.0) t refl
+            (among-filter (λ page. not (has_data (get w.core.page_map.versions page))) found.0 pages found.1).1 found.2
       ]
 
   pub admit_holds : Holds (record (with_batch batch pages w) {

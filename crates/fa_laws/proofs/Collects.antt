@@ -11,7 +11,7 @@ use Rattle.fa_machine.specs.Collecting.{is_in_block, next_step, slots_in}
 use Rattle.fa_machine.specs.Conditions.{first_that}
 use Rattle.fa_machine.specs.Copies.{holds_last, is_current, is_held_slot, is_reserved_slot, is_stale_slot}
 use Rattle.fa_machine.specs.Maps.{below, place_cmp}
-use Rattle.fa_machine.specs.Rounds.{is_in_window, window_rounds}
+use Rattle.fa_types.specs.Windows.{is_in_window, window_rounds}
 use Rattle.fa_machine.specs.Run.{HappensEvent}
 use Rattle.fa_machine.specs.State.{Core, MapState, slots_of, used_at}
 use Rattle.fa_machine.specs.Step.{Done, FlushBegin, FlushState, Take, Window, is_die}
@@ -203,13 +203,13 @@ module _ (g : Geometry) where
 
     pub ends_move : (v : World) (page : Page) (version : Version) (from to : Slot) → at_number die t.jobs ≡ Some (Move page version from to)
         → HasOutcome die (v.works die) DidMove
-        → (is_some (at_number die t.live) && holds_last page.0 (at_number page.0 t.numbers) (states die from.0)) ≡ true
+        → (is_some (at_number die t.live) && holds_last page.0 (at_number page.0 t.versions) (states die from.0)) ≡ true
         → HappensEvent (at g t v) (Done die DidMove) (at g (move_done die page version from to t) (did die (Move page version from to) DidMove v))
     ends_move v page version from to there worked kept =
         let mid : List ((ℕ × ℕ) × Used) = put place_cmp (die, from.0) Stale t.used in
         let current : is_current core.page_map page.0 die from.0 ≡ true =
         (λ i. is_some (get-from_sorted nat_cmp t.live die o.live i)
-        && holds_last page.0 (get-from_sorted nat_cmp t.numbers page.0 o.numbers i) (get-from_sorted place_cmp t.used (die, from.0) o.used i)) ∙ kept in
+        && holds_last page.0 (get-from_sorted nat_cmp t.versions page.0 o.versions i) (get-from_sorted place_cmp t.used (die, from.0) o.used i)) ∙ kept in
         ends (at g t v) die (Move page version from to) DidMove (core_of g (move_done die page version from to t))
         (get-from_sorted nat_cmp t.jobs die o.jobs ∙ there) refl worked
         ((λ i. record core {

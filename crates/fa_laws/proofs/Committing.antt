@@ -156,10 +156,10 @@ module _ (w : World) (h : Holds w) (claim : ℕ) (r : Reservation) (is : reserve
     abbrev plain_then : List (List ℕ)
     plain_then = put page (w.payloads page seq.0) w.plain
 
-    numbered : (p : ℕ) (v : Version) → get (insert w.core.page_map.numbers page r.version) p ≡ Some v
+    numbered : (p : ℕ) (v : Version) → get (insert w.core.page_map.versions page r.version) p ≡ Some v
         → IsNumbered (scene_of w).bytes (λ p. slice_index_or plain_then p []) p v
     numbered p v e =
-        elim (get-insert_cases w.core.page_map.numbers page r.version p v e) [
+        elim (get-insert_cases w.core.page_map.versions page r.version p v e) [
           | inr was ↦ let before = h.sound.numbered p v was.0 in record {
             right = before.right ∙ sym (get_or-set_other w.plain page p (w.payloads page seq.0) [] was.1);
             hole = before.hole;
@@ -179,13 +179,13 @@ module _ (w : World) (h : Holds w) (claim : ℕ) (r : Reservation) (is : reserve
 
     abbrev numbered_scene : Scene
     numbered_scene = record stale_scene {
-      number = λ p. get (insert w.core.page_map.numbers page r.version) p;
+      number = λ p. get (insert w.core.page_map.versions page r.version) p;
       plain = λ p. slice_index_or plain_then p [];
     }
 
     numbered_sound : Sound numbered_scene
     numbered_sound = renumbered_is_sound stale_scene (kept_is_sound (scene_of w) h.sound (λ die slot. get stale_map (die, slot)) keeps)
-        (λ p. get (insert w.core.page_map.numbers page r.version) p) (λ p. slice_index_or plain_then p []) numbered
+        (λ p. get (insert w.core.page_map.versions page r.version) p) (λ p. slice_index_or plain_then p []) numbered
 
     abbrev final : Used
     final = Held (record { 0 = page }) r.version

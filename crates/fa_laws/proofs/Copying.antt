@@ -121,7 +121,7 @@ module _ (w : World) (h : Holds w) (c : Copying) (is : w.core.copying ≡ Some c
     }
 
 module _ (w : World) (h : Holds w) (page die : ℕ) (version : Version) (payload : List ℕ) (within : page < w.core.page_map.geometry.pages)
-    (number : get w.core.page_map.numbers page ≡ Some version) (room : has_room w.core.page_map die ≡ true)
+    (number : get w.core.page_map.versions page ≡ Some version) (room : has_room w.core.page_map die ≡ true)
     (bytes : payload ≡ w.payloads page version.seq.0) where
   abbrev t : Target
   t = target_on w.core.page_map die

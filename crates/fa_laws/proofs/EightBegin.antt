@@ -159,7 +159,7 @@ module _ (size : ℕ) (within : IsGeometry 3 0 16 8 size 64) (bytes : ℕ → Li
   abbrev written : List (ℕ × Version)
   written = map (λ page. (page, write_of page)) eight
 
-  number_at : (page : ℕ) → get w.core.page_map.numbers page ≡ find_entry nat_cmp page written
+  number_at : (page : ℕ) → get w.core.page_map.versions page ≡ find_entry nat_cmp page written
   number_at page = get-from_sorted nat_cmp written page tt
 
   number_of : (page : ℕ) → page < 8 → find_entry nat_cmp page written ≡ Some (write_of page)
@@ -224,9 +224,9 @@ module _ (size : ℕ) (within : IsGeometry 3 0 16 8 size 64) (bytes : ℕ → Li
   stands_so die slot (Some used) e = held_good die slot used (good_at die slot used e) (ap (cell_in bytes die slot) e)
 
   -- the slot of a current copy
-  alone_at : (page die slot : ℕ) (o : Option Used) → used_at w.core.page_map die slot ≡ o → holds_last page (get w.core.page_map.numbers page) o ≡ true
+  alone_at : (page die slot : ℕ) (o : Option Used) → used_at w.core.page_map die slot ≡ o → holds_last page (get w.core.page_map.versions page) o ≡ true
       → slot_of die page ≡ Some slot
-  alone_at page die slot o e h = held_at o e (get w.core.page_map.numbers page) h
+  alone_at page die slot o e h = held_at o e (get w.core.page_map.versions page) h
     where
       held_one : (used : Used) → IsGood (die, slot) used → (v : Version) → holds_last page (Some v) (Some used) ≡ true → slot_of die page ≡ Some slot
       held_one used is v h =
@@ -238,7 +238,7 @@ module _ (size : ℕ) (within : IsGeometry 3 0 16 8 size 64) (bytes : ℕ → Li
       held_at None e (Some v) h = absurd (false≢true h)
       held_at (Some used) e (Some v) h = held_one used (good_at die slot used e) v h
 
-  plain_so : (page : ℕ) → page < 64 → IsPlainOf w page (get w.core.page_map.numbers page)
+  plain_so : (page : ℕ) → page < 64 → IsPlainOf w page (get w.core.page_map.versions page)
   plain_so page low =
       elim (cases_lt page 8) [
         | inl written ↦ subst (IsPlainOf w page) (sym (number_at page ∙ number_of page written))

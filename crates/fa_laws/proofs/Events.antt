@@ -111,7 +111,7 @@ copy_case w h (Some c) is (Err CopyPending) core d = to_next w (CommitCopy (Err 
 copy_case w h (Some c) is (Err CopyFailed) core d = to_next w (CommitCopy (Err CopyFailed)) _ core d.1 (copy_fails w h c is)
 
 reserve_copy_case : (w : World) → Holds w → (page seq : ℕ) (payload : List ℕ) → is_page w.core page ≡ true
-    → Contains w.told (record { page = page; seq = seq; bytes = payload }) → (v : Option Version) → get w.core.page_map.numbers page ≡ v
+    → Contains w.told (record { page = page; seq = seq; bytes = payload }) → (v : Option Version) → get w.core.page_map.versions page ≡ v
     → (die : Option ℕ) → copy_place w.core page ≡ die → has_number seq v ≡ true
     → Holds (record w { core = copying_to w.core page payload v die; moment = suc w.moment })
 reserve_copy_case w h page seq payload within told None number die place numbered = absurd (false≢true numbered)
@@ -166,10 +166,10 @@ event_holds w h (SpareIn die (Ok made)) core may d told =
     to_next w (SpareIn die (Ok made)) _ core d.1 (spare_holds w h die d.0 (w.core.epoch + 1) (insert w.core.page_map.live die tt))
 event_holds w h (SpareIn die (Err NotSpare)) core may d told = to_next w (SpareIn die (Err NotSpare)) w.core core d.1 (still w h)
 event_holds w h (ReserveCopy page seq payload (Ok made)) core may d told =
-    let refused = first_refusal (not (is_thin w.core page && has_number seq (get w.core.page_map.numbers page))) (is_none (copy_place w.core page)) (copy_open w.core) Gone _ _ d.0 in
+    let refused = first_refusal (not (is_thin w.core page && has_number seq (get w.core.page_map.versions page))) (is_none (copy_place w.core page)) (copy_open w.core) Gone _ _ d.0 in
     to_next w (ReserveCopy page seq payload (Ok made)) _ core d.1
-    (reserve_copy_case w h page seq payload (and_parts (is_page w.core page) _ may).0 told (get w.core.page_map.numbers page) refl (copy_place w.core page) refl
-    (not_none_of (is_thin w.core page) (has_number seq (get w.core.page_map.numbers page)) refused).1)
+    (reserve_copy_case w h page seq payload (and_parts (is_page w.core page) _ may).0 told (get w.core.page_map.versions page) refl (copy_place w.core page) refl
+    (not_none_of (is_thin w.core page) (has_number seq (get w.core.page_map.versions page)) refused).1)
 event_holds w h (ReserveCopy page seq payload (Err CopyNoMemory)) core may d told = to_next w (ReserveCopy page seq payload (Err CopyNoMemory)) w.core core d.1 (still w h)
 event_holds w h (ReserveCopy page seq payload (Err refused)) core may d told = to_next w (ReserveCopy page seq payload (Err refused)) w.core core d.1 (still w h)
 event_holds w h (CommitCopy answer) core may d told = copy_case w h w.core.copying refl answer core d

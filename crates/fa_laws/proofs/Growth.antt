@@ -87,7 +87,7 @@ abbrev pub Three : Type 0
 Three = FinMap nat_cmp Version × Base × List HistoryEntry
 
 abbrev pub three : Core → Three
-three core = (core.page_map.numbers, core.base, core.history)
+three core = (core.page_map.versions, core.base, core.history)
 
 pub record Has (t : Three) : Type 0 where
   pub replayed : (page : ℕ) → get (replay t.1.numbers t.2) page ≡ option_map (λ version. version.seq.0) (get t.0 page)
@@ -272,7 +272,7 @@ event_grows old (Advance (Err refused)) new d = leaves old new _ d.1 refl
 event_grows old (SpareIn die (Ok in_it)) new d = leaves old new _ d.1 refl
 event_grows old (SpareIn die (Err NotSpare)) new d = leaves old new _ d.1 refl
 event_grows old (ReserveCopy page seq payload (Ok in_it)) new d =
-    leaves old new _ d.1 (copying_three old page payload (get old.page_map.numbers page) (copy_place old page))
+    leaves old new _ d.1 (copying_three old page payload (get old.page_map.versions page) (copy_place old page))
 event_grows old (ReserveCopy page seq payload (Err CopyNoMemory)) new d = leaves old new _ d.1 refl
 event_grows old (ReserveCopy page seq payload (Err refused)) new d = leaves old new _ d.1 refl
 event_grows old (CommitCopy answer) new d = commit_copy old new old.copying answer d

@@ -61,7 +61,7 @@ holds_held page v (Some (Held p u)) e =
     (p, u, refl, eqb-true p.0 page parts.0, eqb-true u.seq.0 v.seq.0 parts.1)
 
 -- the bytes of a current copy are the plain array's page
-pub current_copy : (w : World) → Holds w → (page die slot : ℕ) (v : Version) → get w.core.page_map.numbers page ≡ Some v
+pub current_copy : (w : World) → Holds w → (page die slot : ℕ) (v : Version) → get w.core.page_map.versions page ≡ Some v
     → is_current w.core.page_map page die slot ≡ true → payload_of page v die slot ((w.images die).seen slot) ≡ Some (plain_page w page)
 current_copy w h page die slot v number current =
     let holds = (and_parts (is_live w.core.page_map die) _ current).1 in
@@ -149,7 +149,7 @@ module _ (w : World) (h : Holds w) (die : ℕ) (idle : w.works die ≡ None) whe
     erase_fits block alive step = plain_fits (Erase block) (λ slot. refl) refl (erasing block alive step)
 
     -- a read is due the plain array's page
-    pub read_fits : (batch : BatchId) (page : Page) (version : Version) (slot : Slot) → get w.core.page_map.numbers page.0 ≡ Some version
+    pub read_fits : (batch : BatchId) (page : Page) (version : Version) (slot : Slot) → get w.core.page_map.versions page.0 ≡ Some version
         → copy_on w.core.page_map page.0 die ≡ Some slot.0
         → Fits w h die (handed (Read batch page version slot)) w.core.page_map.used w.core.waiting
         (with_value die (record { bytes = plain_page w page.0; since = w.moment }) w.due) calendar history idle

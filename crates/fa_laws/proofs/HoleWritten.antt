@@ -34,7 +34,7 @@ module _ (size : ℕ) (within : IsGeometry 2 0 4 4 size 8) (bytes : ℕ → List
   abbrev pub t0 : Table
   t0 = record {
     live = (0, tt) ∷ (1, tt) ∷ [];
-    numbers = [];
+    versions = [];
     used = [];
     round = 1;
     bookings = [];
@@ -69,7 +69,7 @@ module _ (size : ℕ) (within : IsGeometry 2 0 4 4 size 8) (bytes : ℕ → List
       page_map = record {
         geometry = g;
         live = two_live i;
-        numbers = sym (empty_listed nat_cmp_total nat_same) i;
+        versions = sym (empty_listed nat_cmp_total nat_same) i;
         used = sym (empty_listed place_cmp_total place_same) i;
       };
       calendar = record ((core_of g t0).calendar) {
@@ -536,5 +536,5 @@ module _ (size : ℕ) (within : IsGeometry 2 0 4 4 size 8) (bytes : ℕ → List
     ),
   )
 
-  pub is_a_hole : get (core_of g t46).page_map.numbers 0 ≡ Some the_hole
-  is_a_hole = get-from_sorted nat_cmp t46.numbers 0 tt
+  pub is_a_hole : get (core_of g t46).page_map.versions 0 ≡ Some the_hole
+  is_a_hole = get-from_sorted nat_cmp t46.versions 0 tt

@@ -168,7 +168,7 @@ module _ (K : ℕ → ℕ → BatchId → Type 0) where
   event_good old (SpareIn die (Ok made)) new may d g k = same_after K old new _ d.1 g refl refl refl refl
   event_good old (SpareIn die (Err NotSpare)) new may d g k = to_good K new old d.1 g
   event_good old (ReserveCopy page seq payload (Ok made)) new may d g k =
-      to_good K new _ d.1 (copying_good old g page payload (get old.page_map.numbers page) (copy_place old page))
+      to_good K new _ d.1 (copying_good old g page payload (get old.page_map.versions page) (copy_place old page))
   event_good old (ReserveCopy page seq payload (Err CopyNoMemory)) new may d g k = to_good K new old d.1 g
   event_good old (ReserveCopy page seq payload (Err refused)) new may d g k = to_good K new old d.1 g
   event_good old (CommitCopy answer) new may d g k = copy_good old new g old.copying answer d

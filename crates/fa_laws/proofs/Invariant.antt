@@ -46,7 +46,7 @@ scene_of w = record {
   waiting = w.core.waiting;
   works = w.works;
   due = λ die. (w.due die).bytes;
-  number = λ page. get w.core.page_map.numbers page;
+  number = λ page. get w.core.page_map.versions page;
   plain = λ page. slice_index_or w.plain page [];
   in_block = λ block slot. slot / w.core.page_map.geometry.slots == block;
 }

@@ -6,7 +6,7 @@ use Rattle.fa_machine.specs.Cells.{Outcome, is_of_kind}
 use Rattle.fa_machine.specs.Collecting.{is_in_block}
 use Rattle.fa_machine.specs.Conditions.{history_full}
 use Rattle.fa_machine.specs.Copies.{copy_on}
-use Rattle.fa_machine.specs.Rounds.{is_in_window}
+use Rattle.fa_types.specs.Windows.{is_in_window}
 use Rattle.fa_machine.specs.Run.{CallsNext, Happens, HappensEvent, ImageCall}
 use Rattle.fa_machine.specs.State.{Core, dies_of, is_live}
 use Rattle.fa_machine.specs.Step.{Done, Take, is_die, is_sized_read}
@@ -66,7 +66,7 @@ header_first core die behind = ap (λ b. option_or (if b then Some (Header core.
 pub read_first : (core : Core) (die : ℕ) (batch : BatchId) (page : Page) (version : Version) (slot : ℕ)
     → get core.behind die ≡ None → get core.calendar.windows die ≡ None
     → get core.calendar.bookings (die, core.calendar.round) ≡ Some (record { batch = batch; page = page; started = false })
-    → get core.page_map.numbers page.0 ≡ Some version → copy_on core.page_map page.0 die ≡ Some slot
+    → get core.page_map.versions page.0 ≡ Some version → copy_on core.page_map page.0 die ≡ Some slot
     → urgent_job core die ≡ Some (Read batch page version (record { 0 = slot }))
 read_first core die batch page version slot ahead none books number copy =
     ap (λ o. option_or (if is_some o then Some (Header core.epoch) else None) (option_or (step_job core die) (read_job core die))) ahead

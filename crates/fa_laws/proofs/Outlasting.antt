@@ -24,17 +24,17 @@ use Rattle.std.specs.Prelude.{filter, find, if◌then◌else◌, is_some, ◌&&�
 
 -- what a die holds is as it was
 pub record SameDie (old new : Core) (die : ℕ) : Type 0 where
-  pub numbers : new.page_map.numbers ≡ old.page_map.numbers
+  pub versions : new.page_map.versions ≡ old.page_map.versions
   pub geometry : new.page_map.geometry ≡ old.page_map.geometry
   pub live : contains_key new.page_map.live die ≡ contains_key old.page_map.live die
   pub used : (slot : ℕ) → get new.page_map.used (die, slot) ≡ get old.page_map.used (die, slot)
 
 same_die : (core : Core) (die : ℕ) → SameDie core core die
-same_die core die = record { numbers = refl; geometry = refl; live = refl; used = λ slot. refl }
+same_die core die = record { versions = refl; geometry = refl; live = refl; used = λ slot. refl }
 
 same_map : (old new : Core) (die : ℕ) → new.page_map ≡ old.page_map → SameDie old new die
 same_map old new die e = record {
-  numbers = ap (λ (m : MapState). m.numbers) e;
+  versions = ap (λ (m : MapState). m.versions) e;
   geometry = ap (λ (m : MapState). m.geometry) e;
   live = ap (λ (m : MapState). contains_key m.live die) e;
   used = λ slot. ap (λ (m : MapState). get m.used (die, slot)) e;
@@ -42,7 +42,7 @@ same_map old new die e = record {
 
 pub dropped_other : (core : Core) (out die : ℕ) → (die ≡ out → ⊥) → SameDie core (drop_die out core) die
 dropped_other core out die apart = record {
-  numbers = refl;
+  versions = refl;
   geometry = refl;
   live = ap is_some (get-remove_other core.page_map.live out die apart);
   used = λ slot. get-keep place_cmp_total place_same (λ place used. not (place.0 == out)) core.page_map.used (die, slot)
@@ -79,9 +79,9 @@ finished_other : (core : Core) (out : ℕ) (flight : Flight) (outcome : Outcome)
 finished_other core out (Read batch page version slot) (DidRead cell) die apart = read_other core out batch.0 page.0 _ die apart
 finished_other core out (Program page version slot) DidProgram die apart = same_map core _ die refl
 finished_other core out (Move page version from to) DidMove die apart =
-    record { numbers = refl; geometry = refl; live = refl; used = moved_other core out from.0 to.0 _ die apart }
+    record { versions = refl; geometry = refl; live = refl; used = moved_other core out from.0 to.0 _ die apart }
 finished_other core out (Erase block) DidErase die apart =
-    record { numbers = refl; geometry = refl; live = refl; used = erased_other core out block.0 die apart }
+    record { versions = refl; geometry = refl; live = refl; used = erased_other core out block.0 die apart }
 finished_other core out (Header epoch) DidWriteHeader die apart = header_other (epoch == core.epoch) _ core die (same_map core _ die refl)
 finished_other core out (Sync flushes) DidSync die apart = same_map core _ die refl
 finished_other core out flight (Fault call) die apart = dropped_other core out die apart
@@ -95,7 +95,7 @@ find_alike p q (x ∷ xs) alike = λ i. cond (alike x i) (Some x) (find_alike p 
 holds_still : (old new : Core) (page die : ℕ) → SameDie old new die → holds_page old.page_map page die ≡ true → holds_page new.page_map page die ≡ true
 holds_still old new page die same holds =
     ap is_some (find_alike (is_current new.page_map page die) (is_current old.page_map page die) (slots_of new.page_map)
-    (λ slot. λ i. same.live i && holds_last page (get (same.numbers i) page) (same.used slot i))
+    (λ slot. λ i. same.live i && holds_last page (get (same.versions i) page) (same.used slot i))
     ∙ ap (λ (g : Geometry). find (is_current old.page_map page die) (below (g.blocks * g.slots))) same.geometry)
     ∙ holds
 
@@ -114,14 +114,14 @@ some_left p x (y ∷ ys) (inr rest) t = behind (p y) (some_left p x ys rest t)
 
 pub not_lost : (m : MapState) (page die : ℕ) → die < m.geometry.dies → holds_page m page die ≡ true → is_lost m page ≡ false
 not_lost m page die low holds =
-    and_right (is_some (get m.numbers page)) (length (holders m page) == 0)
+    and_right (is_some (get m.versions page)) (length (holders m page) == 0)
     (some_left (holds_page m page) die (dies_of m) (among-range 0 m.geometry.dies die (omega arith) (omega (arith, low))) holds)
 
 ends_other : (old new : Core) (out : ℕ) (flight : Option Flight) (outcome : Outcome) (die : ℕ) → (die ≡ out → ⊥) → EndsJob old out flight outcome new → SameDie old new die
 ends_other old new out None outcome die apart e = absurd e
 ends_other old new out (Some flight) outcome die apart e =
     let same = finished_other (record old { jobs = remove old.jobs out }) out flight outcome die apart in
-    subst (λ (c : Core). SameDie old c die) (sym e) (record { numbers = same.numbers; geometry = same.geometry; live = same.live; used = same.used })
+    subst (λ (c : Core). SameDie old c die) (sym e) (record { versions = same.versions; geometry = same.geometry; live = same.live; used = same.used })
 
 one_outlasts : (old new : Core) (out : ℕ) (outcome : Outcome) (page die : ℕ) → (die ≡ out → ⊥) → EndsJob old out (get old.jobs out) outcome new → die < old.page_map.geometry.dies
     → holds_page old.page_map page die ≡ true → is_lost new.page_map page ≡ false

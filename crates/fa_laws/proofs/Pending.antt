@@ -171,7 +171,7 @@ module _ (die : ℕ) (flight : Flight) where
   event_at old (SpareIn out (Ok made)) new d k at = same_jobs old new _ d.1 refl at
   event_at old (SpareIn out (Err NotSpare)) new d k at = same_jobs old new _ d.1 refl at
   event_at old (ReserveCopy page seq payload (Ok made)) new d k at =
-      subst At (sym d.1) (copying_at old page payload (get old.page_map.numbers page) (copy_place old page) at)
+      subst At (sym d.1) (copying_at old page payload (get old.page_map.versions page) (copy_place old page) at)
   event_at old (ReserveCopy page seq payload (Err CopyNoMemory)) new d k at = same_jobs old new _ d.1 refl at
   event_at old (ReserveCopy page seq payload (Err refused)) new d k at = same_jobs old new _ d.1 refl at
   event_at old (CommitCopy answer) new d k at = copy_at old new old.copying answer d at

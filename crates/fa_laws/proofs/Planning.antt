@@ -11,7 +11,8 @@ use Rattle.fa_machine.specs.Copies.{copy_on, holders, holds_last, is_lost}
 use Rattle.fa_machine.specs.Maps.{below, insert_all, place_cmp}
 use Rattle.fa_machine.specs.Reading.{Planned, Plans, answered, at_once, booked, entries_for, has_data}
 use Rattle.fa_machine.specs.Reading.{is_booked, is_late, is_read_for, left_of, names_batch, released, results, to_read}
-use Rattle.fa_machine.specs.Rounds.{is_closed, is_in_window, window_rounds}
+use Rattle.fa_machine.specs.Rounds.{is_closed}
+use Rattle.fa_types.specs.Windows.{is_in_window, window_rounds}
 use Rattle.fa_machine.specs.Run.{HappensEvent}
 use Rattle.fa_machine.specs.State.{CalendarState, Core, MapState, dies_of, slots_of, OpenBatch}
 use Rattle.fa_machine.specs.Step.{Admit, EndBatch, Replan, allowed}
@@ -21,7 +22,7 @@ use Rattle.fa_machine.specs.declared.answers.ReadState.TheVariants.{Ready, Torn,
 use Rattle.fa_machine.specs.declared.ids.BatchId.{BatchId}
 use Rattle.fa_machine.specs.declared.places.Booking.{Booking}
 use Rattle.fa_machine.specs.declared.places.Version.{Version}
-use Rattle.fa_machine.specs.declared.places.Window.{Window as WindowOf}
+use Rattle.fa_types.specs.declared.window.Window.{Window as WindowOf}
 use Rattle.fa_types.specs.Open.{max_closed}
 use Rattle.fa_types.specs.declared.geometry.Geometry.{Geometry}
 use Rattle.fa_types.specs.declared.numbers.Page.{Page}
@@ -53,14 +54,14 @@ short_window round die (x ∷ xs) e =
 module _ (g : Geometry) where
   -- the slot of the copy of a page on a die, and the dies that hold a page
   abbrev pub copy_in : Table → ℕ → ℕ → Option ℕ
-  copy_in t page die = find (λ slot. is_some (at_number die t.live) && holds_last page (at_number page t.numbers) (find_entry place_cmp (die, slot) t.used))
+  copy_in t page die = find (λ slot. is_some (at_number die t.live) && holds_last page (at_number page t.versions) (find_entry place_cmp (die, slot) t.used))
       (below (g.blocks * g.slots))
 
   abbrev pub holders_in : Table → ℕ → List ℕ
   holders_in t page = filter (λ die. is_some (copy_in t page die)) (below g.dies)
 
   abbrev pub lost_in : Table → ℕ → Bool
-  lost_in t page = is_some (at_number page t.numbers) && length (holders_in t page) == 0
+  lost_in t page = is_some (at_number page t.versions) && length (holders_in t page) == 0
 
   abbrev pub entries_in : Table → List ℕ → List Entry
   entries_in t pages = map (λ page. record { page = record { 0 = page }; holders = map (λ die. record { 0 = die }) (holders_in t page) }) pages
@@ -71,10 +72,10 @@ module _ (g : Geometry) where
       not (is_some (at_number die t.live)) || (is_some (find_entry place_cmp (die, round) bookings) || is_in_window (at_number die t.windows) round)
 
   abbrev pub read_in : Table → List ℕ → List ℕ
-  read_in t pages = filter (λ page. has_data (at_number page t.numbers)) pages
+  read_in t pages = filter (λ page. has_data (at_number page t.versions)) pages
 
   abbrev pub zeros_in : Table → List ℕ → List ℕ
-  zeros_in t pages = filter (λ page. not (has_data (at_number page t.numbers))) pages
+  zeros_in t pages = filter (λ page. not (has_data (at_number page t.versions))) pages
 
   module _ (t : Table) (o : Ordered t) where
     abbrev m : MapState
@@ -82,13 +83,13 @@ module _ (g : Geometry) where
 
     pub copies_same : (page die : ℕ) → copy_on m page die ≡ copy_in t page die
     copies_same page die = λ i. find (λ slot. is_some (get-from_sorted nat_cmp t.live die o.live i)
-        && holds_last page (get-from_sorted nat_cmp t.numbers page o.numbers i) (get-from_sorted place_cmp t.used (die, slot) o.used i)) (slots_of m)
+        && holds_last page (get-from_sorted nat_cmp t.versions page o.versions i) (get-from_sorted place_cmp t.used (die, slot) o.used i)) (slots_of m)
 
     pub holders_same : (page : ℕ) → holders m page ≡ holders_in t page
     holders_same page = λ i. filter (λ die. is_some (copies_same page die i)) (dies_of m)
 
     lost_same : (page : ℕ) → is_lost m page ≡ lost_in t page
-    lost_same page = λ i. is_some (get-from_sorted nat_cmp t.numbers page o.numbers i) && length (holders_same page i) == 0
+    lost_same page = λ i. is_some (get-from_sorted nat_cmp t.versions page o.versions i) && length (holders_same page i) == 0
 
     entries_same : (pages : List ℕ) → entries_for m pages ≡ entries_in t pages
     entries_same pages = λ i. map (λ page. record { page = record { 0 = page }; holders = map (λ die. record { 0 = die }) (holders_same page i) }) pages
@@ -99,10 +100,10 @@ module _ (g : Geometry) where
         || (is_some (get-from_sorted place_cmp bookings (die, round) ordered i) || is_in_window (get-from_sorted nat_cmp t.windows die o.windows i) round)
 
     pub read_same : (pages : List ℕ) → to_read m pages ≡ read_in t pages
-    read_same pages = λ i. filter (λ page. has_data (get-from_sorted nat_cmp t.numbers page o.numbers i)) pages
+    read_same pages = λ i. filter (λ page. has_data (get-from_sorted nat_cmp t.versions page o.versions i)) pages
 
     pub zeros_same : (pages : List ℕ) → at_once m pages ≡ zeros_in t pages
-    zeros_same pages = λ i. filter (λ page. not (has_data (get-from_sorted nat_cmp t.numbers page o.numbers i))) pages
+    zeros_same pages = λ i. filter (λ page. not (has_data (get-from_sorted nat_cmp t.versions page o.versions i))) pages
 
     pub certified : (bookings : List ((ℕ × ℕ) × Booking)) → T (is_sorted place_cmp bookings) → (pages : List ℕ) (rounds : ℕ) (places : List Place)
         (shortage : List Page) → IsCertificate (entries_in t pages) t.round (closed_in t bookings) rounds places shortage
@@ -161,7 +162,7 @@ module _ (g : Geometry) where
   }
 
   abbrev pub told_in : Table → List ℕ → List Told
-  told_in t pages = filter_map (λ page. option_map {T = Version} (λ v. record { page = page; seq = v.seq.0; bytes = zero_page }) (at_number page t.numbers))
+  told_in t pages = filter_map (λ page. option_map {T = Version} (λ v. record { page = page; seq = v.seq.0; bytes = zero_page }) (at_number page t.versions))
       (zeros_in t pages)
 
   -- what the world keeps beside the state, as a batch is admitted
@@ -229,7 +230,7 @@ module _ (g : Geometry) where
           core = core_of g (admitted_in batch planned pages t);
           values = fold (λ values page. with_value_at batch.0 page (record { bytes = zero_page; since = v.moment }) values) v.values (sym (zeros_same t o pages) i);
           told = v.told ++ filter_map (λ page. option_map {T = Version} (λ (x : Version). record { page = page; seq = x.seq.0; bytes = zero_page })
-              (sym (get-from_sorted nat_cmp t.numbers page o.numbers) i)) (sym (zeros_same t o pages) i);
+              (sym (get-from_sorted nat_cmp t.versions page o.versions) i)) (sym (zeros_same t o pages) i);
           admitted = with_value batch.0 v.moment v.admitted;
           moment = suc v.moment;
         };

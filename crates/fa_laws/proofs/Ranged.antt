@@ -280,7 +280,7 @@ module _ (w : World) (h : Holds w) (ranged : Ranged w.core) where
   event_ranged (SpareIn die (Ok made)) core d told = subst Ranged (sym d.1) ranged
   event_ranged (SpareIn die (Err NotSpare)) core d told = subst Ranged (sym d.1) ranged
   event_ranged (ReserveCopy page seq payload (Ok made)) core d told =
-      subst Ranged (sym d.1) (copying_ranged page payload (get w.core.page_map.numbers page) (copy_place w.core page) refl)
+      subst Ranged (sym d.1) (copying_ranged page payload (get w.core.page_map.versions page) (copy_place w.core page) refl)
   event_ranged (ReserveCopy page seq payload (Err CopyNoMemory)) core d told = subst Ranged (sym d.1) ranged
   event_ranged (ReserveCopy page seq payload (Err refused)) core d told = subst Ranged (sym d.1) ranged
   event_ranged (CommitCopy answer) core d told = commit_copy_ranged w.core.copying refl answer core d

@@ -44,9 +44,9 @@ module _ (w : World) (b : IsBeginning w) where
   nothing_waits : (p : WaitingProgram) → Among p w.core.waiting → ⊥
   nothing_waits p among = subst (Among p) (ap (λ (c : Core). c.waiting) b.fresh) among
 
-  numbered : (page : ℕ) (v : Version) → get w.core.page_map.numbers page ≡ Some v → IsNumbered (scene_of w).bytes (scene_of w).plain page v
+  numbered : (page : ℕ) (v : Version) → get w.core.page_map.versions page ≡ Some v → IsNumbered (scene_of w).bytes (scene_of w).plain page v
   numbered page v e =
-      numbered_at w page (get w.core.page_map.numbers page) v e (b.plain page (b.written page (ap is_some e)))
+      numbered_at w page (get w.core.page_map.versions page) v e (b.plain page (b.written page (ap is_some e)))
 
   held : (die slot : ℕ) (page : Page) (version : Version) → used_at w.core.page_map die slot ≡ Some (Held page version)
       → IsHeld (scene_of w).bytes die slot page.0 version

@@ -74,7 +74,7 @@ use Rattle.std.specs.Prelude.{Err, Ok, Result, filter, find, if◌then◌else◌
 -- a slot of a live die that holds the page with its number
 pub record HasCopy (core : Core) (page die : ℕ) : Type 0 where
   pub version : Version
-  pub number : get core.page_map.numbers page ≡ Some version
+  pub number : get core.page_map.versions page ≡ Some version
   pub slot : ℕ
   pub tag_page : Page
   pub tag_version : Version
@@ -85,7 +85,7 @@ pub record HasCopy (core : Core) (page die : ℕ) : Type 0 where
 pub copy_from_holds : (core : Core) (page die : ℕ) → holds_page core.page_map page die ≡ true → HasCopy core page die
 copy_from_holds core page die holds = at_slot (copy_on core.page_map page die) refl holds
   where
-    of_number : (slot : ℕ) (v : Option Version) → get core.page_map.numbers page ≡ v → holds_last page v (used_at core.page_map die slot) ≡ true → HasCopy core page die
+    of_number : (slot : ℕ) (v : Option Version) → get core.page_map.versions page ≡ v → holds_last page v (used_at core.page_map die slot) ≡ true → HasCopy core page die
     of_number slot None e is = absurd (false≢true is)
     of_number slot (Some v) e is =
         let found = holds_held page v (used_at core.page_map die slot) is in
@@ -95,7 +95,7 @@ copy_from_holds core page die holds = at_slot (copy_on core.page_map page die) r
     at_slot None e is = absurd (false≢true is)
     at_slot (Some slot) e is =
         let current = (found_passes (is_current core.page_map page die) (slots_of core.page_map) slot e).0 in
-        of_number slot (get core.page_map.numbers page) refl (and_parts (is_live core.page_map die) _ current).1
+        of_number slot (get core.page_map.versions page) refl (and_parts (is_live core.page_map die) _ current).1
 
 find_some : {X : Type 0} (p : X → Bool) (xs : List X) (x : X) → Among x xs → p x ≡ true → is_some (find p xs) ≡ true
 find_some p xs x i t = by_find (find p xs) refl
@@ -108,12 +108,12 @@ pub holds_from_copy : (core : Core) (page die : ℕ) → HasCopy core page die �
 holds_from_copy core page die c ranged alive =
     let low = ranged die c.slot (Held c.tag_page c.tag_version) c.held in
     find_some (is_current core.page_map page die) (slots_of core.page_map) c.slot (among-range 0 (slots_total core) c.slot (omega arith) (omega (arith, low)))
-    (and_from (is_live core.page_map die) (holds_last page (get core.page_map.numbers page) (used_at core.page_map die c.slot)) alive
+    (and_from (is_live core.page_map die) (holds_last page (get core.page_map.versions page) (used_at core.page_map die c.slot)) alive
     ((λ i. holds_last page (c.number i) (c.held i))
     ∙ and_from (c.tag_page.0 == page) (c.tag_version.seq.0 == c.version.seq.0) (eq-eqb c.tag_page.0 page c.page_is) (eq-eqb c.tag_version.seq.0 c.version.seq.0 c.seq_is)))
 
 -- the copy where the number and the slot are as they were
-stays_same : (old new : Core) (page die : ℕ) (c : HasCopy old page die) → get new.page_map.numbers page ≡ get old.page_map.numbers page
+stays_same : (old new : Core) (page die : ℕ) (c : HasCopy old page die) → get new.page_map.versions page ≡ get old.page_map.versions page
     → get new.page_map.used (die, c.slot) ≡ get old.page_map.used (die, c.slot) → HasCopy new page die
 stays_same old new page die c number used = record {
   version = c.version;
@@ -126,7 +126,7 @@ stays_same old new page die c number used = record {
   seq_is = c.seq_is;
 }
 
-stays_map : (old new : Core) (page die : ℕ) → HasCopy old page die → new.page_map.numbers ≡ old.page_map.numbers → new.page_map.used ≡ old.page_map.used → HasCopy new page die
+stays_map : (old new : Core) (page die : ℕ) → HasCopy old page die → new.page_map.versions ≡ old.page_map.versions → new.page_map.used ≡ old.page_map.used → HasCopy new page die
 stays_map old new page die c numbers used =
     stays_same old new page die c (ap (λ (m : FinMap nat_cmp Version). get m page) numbers) (ap (λ (m : FinMap place_cmp Used). get m (die, c.slot)) used)
 
@@ -149,7 +149,7 @@ module _ (w : World) (h : Holds w) (page die : ℕ) (c : HasCopy w.core page die
   to_stays : (x core : Core) → core ≡ x → Stays x → Stays core
   to_stays x core e s = subst Stays (sym e) s
 
-  same_stays : (x core : Core) → core ≡ x → x.page_map.numbers ≡ w.core.page_map.numbers → x.page_map.used ≡ w.core.page_map.used → Stays core
+  same_stays : (x core : Core) → core ≡ x → x.page_map.versions ≡ w.core.page_map.versions → x.page_map.used ≡ w.core.page_map.used → Stays core
   same_stays x core e numbers used = to_stays x core e (stays_map w.core x page die c numbers used)
 
   new_erased : (p : ℕ) (t : Target) → Among t (map (target_on w.core.page_map) (targets w.core p)) → get w.core.page_map.used (t.die.0, t.slot.0) ≡ None
@@ -184,7 +184,7 @@ module _ (w : World) (h : Holds w) (page die : ℕ) (c : HasCopy w.core page die
       let kept : get (change (λ place used. without_page other used) w.core.page_map.used) (die, c.slot) ≡ Some (Held c.tag_page c.tag_version) =
       stale ∙ ap (option_map (without_page other)) c.held
       ∙ ap {B = Option Used} (λ b. Some (if b then Stale else Held c.tag_page c.tag_version)) (ne_eqb c.tag_page.0 other (λ same. leaves (sym same ∙ c.page_is))) in
-      to_stays _ core d.2 (stays_same w.core _ page die c (get-insert_other w.core.page_map.numbers other r.version page (λ same. leaves (sym same)))
+      to_stays _ core d.2 (stays_same w.core _ page die c (get-insert_other w.core.page_map.versions other r.version page (λ same. leaves (sym same)))
       (stays_all (live_targets w.core r.targets) _ (change (λ place used. without_page other used) w.core.page_map.used) die c.slot c.tag_page c.tag_version kept
       (λ t among held. kept≢held _ c.tag_page c.tag_version
       (get-change place_cmp_total place_same (λ place used. without_page other used) w.core.page_map.used (t.die.0, t.slot.0) ∙ ap (option_map (without_page other)) (live_kept claim r is t among)) held)
@@ -317,7 +317,7 @@ module _ (w : World) (h : Holds w) (page die : ℕ) (c : HasCopy w.core page die
           let page_is : p.0 ≡ page = sym tags.0 ∙ c.page_is in
           let current : is_current w.core.page_map p.0 d from ≡ true =
           and_from (is_live w.core.page_map d) _ (sym (ap (is_live w.core.page_map) same) ∙ alive)
-          ((λ i. holds_last (page_is i) (get w.core.page_map.numbers (page_is i)) (used_at w.core.page_map d from))
+          ((λ i. holds_last (page_is i) (get w.core.page_map.versions (page_is i)) (used_at w.core.page_map d from))
           ∙ (λ i. holds_last page (c.number i) (held i))
           ∙ and_from (c.tag_page.0 == page) (c.tag_version.seq.0 == c.version.seq.0) (eq-eqb c.tag_page.0 page c.page_is) (eq-eqb c.tag_version.seq.0 c.version.seq.0 c.seq_is)) in
           record {
@@ -392,7 +392,7 @@ module _ (w : World) (h : Holds w) (page die : ℕ) (c : HasCopy w.core page die
   event_stays (SpareIn out (Ok made)) core d told leaves was alive = same_stays _ core d.1 refl refl
   event_stays (SpareIn out (Err NotSpare)) core d told leaves was alive = same_stays _ core d.1 refl refl
   event_stays (ReserveCopy p seq payload (Ok made)) core d told leaves was alive =
-      to_stays _ core d.1 (copying_stays p payload (get w.core.page_map.numbers p) (copy_place w.core p) refl)
+      to_stays _ core d.1 (copying_stays p payload (get w.core.page_map.versions p) (copy_place w.core p) refl)
   event_stays (ReserveCopy p seq payload (Err CopyNoMemory)) core d told leaves was alive = same_stays _ core d.1 refl refl
   event_stays (ReserveCopy p seq payload (Err refused)) core d told leaves was alive = same_stays _ core d.1 refl refl
   event_stays (CommitCopy answer) core d told leaves was alive = copy_stays w.core.copying refl answer core d
@@ -478,7 +478,7 @@ commit_has w claim seat die seq r core d one =
     subst (λ (k : Core). HasCopy k page die × (is_live k.page_map die ≡ true)) (sym d.2) (
       record {
         version = r.version;
-        number = get-insert_same w.core.page_map.numbers page r.version;
+        number = get-insert_same w.core.page_map.versions page r.version;
         slot = t.0.slot.0;
         tag_page = record { 0 = page };
         tag_version = r.version;

@@ -6,7 +6,7 @@ use Rattle.fa_machine.specs.declared.jobs.Flight.{Flight}
 use Rattle.fa_machine.specs.declared.places.Booking.{Booking}
 use Rattle.fa_machine.specs.declared.places.Used.{Used}
 use Rattle.fa_machine.specs.declared.places.Version.{Version}
-use Rattle.fa_machine.specs.declared.places.Window.{Window as WindowOf}
+use Rattle.fa_types.specs.declared.window.Window.{Window as WindowOf}
 use Rattle.fa_types.specs.declared.geometry.Geometry.{Geometry}
 use Rattle.std.proofs.Common.{Bool, List, None, true, false, ℕ}
 use Rattle.std.specs.FinMap.{empty, from_sorted, is_sorted}
@@ -15,7 +15,7 @@ use Rattle.std.specs.Prelude.{T, ◌&&◌}
 
 pub record Table : Type 0 where
   pub live : List (ℕ × Unit {0})
-  pub numbers : List (ℕ × Version)
+  pub versions : List (ℕ × Version)
   pub used : List ((ℕ × ℕ) × Used)
   pub round : ℕ
   pub bookings : List ((ℕ × ℕ) × Booking)
@@ -38,7 +38,7 @@ pub record Table : Type 0 where
 abbrev pub core_of : Geometry → Table → Core
 core_of geometry t = record {
   copies = 2;
-  page_map = record { geometry = geometry; live = from_sorted t.live; numbers = from_sorted t.numbers; used = from_sorted t.used };
+  page_map = record { geometry = geometry; live = from_sorted t.live; versions = from_sorted t.versions; used = from_sorted t.used };
   calendar = record { round = t.round; bookings = from_sorted t.bookings; windows = from_sorted t.windows };
   epoch = t.epoch;
   behind = from_sorted t.behind;
@@ -60,13 +60,13 @@ core_of geometry t = record {
 -- the lists are in order
 abbrev pub is_ordered : Table → Bool
 is_ordered t =
-    is_sorted nat_cmp t.live && (is_sorted nat_cmp t.numbers && (is_sorted place_cmp t.used && (is_sorted place_cmp t.bookings
+    is_sorted nat_cmp t.live && (is_sorted nat_cmp t.versions && (is_sorted place_cmp t.used && (is_sorted place_cmp t.bookings
     && (is_sorted nat_cmp t.windows && (is_sorted nat_cmp t.behind && (is_sorted nat_cmp t.stepped && (is_sorted nat_cmp t.jobs
     && (is_sorted nat_cmp t.claims && (is_sorted nat_cmp t.batches && (is_sorted nat_cmp t.asked && is_sorted nat_cmp t.synced))))))))))
 
 pub record Ordered (t : Table) : Type 0 where
   pub live : T (is_sorted nat_cmp t.live)
-  pub numbers : T (is_sorted nat_cmp t.numbers)
+  pub versions : T (is_sorted nat_cmp t.versions)
   pub used : T (is_sorted place_cmp t.used)
   pub bookings : T (is_sorted place_cmp t.bookings)
   pub windows : T (is_sorted nat_cmp t.windows)
@@ -85,7 +85,7 @@ both false b h = absurd h
 pub in_order : (t : Table) → T (is_ordered t) → Ordered t
 in_order t h =
     let a = both (is_sorted nat_cmp t.live) _ h in
-    let b = both (is_sorted nat_cmp t.numbers) _ a.1 in
+    let b = both (is_sorted nat_cmp t.versions) _ a.1 in
     let c = both (is_sorted place_cmp t.used) _ b.1 in
     let d = both (is_sorted place_cmp t.bookings) _ c.1 in
     let e = both (is_sorted nat_cmp t.windows) _ d.1 in
@@ -97,7 +97,7 @@ in_order t h =
     let l = both (is_sorted nat_cmp t.asked) (is_sorted nat_cmp t.synced) k.1 in
     record {
       live = a.0;
-      numbers = b.0;
+      versions = b.0;
       used = c.0;
       bookings = d.0;
       windows = e.0;

@@ -10,7 +10,7 @@ use Rattle.fa_machine.specs.Cells.{Cell, DidRead, DidWriteHeader, Fault, Outcome
 use Rattle.fa_machine.specs.Conditions.{history_full}
 use Rattle.fa_machine.specs.Copies.{copy_on}
 use Rattle.fa_machine.specs.Maps.{below, place_cmp}
-use Rattle.fa_machine.specs.Rounds.{is_in_window}
+use Rattle.fa_types.specs.Windows.{is_in_window}
 use Rattle.fa_machine.specs.Run.{Happens, HappensEvent, ImageCall}
 use Rattle.fa_machine.specs.State.{Core}
 use Rattle.fa_machine.specs.Step.{Advance, Done, Take, is_die, is_sized_read}
@@ -146,7 +146,7 @@ module _ (g : Geometry) where
   pub takes_read : (t : Table) (v : World) (die seat : ℕ) (batch : BatchId) (page : Page) (version : Version) (slot : ℕ) → T (is_ordered t)
       → can_take t die ≡ true → free_in t die ≡ true → at_number die t.behind ≡ None → at_number die t.windows ≡ None
       → find_entry place_cmp (die, t.round) t.bookings ≡ Some (record { batch = batch; page = page; started = false })
-      → at_number page.0 t.numbers ≡ Some version → copy_on (core_of g t).page_map page.0 die ≡ Some slot
+      → at_number page.0 t.versions ≡ Some version → copy_on (core_of g t).page_map page.0 die ≡ Some slot
       → HappensEvent (at t v) (Take die seat (Some (handed (Read batch page version (record { 0 = slot })))))
       (at (read_taken die seat batch page version slot t) (took die (handed (Read batch page version (record { 0 = slot }))) v))
   takes_read t v die seat batch page version slot ordered can free ahead none books number copy =
@@ -157,7 +157,7 @@ module _ (g : Geometry) where
       (get-from_sorted nat_cmp t.behind die o.behind ∙ ahead)
       (get-from_sorted nat_cmp t.windows die o.windows ∙ none)
       (get-from_sorted place_cmp t.bookings (die, t.round) o.bookings ∙ books)
-      (get-from_sorted nat_cmp t.numbers page.0 o.numbers ∙ number)
+      (get-from_sorted nat_cmp t.versions page.0 o.versions ∙ number)
       copy)
       (λ i. record (core_of g t) {
         jobs = sym (insert_listed nat_cmp_total nat_same t.jobs die flight o.jobs) i;

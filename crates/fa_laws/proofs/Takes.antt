@@ -27,7 +27,7 @@ pub record IsBookedRead (core : Core) (die batch page : ℕ) (version : Version)
   pub waits : booking.started ≡ false
   pub batch_is : booking.batch.0 ≡ batch
   pub page_is : booking.page.0 ≡ page
-  pub number : get core.page_map.numbers page ≡ Some version
+  pub number : get core.page_map.versions page ≡ Some version
   pub copy : copy_on core.page_map page die ≡ Some slot
 
 -- a header, a collector's step or a booked read
@@ -77,7 +77,7 @@ a_step core die (EraseBlock block) flight is e = subst (IsUrgent core die) (same
 a_step core die Nothing flight is e = absurd (none-some flight e)
 
 a_read_from : (core : Core) (die : ℕ) (b : Booking) (v : Option Version) (s : Option ℕ) (flight : Flight)
-    → get core.calendar.bookings (die, core.calendar.round) ≡ Some b → b.started ≡ false → get core.page_map.numbers b.page.0 ≡ v
+    → get core.calendar.bookings (die, core.calendar.round) ≡ Some b → b.started ≡ false → get core.page_map.versions b.page.0 ≡ v
     → copy_on core.page_map b.page.0 die ≡ s → read_from b v s ≡ Some flight → IsUrgent core die flight
 a_read_from core die b None s flight booked waits number copy e = absurd (none-some flight e)
 a_read_from core die b (Some version) None flight booked waits number copy e = absurd (none-some flight e)

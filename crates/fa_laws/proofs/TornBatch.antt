@@ -41,7 +41,7 @@ module _ (size : ℕ) (within : IsGeometry 3 0 16 8 size 64) (bytes : ℕ → Li
   abbrev pub t0 : Table
   t0 = record {
     live = (0, tt) ∷ (1, tt) ∷ (2, tt) ∷ [];
-    numbers = map (λ page. (page, write_of page)) eight;
+    versions = map (λ page. (page, write_of page)) eight;
     used = held_slots;
     round = 1;
     bookings = [];

@@ -75,7 +75,7 @@ live_in t places = filter (λ x. is_some (at_number x.die.0 t.live)) places
 
 abbrev pub committed_in : ℕ → ℕ → ℕ → Reservation → Table → Table
 committed_in id seat page r t = record t {
-  numbers = with_number page r.version t.numbers;
+  versions = with_number page r.version t.versions;
   used = with_slots (Held (record { 0 = page }) r.version) (map key_of (live_in t r.targets)) (map (λ e. (e.0, without_page page e.1)) t.used);
   history = t.history ++ CommitEntry seat (record { 0 = page }) r.version.seq ∷ [];
   claims = with_number id (record { page = page; reserved = None }) t.claims;
@@ -347,7 +347,7 @@ module _ (g : Geometry) where
     abbrev with_live : ℕ → List Target → Core
     with_live p places = record (core_of g t) {
       page_map = with_targets (Held (record { 0 = p }) r.version) places (record ((core_of g t).page_map) {
-        numbers = insert (from_sorted t.numbers) p r.version;
+        versions = insert (from_sorted t.versions) p r.version;
         used = change (λ place used. without_page p used) (from_sorted t.used);
       });
       history = t.history ++ CommitEntry seat (record { 0 = p }) r.version.seq ∷ [];
@@ -359,7 +359,7 @@ module _ (g : Geometry) where
     committed_same sorted =
         (λ i. record (with_live page (live_in t r.targets)) {
           page_map = record ((core_of g t).page_map) {
-            numbers = sym (insert_listed nat_cmp_total nat_same t.numbers page r.version o.numbers) i;
+            versions = sym (insert_listed nat_cmp_total nat_same t.versions page r.version o.versions) i;
             used = sym (inserts_listed place_cmp_total place_same (λ (place : ℕ × ℕ). place) (λ _. Held (record { 0 = page }) r.version)
                 (map key_of (live_in t r.targets)) (map (λ e. (e.0, without_page page e.1)) t.used) sorted) i;
           };
@@ -367,7 +367,7 @@ module _ (g : Geometry) where
         })
         ∙ (λ i. record (with_live page (live_in t r.targets)) {
           page_map = with_targets (Held (record { 0 = page }) r.version) (live_in t r.targets) (record ((core_of g t).page_map) {
-            numbers = insert (from_sorted t.numbers) page r.version;
+            versions = insert (from_sorted t.versions) page r.version;
             used = sym (change_listed place_cmp_total place_same (λ place used. without_page page used) t.used o.used sorted) i;
           });
         })

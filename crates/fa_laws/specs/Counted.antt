@@ -12,7 +12,7 @@ use Rattle.fa_machine.specs.Step.{Commit, Take}
 -- The number of each page is what the replay gives it, and each Start names the number that its page had.
 pub record HasHistory (core : Core) : Type 0 where
   pub replayed : (page : ℕ)
-      → get (replay core.base.numbers core.history) page ≡ option_map (λ version. version.seq.0) (get core.page_map.numbers page)
+      → get (replay core.base.numbers core.history) page ≡ option_map (λ version. version.seq.0) (get core.page_map.versions page)
   pub legal : is_legal core.base.numbers core.history ≡ true
 
 abbrev pub is_read : Flight → Bool

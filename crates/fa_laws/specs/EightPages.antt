@@ -41,7 +41,7 @@ abbrev pub eight_written : Geometry → MapState
 eight_written geometry = record {
   geometry = geometry;
   live = from_sorted ((0, tt) ∷ (1, tt) ∷ (2, tt) ∷ []);
-  numbers = from_sorted (map (λ page. (page, write_of page)) eight);
+  versions = from_sorted (map (λ page. (page, write_of page)) eight);
   used = from_sorted held_slots;
 }
 

@@ -10,7 +10,7 @@ use Rattle.fa_machine.specs.World.{World}
 
 -- both dies of an array of two are live
 abbrev pub new_map : Geometry → MapState
-new_map geometry = record { geometry = geometry; live = insert (insert empty 0 tt) 1 tt; numbers = empty; used = empty }
+new_map geometry = record { geometry = geometry; live = insert (insert empty 0 tt) 1 tt; versions = empty; used = empty }
 
 -- a state over a page map, with two copies of a page, no spare and nothing under way
 abbrev pub new_core : ℕ → MapState → FinMap nat_cmp ℕ → Core

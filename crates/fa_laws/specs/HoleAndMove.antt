@@ -99,7 +99,7 @@ pub record ReadsAHoleAndAMovedPage (geometry : Geometry) (bytes : ℕ → List �
   -- page 0 is a hole, and reads as zeros
   pub holed : World
   pub makes_a_hole : Run written (making_a_hole geometry) holed
-  pub is_hole : get holed.core.page_map.numbers 0 ≡ Some the_hole
+  pub is_hole : get holed.core.page_map.versions 0 ≡ Some the_hole
   pub is_zeros : plain_page holed 0 ≡ zeros_of geometry
   pub windowed : World
   pub opens_a_window : Run holed opening_a_window windowed

@@ -29,7 +29,7 @@ KeepsSpares old act new = new.spares ≡ old.spares
 -- none but Commit changes the number of a page
 abbrev pub KeepsNumbers : Core → Act → Core → Type 0
 KeepsNumbers old (Commit claim seat answer) new = Unit {0}
-KeepsNumbers old act new = new.page_map.numbers ≡ old.page_map.numbers
+KeepsNumbers old act new = new.page_map.versions ≡ old.page_map.versions
 
 -- none but Commit changes the plain array
 abbrev pub KeepsPlain : World → Act → World → Type 0

@@ -42,7 +42,7 @@ abbrev pub StandsAt : World → ℕ → ℕ → Option Used → Type 0
 StandsAt w die slot None = (w.images die).seen slot ≡ Empty
 StandsAt w die slot (Some Reserved) = ⊥
 StandsAt w die slot (Some (Held page version)) =
-    (get w.core.page_map.numbers page.0 ≡ Some version) × ((w.images die).seen slot ≡ Sealed page.0 version die slot (plain_page w page.0))
+    (get w.core.page_map.versions page.0 ≡ Some version) × ((w.images die).seen slot ≡ Sealed page.0 version die slot (plain_page w page.0))
 StandsAt w die slot (Some Stale) = Unit {0}
 
 -- A world that was just mounted. A page that was written and has no copy is lost, and what the plain array has of it is
@@ -52,7 +52,7 @@ pub record IsBeginning (w : World) : Type 0 where
   pub copies : (w.core.copies ≡ 2) ⊎ (w.core.copies ≡ 3)
   -- so that the homes of a page are as many dies
   pub enough : w.core.copies ≤ w.core.page_map.geometry.dies - w.core.page_map.geometry.spares
-  pub based : (page : ℕ) → get w.core.base.numbers page ≡ option_map (λ version. version.seq.0) (get w.core.page_map.numbers page)
+  pub based : (page : ℕ) → get w.core.base.numbers page ≡ option_map (λ version. version.seq.0) (get w.core.page_map.versions page)
   pub last : w.core.last < 2 ^ 62
   -- live dies and spares are dies of the array, and no die is both
   pub live : (die : ℕ) → is_live w.core.page_map die ≡ true → die < w.core.page_map.geometry.dies
@@ -67,8 +67,8 @@ pub record IsBeginning (w : World) : Type 0 where
       → StandsAt w die slot (used_at w.core.page_map die slot)
   pub once : (page die slot other : ℕ) → is_current w.core.page_map page die slot ≡ true
       → is_current w.core.page_map page die other ≡ true → slot ≡ other
-  pub written : (page : ℕ) → is_some (get w.core.page_map.numbers page) ≡ true → page < w.core.page_map.geometry.pages
-  pub plain : (page : ℕ) → page < w.core.page_map.geometry.pages → IsPlainOf w page (get w.core.page_map.numbers page)
+  pub written : (page : ℕ) → is_some (get w.core.page_map.versions page) ≡ true → page < w.core.page_map.geometry.pages
+  pub plain : (page : ℕ) → page < w.core.page_map.geometry.pages → IsPlainOf w page (get w.core.page_map.versions page)
   pub pages : (length w.plain ≡ w.core.page_map.geometry.pages) × HasPages w.core.page_map.geometry.page_bytes w.plain
   pub idle : (die : ℕ) → w.works die ≡ None
   pub told : w.told ≡ []

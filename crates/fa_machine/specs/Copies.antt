@@ -26,7 +26,7 @@ holds_last page number used = false
 
 -- whether a current copy of the page stands in the slot
 abbrev pub is_current : MapState → ℕ → ℕ → ℕ → Bool
-is_current m page die slot = is_live m die && holds_last page (get m.numbers page) (used_at m die slot)
+is_current m page die slot = is_live m die && holds_last page (get m.versions page) (used_at m die slot)
 
 -- the slot of the current copy of a page on a die
 abbrev pub copy_on : MapState → ℕ → ℕ → Option ℕ
@@ -41,4 +41,4 @@ holders m page = filter (holds_page m page) (dies_of m)
 
 -- the page was written, and no live die has a current copy
 abbrev pub is_lost : MapState → ℕ → Bool
-is_lost m page = is_some (get m.numbers page) && length (holders m page) == 0
+is_lost m page = is_some (get m.versions page) && length (holders m page) == 0

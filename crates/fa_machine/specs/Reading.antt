@@ -107,10 +107,10 @@ zeros m = replicate m.geometry.page_bytes 0
 
 -- of some pages those that are read, and those that are answered with zeros at once
 abbrev pub to_read : MapState → List ℕ → List ℕ
-to_read m pages = filter (λ page. has_data (get m.numbers page)) pages
+to_read m pages = filter (λ page. has_data (get m.versions page)) pages
 
 abbrev pub at_once : MapState → List ℕ → List ℕ
-at_once m pages = filter (λ page. not (has_data (get m.numbers page))) pages
+at_once m pages = filter (λ page. not (has_data (get m.versions page))) pages
 
 -- Admit: a new batch, with a booking for each page that has bytes. Pages never written and holes are answered here.
 abbrev pub Admits : Core → List ℕ → Result Admitted AdmitRefused → Core → Type 0

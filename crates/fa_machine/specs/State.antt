@@ -11,7 +11,7 @@ use Rattle.fa_machine.specs.declared.places.Copying.{Copying}
 use Rattle.fa_machine.specs.declared.places.Target.{Target}
 use Rattle.fa_machine.specs.declared.places.Used.{Used}
 use Rattle.fa_machine.specs.declared.places.Version.{Version}
-use Rattle.fa_machine.specs.declared.places.Window.{Window}
+use Rattle.fa_types.specs.declared.window.Window.{Window}
 use Rattle.fa_machine.specs.Maps.{place_cmp, Numbers, below}
 
 -- The page map's part: which dies are live, the last write of each page that was ever written, and the state of
@@ -19,7 +19,7 @@ use Rattle.fa_machine.specs.Maps.{place_cmp, Numbers, below}
 pub record MapState : Type 0 where
   pub geometry : Geometry
   pub live : Numbers
-  pub numbers : FinMap nat_cmp Version
+  pub versions : FinMap nat_cmp Version
   pub used : FinMap place_cmp Used
 
 -- The calendar's part: the current round, the booked rounds by die and round, and the window of each die that

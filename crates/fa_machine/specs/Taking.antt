@@ -20,7 +20,7 @@ use Rattle.fa_machine.specs.Collecting.{is_in_block, next_step, move_place}
 use Rattle.fa_machine.specs.Conditions.{drop_die}
 use Rattle.fa_machine.specs.Copies.{copy_on, is_current, is_reserved_slot}
 use Rattle.fa_machine.specs.Maps.{place_cmp, keep, change}
-use Rattle.fa_machine.specs.Rounds.{is_in_window}
+use Rattle.fa_types.specs.Windows.{is_in_window}
 use Rattle.fa_machine.specs.State.{Core, MapState, OpenBatch, OpenClaim, Reservation, WaitingProgram, is_live, used_at}
 
 -- a job as it is handed out, with the payload of a program
@@ -58,7 +58,7 @@ read_from b version slot = None
 
 -- the read of a booking that was not started, from the slot that holds the page at this moment
 abbrev pub read_of : MapState → ℕ → Booking → Option Flight
-read_of m die b = if b.started then None else read_from b (get m.numbers b.page.0) (copy_on m b.page.0 die)
+read_of m die b = if b.started then None else read_from b (get m.versions b.page.0) (copy_on m b.page.0 die)
 
 abbrev pub read_job : Core → ℕ → Option Flight
 read_job core die = option_and_then (read_of core.page_map die) (get core.calendar.bookings (die, core.calendar.round))

@@ -7,6 +7,7 @@ use Rattle.std.specs.List.{list_any}
 use Rattle.std.specs.FinMap.{empty, insert, remove, contains_key, get, len}
 use Rattle.fa_types.specs.Open.{max_closed}
 use Rattle.fa_types.specs.declared.numbers.Round.{Round}
+use Rattle.fa_types.specs.Windows.{is_in_window, IsFirstWindow}
 use Rattle.fa_machine.specs.declared.answers.Copied.{Copied}
 use Rattle.fa_machine.specs.declared.answers.Copied.TheVariants.{Current, Late}
 use Rattle.fa_machine.specs.declared.jobs.Flight.{Flight}
@@ -30,7 +31,7 @@ use Rattle.fa_machine.specs.Conditions.{copy_open, first_that}
 use Rattle.fa_machine.specs.Maps.{keep}
 use Rattle.fa_machine.specs.Placement.{copy_place, is_thin}
 use Rattle.fa_machine.specs.Reading.{is_late}
-use Rattle.fa_machine.specs.Rounds.{entries_of, is_in_window, IsFirstWindow}
+use Rattle.fa_machine.specs.Rounds.{entries_of, is_closed}
 use Rattle.fa_machine.specs.State.{Core, is_live, dies_of}
 use Rattle.fa_machine.specs.Writing.{program_at, target_on, with_targets}
 
@@ -44,7 +45,9 @@ window_refusal core die count = first_that (
 -- Window: the first run of so many open rounds after the current one is the die's window.
 abbrev pub TakesWindow : Core → ℕ → ℕ → Result Round WindowRefused → Core → Type 0
 TakesWindow old die count (Ok first) new =
-    (window_refusal old die count ≡ None) × IsFirstWindow old.page_map old.calendar die count first.0 × (new ≡ record old {
+    (window_refusal old die count ≡ None)
+    × IsFirstWindow old.calendar.round (is_closed old.page_map old.calendar die) count first.0
+    × (new ≡ record old {
       calendar = record (old.calendar) {
         windows = insert old.calendar.windows die (record { first = first; last = record { 0 = first.0 + count - 1 } });
       };
@@ -108,7 +111,7 @@ abbrev pub has_number : ℕ → Option Version → Bool
 has_number seq version = option_map_or (λ v. v.seq.0 == seq) version false
 
 abbrev pub reserve_copy_refusal : Core → ℕ → ℕ → Option ReserveCopyRefused
-reserve_copy_refusal core page seq = first_that ((not (is_thin core page && has_number seq (get core.page_map.numbers page)), Gone)
+reserve_copy_refusal core page seq = first_that ((not (is_thin core page && has_number seq (get core.page_map.versions page)), Gone)
     ∷ (is_none (copy_place core page), NoRoom)
     ∷ (copy_open core, CopyBusy) ∷ [])
 
@@ -125,7 +128,7 @@ copying_to core page payload version die = core
 -- ReserveCopy: a slot for one more copy of a thin page, and its program.
 abbrev pub ReservesCopy : Core → ℕ → ℕ → List ℕ → Result (Unit {0}) ReserveCopyRefused → Core → Type 0
 ReservesCopy old page seq payload (Ok done) new =
-    (reserve_copy_refusal old page seq ≡ None) × (new ≡ copying_to old page payload (get old.page_map.numbers page) (copy_place old page))
+    (reserve_copy_refusal old page seq ≡ None) × (new ≡ copying_to old page payload (get old.page_map.versions page) (copy_place old page))
 ReservesCopy old page seq payload (Err CopyNoMemory) new = (reserve_copy_refusal old page seq ≡ None) × (new ≡ old)
 ReservesCopy old page seq payload (Err refused) new = (reserve_copy_refusal old page seq ≡ Some refused) × (new ≡ old)
 
@@ -137,10 +140,10 @@ commit_copy_refusal core c = first_that ((is_live core.page_map c.target.die.0 &
 abbrev pub CommitsCopy : Core → Option Copying → Result Copied CommitCopyRefused → Core → Type 0
 CommitsCopy old None answer new = ⊥
 CommitsCopy old (Some c) (Ok Current) new =
-    (commit_copy_refusal old c ≡ None) × (has_number c.version.seq.0 (get old.page_map.numbers c.page.0) ≡ true)
+    (commit_copy_refusal old c ≡ None) × (has_number c.version.seq.0 (get old.page_map.versions c.page.0) ≡ true)
     × (new ≡ record old { copying = None; page_map = with_targets (Held c.page c.version) (c.target ∷ []) old.page_map })
 CommitsCopy old (Some c) (Ok Late) new =
-    (commit_copy_refusal old c ≡ None) × (has_number c.version.seq.0 (get old.page_map.numbers c.page.0) ≡ false)
+    (commit_copy_refusal old c ≡ None) × (has_number c.version.seq.0 (get old.page_map.versions c.page.0) ≡ false)
     × (new ≡ record old { copying = None; page_map = with_targets Stale (c.target ∷ []) old.page_map })
 CommitsCopy old (Some c) (Err CopyPending) new = (commit_copy_refusal old c ≡ Some CopyPending) × (new ≡ old)
 CommitsCopy old (Some c) (Err Failed) new = (commit_copy_refusal old c ≡ Some Failed) × (new ≡ record old { copying = None })

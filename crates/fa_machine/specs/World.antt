@@ -139,7 +139,7 @@ with_payload claim seq payload w = record w { payloads = with_value_at (claimed_
 -- the numbers of those pages that are holes, told with zeros
 abbrev pub told_at_once : Core → List ℕ → List Told
 told_at_once core pages = filter_map
-    (λ page. option_map (λ v. record { page = page; seq = v.seq.0; bytes = zeros core.page_map }) (get core.page_map.numbers page))
+    (λ page. option_map (λ v. record { page = page; seq = v.seq.0; bytes = zeros core.page_map }) (get core.page_map.versions page))
     (at_once core.page_map pages)
 
 -- a batch: what its pages that are answered at once are due, from this moment on

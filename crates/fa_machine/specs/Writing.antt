@@ -102,7 +102,7 @@ committed claim seat r core =
     let page = claimed_page core claim in let staled = change (λ place used. without_page page used) core.page_map.used in
     with_reserved claim None (record core {
       page_map = with_targets (Held (record { 0 = page }) r.version) (live_targets core r.targets)
-          (record (core.page_map) { numbers = insert core.page_map.numbers page r.version; used = staled });
+          (record (core.page_map) { versions = insert core.page_map.versions page r.version; used = staled });
       history = core.history ++ CommitEntry seat (record { 0 = page }) r.version.seq ∷ [];
     })
 

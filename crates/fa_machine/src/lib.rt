@@ -12,7 +12,7 @@ mod refusals;
 pub use answers::{Copied, Flush, FlushState, HistoryEntry, ReadState};
 pub use ids::{BatchId, Block, ClaimId};
 pub use jobs::{CollectorStep, Flight, JobKind};
-pub use places::{Booking, Copying, Target, Used, Version, Window};
+pub use places::{Booking, Copying, Target, Used, Version};
 pub use refusals::{
     AbandonRefused, AdmitRefused, AdvanceRefused, ClaimRefused, CommitCopyRefused, CommitRefused,
     FlushRefused, ReserveCopyRefused, ReserveRefused, SpareRefused, WindowRefused,

@@ -1,6 +1,6 @@
 //! What stands in a slot, in a round of a die, and in a reservation.
 use crate::ids::BatchId;
-use fa_types::{Die, Kind, Page, Round, Seq, Slot};
+use fa_types::{Die, Kind, Page, Seq, Slot};
 
 /// One write of a page: its sequence number, and what it wrote.
 #[derive(Clone, Copy, Debug, PartialEq, Eq)]
@@ -36,15 +36,6 @@ pub struct Booking {
     pub page: Page,
     /// Whether the read was started.
     pub started: bool,
-}
-
-/// The rounds of a die that are kept for its collector.
-#[derive(Clone, Copy, Debug, PartialEq, Eq)]
-pub struct Window {
-    /// The first round.
-    pub first: Round,
-    /// The last round.
-    pub last: Round,
 }
 
 /// A slot that is kept for one copy of a page.

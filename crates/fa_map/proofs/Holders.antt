@@ -28,7 +28,7 @@ current_holds m whole page die slot = go (used_at m die slot) refl
   where
     none : (used : Option Used) → used_at m die slot ≡ used → holds page used ≡ false → is_current m page die slot ≡ holds page used
     none used is off =
-        and_right (is_live m die) (holds_last page (get m.numbers page) (used_at m die slot)) (ap (holds_last page (get m.numbers page)) is ∙ no_last page (get m.numbers page) used off)
+        and_right (is_live m die) (holds_last page (get m.versions page) (used_at m die slot)) (ap (holds_last page (get m.versions page)) is ∙ no_last page (get m.versions page) used off)
         ∙ sym off
 
     go : (used : Option Used) → used_at m die slot ≡ used → is_current m page die slot ≡ holds page used
@@ -40,10 +40,10 @@ current_holds m whole page die slot = go (used_at m die slot) refl
           | inr off ↦ none (Some (Held p v)) is off
           | inl on ↦
               let same = eqb-true p.0 page on in
-              let number : get m.numbers page ≡ Some v = ap (get m.numbers) (sym same) ∙ whole.last die slot p v is in
-              let last : holds_last page (get m.numbers page) (used_at m die slot) ≡ true =
+              let number : get m.versions page ≡ Some v = ap (get m.versions) (sym same) ∙ whole.last die slot p v is in
+              let last : holds_last page (get m.versions page) (used_at m die slot) ≡ true =
               (λ i. holds_last page (number i) (is i)) ∙ and_from (p.0 == page) (v.seq.0 == v.seq.0) on (eq-eqb v.seq.0 v.seq.0 refl) in
-              and_from (is_live m die) (holds_last page (get m.numbers page) (used_at m die slot)) (whole.used die slot (ap is_some is)).0 last
+              and_from (is_live m die) (holds_last page (get m.versions page) (used_at m die slot)) (whole.used die slot (ap is_some is)).0 last
               ∙ sym on
         ]
 

@@ -42,7 +42,7 @@ whole-used m die slot u whole on fits bare = record {
 }
   where
     held : (d s : ℕ) (page : Page) (version : Version) → used_at (with_used die slot u m) d s ≡ Some (Held page version)
-        → (get m.numbers page.0 ≡ Some version) × (used_at m d s ≡ Some (Held page version))
+        → (get m.versions page.0 ≡ Some version) × (used_at m d s ≡ Some (Held page version))
     held d s page version h =
         elim (place_cases d s die slot) [
           | inl at ↦
@@ -76,7 +76,7 @@ whole-current m page version die slot whole may = record {
   live = whole.live;
   written = λ q h. elim (cases_eq q page.0) [
     | inl is ↦ subst (λ k. k < m.geometry.pages) (sym is) may.page_fits
-    | inr apart ↦ whole.written q (sym (ap is_some (get-insert_other m.numbers page.0 version q apart)) ∙ h)
+    | inr apart ↦ whole.written q (sym (ap is_some (get-insert_other m.versions page.0 version q apart)) ∙ h)
   ];
   used = λ d s h. elim (place_cases d s die slot) [
     | inl at ↦ (ap (is_live m) at.0 ∙ may.live, subst (λ k. k < m.geometry.blocks * m.geometry.slots) (sym at.1) may.slot_fits)
@@ -119,20 +119,20 @@ whole-current m page version die slot whole may = record {
     version_of (Held p v) = v
     version_of u = version
 
-    last_here : (p : Page) (v : Version) → Held page version ≡ Held p v → get (insert m.numbers page.0 version) p.0 ≡ Some v
+    last_here : (p : Page) (v : Version) → Held page version ≡ Held p v → get (insert m.versions page.0 version) p.0 ≡ Some v
     last_here p v e =
-        ap (λ (q : Page). get (insert m.numbers page.0 version) q.0) (sym (ap page_of e))
-        ∙ get-insert_same m.numbers page.0 version ∙ ap Some (ap version_of e)
+        ap (λ (q : Page). get (insert m.versions page.0 version) q.0) (sym (ap page_of e))
+        ∙ get-insert_same m.versions page.0 version ∙ ap Some (ap version_of e)
 
-    last_there : (p : Page) (v : Version) → (p.0 == page.0 && not (v.seq.0 == version.seq.0)) ≡ false → get m.numbers p.0 ≡ Some v
-        → get (insert m.numbers page.0 version) p.0 ≡ Some v
+    last_there : (p : Page) (v : Version) → (p.0 == page.0 && not (v.seq.0 == version.seq.0)) ≡ false → get m.versions p.0 ≡ Some v
+        → get (insert m.versions page.0 version) p.0 ≡ Some v
     last_there p v new was =
         elim (cases_eq p.0 page.0) [
-          | inr apart ↦ get-insert_other m.numbers page.0 version p.0 apart ∙ was
+          | inr apart ↦ get-insert_other m.versions page.0 version p.0 apart ∙ was
           | inl is ↦ elim (cases_Bool (v.seq.0 == version.seq.0)) [
             | inl one ↦
-                let same : v ≡ version = may.one_kind v (sym (ap (get m.numbers) is) ∙ was) one in
-                ap (get (insert m.numbers page.0 version)) is ∙ get-insert_same m.numbers page.0 version ∙ ap Some (sym same)
+                let same : v ≡ version = may.one_kind v (sym (ap (get m.versions) is) ∙ was) one in
+                ap (get (insert m.versions page.0 version)) is ∙ get-insert_same m.versions page.0 version ∙ ap Some (sym same)
             | inr other ↦ absurd (false≢true (sym new ∙ and_from (p.0 == page.0) (not (v.seq.0 == version.seq.0)) (eq-eqb p.0 page.0 is) (ap not other)))
           ]
         ]

@@ -1,10 +1,12 @@
 pub mod Chained
 pub mod Changed
 pub mod Counted
+pub mod Firsts
 pub mod Holders
 pub mod Indices
 pub mod Kept
 pub mod MayHold
+pub mod Nexts
 pub mod Plain
 pub mod Ranges
 pub mod Seen

@@ -25,7 +25,7 @@ held_copy (Some Stale) = refl
 module _ (m : MapState) (whole : IsPageMap m) (page : Page) (version : Version) (die slot : ℕ) (page_fits : page.0 < m.geometry.pages)
     (slot_fits : slot < m.geometry.blocks * m.geometry.slots) (live : is_live m die ≡ true) (free : is_held_slot (used_at m die slot) ≡ false) where
   -- one more copy of the page's last write, on a die that does not hold it
-  pub may_hold_more : copy_on m page.0 die ≡ None → get m.numbers page.0 ≡ Some version → MayHold m page version die slot
+  pub may_hold_more : copy_on m page.0 die ≡ None → get m.versions page.0 ≡ Some version → MayHold m page version die slot
   may_hold_more none last = record {
     page_fits = page_fits;
     slot_fits = slot_fits;
@@ -40,7 +40,7 @@ module _ (m : MapState) (whole : IsPageMap m) (page : Page) (version : Version) 
   }
 
   -- a copy of another write than the page's last
-  pub may_hold_new : ((v : Version) → get m.numbers page.0 ≡ Some v → (v.seq.0 == version.seq.0) ≡ false) → MayHold m page version die slot
+  pub may_hold_new : ((v : Version) → get m.versions page.0 ≡ Some v → (v.seq.0 == version.seq.0) ≡ false) → MayHold m page version die slot
   may_hold_new new = record {
     page_fits = page_fits;
     slot_fits = slot_fits;

@@ -118,10 +118,10 @@ module _ (m : MapState) (g : Geometry) (on : List Bool) (count : ℕ) (versions 
     pages = length-set versions page.0 (Some version) ∙ plain.pages;
     numbers = λ q. elim (cases_eq q page.0) [
       | inl is ↦
-          ap (get (insert m.numbers page.0 version)) is ∙ get-insert_same m.numbers page.0 version
+          ap (get (insert m.versions page.0 version)) is ∙ get-insert_same m.versions page.0 version
           ∙ sym (ap (λ k. get_or (set versions page.0 (Some version)) k None) is ∙ get_or-set_same versions page.0 (Some version) None page_fits)
       | inr apart ↦
-          get-insert_other m.numbers page.0 version q apart ∙ plain.numbers q
+          get-insert_other m.versions page.0 version q apart ∙ plain.numbers q
           ∙ sym (get_or-set_other versions page.0 q (Some version) None apart)
     ];
     slots = length-set t (die * die_slots g + slot) (Some (Held page version)) ∙ long ∙ plain.slots;

@@ -1,6 +1,6 @@
 -- What tables show follows their entries.
 use Rattle.std.proofs.Common.{◌≡◌, ℕ, ◌+◌, ◌*◌, ◌/◌, ◌-◌, ◌<◌, ◌≤◌, ◌==◌, ◌&&◌, not, if◌then◌else◌, Bool, true, false, List, Option, Some, None, length, get_or, map, replicate, set, ap, cond, inl, inr, refl, sym, subst, ◌∙◌, arith}
-use Rattle.std.proofs.lemmas.Bool.{and_from, and_left, and_right, cases_Bool, cases_eq, cases_lt, eq-eqb, eqb-true, false≢true, ne_eqb}
+use Rattle.std.proofs.lemmas.Bool.{and_from, and_left, and_right, cases_Bool, cases_eq, cases_lt, eq-eqb, eqb-true, false≢true, lt-ltb, ne_eqb}
 use Rattle.std.proofs.lemmas.List.{get_or-set_same, get_or-set_other, get_or_past, length-map, length-replicate, map-set}
 use Rattle.std.proofs.Math.ListN.{get_or-map}
 use Rattle.std.specs.FinMap.{get}
@@ -16,11 +16,12 @@ use Rattle.fa_machine.specs.Copies.{copy_on, holders, holds_page, is_held_slot, 
 use Rattle.fa_machine.specs.Maps.{below}
 use Rattle.fa_machine.specs.Placement.{free, is_erased_slot, lowest_erased}
 use Rattle.fa_machine.specs.State.{MapState, is_live, slots_of, used_at}
-use Rattle.fa_map.specs.Chains.{entry_at, entry_of}
+use Rattle.fa_map.specs.Chains.{IsNext, entry_at, entry_of, is_before}
 use Rattle.fa_map.specs.Changes.{MayHold, dropped, made_current, new_map, outdated, with_used, without_block}
 use Rattle.fa_map.specs.Entries.{die_holds, entries_in, erased_entry, is_copy_of, is_current_entry, is_erased_entry, is_same_state, may_take, retired, state_of_entry}
 use Rattle.fa_map.specs.Shown.{IsShown, held, is_number, used_of, version_at}
 use Rattle.fa_map.specs.Plain.{die_slots, holds, slot_at}
+use Rattle.fa_map.specs.Slots.{first_holder}
 use Rattle.fa_map.specs.declared.entries.Entry.{Entry}
 use Rattle.fa_map.specs.declared.entries.Entry.TheVariants.{Erased, Reserved, Current, Stale}
 use Rattle.fa_map.specs.declared.slots.SlotState.{SlotState}
@@ -28,6 +29,7 @@ use Rattle.fa_map.specs.declared.slots.SlotState.TheVariants as states
 use Rattle.std.proofs.Math.Nat.{mul-le-mul_right}
 use Rattle.fa_map.proofs.Chained.{same_page}
 use Rattle.fa_map.proofs.Changed.{place_cases}
+use Rattle.fa_map.proofs.Firsts.{IsFirstCopy, found_passes, held_some}
 use Rattle.fa_map.proofs.Holders.{copy_found, holders_counted}
 use Rattle.fa_map.proofs.Indices.{die_fits, index_fits}
 use Rattle.fa_map.proofs.Plain.{live_fits, plain_alike, plain_current, plain_dropped, plain_erased, plain_new, plain_used, told}
@@ -313,6 +315,44 @@ module _ (m : MapState) (g : Geometry) (on : List Bool) (count : ℕ) (versions 
           ∙ ap (λ k. find (λ s. holds page (used_at m die s)) (below k)) (sym size)
           ∙ sym (copy_found m shown.plain.whole page die))
 
+  -- ## The next copy of a page
+
+  -- the slot of a current copy holds the page
+  pub shown_held : (page die slot : ℕ) → copy_on m page die ≡ Some slot
+      → (die < g.dies) × (slot < n) × (entry_of entries n die slot ≡ Current page)
+  shown_held page die slot is =
+      let passes = found_passes (λ s. holds page (used_at m die s)) (slots_of m) slot (sym (copy_found m shown.plain.whole page die) ∙ is) in
+      let used = shown.plain.whole.used die slot (held_some page (used_at m die slot) passes) in
+      let within : slot < n = subst (λ k. slot < k) size used.1 in (
+        subst (λ (k : Geometry). die < k.dies) shown.plain.geometry (shown.plain.whole.live die used.0),
+        within,
+        holds_current versions page (entry_of entries n die slot) (sym (ap (holds page) (seen die slot within)) ∙ passes),
+      )
+
+  module _ (once : (d s other page : ℕ) → s < n → other < n → entry_of entries n d s ≡ Current page
+      → entry_of entries n d other ≡ Current page → s ≡ other) (page from : ℕ) where
+    holders_from : find (holds_page m page) (range_with_len from (g.dies - from)) ≡ first_holder m page from
+    holders_from = ap (λ (k : Geometry). find (holds_page m page) (range_with_len from (k.dies - from))) (sym shown.plain.geometry)
+
+    bare_die : (next : Option (ℕ × ℕ)) → IsNext (entry_of entries n) n g.dies page from next → (k : ℕ) → from ≤ k → is_before k next ≡ true
+        → holds_page m page k ≡ false
+    bare_die next follows k low early =
+        ap is_some (sym (shown_no_copy page k (λ s inside is. follows.between k s low inside early is)))
+
+    pub shown_next : (next : Option (ℕ × ℕ)) → IsNext (entry_of entries n) n g.dies page from next → IsFirstCopy m page from next
+    shown_next None follows = (
+      sym (find_none (holds_page m page) from (g.dies - from) (λ k low high. bare_die None follows k low refl)) ∙ holders_from,
+      tt,
+    )
+    shown_next (Some (d, s)) follows =
+        let is = follows.found d s refl in
+        let copy = shown_copy page d s is.2 is.3 (λ other inside also. once d other s page inside is.2 also is.3) in (
+          sym (find_some (holds_page m page) from (g.dies - from) d is.0 (omega (arith, is.0, is.1)) (ap is_some (sym copy))
+              (λ k low high. bare_die (Some (d, s)) follows k low (lt-ltb k d high)))
+              ∙ holders_from,
+          sym copy,
+        )
+
   pub shown_dropped : (die : ℕ) (new : List Entry) → die < g.dies → length new ≡ length entries
       → ((d s : ℕ) → s < n → entry_of new n d s ≡ (if d == die then Erased else entry_of entries n d s))
       → IsShown (dropped die m) g (set on die false) (if get_or on die false then count - 1 else count) versions new
@@ -339,7 +379,7 @@ module _ (m : MapState) (g : Geometry) (on : List Bool) (count : ℕ) (versions 
 
   -- the entries after a page was renewed and a slot came to hold it
   module _ (page : Page) (version : Version) (die slot : ℕ) (last : Bool) (mid : List Entry) (may : MayHold m page version die slot)
-      (number : last ≡ is_number version (get m.numbers page.0)) (full : length entries ≡ g.dies * n) (long : length mid ≡ g.dies * n)
+      (number : last ≡ is_number version (get m.versions page.0)) (full : length entries ≡ g.dies * n) (long : length mid ≡ g.dies * n)
       (renewed : (d s : ℕ) → d < g.dies → s < n → entry_of mid n d s ≡ (if last then entry_of entries n d s else retired page.0 (entry_of entries n d s))) where
     inside : slot < n
     inside = subst (λ k. slot < k) size may.slot_fits

@@ -14,7 +14,7 @@ use Rattle.fa_machine.specs.State.{MapState, is_live, used_at}
 
 -- a map of dies none of which is live, and of pages none of which was written
 abbrev pub new_map : Geometry → MapState
-new_map geometry = record { geometry = geometry; live = empty; numbers = empty; used = empty }
+new_map geometry = record { geometry = geometry; live = empty; versions = empty; used = empty }
 
 -- a slot in a state
 abbrev pub with_used : ℕ → ℕ → Used → MapState → MapState
@@ -37,7 +37,7 @@ outdated page version used = used
 -- The slot holds the page's last write, which has this number. Copies of its other writes are stale.
 abbrev pub made_current : Page → Version → ℕ → ℕ → MapState → MapState
 made_current page version die slot m = with_used die slot (Held page version) (record m {
-  numbers = insert m.numbers page.0 version;
+  versions = insert m.versions page.0 version;
   used = change (λ place used. outdated page.0 version used) m.used;
 })
 
@@ -63,4 +63,4 @@ pub record MayHold (m : MapState) (page : Page) (version : Version) (die slot : 
   pub live : is_live m die ≡ true
   pub free : is_held_slot (used_at m die slot) ≡ false
   pub once : (other : ℕ) (v : Version) → used_at m die other ≡ Some (Held page v) → (v.seq.0 == version.seq.0) ≡ false
-  pub one_kind : (v : Version) → get m.numbers page.0 ≡ Some v → (v.seq.0 == version.seq.0) ≡ true → v ≡ version
+  pub one_kind : (v : Version) → get m.versions page.0 ≡ Some v → (v.seq.0 == version.seq.0) ≡ true → v ≡ version

@@ -24,5 +24,5 @@ parts_code =
 
 -- a state is stored as its parts
 abbrev pub map_state_code : Coded MapState
-map_state_code = code_by Parts parts_code (λ m. (m.geometry, (m.live, (m.numbers, m.used))))
-    (λ p. record { geometry = p.0; live = p.1.0; numbers = p.1.1.0; used = p.1.1.1 }) (λ _. refl)
+map_state_code = code_by Parts parts_code (λ m. (m.geometry, (m.live, (m.versions, m.used))))
+    (λ p. record { geometry = p.0; live = p.1.0; versions = p.1.1.0; used = p.1.1.1 }) (λ _. refl)

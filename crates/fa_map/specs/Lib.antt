@@ -1,8 +1,8 @@
+pub mod Changed
 pub mod Changes
 pub mod Chains
 pub mod Codes
 pub mod Entries
-pub mod Led
 pub mod PageView
 pub mod PlainView
 pub mod Shown

@@ -5,7 +5,7 @@ use Rattle.fa_map.specs.declared.page_map.PageMap.{PageMap}
 
 module _ {A : Type 0} where
   abbrev pub page_view : PageMap A → MapState
-  page_view map = map.shown.state
+  page_view map = map.history.shown
 
   abbrev pub looks_of : PageMap A → ℕ
   looks_of map = map.last_looks

@@ -32,6 +32,6 @@ pub record IsPlain (m : MapState) (g : Geometry) (on : List Bool) (count : ℕ) 
   pub live_dies : count ≡ len m.live
   pub counted : count ≡ count_by (λ b. b) on
   pub pages : length versions ≡ g.pages
-  pub numbers : (page : ℕ) → get m.numbers page ≡ slice_index_or versions page None
+  pub numbers : (page : ℕ) → get m.versions page ≡ slice_index_or versions page None
   pub slots : length table ≡ g.dies * die_slots g
   pub used : (die slot : ℕ) → slot < die_slots g → used_at m die slot ≡ slot_at table (die * die_slots g + slot)

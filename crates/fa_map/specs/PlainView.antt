@@ -4,4 +4,4 @@ use Rattle.fa_map.specs.declared.plain_map.PlainMap.{PlainMap}
 
 module _ {A : Type 0} where
   abbrev pub plain_view : PlainMap A → MapState
-  plain_view map = map.shown.state
+  plain_view map = map.history.shown

@@ -1,11 +1,12 @@
 -- What a page map shows of a slot and of a block, and what is true of every page map.
-use Rattle.std.specs.Prelude.{◌≡◌, ℕ, ◌*◌, ◌<◌, true, Option, Some, None, is_some}
+use Rattle.std.specs.Prelude.{◌≡◌, ℕ, ◌-◌, ◌*◌, ◌<◌, true, Option, Some, None, is_some, find}
+use Rattle.std.specs.List.{range_with_len}
 use Rattle.std.specs.FinMap.{get}
 use Rattle.fa_machine.specs.declared.places.Used.{Used}
 use Rattle.fa_machine.specs.declared.places.Used.TheVariants.{Reserved as ReservedSlot, Held, Stale as StaleSlot}
 use Rattle.fa_machine.specs.declared.places.Version.{Version}
 use Rattle.fa_machine.specs.Collecting.{count_in}
-use Rattle.fa_machine.specs.Copies.{is_held_slot, is_reserved_slot, is_stale_slot}
+use Rattle.fa_machine.specs.Copies.{holds_page, is_held_slot, is_reserved_slot, is_stale_slot}
 use Rattle.fa_machine.specs.State.{MapState, is_live, used_at}
 use Rattle.fa_types.specs.declared.numbers.Page.{Page}
 use Rattle.fa_map.specs.declared.slots.BlockCounts.{BlockCounts}
@@ -34,13 +35,17 @@ AreCounts m die block counts =
 -- What is true of every page map.
 pub record IsPageMap (m : MapState) : Type 0 where
   pub live : (die : ℕ) → is_live m die ≡ true → die < m.geometry.dies
-  pub written : (page : ℕ) → is_some (get m.numbers page) ≡ true → page < m.geometry.pages
+  pub written : (page : ℕ) → is_some (get m.versions page) ≡ true → page < m.geometry.pages
   -- only slots of live dies are used
   pub used : (die slot : ℕ) → is_some (used_at m die slot) ≡ true
       → (is_live m die ≡ true) × (slot < m.geometry.blocks * m.geometry.slots)
   -- what a slot holds is the last write of its page
   pub last : (die slot : ℕ) (page : Page) (version : Version) → used_at m die slot ≡ Some (Held page version)
-      → get m.numbers page.0 ≡ Some version
+      → get m.versions page.0 ≡ Some version
   -- a die holds a page once
   pub once : (die slot other : ℕ) (page : Page) (version : Version) → used_at m die slot ≡ Some (Held page version)
       → used_at m die other ≡ Some (Held page version) → slot ≡ other
+
+-- the lowest die from one on with a current copy of the page
+abbrev pub first_holder : MapState → ℕ → ℕ → Option ℕ
+first_holder m page from = find (holds_page m page) (range_with_len from (m.geometry.dies - from))

@@ -1,6 +1,11 @@
-//! What one call did to a page map, as the map tells it.
+//! What one call did to a page map, as the map tells it, and what the map shows then.
+ghost use Rattle.std.specs.Prelude.{◌≡◌};
+ghost use Rattle.fa_map.specs.Changed.{changed};
+
+use fa_ghost::History;
 use fa_machine::{Block, Version};
-use fa_types::{Die, Page, Slot};
+use fa_types::{Die, Geometry, Page, Slot};
+use std::marker::Model;
 
 /// A call that changed a page map.
 #[derive(Clone, Copy)]
@@ -35,4 +40,28 @@ pub enum Change {
         die: Die,
         block: Block,
     },
+}
+
+/// The page map's part of the array's state, for a history that shows it. No value of it is made.
+pub struct MapShown {
+    geometry: Geometry,
+}
+
+impl Model for MapShown {
+    ghost use Rattle.fa_machine.specs.State.{MapState};
+    ghost use Rattle.fa_map.specs.Changes.{new_map};
+    ghost use Rattle.fa_map.specs.Codes.{map_state_code};
+
+    ghost Value = { MapState };
+
+    ghost coded = { map_state_code };
+
+    ghost view = { λ map. new_map map.geometry };
+}
+
+/// Tells a map's history of a change.
+pub fn note(history: &mut History<MapShown>, change: Change)
+    ensures { history.new.shown ≡ changed change history.old.shown }
+{
+    history.note(&change);
 }

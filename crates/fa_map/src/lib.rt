@@ -8,7 +8,6 @@ mod map;
 mod page_map;
 mod plain_map;
 mod plain_slots;
-mod shown;
 mod slots;
 mod tables;
 mod tallies;

@@ -1,12 +1,12 @@
 //! The trait of a page map.
-ghost use Rattle.std.specs.Prelude.{◌≡◌, ℕ, ◌*◌, ◌<◌, Bool, true, false, length, option_map};
+ghost use Rattle.std.specs.Prelude.{◌≡◌, ℕ, ◌+◌, ◌*◌, ◌<◌, Bool, true, false, length, option_map, IfSome, Some};
 ghost use Rattle.std.specs.FinMap.{get, len};
 ghost use Rattle.fa_machine.specs.Collecting.{move_place};
 ghost use Rattle.fa_machine.specs.Copies.{copy_on, holders};
 ghost use Rattle.fa_machine.specs.Placement.{free, room};
 ghost use Rattle.fa_machine.specs.State.{MapState, is_live, used_at};
 ghost use Rattle.fa_map.specs.Changes.{with_used, writers_slot, taken, made_current, brought_in, dropped, without_block, MayHold};
-ghost use Rattle.fa_map.specs.Slots.{IsPageMap, AreCounts, state_of, copy_in};
+ghost use Rattle.fa_map.specs.Slots.{IsPageMap, AreCounts, state_of, copy_in, first_holder};
 
 use crate::slots::{BlockCounts, SlotState};
 use fa_machine::{Block, Used, Version};
@@ -33,12 +33,12 @@ pub trait Map {
     /// The last write of the page; none where it was never written.
     fn version(&self, page: Page) -> Option<Version>
         requires { page.0 < (view self.now).geometry.pages }
-        ensures { result ≡ get (view self.now).numbers page.0 };
+        ensures { result ≡ get (view self.now).versions page.0 };
 
     /// The number of the last write of the page; none where it was never written.
     fn seq(&self, page: Page) -> Option<Seq>
         requires { page.0 < (view self.now).geometry.pages }
-        ensures { result ≡ option_map (λ version. version.seq) (get (view self.now).numbers page.0) };
+        ensures { result ≡ option_map (λ version. version.seq) (get (view self.now).versions page.0) };
 
     /// The slot of the current copy of the page on the die.
     fn copy_on(&self, page: Page, die: Die) -> Option<Slot>
@@ -50,6 +50,19 @@ pub trait Map {
     fn copies_of(&self, page: Page) -> u32
         requires { page.0 < (view self.now).geometry.pages }
         ensures { result ≡ length (holders (view self.now) page.0) };
+
+    /// The first of the page's current copies, the dies rising: the die and its slot. None where no die holds one.
+    fn first_copy(&self, page: Page) -> Option<(Die, Slot)>
+        requires { page.0 < (view self.now).geometry.pages }
+        ensures die { option_map (λ copy. copy.0.0) result ≡ first_holder (view self.now) page.0 0 }
+        ensures slot { IfSome result (λ copy. copy_on (view self.now) page.0 copy.0.0 ≡ Some copy.1.0) };
+
+    /// The page's current copy that comes after this one, the dies rising. None where no die above holds one.
+    fn next_copy(&self, page: Page, die: Die, slot: Slot) -> Option<(Die, Slot)>
+        requires page { page.0 < (view self.now).geometry.pages }
+        requires copy { copy_on (view self.now) page.0 die.0 ≡ Some slot.0 }
+        ensures die { option_map (λ copy. copy.0.0) result ≡ first_holder (view self.now) page.0 (die.0 + 1) }
+        ensures slot { IfSome result (λ copy. copy_on (view self.now) page.0 copy.0.0 ≡ Some copy.1.0) };
 
     /// The state of the slot.
     fn state(&self, die: Die, slot: Slot) -> SlotState

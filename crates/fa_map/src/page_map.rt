@@ -1,14 +1,15 @@
 //! The page map in tables.
 ghost use Rattle.std.specs.Prelude.{◌≡◌, ℕ, ◌+◌, ◌*◌, ◌-◌, ◌<◌, ◌≤◌, true, if◌then◌else◌, option_map, IfOk, IfSome};
+ghost use Rattle.fa_map.specs.Chains.{target};
 ghost use Rattle.fa_map.specs.Shown.{IsShown};
 
-use crate::change::Change;
+use crate::change::{Change, MapShown, note};
 use crate::entries::{Entry, Link};
 use crate::map::Map;
-use crate::shown::Shown;
 use crate::slots::{BlockCounts, SlotState};
 use crate::tables::Tables;
 use crate::tallies::{less_one, state_of};
+use fa_ghost::History;
 use fa_machine::{Block, Version};
 use fa_types::{Die, Geometry, Page, Seq, Slot};
 use std::alloc::{AllocError, Allocator, Global};
@@ -16,8 +17,8 @@ use std::alloc::{AllocError, Allocator, Global};
 /// The page map of an array. A slot takes 16 bytes and a page 32. No call but [`PageMap::new`] takes
 /// memory. `drop_die` takes time for each slot of the die, and `block_erased` for each of the block. A slot
 /// is taken in at most as many looks as a die has blocks and a block has slots and one more. `copies_of`
-/// takes a step for each copy of the page. The other calls take at most a step for each die and, of each,
-/// for each copy of the page on a die below it.
+/// takes a step for each copy of the page, `first_copy` and `next_copy` one step. The other calls take at
+/// most a step for each die and, of each, for each copy of the page on a die below it.
 #[derive(Drop)]
 pub struct PageMap<A: Allocator = Global> {
     geometry: Geometry,
@@ -28,8 +29,8 @@ pub struct PageMap<A: Allocator = Global> {
     versions: Vec<Option<Version>, A>,
     tables: Tables<A>,
     last_looks: u32,
-    shown: Shown,
-    ghost sound: { IsShown shown.state geometry live.items live_dies versions.items tables.entries.items },
+    history: History<MapShown>,
+    ghost sound: { IsShown history.shown geometry live.items live_dies versions.items tables.entries.items },
     ghost same: { tables.geometry ≡ geometry },
     ghost few: { last_looks ≤ geometry.blocks + geometry.slots + 1 },
 }
@@ -57,7 +58,7 @@ impl<A: Allocator + Copy> PageMap<A> {
             versions,
             tables,
             last_looks: 0,
-            shown: Shown::new(geometry),
+            history: History::begin(&geometry),
         })
     }
 }
@@ -91,7 +92,7 @@ impl<A: Allocator> PageMap<A> {
             Some(slot) => {
                 let slot = Slot(slot);
                 self.tables.put(die, slot, Entry::Reserved);
-                self.shown.note(Change::Take { die, slot });
+                note(&mut self.history, Change::Take { die, slot });
                 Some(slot)
             }
         }
@@ -100,12 +101,22 @@ impl<A: Allocator> PageMap<A> {
     /// Whether this write is the page's last.
     fn is_last(&self, page: Page, version: Version) -> bool
         requires { page.0 < (page_view self.now).geometry.pages }
-        ensures { result ≡ is_number version (get (page_view self.now).numbers page.0) }
+        ensures { result ≡ is_number version (get (page_view self.now).versions page.0) }
     {
         match self.versions[page.0 as usize] {
             Some(last) => last.seq.0 == version.seq.0,
             None => false,
         }
+    }
+}
+
+/// The copy that a link leads to.
+fn copy_at(link: Link) -> Option<(Die, Slot)>
+    ensures { option_map (λ copy. (copy.0.0, copy.1.0)) result ≡ target link }
+{
+    match link.die {
+        Some(die) => Some((Die(die), Slot(link.slot))),
+        None => None,
     }
 }
 
@@ -149,6 +160,14 @@ impl<A: Allocator> Map for PageMap<A> {
 
     fn copies_of(&self, page: Page) -> u32 {
         self.tables.copies_of(page.0 as u32)
+    }
+
+    fn first_copy(&self, page: Page) -> Option<(Die, Slot)> {
+        copy_at(self.tables.first(page.0 as u32))
+    }
+
+    fn next_copy(&self, _page: Page, die: Die, slot: Slot) -> Option<(Die, Slot)> {
+        copy_at(self.tables.next(die, slot))
     }
 
     fn state(&self, die: Die, slot: Slot) -> SlotState {
@@ -196,23 +215,26 @@ impl<A: Allocator> Map for PageMap<A> {
         self.tables.renew(number, is_last);
         self.tables.add_copy(number, die, slot);
         self.versions[page.0 as usize] = Some(version);
-        self.shown.note(Change::MakeCurrent {
-            page,
-            version,
-            die,
-            slot,
-        });
+        note(
+            &mut self.history,
+            Change::MakeCurrent {
+                page,
+                version,
+                die,
+                slot,
+            },
+        );
     }
 
     fn make_stale(&mut self, die: Die, slot: Slot) {
         self.tables.put(die, slot, Entry::Stale);
-        self.shown.note(Change::MakeStale { die, slot });
+        note(&mut self.history, Change::MakeStale { die, slot });
     }
 
     fn bring_in(&mut self, die: Die) {
         self.live[die.0 as usize] = true;
         self.live_dies += 1;
-        self.shown.note(Change::BringIn { die });
+        note(&mut self.history, Change::BringIn { die });
     }
 
     fn drop_die(&mut self, die: Die) {
@@ -220,11 +242,11 @@ impl<A: Allocator> Map for PageMap<A> {
         self.live_dies = less_one(self.live_dies, self.live[index]);
         self.live[index] = false;
         self.tables.erase_die(die);
-        self.shown.note(Change::DropDie { die });
+        note(&mut self.history, Change::DropDie { die });
     }
 
     fn block_erased(&mut self, die: Die, block: Block) {
         self.tables.erase_block(die, block.0);
-        self.shown.note(Change::EraseBlock { die, block });
+        note(&mut self.history, Change::EraseBlock { die, block });
     }
 }

@@ -1,16 +1,16 @@
 //! The page map as plain lists, for tests.
-ghost use Rattle.std.specs.Prelude.{◌≡◌, ℕ, ◌*◌, ◌-◌, ◌<◌, ◌≤◌, true, if◌then◌else◌, option_map, IfOk, IfSome};
+ghost use Rattle.std.specs.Prelude.{◌≡◌, ℕ, ◌*◌, ◌-◌, ◌<◌, ◌≤◌, true, if◌then◌else◌, option_map, IfOk, IfSome, Some};
 ghost use Rattle.fa_map.specs.Plain.{IsPlain, die_slots};
 
-use crate::change::Change;
+use crate::change::{Change, MapShown, note};
 use crate::map::Map;
 use crate::plain_slots::{
     count_erased, count_states, erase_all, erase_unreserved, find_copy, find_erased,
     find_erased_outside, outdate,
 };
-use crate::shown::Shown;
 use crate::slots::{BlockCounts, SlotState};
 use crate::tallies::less_one;
+use fa_ghost::History;
 use fa_machine::{Block, Used, Version};
 use fa_types::{Die, Geometry, Page, Seq, Slot};
 use std::alloc::{AllocError, Allocator, Global};
@@ -27,8 +27,8 @@ pub struct PlainMap<A: Allocator = Global> {
     versions: Vec<Option<Version>, A>,
     /// The state of each slot, die by die.
     used: Vec<Option<Used>, A>,
-    shown: Shown,
-    ghost sound: { IsPlain shown.state geometry live.items live_dies versions.items used.items },
+    history: History<MapShown>,
+    ghost sound: { IsPlain history.shown geometry live.items live_dies versions.items used.items },
 }
 
 impl<A: Allocator + Copy> PlainMap<A> {
@@ -49,15 +49,17 @@ impl<A: Allocator + Copy> PlainMap<A> {
             live_dies: 0,
             versions,
             used,
-            shown: Shown::new(geometry),
+            history: History::begin(&geometry),
         })
     }
 }
 
 impl<A: Allocator> PlainMap<A> {
     ghost use Rattle.fa_machine.specs.Collecting.{move_place};
+    ghost use Rattle.fa_machine.specs.Copies.{copy_on};
     ghost use Rattle.fa_machine.specs.State.{is_live};
     ghost use Rattle.fa_map.specs.Changes.{taken, writers_slot};
+    ghost use Rattle.fa_map.specs.Slots.{first_holder};
     ghost use Rattle.fa_map.specs.PlainView.{plain_view};
 
     /// The lowest erased slot of the die, where a writer may take one.
@@ -82,6 +84,21 @@ impl<A: Allocator> PlainMap<A> {
         find_erased_outside(&self.used, first, count, self.geometry.slots, block.0)
     }
 
+    /// The first of the page's current copies on a die from one on.
+    fn copy_from(&self, page: Page, first: u32) -> Option<(Die, Slot)>
+        requires { page.0 < (plain_view self.now).geometry.pages }
+        ensures die { option_map (λ copy. copy.0.0) result ≡ first_holder (plain_view self.now) page.0 first }
+        ensures slot { IfSome result (λ copy. copy_on (plain_view self.now) page.0 copy.0.0 ≡ Some copy.1.0) }
+    {
+        for number in first..self.geometry.dies {
+            let die = Die(number as u8);
+            if let Some(slot) = self.copy_on(page, die) {
+                return Some((die, slot));
+            }
+        }
+        None
+    }
+
     /// The slot of the live die is reserved, if there is one.
     fn reserve(&mut self, die: Die, slot: Option<u32>) -> Option<Slot>
         requires die { is_live (plain_view self.old) die.0 ≡ true }
@@ -93,10 +110,13 @@ impl<A: Allocator> PlainMap<A> {
             None => None,
             Some(slot) => {
                 self.used[first_slot(self.geometry, die) + slot as usize] = Some(Used::Reserved);
-                self.shown.note(Change::Take {
-                    die,
-                    slot: Slot(slot),
-                });
+                note(
+                    &mut self.history,
+                    Change::Take {
+                        die,
+                        slot: Slot(slot),
+                    },
+                );
                 Some(Slot(slot))
             }
         }
@@ -166,6 +186,14 @@ impl<A: Allocator> Map for PlainMap<A> {
         copies
     }
 
+    fn first_copy(&self, page: Page) -> Option<(Die, Slot)> {
+        self.copy_from(page, 0)
+    }
+
+    fn next_copy(&self, page: Page, die: Die, _slot: Slot) -> Option<(Die, Slot)> {
+        self.copy_from(page, die.0 as u32 + 1)
+    }
+
     fn state(&self, die: Die, slot: Slot) -> SlotState {
         match self.used[first_slot(self.geometry, die) + slot.0 as usize] {
             None => SlotState::Erased,
@@ -214,23 +242,26 @@ impl<A: Allocator> Map for PlainMap<A> {
             version,
         });
         self.versions[page.0 as usize] = Some(version);
-        self.shown.note(Change::MakeCurrent {
-            page,
-            version,
-            die,
-            slot,
-        });
+        note(
+            &mut self.history,
+            Change::MakeCurrent {
+                page,
+                version,
+                die,
+                slot,
+            },
+        );
     }
 
     fn make_stale(&mut self, die: Die, slot: Slot) {
         self.used[first_slot(self.geometry, die) + slot.0 as usize] = Some(Used::Stale);
-        self.shown.note(Change::MakeStale { die, slot });
+        note(&mut self.history, Change::MakeStale { die, slot });
     }
 
     fn bring_in(&mut self, die: Die) {
         self.live[die.0 as usize] = true;
         self.live_dies += 1;
-        self.shown.note(Change::BringIn { die });
+        note(&mut self.history, Change::BringIn { die });
     }
 
     fn drop_die(&mut self, die: Die) {
@@ -239,13 +270,13 @@ impl<A: Allocator> Map for PlainMap<A> {
         self.live[index] = false;
         let first = first_slot(self.geometry, die);
         erase_all(&mut self.used, first, slots_of_die(self.geometry) as usize);
-        self.shown.note(Change::DropDie { die });
+        note(&mut self.history, Change::DropDie { die });
     }
 
     fn block_erased(&mut self, die: Die, block: Block) {
         let slots = self.geometry.slots as usize;
         let first = first_slot(self.geometry, die) + block.0 as usize * slots;
         erase_unreserved(&mut self.used, first, slots);
-        self.shown.note(Change::EraseBlock { die, block });
+        note(&mut self.history, Change::EraseBlock { die, block });
     }
 }

@@ -240,6 +240,26 @@ impl<A: Allocator> Tables<A> {
         copies
     }
 
+    /// The first copy of the page.
+    pub fn first(&self, page: u32) -> Link
+        requires { page < self.now.geometry.pages }
+        ensures { IsNext (entry_of self.now.entries.items (die_slots self.now.geometry)) (die_slots self.now.geometry)
+            self.now.geometry.dies page 0 (target result) }
+    {
+        self.heads[page as usize]
+    }
+
+    /// The copy that comes next in the chain of the page that the slot holds.
+    pub fn next(&self, die: Die, slot: Slot) -> Link
+        requires die { die.0 < self.now.geometry.dies }
+        requires slot { slot.0 < die_slots self.now.geometry }
+        ensures { (page : ℕ) → entry_of self.now.entries.items (die_slots self.now.geometry) die.0 slot.0 ≡ Current page
+            → IsNext (entry_of self.now.entries.items (die_slots self.now.geometry)) (die_slots self.now.geometry)
+            self.now.geometry.dies page (die.0 + 1) (target result) }
+    {
+        self.links[index_of(self.geometry, die, slot)]
+    }
+
     /// The slot that does not hold a copy, and will hold none, has this entry.
     fn set_plain(&mut self, die: Die, slot: Slot, entry: Entry)
         requires die { die.0 < self.old.geometry.dies }

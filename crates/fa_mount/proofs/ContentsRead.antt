@@ -12,10 +12,10 @@ use Rattle.fa_machine.specs.declared.places.Version.{Version}
 use Rattle.fa_mount.specs.Content.{AreContents, Contents, content_of, slots_on}
 use Rattle.fa_mount.specs.ContentReading.{AreOutcomes, HasOutcome, ReadsAt, ReadsSlots, image_read}
 use Rattle.fa_mount.specs.Scanned.{AreSettled, Outcome, mounted_of}
-use Rattle.fa_mount.specs.declared.content.SlotContent.{SlotContent}
-use Rattle.fa_mount.specs.declared.content.SlotContent.TheVariants.{Copy, Stale}
-use Rattle.fa_mount.specs.declared.judging.Standing.{Standing}
-use Rattle.fa_mount.specs.declared.judging.Standing.TheVariants.{Missing, Live, Spare, Out}
+use Rattle.fa_mount.specs.declared.slots.content.SlotContent.{SlotContent}
+use Rattle.fa_mount.specs.declared.slots.content.SlotContent.TheVariants.{Copy, Stale}
+use Rattle.fa_headers.specs.declared.judging.Standing.{Standing}
+use Rattle.fa_headers.specs.declared.judging.Standing.TheVariants.{Missing, Live, Spare, Out}
 use Rattle.fa_mount.proofs.Filling.{read_die_below, slots_of_found}
 
 -- a copy is of a page of the array

@@ -15,8 +15,8 @@ use Rattle.fa_machine.proofs.Maps.{get-insert_same, get-insert_other}
 use Rattle.fa_map.specs.Changes.{brought_in, new_map}
 use Rattle.fa_map.specs.Slots.{IsPageMap}
 use Rattle.fa_map.proofs.Changed.{used-new}
-use Rattle.fa_mount.specs.declared.content.SlotContent.{SlotContent}
-use Rattle.fa_mount.specs.declared.content.SlotContent.TheVariants.{Copy}
+use Rattle.fa_mount.specs.declared.slots.content.SlotContent.{SlotContent}
+use Rattle.fa_mount.specs.declared.slots.content.SlotContent.TheVariants.{Copy}
 use Rattle.fa_mount.specs.Content.{Contents, HasCopy, IsLastOf, IsMountedContent, IsStateOf, found_at, slots_on}
 use Rattle.fa_mount.specs.ContentMerging.{AreLastBefore, ChangesDie, HasCopyBefore, IsMountedBefore, last_in}
 use Rattle.fa_mount.proofs.LastWrites.{found_on, same_last}
@@ -24,7 +24,7 @@ use Rattle.fa_mount.proofs.LastWrites.{found_on, same_last}
 -- the dies below one have what was found in them, and the others are not live
 pub record AreMounted (geometry : Geometry) (contents : Contents) (last : List (Option Version)) (die : ℕ) (m : MapState) : Type 0 where
   pub shape : m.geometry ≡ geometry
-  pub numbers : (page : ℕ) (version : Version) → get m.numbers page ≡ Some version → last_in last page ≡ Some version
+  pub numbers : (page : ℕ) (version : Version) → get m.versions page ≡ Some version → last_in last page ≡ Some version
   pub live : (d : ℕ) → d < die → is_live m d ≡ is_some (slots_on contents d)
   pub out : (d : ℕ) → die ≤ d → is_live m d ≡ false
   pub mounted : (d : ℕ) (slots : List SlotContent) → d < die → slots_on contents d ≡ Some slots
@@ -151,7 +151,7 @@ module _ (geometry : Geometry) (contents : Contents) (last : List (Option Versio
       (λ v d s copy. let read = slots_of_found contents d s (Copy page v) copy in (copy, inl (read_die_below contents d read.0 read.1)))
       (last_in last page.0) (lasts page)
 
-  number_of : (page : Page) (o : Option Version) → last_in last page.0 ≡ o → (n : Option Version) → get m.numbers page.0 ≡ n → n ≡ o
+  number_of : (page : Page) (o : Option Version) → last_in last page.0 ≡ o → (n : Option Version) → get m.versions page.0 ≡ n → n ≡ o
   number_of page None none None is = refl
   number_of page None none (Some v) is = absurd (none-some v (sym none ∙ all.numbers page.0 v is))
   number_of page (Some v) some n is =
@@ -161,8 +161,8 @@ module _ (geometry : Geometry) (contents : Contents) (last : List (Option Versio
       let is_held = mounted.held written.slot page v (slice_get_within read.0 written.slot (Copy page v) read.2) read.2 some in
       sym is ∙ whole.last written.die is_held.0 page v is_held.1
 
-  numbers_are : (page : ℕ) → get m.numbers page ≡ last_in last page
-  numbers_are page = let p : Page = record { 0 = page } in number_of p (last_in last page) refl (get m.numbers page) refl
+  numbers_are : (page : ℕ) → get m.versions page ≡ last_in last page
+  numbers_are page = let p : Page = record { 0 = page } in number_of p (last_in last page) refl (get m.versions page) refl
 
   unused_at : (die slot : ℕ) → found_at contents die slot ≡ None → (o : Option (List SlotContent)) → slots_on contents die ≡ o → used_at m die slot ≡ None
   unused_at die slot none None is = all.unused die slot (inr is)

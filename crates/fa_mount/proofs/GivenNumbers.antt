@@ -9,7 +9,7 @@ use Rattle.std.specs.List.{AllPairs, Contains, cons_option, filter_map, range_wi
 use Rattle.fa_map.proofs.Ranges.{count_le}
 use Rattle.fa_mount.specs.Pages.{given_from}
 
-next_number : (first end : ℕ) → first < end → range_with_len first (end - first) ≡ first ∷ range_with_len (first + 1) (end - (first + 1))
+pub next_number : (first end : ℕ) → first < end → range_with_len first (end - first) ≡ first ∷ range_with_len (first + 1) (end - (first + 1))
 next_number first end below = let one_less : end - first ≡ suc (end - (first + 1)) = omega arith in ap (range_with_len first) one_less
 
 module _ {A : Type 0} (f : ℕ → Option A) where

@@ -17,16 +17,16 @@ use Rattle.fa_mount.proofs.OnlyReading.{die_only_read}
 use Rattle.fa_mount.proofs.SlotCells.{erased_bytes}
 use Rattle.fa_mount.specs.Content.{Contents, IsMountedContent, slots_on}
 use Rattle.fa_mount.specs.ContentReading.{AreOutcomes, HasOutcome, IsContentOf, ReadsAt, ReadsSlots, image_read}
-use Rattle.fa_mount.specs.Judged.{standing_of}
+use Rattle.fa_headers.specs.Judged.{standing_of}
 use Rattle.fa_mount.specs.MountedWorld.{AreFoundIn, HoldMap, bytes_of, is_spare_of}
 use Rattle.fa_mount.specs.Mounting.{Mounts}
 use Rattle.fa_mount.specs.Reported.{is_spare}
-use Rattle.fa_mount.specs.Rules.{seen_from}
+use Rattle.fa_headers.specs.Rules.{seen_from}
 use Rattle.fa_mount.specs.Scanned.{AreSettled, Outcome, is_erased, mounted_of, settled}
-use Rattle.fa_mount.specs.declared.content.SlotContent.{SlotContent}
-use Rattle.fa_mount.specs.declared.content.SlotContent.TheVariants.{Erased, Copy, Stale}
-use Rattle.fa_mount.specs.declared.judging.Standing.{Standing}
-use Rattle.fa_mount.specs.declared.judging.Standing.TheVariants.{Missing, Live, Spare, Out}
+use Rattle.fa_mount.specs.declared.slots.content.SlotContent.{SlotContent}
+use Rattle.fa_mount.specs.declared.slots.content.SlotContent.TheVariants.{Erased, Copy, Stale}
+use Rattle.fa_headers.specs.declared.judging.Standing.{Standing}
+use Rattle.fa_headers.specs.declared.judging.Standing.TheVariants.{Missing, Live, Spare, Out}
 
 all_at : {X : Type 0} (P : X → Type 0) (xs : List X) (i : ℕ) (x : X) → AllByRecursion P xs → slice_get xs i ≡ Some x → P x
 all_at P [] i x all at = absurd (none-some x at)

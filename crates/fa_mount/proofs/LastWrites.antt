@@ -6,8 +6,8 @@ use Rattle.std.proofs.lemmas.Option.{none-some, same_Some, slice_get_within}
 use Rattle.std.proofs.lemmas.List.{get_or_default, get_or-set_same, get_or-set_other}
 use Rattle.fa_types.specs.declared.numbers.Page.{Page}
 use Rattle.fa_machine.specs.declared.places.Version.{Version}
-use Rattle.fa_mount.specs.declared.content.SlotContent.{SlotContent}
-use Rattle.fa_mount.specs.declared.content.SlotContent.TheVariants.{Erased, Copy, Stale}
+use Rattle.fa_mount.specs.declared.slots.content.SlotContent.{SlotContent}
+use Rattle.fa_mount.specs.declared.slots.content.SlotContent.TheVariants.{Erased, Copy, Stale}
 use Rattle.fa_mount.specs.Content.{Contents, HasCopy, IsBefore, IsLastOf, IsLastWrite, NamePages, found_at, slots_on}
 use Rattle.fa_mount.specs.ContentMerging.{AreLastBefore, HasCopyBefore, is_newer, last_in, noted}
 

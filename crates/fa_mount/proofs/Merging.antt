@@ -16,8 +16,8 @@ use Rattle.fa_machine.proofs.Maps.{get-insert_same, get-insert_other}
 use Rattle.fa_map.specs.Changes.{made_current, outdated, with_used}
 use Rattle.fa_map.specs.Slots.{IsPageMap}
 use Rattle.fa_map.proofs.Changed.{used-same, used-other, used-outdated, used-current}
-use Rattle.fa_mount.specs.declared.content.SlotContent.{SlotContent}
-use Rattle.fa_mount.specs.declared.content.SlotContent.TheVariants.{Erased, Copy, Stale}
+use Rattle.fa_mount.specs.declared.slots.content.SlotContent.{SlotContent}
+use Rattle.fa_mount.specs.declared.slots.content.SlotContent.TheVariants.{Erased, Copy, Stale}
 use Rattle.fa_mount.specs.Content.{IsHolder, IsStateOf}
 use Rattle.fa_mount.specs.ContentMerging.{ChangesDie, IsMountedBefore, last_in}
 use Rattle.fa_mount.proofs.LastWrites.{same_page}
@@ -48,9 +48,9 @@ module _ (m : MapState) (whole : IsPageMap m) where
   held_is_current : (page : Page) (v : Version) (die s : ℕ) → used_at m die s ≡ Some (Held page v) → is_current m page.0 die s ≡ true
   held_is_current page v die s is =
       let number = whole.last die s page v is in
-      let last : holds_last page.0 (get m.numbers page.0) (used_at m die s) ≡ true =
+      let last : holds_last page.0 (get m.versions page.0) (used_at m die s) ≡ true =
       (λ i. holds_last page.0 (number i) (is i)) ∙ and_from (page.0 == page.0) (v.seq.0 == v.seq.0) (eq-eqb page.0 page.0 refl) (eq-eqb v.seq.0 v.seq.0 refl) in
-      and_from (is_live m die) (holds_last page.0 (get m.numbers page.0) (used_at m die s)) (whole.used die s (ap is_some is)).0 last
+      and_from (is_live m die) (holds_last page.0 (get m.versions page.0) (used_at m die s)) (whole.used die s (ap is_some is)).0 last
 
   -- a die on which no copy is found holds none
   pub none_held : (page : Page) (die : ℕ) → copy_on m page.0 die ≡ None → (s : ℕ) (v : Version) → used_at m die s ≡ Some (Held page v) → ⊥
@@ -71,16 +71,16 @@ module _ (m : MapState) (whole : IsPageMap m) where
 
   -- the copy that is found is one of the last write
   pub some_held : (page : Page) (die s : ℕ) (last : Option Version) (version : Version) → copy_on m page.0 die ≡ Some s
-      → ((v : Version) → get m.numbers page.0 ≡ Some v → last ≡ Some v) → last ≡ Some version → used_at m die s ≡ Some (Held page version)
+      → ((v : Version) → get m.versions page.0 ≡ Some v → last ≡ Some v) → last ≡ Some version → used_at m die s ≡ Some (Held page version)
   some_held page die s last version found numbers is =
       let current = found_passes (is_current m page.0 die) (slots_of m) s found in
-      let held = held_where page (get m.numbers page.0) (used_at m die s) (and_parts (is_live m die) (holds_last page.0 (get m.numbers page.0) (used_at m die s)) current).1 in
+      let held = held_where page (get m.versions page.0) (used_at m die s) (and_parts (is_live m die) (holds_last page.0 (get m.versions page.0) (used_at m die s)) current).1 in
       let same : held.0 ≡ version = same_Some held.0 version (sym (numbers held.0 (whole.last die s page held.0 held.1)) ∙ is) in
       held.1 ∙ ap (λ (v : Version). Some (Held page v)) same
 
   -- once a copy of the last write is made current, no other slot has another state
   module _ (page : Page) (version : Version) (die slot : ℕ) (last : List (Option Version))
-      (numbers : (q : ℕ) (v : Version) → get m.numbers q ≡ Some v → last_in last q ≡ Some v) (is : last_in last page.0 ≡ Some version) where
+      (numbers : (q : ℕ) (v : Version) → get m.versions q ≡ Some v → last_in last q ≡ Some v) (is : last_in last page.0 ≡ Some version) where
     not_outdated : (d s : ℕ) (used : Option Used) → used_at m d s ≡ used → option_map (outdated page.0 version) used ≡ used
     not_outdated d s None e = refl
     not_outdated d s (Some Reserved) e = refl
@@ -99,17 +99,17 @@ module _ (m : MapState) (whole : IsPageMap m) where
     pub others_stay : (d s : ℕ) → (d ≡ die → s ≡ slot → ⊥) → used_at (made_current page version die slot m) d s ≡ used_at m d s
     others_stay d s apart = used-outdated m page version die slot d s apart ∙ not_outdated d s (used_at m d s) refl
 
-    pub numbers_stay : (q : ℕ) (v : Version) → get (insert m.numbers page.0 version) q ≡ Some v → last_in last q ≡ Some v
+    pub numbers_stay : (q : ℕ) (v : Version) → get (insert m.versions page.0 version) q ≡ Some v → last_in last q ≡ Some v
     numbers_stay q v e =
         elim (cases_eq q page.0) [
-          | inl same ↦ ap (last_in last) same ∙ is ∙ sym (get-insert_same m.numbers page.0 version) ∙ ap (get (insert m.numbers page.0 version)) (sym same) ∙ e
-          | inr other ↦ numbers q v (sym (get-insert_other m.numbers page.0 version q other) ∙ e)
+          | inl same ↦ ap (last_in last) same ∙ is ∙ sym (get-insert_same m.versions page.0 version) ∙ ap (get (insert m.versions page.0 version)) (sym same) ∙ e
+          | inr other ↦ numbers q v (sym (get-insert_other m.versions page.0 version q other) ∙ e)
         ]
 
 -- One more slot has the state of what was found in it, and no other slot of the die changed.
 pub one_more_slot : (last : List (Option Version)) (slots : List SlotContent) (die slot : ℕ) (m n : MapState) (content : SlotContent) (used : Option Used)
     → IsMountedBefore last slots die slot m → is_live n die ≡ true
-    → ((page : ℕ) (v : Version) → get n.numbers page ≡ Some v → last_in last page ≡ Some v)
+    → ((page : ℕ) (v : Version) → get n.versions page ≡ Some v → last_in last page ≡ Some v)
     → used_at n die slot ≡ used → ((s : ℕ) → s ≢ slot → used_at n die s ≡ used_at m die s)
     → slice_get slots slot ≡ Some content → IsStateOf slots (last_in last) slot content used
     → ((page : Page) (v : Version) → content ≡ Copy page v → last_in last page.0 ≡ Some v → (t : ℕ) × (used_at n die t ≡ Some (Held page v)))

@@ -15,8 +15,8 @@ use Rattle.fa_machine.specs.declared.places.Version.{Version}
 use Rattle.fa_mount.proofs.Filling.{read_die_below, slots_of_found}
 use Rattle.fa_mount.proofs.LastWrites.{found_on, same_page}
 use Rattle.fa_mount.specs.Content.{AreContents, Contents, HasCopy, IsHolder, IsLastOf, IsMountedContent, IsStateOf, found_at, slots_on}
-use Rattle.fa_mount.specs.declared.content.SlotContent.{SlotContent}
-use Rattle.fa_mount.specs.declared.content.SlotContent.TheVariants.{Erased, Copy, Stale}
+use Rattle.fa_mount.specs.declared.slots.content.SlotContent.{SlotContent}
+use Rattle.fa_mount.specs.declared.slots.content.SlotContent.TheVariants.{Erased, Copy, Stale}
 
 -- a slot in the state of what was found holds a page where a copy of it was found, and the die has no lower one
 held_state : (slots : List SlotContent) (last : ℕ → Option Version) (slot : ℕ) (content : SlotContent) (used : Option Used) (page : Page)
@@ -114,17 +114,17 @@ module _ (geometry : Geometry) (contents : Contents) (m : MapState) (are : AreCo
     pub slots : List SlotContent
     pub on : slots_on contents die ≡ Some slots
     pub found : slice_get slots slot ≡ Some (Copy page version)
-    pub holder : IsHolder slots (get m.numbers page.0) page version slot
+    pub holder : IsHolder slots (get m.versions page.0) page version slot
 
   pub held_at : (die slot : ℕ) (page : Page) (version : Version) → used_at m die slot ≡ Some (Held page version) → IsHeldAt die slot page version
   held_at die slot page version held =
       let place = used_within die slot (ap is_some held) in
       let read = live_found die slot place.0 place.1 in
-      let state = held_state read.0 (get m.numbers) slot read.1 (used_at m die slot) page version (is.used die slot read.0 read.1 read.2 read.3) held in
+      let state = held_state read.0 (get m.versions) slot read.1 (used_at m die slot) page version (is.used die slot read.0 read.1 read.2 read.3) held in
       record { slots = read.0; on = read.2; found = read.3 ∙ ap Some state.0; holder = state.1 }
 
   pub held_found : (die slot : ℕ) (page : Page) (version : Version) → used_at m die slot ≡ Some (Held page version)
-      → (get m.numbers page.0 ≡ Some version) × (found_at contents die slot ≡ Some (Copy page version))
+      → (get m.versions page.0 ≡ Some version) × (found_at contents die slot ≡ Some (Copy page version))
   held_found die slot page version held =
       let at = held_at die slot page version held in
       (at.holder.is_last, found_on contents die slot at.slots at.on ∙ at.found)
@@ -134,13 +134,13 @@ module _ (geometry : Geometry) (contents : Contents) (m : MapState) (are : AreCo
   none_found die slot live within none =
       let read = live_found die slot live within in
       found_on contents die slot read.0 read.2 ∙ read.3
-      ∙ ap Some (none_state read.0 (get m.numbers) slot read.1 (used_at m die slot) (is.used die slot read.0 read.1 read.2 read.3) none)
+      ∙ ap Some (none_state read.0 (get m.versions) slot read.1 (used_at m die slot) (is.used die slot read.0 read.1 read.2 read.3) none)
 
   pub none_reserved : (die slot : ℕ) → ¬ (used_at m die slot ≡ Some Reserved)
   none_reserved die slot reserved =
       let place = used_within die slot (ap is_some reserved) in
       let read = live_found die slot place.0 place.1 in
-      not_reserved read.0 (get m.numbers) slot read.1 (used_at m die slot) (is.used die slot read.0 read.1 read.2 read.3) reserved
+      not_reserved read.0 (get m.versions) slot read.1 (used_at m die slot) (is.used die slot read.0 read.1 read.2 read.3) reserved
 
   pub held_once : (page : Page) (version other : Version) (die slot s : ℕ) → used_at m die slot ≡ Some (Held page version)
       → used_at m die s ≡ Some (Held page other) → slot ≡ s
@@ -159,8 +159,8 @@ module _ (geometry : Geometry) (contents : Contents) (m : MapState) (are : AreCo
 
   current_held : (page die slot : ℕ) → is_current m page die slot ≡ true → HoldsLast m page die slot
   current_held page die slot current =
-      holds_from m page die slot (get m.numbers page) (used_at m die slot) refl
-      (and_parts (is_live m die) (holds_last page (get m.numbers page) (used_at m die slot)) current).1
+      holds_from m page die slot (get m.versions page) (used_at m die slot) refl
+      (and_parts (is_live m die) (holds_last page (get m.versions page) (used_at m die slot)) current).1
 
   pub current_once : (page die slot other : ℕ) → is_current m page die slot ≡ true → is_current m page die other ≡ true → slot ≡ other
   current_once page die slot other current again =
@@ -170,14 +170,14 @@ module _ (geometry : Geometry) (contents : Contents) (m : MapState) (are : AreCo
       (b.held ∙ ap (λ p. Some (Held p b.version)) (same_page b.named a.named (b.is_page ∙ sym a.is_page)))
 
   -- a page that was written is held where its last write was found first
-  pub written_held : (page : Page) (version : Version) → get m.numbers page.0 ≡ Some version
+  pub written_held : (page : Page) (version : Version) → get m.versions page.0 ≡ Some version
       → (die : ℕ) × (slot : ℕ) × (used_at m die slot ≡ Some (Held page version))
   written_held page version written =
       let last = subst (IsLastOf (HasCopy contents page)) written (is.numbers page) in
       let read = slots_of_found contents last.die last.slot (Copy page version) last.copied in (
         last.die,
         last.slot,
-        holder_state read.0 (get m.numbers) last.slot page version (used_at m last.die last.slot)
+        holder_state read.0 (get m.versions) last.slot page version (used_at m last.die last.slot)
             (is.used last.die last.slot read.0 (Copy page version) read.1 read.2)
             (record {
               is_last = written;
@@ -185,10 +185,10 @@ module _ (geometry : Geometry) (contents : Contents) (m : MapState) (are : AreCo
             }),
       )
 
-  pub written_within : (page : ℕ) → is_some (get m.numbers page) ≡ true → page < geometry.pages
-  written_within page written = go (get m.numbers page) refl
+  pub written_within : (page : ℕ) → is_some (get m.versions page) ≡ true → page < geometry.pages
+  written_within page written = go (get m.versions page) refl
     where
-      go : (o : Option Version) → get m.numbers page ≡ o → page < geometry.pages
+      go : (o : Option Version) → get m.versions page ≡ o → page < geometry.pages
       go None none = absurd (false≢true (sym (ap is_some none) ∙ written))
       go (Some version) last =
           let p : Page = record { 0 = page } in

@@ -18,7 +18,7 @@ use Rattle.fa_mount.proofs.Cells.{one_cell}
 use Rattle.fa_mount.proofs.MountedFacts.{current_once, held_found, live_within, none_found, none_reserved, used_within, written_within}
 use Rattle.fa_mount.proofs.SlotCells.{copy_bytes, erased_bytes}
 use Rattle.fa_mount.specs.MountedWorld.{HoldsPayload, IsFirstPlain, IsMountedWorld, SlotBytes}
-use Rattle.fa_mount.specs.declared.content.SlotContent.TheVariants.{Erased, Copy}
+use Rattle.fa_mount.specs.declared.slots.content.SlotContent.TheVariants.{Erased, Copy}
 
 zeros_of : (bytes : List ℕ) → All (λ byte. byte ≡ 0) bytes → bytes ≡ replicate (length bytes) 0
 zeros_of [] all = refl
@@ -51,7 +51,7 @@ module _ (bytes : SlotBytes) (is_spare : ℕ → Bool) (w : World) (is : IsMount
       ]
 
   -- the plain array has what a slot holds
-  plain_there : (page : ℕ) (version : Version) (die slot : ℕ) (payload : List ℕ) → get w.core.page_map.numbers page ≡ Some version
+  plain_there : (page : ℕ) (version : Version) (die slot : ℕ) (payload : List ℕ) → get w.core.page_map.versions page ≡ Some version
       → page < w.core.page_map.geometry.pages → HoldsPayload bytes w.core.page_map page version die slot payload → payload ≡ plain_page w page
   plain_there page version die slot payload written within holds =
       let first = subst (IsFirstPlain bytes w.core.page_map page (plain_page w page)) written (is.plain page within) in
@@ -76,7 +76,7 @@ module _ (bytes : SlotBytes) (is_spare : ℕ → Bool) (w : World) (is : IsMount
             ∙ ap (Sealed page.0 version die slot) plain,
       )
 
-  plain_of : (page : ℕ) → page < w.core.page_map.geometry.pages → (number : Option Version) → get w.core.page_map.numbers page ≡ number
+  plain_of : (page : ℕ) → page < w.core.page_map.geometry.pages → (number : Option Version) → get w.core.page_map.versions page ≡ number
       → IsPlainOf w page number
   plain_of page within None e = subst (IsFirstPlain bytes w.core.page_map page (plain_page w page)) e (is.plain page within)
   plain_of page within (Some version) e =
@@ -110,7 +110,7 @@ module _ (bytes : SlotBytes) (is_spare : ℕ → Bool) (w : World) (is : IsMount
         stands = λ die slot alive within. stands_at die slot alive within (used_at m die slot) refl;
         once = current_once g is.holds.contents m is.holds.are is.holds.content;
         written = written_within g is.holds.contents m is.holds.are is.holds.content;
-        plain = λ page within. plain_of page within (get m.numbers page) refl;
+        plain = λ page within. plain_of page within (get m.versions page) refl;
         pages = is.pages;
         idle = is.idle;
         told = is.told;

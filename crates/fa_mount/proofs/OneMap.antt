@@ -10,8 +10,8 @@ use Rattle.fa_machine.specs.declared.places.Used.{Used}
 use Rattle.fa_machine.specs.declared.places.Version.{Version}
 use Rattle.fa_machine.specs.State.{MapState, used_at}
 use Rattle.fa_machine.proofs.Maps.{place_cmp_total, place_same}
-use Rattle.fa_mount.specs.declared.content.SlotContent.{SlotContent}
-use Rattle.fa_mount.specs.declared.content.SlotContent.TheVariants.{Erased, Copy, Stale}
+use Rattle.fa_mount.specs.declared.slots.content.SlotContent.{SlotContent}
+use Rattle.fa_mount.specs.declared.slots.content.SlotContent.TheVariants.{Erased, Copy, Stale}
 use Rattle.fa_mount.specs.Content.{Contents, HasCopy, IsLastOf, IsLastWrite, IsMountedContent, IsStateOf, found_at, slots_on}
 use Rattle.fa_mount.proofs.LastWrites.{found_on, nothing_on}
 
@@ -66,9 +66,9 @@ one_unit (Some x) (Some y) e = refl
 
 module _ (geometry : Geometry) (contents : Contents) (m n : MapState)
     (is_m : IsMountedContent geometry contents m) (is_n : IsMountedContent geometry contents n) where
-  same_numbers : (page : ℕ) → get m.numbers page ≡ get n.numbers page
+  same_numbers : (page : ℕ) → get m.versions page ≡ get n.versions page
   same_numbers page =
-      let p : Page = record { 0 = page } in one_last contents p (get m.numbers page) (get n.numbers page) (is_m.numbers p) (is_n.numbers p)
+      let p : Page = record { 0 = page } in one_last contents p (get m.versions page) (get n.versions page) (is_m.numbers p) (is_n.numbers p)
 
   same_used : (die slot : ℕ) (o : Option (List SlotContent)) → slots_on contents die ≡ o → (f : Option SlotContent) → found_at contents die slot ≡ f
       → used_at m die slot ≡ used_at n die slot
@@ -76,7 +76,7 @@ module _ (geometry : Geometry) (contents : Contents) (m n : MapState)
   same_used die slot None on (Some content) found = absurd (let none = nothing_on contents die on slot content found in omega (arith, none))
   same_used die slot (Some slots) on (Some content) found =
       let at : slice_get slots slot ≡ Some content = sym (found_on contents die slot slots on) ∙ found in
-      one_state slots (get m.numbers) slot content (used_at m die slot) (used_at n die slot) (is_m.used die slot slots content on at)
+      one_state slots (get m.versions) slot content (used_at m die slot) (used_at n die slot) (is_m.used die slot slots content on at)
       (subst (λ (numbers : ℕ → Option Version). IsStateOf slots numbers slot content (used_at n die slot)) (λ i page. sym (same_numbers page) i)
       (is_n.used die slot slots content on at))
 
@@ -87,7 +87,7 @@ module _ (geometry : Geometry) (contents : Contents) (m n : MapState)
   one_map =
       let geometry = is_m.shape ∙ sym is_n.shape in
       let live = same_map nat_cmp_total nat_cmp-IsAntisymmetric m.live n.live same_live in
-      let numbers = same_map nat_cmp_total nat_cmp-IsAntisymmetric m.numbers n.numbers same_numbers in
+      let numbers = same_map nat_cmp_total nat_cmp-IsAntisymmetric m.versions n.versions same_numbers in
       let used = same_map place_cmp_total place_same m.used n.used
       (λ q. same_used q.0 q.1 (slots_on contents q.0) refl (found_at contents q.0 q.1) refl) in
-      λ i. record { geometry = geometry i; live = live i; numbers = numbers i; used = used i }
+      λ i. record { geometry = geometry i; live = live i; versions = numbers i; used = used i }

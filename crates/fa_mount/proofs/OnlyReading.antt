@@ -9,8 +9,8 @@ use Rattle.fa_image.specs.declared.fault.ImageFault.{ImageFault}
 use Rattle.fa_image.specs.Image.{ImageState, ImageCall, ImageAnswer, ImageMeets}
 use Rattle.fa_mount.proofs.ByDie.{put_at, put_other}
 use Rattle.fa_mount.specs.ContentReading.{EachOnlyRead, ReadsDie, ReadsSlots}
-use Rattle.fa_mount.specs.Found.{AreOnlyRead, IsOnlyRead}
-use Rattle.fa_mount.specs.declared.content.SlotContent.{SlotContent}
+use Rattle.fa_headers.specs.Found.{AreOnlyRead, IsOnlyRead}
+use Rattle.fa_mount.specs.declared.slots.content.SlotContent.{SlotContent}
 
 pub same_read : (image : ImageState) → IsOnlyRead image image
 same_read image = refl

@@ -4,8 +4,8 @@ use Rattle.fa_types.specs.declared.geometry.Geometry.{Geometry}
 use Rattle.fa_image.specs.declared.fault.ImageFault.{ImageFault}
 use Rattle.fa_image.specs.Image.{ImageCall, ImageAnswer}
 use Rattle.fa_mount.specs.ContentReading.{AreApart, AreOutcomes, HasOutcome, image_read}
-use Rattle.fa_mount.specs.declared.content.SlotContent.{SlotContent}
-use Rattle.fa_mount.specs.declared.judging.Standing.{Standing}
+use Rattle.fa_mount.specs.declared.slots.content.SlotContent.{SlotContent}
+use Rattle.fa_headers.specs.declared.judging.Standing.{Standing}
 use Rattle.fa_mount.proofs.ByDie.{AreUntouched, next_each, still_there}
 
 module _ {I : Type 0} (made : I → ImageCall → ImageAnswer → I → Type 0) (geometry : Geometry) (standings : List Standing)

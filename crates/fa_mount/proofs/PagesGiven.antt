@@ -70,7 +70,7 @@ module _ (m : MapState) (whole : IsPageMap m) (page : ℕ) where
 
   pub current_is_place : (die : Die) (slot : Slot) → is_current m page die.0 slot.0 ≡ true → Contains (places_of m page) (die, slot)
   current_is_place die slot is =
-      let live = (and_parts (is_live m die.0) (holds_last page (get m.numbers page) (used_at m die.0 slot.0)) is).0 in
+      let live = (and_parts (is_live m die.0) (holds_last page (get m.versions page) (used_at m die.0 slot.0)) is).0 in
       let below = whole.live die.0 live in
       gives (place_on m page) 0 m.geometry.dies die.0 (die, slot) (omega arith) (omega (arith, below))
       (ap (option_map (place_at die.0)) (current_found die.0 slot.0 is))
@@ -98,13 +98,13 @@ module _ (m : MapState) where
       (ap (λ (w : Written). w.page.0) same, ap (λ (w : Written). Some w.version) same, sym (ap (λ (w : Written). w.places) same))
 
   pub given_is_written : (page : Written) → Contains (written_pages m) page
-      → (get m.numbers page.page.0 ≡ Some page.version) × (page.places ≡ places_of m page.page.0)
+      → (get m.versions page.page.0 ≡ Some page.version) × (page.places ≡ places_of m page.page.0)
   given_is_written page has =
       let at = given_by (written_at m) 0 m.geometry.pages page has in
-      let told = written_told at.0 (get m.numbers at.0) page at.3 in
-      (ap (get m.numbers) (sym told.0) ∙ told.1, told.2 ∙ ap (places_of m) told.0)
+      let told = written_told at.0 (get m.versions at.0) page at.3 in
+      (ap (get m.versions) (sym told.0) ∙ told.1, told.2 ∙ ap (places_of m) told.0)
 
-  pub written_is_given : IsPageMap m → (page : Written) → get m.numbers page.page.0 ≡ Some page.version → page.places ≡ places_of m page.page.0
+  pub written_is_given : IsPageMap m → (page : Written) → get m.versions page.page.0 ≡ Some page.version → page.places ≡ places_of m page.page.0
       → Contains (written_pages m) page
   written_is_given whole page number places =
       let below = whole.written page.page.0 (ap is_some number) in
@@ -116,15 +116,15 @@ module _ (m : MapState) where
   pages_rise =
       given_in_order (written_at m) (λ a b. a.page.0 < b.page.0)
       (λ k j x y is_x is_y below.
-      let one = (written_told k (get m.numbers k) x is_x).0 in
-      let other = (written_told j (get m.numbers j) y is_y).0 in
+      let one = (written_told k (get m.versions k) x is_x).0 in
+      let other = (written_told j (get m.versions j) y is_y).0 in
       omega (arith, one, other, below))
       0 m.geometry.pages
 
   -- there are as many as the report of the array counts
   pub all_counted : length (written_pages m) ≡ count_by (is_written m) (below m.geometry.pages)
   all_counted =
-      given_counted (written_at m) (is_written m) (λ page. still_some (written_as page) (get m.numbers page)) 0 m.geometry.pages
+      given_counted (written_at m) (is_written m) (λ page. still_some (written_as page) (get m.versions page)) 0 m.geometry.pages
 
   -- no array has more pages, nor more dies
   pub few_pages : length (written_from m 0) ≤ 1048576

@@ -7,14 +7,14 @@ use Rattle.fa_image.specs.Counted.{call_counted}
 use Rattle.fa_image.specs.Image.{ImageState, ImageCall, ImageAnswer, ImageMeets, ReadingHeader}
 use Rattle.fa_tag.specs.declared.header.Header.{Header}
 use Rattle.fa_mount.specs.ContentReading.{AreReadable, HasImageOf, image_read}
-use Rattle.fa_mount.specs.Found.{ReadsHeaders}
-use Rattle.fa_mount.specs.Judged.{HasImage, HaveImages, IsImageOf, IsJudged, standing_of}
-use Rattle.fa_mount.specs.declared.found.Found.{Found}
-use Rattle.fa_mount.specs.declared.found.HeaderFound.TheVariants.{Good}
-use Rattle.fa_mount.specs.declared.judging.Judged.{Judged}
-use Rattle.fa_mount.specs.declared.judging.Standing.{Standing}
-use Rattle.fa_mount.specs.declared.judging.Standing.TheVariants.{Missing, Live, Spare, Out}
-use Rattle.fa_mount.specs.declared.seen.Seen.{Seen}
+use Rattle.fa_headers.specs.Found.{ReadsHeaders}
+use Rattle.fa_headers.specs.Judged.{HasImage, HaveImages, IsImageOf, IsJudged, standing_of}
+use Rattle.fa_headers.specs.declared.found.Found.{Found}
+use Rattle.fa_headers.specs.declared.found.HeaderFound.TheVariants.{Good}
+use Rattle.fa_headers.specs.declared.judging.Judged.{Judged}
+use Rattle.fa_headers.specs.declared.judging.Standing.{Standing}
+use Rattle.fa_headers.specs.declared.judging.Standing.TheVariants.{Missing, Live, Spare, Out}
+use Rattle.fa_headers.specs.declared.seen.Seen.{Seen}
 
 module _ {I : Type 0} (view : I → ImageState) (honest : I → Bool) (made : I → ImageCall → ImageAnswer → I → Type 0)
     (meets : (before after : I) (call : ImageCall) (answer : ImageAnswer) → made before call answer after

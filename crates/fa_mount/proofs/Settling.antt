@@ -4,7 +4,7 @@ use Rattle.std.proofs.lemmas.List.{get_or_append_left, get_or_push, length_push}
 use Rattle.std.proofs.lemmas.Option.{same_Some, slice_get-get_or, slice_get_within, get_or_from_slice_get}
 use Rattle.fa_mount.specs.Content.{Contents}
 use Rattle.fa_mount.specs.Scanned.{AreSettled, Outcome, mounted_of, settled}
-use Rattle.fa_mount.specs.declared.judging.Standing.{Standing}
+use Rattle.fa_headers.specs.declared.judging.Standing.{Standing}
 use Rattle.fa_mount.proofs.ByDie.{slice_get_push}
 
 pushed_before : {X : Type 0} (xs : List X) (x y : X) (i : ℕ) → slice_get xs i ≡ Some y → slice_get (xs ++ x ∷ []) i ≡ Some y

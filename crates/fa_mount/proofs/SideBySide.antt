@@ -5,8 +5,8 @@ use Rattle.std.proofs.lemmas.List.{length-set}
 use Rattle.std.proofs.lemmas.Option.{none-some, same_Some}
 use Rattle.fa_types.specs.declared.geometry.Geometry.{Geometry}
 use Rattle.fa_image.specs.Image.{ImageState, ImageCall, ImageAnswer}
-use Rattle.fa_mount.specs.declared.judging.Standing.{Standing}
-use Rattle.fa_mount.specs.declared.readings.Reading.{Reading}
+use Rattle.fa_headers.specs.declared.judging.Standing.{Standing}
+use Rattle.fa_mount.specs.declared.slots.readings.Reading.{Reading}
 use Rattle.fa_mount.specs.ContentReading.{AreApart, image_read}
 use Rattle.fa_mount.specs.Readings.{AddsReading, AreImagesRead, AreReady, AreReadingsOf, IsRoomy, outcome_from}
 use Rattle.fa_mount.proofs.ByDie.{AreUntouched, put_at, put_other, still_there}

@@ -4,11 +4,11 @@ use Rattle.std.proofs.lemmas.Option.{none-some, same_Some, slice_get_within}
 use Rattle.fa_types.specs.declared.geometry.Geometry.{Geometry}
 use Rattle.fa_image.specs.declared.fault.ImageFault.{ImageFault}
 use Rattle.fa_image.specs.Image.{ImageState, ImageCall, ImageAnswer, ImageMeets}
-use Rattle.fa_mount.specs.declared.content.SlotContent.{SlotContent}
-use Rattle.fa_mount.specs.declared.judging.Standing.{Standing}
-use Rattle.fa_mount.specs.declared.readings.Reading.{Reading}
+use Rattle.fa_mount.specs.declared.slots.content.SlotContent.{SlotContent}
+use Rattle.fa_headers.specs.declared.judging.Standing.{Standing}
+use Rattle.fa_mount.specs.declared.slots.readings.Reading.{Reading}
 use Rattle.fa_mount.specs.ContentReading.{AreOutcomes, AreReadable, EachOnlyRead, HasOutcome, ReadsDie, image_read}
-use Rattle.fa_mount.specs.Found.{IsOnlyRead}
+use Rattle.fa_headers.specs.Found.{IsOnlyRead}
 use Rattle.fa_mount.specs.Readings.{AreFrom, AreImagesRead, AreReady, AreReadingsOf, IsImageRead, IsReady, outcome_from, outcome_of}
 use Rattle.fa_mount.proofs.OnlyReading.{die_only_read, same_read}
 

@@ -13,8 +13,8 @@ use Rattle.fa_mount.proofs.Cells.{one_cell}
 use Rattle.fa_mount.specs.Content.{content_of}
 use Rattle.fa_mount.specs.ContentCells.{IsCellOf, tag_of}
 use Rattle.fa_mount.specs.ContentReading.{IsContentOf}
-use Rattle.fa_mount.specs.declared.content.SlotContent.{SlotContent}
-use Rattle.fa_mount.specs.declared.content.SlotContent.TheVariants.{Erased, Copy, Stale}
+use Rattle.fa_mount.specs.declared.slots.content.SlotContent.{SlotContent}
+use Rattle.fa_mount.specs.declared.slots.content.SlotContent.TheVariants.{Erased, Copy, Stale}
 
 module _ (bytes : List ℕ) (pages die slot : ℕ) where
   opened_erased : (opened : Opened) → IsOpened bytes opened → content_of pages die slot opened ≡ Erased → IsErased bytes

@@ -2,7 +2,7 @@
 use Rattle.std.proofs.Common.{ℕ, suc, ◌+◌, List, [], ◌∷◌, ◌++◌, length, refl, subst, arith}
 use Rattle.fa_image.specs.Image.{ImageCall, ImageAnswer}
 use Rattle.fa_mount.specs.ContentReading.{ReadsSlot, ReadsSlots}
-use Rattle.fa_mount.specs.declared.content.SlotContent.{SlotContent}
+use Rattle.fa_mount.specs.declared.slots.content.SlotContent.{SlotContent}
 
 pub one_more_read : {I : Type 0} (made : I → ImageCall → ImageAnswer → I → Type 0) (pages die first : ℕ) (contents : List SlotContent)
     (content : SlotContent) (before middle after : I) → ReadsSlots made pages die first contents before middle

@@ -6,7 +6,7 @@ use Rattle.fa_image.specs.Image.{ImageCall, ImageAnswer}
 use Rattle.fa_mount.specs.Content.{AreContents, Contents}
 use Rattle.fa_mount.specs.ContentReading.{AreOutcomes}
 use Rattle.fa_mount.specs.Scanned.{AreSettled, Outcome}
-use Rattle.fa_mount.specs.declared.judging.Standing.{Standing}
+use Rattle.fa_headers.specs.declared.judging.Standing.{Standing}
 use Rattle.fa_mount.proofs.ContentsRead.{are_contents}
 
 -- what holds of either variant

@@ -10,8 +10,8 @@ use Rattle.fa_machine.specs.declared.places.Used.{Used}
 use Rattle.fa_machine.specs.declared.places.Used.TheVariants.{Held, Stale as StaleSlot}
 use Rattle.fa_machine.specs.declared.places.Version.{Version}
 use Rattle.fa_machine.specs.State.{MapState, is_live, used_at}
-use Rattle.fa_mount.specs.declared.content.SlotContent.{SlotContent}
-use Rattle.fa_mount.specs.declared.content.SlotContent.TheVariants.{Erased, Copy, Stale}
+use Rattle.fa_mount.specs.declared.slots.content.SlotContent.{SlotContent}
+use Rattle.fa_mount.specs.declared.slots.content.SlotContent.TheVariants.{Erased, Copy, Stale}
 
 -- What the bytes of a slot are to an array of so many pages: a copy of a page where their tag is good, names this die
 -- and this slot, and a page of the array.
@@ -86,7 +86,7 @@ IsStateOf slots last slot (Copy page version) used =
 pub record IsMountedContent (geometry : Geometry) (contents : Contents) (m : MapState) : Type 0 where
   pub shape : m.geometry ≡ geometry
   pub live : (die : ℕ) → is_live m die ≡ is_some (slots_on contents die)
-  pub numbers : (page : Page) → IsLastOf (HasCopy contents page) (get m.numbers page.0)
+  pub numbers : (page : Page) → IsLastOf (HasCopy contents page) (get m.versions page.0)
   pub used : (die slot : ℕ) (slots : List SlotContent) (content : SlotContent) → slots_on contents die ≡ Some slots
-      → slice_get slots slot ≡ Some content → IsStateOf slots (get m.numbers) slot content (used_at m die slot)
+      → slice_get slots slot ≡ Some content → IsStateOf slots (get m.versions) slot content (used_at m die slot)
   pub others : (die slot : ℕ) → found_at contents die slot ≡ None → used_at m die slot ≡ None

@@ -6,8 +6,8 @@ use Rattle.fa_types.specs.declared.numbers.Page.{Page}
 use Rattle.fa_machine.specs.declared.places.Used.TheVariants.{Held}
 use Rattle.fa_machine.specs.declared.places.Version.{Version}
 use Rattle.fa_machine.specs.State.{MapState, is_live, used_at}
-use Rattle.fa_mount.specs.declared.content.SlotContent.{SlotContent}
-use Rattle.fa_mount.specs.declared.content.SlotContent.TheVariants.{Erased, Copy, Stale}
+use Rattle.fa_mount.specs.declared.slots.content.SlotContent.{SlotContent}
+use Rattle.fa_mount.specs.declared.slots.content.SlotContent.TheVariants.{Erased, Copy, Stale}
 use Rattle.fa_mount.specs.Content.{Contents, HasCopy, IsBefore, IsLastOf, IsStateOf}
 
 -- the last write of a page, by a list of them
@@ -41,7 +41,7 @@ NamesPages slots pages = (slot : ℕ) (page : Page) (version : Version) → slic
 pub record IsMountedBefore (last : List (Option Version)) (slots : List SlotContent) (die slot : ℕ) (m : MapState) : Type 0 where
   pub live : is_live m die ≡ true
   -- the map has no other number of a page
-  pub numbers : (page : ℕ) (version : Version) → get m.numbers page ≡ Some version → last_in last page ≡ Some version
+  pub numbers : (page : ℕ) (version : Version) → get m.versions page ≡ Some version → last_in last page ≡ Some version
   pub states : (s : ℕ) (content : SlotContent) → s < slot → slice_get slots s ≡ Some content
       → IsStateOf slots (last_in last) s content (used_at m die s)
   -- of the last write of a page a copy is held

@@ -5,11 +5,11 @@ use Rattle.fa_image.specs.declared.fault.ImageFault.{ImageFault}
 use Rattle.fa_image.specs.Image.{ImageState, slot_count, ImageCall, ReadingSlot, ImageAnswer, Gave, Refused}
 use Rattle.fa_tag.specs.declared.tag.Opened.{Opened}
 use Rattle.fa_tag.specs.SlotGrammar.{IsOpened}
-use Rattle.fa_mount.specs.declared.content.SlotContent.{SlotContent}
-use Rattle.fa_mount.specs.declared.judging.Standing.{Standing}
-use Rattle.fa_mount.specs.declared.judging.Standing.TheVariants.{Missing, Live, Spare, Out}
+use Rattle.fa_mount.specs.declared.slots.content.SlotContent.{SlotContent}
+use Rattle.fa_headers.specs.declared.judging.Standing.{Standing}
+use Rattle.fa_headers.specs.declared.judging.Standing.TheVariants.{Missing, Live, Spare, Out}
 use Rattle.fa_mount.specs.Content.{content_of}
-use Rattle.fa_mount.specs.Found.{IsOnlyRead}
+use Rattle.fa_headers.specs.Found.{IsOnlyRead}
 
 -- the bytes of a slot are this content to an array of so many pages
 pub record IsContentOf (bytes : List ℕ) (pages die slot : ℕ) (content : SlotContent) : Type 0 where

@@ -2,17 +2,9 @@ pub mod Content
 pub mod ContentCells
 pub mod ContentMerging
 pub mod ContentReading
-pub mod Expected
-pub mod Fault
-pub mod FirstHeader
-pub mod Formatted
-pub mod Found
-pub mod Judged
 pub mod MountedWorld
 pub mod Mounting
-pub mod NewArray
 pub mod Pages
 pub mod Readings
 pub mod Reported
-pub mod Rules
 pub mod Scanned

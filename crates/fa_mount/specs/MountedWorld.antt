@@ -14,11 +14,11 @@ use Rattle.fa_machine.specs.Beginning.{mounted}
 use Rattle.fa_machine.specs.Reading.{zeros}
 use Rattle.fa_machine.specs.State.{MapState, is_live, used_at}
 use Rattle.fa_machine.specs.World.{World, plain_page}
-use Rattle.fa_mount.specs.declared.content.SlotContent.{SlotContent}
+use Rattle.fa_mount.specs.declared.slots.content.SlotContent.{SlotContent}
 use Rattle.fa_mount.specs.Content.{AreContents, Contents, IsMountedContent, found_at, slots_on}
 use Rattle.fa_mount.specs.ContentCells.{IsCellOf, tag_of}
 use Rattle.fa_mount.specs.ContentReading.{IsContentOf, image_read}
-use Rattle.fa_mount.specs.declared.judging.Standing.{Standing}
+use Rattle.fa_headers.specs.declared.judging.Standing.{Standing}
 use Rattle.fa_mount.specs.Reported.{is_spare as stands_as_spare}
 
 -- the bytes that stand in slots, by die and slot
@@ -71,16 +71,16 @@ pub record IsMountedWorld (bytes : SlotBytes) (is_spare : ℕ → Bool) (w : Wor
   pub holds : HoldMap bytes is_spare w.core.page_map.geometry w.core.page_map
   pub spares : (die : ℕ) → contains_key w.core.spares die ≡ true → is_spare die ≡ true
   -- the history begins with the numbers of the pages, and no page's number is above the last
-  pub based : (page : ℕ) → get w.core.base.numbers page ≡ option_map (λ version. version.seq.0) (get w.core.page_map.numbers page)
+  pub based : (page : ℕ) → get w.core.base.numbers page ≡ option_map (λ version. version.seq.0) (get w.core.page_map.versions page)
   pub last : w.core.last < 2 ^ 62
-  pub given : (page : ℕ) (version : Version) → get w.core.page_map.numbers page ≡ Some version → version.seq.0 ≤ w.core.last
+  pub given : (page : ℕ) (version : Version) → get w.core.page_map.versions page ≡ Some version → version.seq.0 ≤ w.core.last
   -- what is seen of the images is what stands there
   pub cells : (die slot : ℕ) → (is_live w.core.page_map die || contains_key w.core.spares die) ≡ true
       → slot < w.core.page_map.geometry.blocks * w.core.page_map.geometry.slots → IsCellOf (bytes die slot) ((w.images die).seen slot)
   pub agree : CopiesAgree bytes w.core.page_map
   pub plain : (page : ℕ) → page < w.core.page_map.geometry.pages
-      → IsFirstPlain bytes w.core.page_map page (plain_page w page) (get w.core.page_map.numbers page)
-  pub payloads : (page : ℕ) (version : Version) → get w.core.page_map.numbers page ≡ Some version
+      → IsFirstPlain bytes w.core.page_map page (plain_page w page) (get w.core.page_map.versions page)
+  pub payloads : (page : ℕ) (version : Version) → get w.core.page_map.versions page ≡ Some version
       → w.payloads page version.seq.0 ≡ plain_page w page
   pub pages : (length w.plain ≡ w.core.page_map.geometry.pages) × HasPages w.core.page_map.geometry.page_bytes w.plain
   pub idle : (die : ℕ) → w.works die ≡ None

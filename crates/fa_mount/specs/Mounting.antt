@@ -3,15 +3,15 @@
 use Rattle.std.specs.Prelude.{◌≡◌, ◌⊎◌, ℕ, Bool, List, length, Some, None}
 use Rattle.fa_image.specs.Image.{ImageState, ImageCall, ImageAnswer}
 use Rattle.fa_machine.specs.State.{MapState}
-use Rattle.fa_mount.specs.declared.fault.MountFault.TheVariants.{NoMemory}
-use Rattle.fa_mount.specs.declared.fault.MountRefused.{MountRefused}
-use Rattle.fa_mount.specs.declared.found.Found.{Found}
-use Rattle.fa_mount.specs.declared.judging.Judged.{Judged}
-use Rattle.fa_mount.specs.declared.judging.Standing.{Standing}
+use Rattle.fa_headers.specs.declared.fault.MountFault.TheVariants.{NoMemory}
+use Rattle.fa_headers.specs.declared.fault.MountRefused.{MountRefused}
+use Rattle.fa_headers.specs.declared.found.Found.{Found}
+use Rattle.fa_headers.specs.declared.judging.Judged.{Judged}
+use Rattle.fa_headers.specs.declared.judging.Standing.{Standing}
 use Rattle.fa_mount.specs.ContentReading.{AreOutcomes}
-use Rattle.fa_mount.specs.Found.{ReadsHeaders}
-use Rattle.fa_mount.specs.Judged.{IsJudged}
-use Rattle.fa_mount.specs.Rules.{header_refusal, refused, seen_from}
+use Rattle.fa_headers.specs.Found.{ReadsHeaders}
+use Rattle.fa_headers.specs.Judged.{IsJudged}
+use Rattle.fa_headers.specs.Rules.{header_refusal, refused, seen_from}
 use Rattle.fa_mount.specs.Scanned.{Outcome, IsScan, IsScanRefused}
 
 module _ {I : Type 0} (A : Type 0) (view : I → ImageState) (made : I → ImageCall → ImageAnswer → I → Type 0) (copies : ℕ)
@@ -33,6 +33,11 @@ module _ {I : Type 0} (A : Type 0) (view : I → ImageState) (made : I → Image
     pub read : AreOutcomes made judged.geometry between after judged.dies.items outcomes
     pub scan : IsScan judged.geometry judged.dies.items unclean outcomes dies m
     pub identity : (array ≡ judged.array) × (epoch ≡ judged.epoch) × (clean ≡ judged.clean)
+
+  -- the same, by the headers that were found
+  abbrev pub MountsBy : List I → List I → List Found → List ℕ → ℕ → Bool → List Standing → MapState → Type 0
+  MountsBy before after founds array epoch clean dies m =
+      (mounts : Mounts before after array epoch clean dies m) × (mounts.headers.founds ≡ founds)
 
   -- why images were not: memory was refused, or it is by the headers, or by the slots
   abbrev pub RefusesMount : List I → List I → MountRefused → Type 0

@@ -1,5 +1,5 @@
 -- The pages of an array that were ever written, and where their current copies stand, as a map of it shows them.
-use Rattle.std.specs.Prelude.{ℕ, ◌-◌, List, Option, option_map}
+use Rattle.std.specs.Prelude.{ℕ, ◌+◌, ◌-◌, List, [], ◌∷◌, Option, Some, None, option_map}
 use Rattle.std.specs.FinMap.{get}
 use Rattle.std.specs.List.{filter_map, range_with_len}
 use Rattle.fa_types.specs.declared.numbers.Die.{Die}
@@ -31,7 +31,7 @@ places_of m page = filter_map (place_on m page) (dies_of m)
 -- a page by its number, if it was ever written
 abbrev pub written_at : MapState → ℕ → Option Written
 written_at m page =
-    option_map (λ version. record { page = record { 0 = page }; version = version; places = places_of m page }) (get m.numbers page)
+    option_map (λ version. record { page = record { 0 = page }; version = version; places = places_of m page }) (get m.versions page)
 
 -- all pages that were ever written, the pages rising
 abbrev pub written_pages : MapState → List Written
@@ -47,3 +47,8 @@ written_from m page = given_from (written_at m) page m.geometry.pages
 
 abbrev pub places_from : MapState → ℕ → ℕ → List (Die × Slot)
 places_from m page die = given_from (place_on m page) die m.geometry.dies
+
+-- a place of a page and those behind it, if there is one more
+abbrev pub places_left : MapState → ℕ → Option (Die × Slot) → List (Die × Slot)
+places_left m page None = []
+places_left m page (Some place) = place ∷ places_from m page (place.0.0 + 1)

@@ -3,9 +3,9 @@ use Rattle.std.specs.Prelude.{◌≡◌, ℕ, ◌<◌, List, [], ◌∷◌, leng
 use Rattle.fa_types.specs.declared.geometry.Geometry.{Geometry}
 use Rattle.fa_image.specs.declared.fault.ImageFault.{ImageFault}
 use Rattle.fa_image.specs.Image.{ImageState, slot_bytes, slot_count, ImageCall, ImageAnswer}
-use Rattle.fa_mount.specs.declared.content.SlotContent.{SlotContent}
-use Rattle.fa_mount.specs.declared.judging.Standing.{Standing}
-use Rattle.fa_mount.specs.declared.readings.Reading.{Reading}
+use Rattle.fa_mount.specs.declared.slots.content.SlotContent.{SlotContent}
+use Rattle.fa_headers.specs.declared.judging.Standing.{Standing}
+use Rattle.fa_mount.specs.declared.slots.readings.Reading.{Reading}
 use Rattle.fa_mount.specs.ContentReading.{ReadsDie, image_read}
 use Rattle.fa_mount.specs.Scanned.{Outcome}
 

@@ -4,8 +4,8 @@ use Rattle.std.specs.FinMap.{get, len}
 use Rattle.fa_machine.specs.Copies.{holders}
 use Rattle.fa_machine.specs.Maps.{below}
 use Rattle.fa_machine.specs.State.{MapState}
-use Rattle.fa_mount.specs.declared.judging.Standing.{Standing}
-use Rattle.fa_mount.specs.declared.judging.Standing.TheVariants.{Spare}
+use Rattle.fa_headers.specs.declared.judging.Standing.{Standing}
+use Rattle.fa_headers.specs.declared.judging.Standing.TheVariants.{Spare}
 use Rattle.fa_mount.specs.declared.mounted.Report.{Report}
 
 abbrev pub is_spare : Standing → Bool
@@ -13,7 +13,7 @@ is_spare (Spare index) = true
 is_spare standing = false
 
 abbrev pub is_written : MapState → ℕ → Bool
-is_written m page = is_some (get m.numbers page)
+is_written m page = is_some (get m.versions page)
 
 -- A page has a current copy, fewer than it is to have, and fewer than there are live dies: it is thin, as the array's
 -- machine has it.

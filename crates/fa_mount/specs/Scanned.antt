@@ -4,17 +4,17 @@ use Rattle.std.specs.Prelude.{Option, Some, None, is_some, option_map, option_an
 use Rattle.std.specs.Prelude.{slice_get, length, Result, Ok, Err}
 use Rattle.std.specs.List.{list_all, list_any}
 use Rattle.fa_image.specs.declared.fault.ImageFault.{ImageFault as ImageFaultOf}
-use Rattle.fa_mount.specs.declared.content.SlotContent.{SlotContent}
-use Rattle.fa_mount.specs.declared.content.SlotContent.TheVariants.{Erased}
-use Rattle.fa_mount.specs.declared.fault.MountFault.TheVariants.{ImageFault, NoDieLive}
-use Rattle.fa_mount.specs.declared.fault.MountRefused.{MountRefused}
-use Rattle.fa_mount.specs.declared.judging.Standing.{Standing}
-use Rattle.fa_mount.specs.declared.judging.Standing.TheVariants.{Live, Spare, Out}
+use Rattle.fa_mount.specs.declared.slots.content.SlotContent.{SlotContent}
+use Rattle.fa_mount.specs.declared.slots.content.SlotContent.TheVariants.{Erased}
+use Rattle.fa_headers.specs.declared.fault.MountFault.TheVariants.{ImageFault, NoDieLive}
+use Rattle.fa_headers.specs.declared.fault.MountRefused.{MountRefused}
+use Rattle.fa_headers.specs.declared.judging.Standing.{Standing}
+use Rattle.fa_headers.specs.declared.judging.Standing.TheVariants.{Live, Spare, Out}
 use Rattle.fa_machine.specs.State.{MapState}
 use Rattle.fa_types.specs.declared.geometry.Geometry.{Geometry}
 use Rattle.fa_mount.specs.Content.{Contents, IsMountedContent}
 use Rattle.fa_mount.specs.ContentReading.{image_read}
-use Rattle.fa_mount.specs.Rules.{refused}
+use Rattle.fa_headers.specs.Rules.{refused}
 
 -- what came of reading a die, if its image was to be read
 abbrev pub Outcome : Type 0

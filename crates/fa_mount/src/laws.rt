@@ -1,11 +1,9 @@
 //! Laws of the definitions, each the contract of a function with no code.
-ghost use Rattle.std.specs.Prelude.{◌≡◌, ◌↔◌, ◌⊎◌, ℕ, ◌*◌, ◌<◌, Bool, true, false, Some, None, is_some};
-ghost use Rattle.std.specs.Prelude.{List, count_by, length, map, IsTrue, Ok};
+ghost use Rattle.std.specs.Prelude.{◌≡◌, ◌↔◌, ℕ, ◌*◌, ◌<◌, Bool, true, Some, None, is_some};
+ghost use Rattle.std.specs.Prelude.{List, count_by, length, map, IsTrue};
 ghost use Rattle.std.specs.FinMap.{get};
 ghost use Rattle.std.specs.List.{AllByRecursion, AllPairs, Contains};
-ghost use Rattle.fa_types.specs.Geometry.{AreCopies};
 ghost use Rattle.fa_types.specs.declared.geometry.Geometry.{Geometry};
-ghost use Rattle.fa_mount.specs.Formatted.{AreFormatted};
 ghost use Rattle.fa_types.specs.declared.numbers.Die.{Die};
 ghost use Rattle.fa_types.specs.declared.numbers.Page.{Page};
 ghost use Rattle.fa_types.specs.declared.numbers.Slot.{Slot};
@@ -22,56 +20,14 @@ ghost use Rattle.fa_mount.specs.ContentCells.{IsCellOf};
 ghost use Rattle.fa_mount.specs.ContentReading.{IsContentOf};
 ghost use Rattle.fa_mount.specs.MountedWorld.{HoldMap, IsMountedWorld, SlotBytes, bytes_of, is_spare_of};
 ghost use Rattle.fa_mount.specs.Mounting.{Mounts};
-ghost use Rattle.fa_mount.specs.declared.judging.Standing.{Standing};
-ghost use Rattle.fa_mount.specs.declared.content.SlotContent.{SlotContent};
-ghost use Rattle.fa_mount.specs.declared.content.SlotContent.TheVariants.{Copy, Erased};
-ghost use Rattle.fa_mount.specs.Found.{ReadsHeaders, AreOnlyRead, AreOf};
-ghost use Rattle.fa_mount.specs.Judged.{IsJudged};
+ghost use Rattle.fa_headers.specs.declared.judging.Standing.{Standing};
+ghost use Rattle.fa_mount.specs.declared.slots.content.SlotContent.{SlotContent};
+ghost use Rattle.fa_mount.specs.declared.slots.content.SlotContent.TheVariants.{Copy, Erased};
 ghost use Rattle.fa_map.specs.Slots.{IsPageMap};
-ghost use Rattle.fa_mount.specs.NewArray.{IsNew, new_founds};
 ghost use Rattle.fa_mount.specs.Pages.{Written, places_of, written_pages};
 ghost use Rattle.fa_mount.specs.Reported.{is_written};
-ghost use Rattle.fa_mount.specs.Rules.{can_hold, header_refusal, is_unread_header, seen_from};
-ghost use Rattle.fa_mount.specs.declared.found.Found.{Found};
-ghost use Rattle.fa_mount.specs.declared.judging.Judged.{Judged};
 
 use fa_image::Image;
-
-/// Reading headers changes nothing of an image but how many faults it has counted. Of images that return what
-/// was written, what was found is what stands there, unless the read was refused.
-pub fn headers_are_only_read<I: Image>()
-    ensures kept { (before after : List I) (founds : List Found) → ReadsHeaders I.view I.made before after founds
-        → AreOnlyRead (map I.view before) (map I.view after) }
-    ensures told { (before after : List I) (founds : List Found) → ReadsHeaders I.view I.made before after founds
-        → AllByRecursion (λ image. IsTrue (I.honest image)) after → AreOf (map I.view before) founds }
-{}
-
-/// What is found of images that were formatted, where they return what was written and no read was refused: the headers
-/// with which an array begins.
-pub fn a_formatted_array_is_found<I: Image>()
-    ensures { (format : ℕ) (geometry : Geometry) (array : List ℕ) (old new read : List I) (founds : List Found)
-        → (format ≡ 2) ⊎ (format ≡ 1) → length array ≡ 16 → length old ≡ geometry.dies
-        → AllByRecursion (λ image. (I.view image).geometry ≡ geometry) old
-        → AreFormatted I.view I.honest format geometry array old new (Ok tt)
-        → ReadsHeaders I.view I.made new read founds → length founds ≡ length new
-        → AllByRecursion (λ image. IsTrue (I.honest image)) read
-        → AllByRecursion (λ found. is_unread_header found.header ≡ false) founds
-        → founds ≡ new_founds geometry array }
-{}
-
-/// The headers with which an array begins are those of an array that is mounted, without leave for an unclean one: it
-/// is clean in epoch 1, each die in use is live, and the others are spares.
-pub fn a_new_array_is_clean<A>()
-    ensures accepted { (geometry : Geometry) (array : List ℕ) (copies : ℕ) → can_hold copies geometry ≡ true
-        → header_refusal copies false (new_founds geometry array) ≡ None }
-    ensures judged { (geometry : Geometry) (array : List ℕ) (judged : Judged A)
-        → IsJudged (seen_from 0 (new_founds geometry array)) judged → IsNew geometry array judged }
-{}
-
-/// The number of copies that an array can hold is judged as [`fa_types::Copies::new`] judges it.
-pub fn copies_are_judged_alike()
-    ensures { (copies : ℕ) (g : Geometry) → IsTrue (can_hold copies g) ↔ AreCopies copies g.dies g.spares g.blocks g.slots g.pages }
-{}
 
 /// The bytes of a slot are one cell of the array's machine.
 pub fn bytes_are_one_cell()
@@ -112,12 +68,12 @@ pub fn the_mounted_content_is_sound()
         → used_at m die slot ≡ None → found_at contents die slot ≡ Some Erased }
     ensures held { (geometry : Geometry) (contents : Contents) (m : MapState) (die slot : ℕ) (page : Page) (version : Version)
         → AreContents geometry contents → IsMountedContent geometry contents m → used_at m die slot ≡ Some (Held page version)
-        → (get m.numbers page.0 ≡ Some version) × (found_at contents die slot ≡ Some (Copy page version)) }
+        → (get m.versions page.0 ≡ Some version) × (found_at contents die slot ≡ Some (Copy page version)) }
     ensures once { (geometry : Geometry) (contents : Contents) (m : MapState) (page die slot other : ℕ) → AreContents geometry contents
         → IsMountedContent geometry contents m → is_current m page die slot ≡ true → is_current m page die other ≡ true
         → slot ≡ other }
     ensures written { (geometry : Geometry) (contents : Contents) (m : MapState) (page : Page) (version : Version)
-        → AreContents geometry contents → IsMountedContent geometry contents m → get m.numbers page.0 ≡ Some version
+        → AreContents geometry contents → IsMountedContent geometry contents m → get m.versions page.0 ≡ Some version
         → (page.0 < geometry.pages) × (die : ℕ) × (slot : ℕ) × (used_at m die slot ≡ Some (Held page version)) }
 {}
 
@@ -142,7 +98,7 @@ pub fn what_was_mounted_is_a_beginning()
 pub fn written_pages_are_those_of_the_map()
     ensures written { (m : MapState) (page : Written) → IsPageMap m
         → Contains (written_pages m) page
-        ↔ ((get m.numbers page.page.0 ≡ Some page.version) × (page.places ≡ places_of m page.page.0)) }
+        ↔ ((get m.versions page.page.0 ≡ Some page.version) × (page.places ≡ places_of m page.page.0)) }
     ensures places { (m : MapState) (page : ℕ) (die : Die) (slot : Slot) → IsPageMap m
         → Contains (places_of m page) (die, slot) ↔ (is_current m page die.0 slot.0 ≡ true) }
     ensures pages_rise { (m : MapState) → AllPairs (λ a b. a.page.0 < b.page.0) (written_pages m) }

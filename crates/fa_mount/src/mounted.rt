@@ -3,7 +3,7 @@ ghost use Rattle.std.specs.Prelude.{◌≡◌, ◌<◌, if◌then◌else◌, cou
 ghost use Rattle.fa_machine.specs.Maps.{below};
 ghost use Rattle.fa_mount.specs.Reported.{IsReportOf, is_spare as is_spare_die, is_thin as is_thin_page, is_written};
 
-use crate::judging::Standing;
+use fa_headers::Standing;
 use fa_map::Map;
 use fa_types::{Copies, Page};
 use std::alloc::{Allocator, Global};

@@ -57,27 +57,28 @@ impl<'a, M: Map> Model for WrittenPage<'a, M> {
 }
 
 /// The places of the current copies of a page, the dies rising. It is seen as the list of those that are left.
-/// Each die is looked up once.
+/// Each takes one step along the page's copies.
 #[derive(Drop)]
 pub struct Places<'a, M: Map> {
     map: &'a M,
     page: Page,
-    // The next die that is looked up.
-    next: u32,
+    // The next place, if there is one more.
+    next: Option<(Die, Slot)>,
 }
 
 impl<'a, M: Map> Model for Places<'a, M> {
-    ghost use Rattle.std.specs.Prelude.{◌≤◌, ◌<◌, List};
+    ghost use Rattle.std.specs.Prelude.{◌≡◌, ◌<◌, List, Some, IfSome};
     ghost use Rattle.fa_types.specs.declared.numbers.Die.{Die};
     ghost use Rattle.fa_types.specs.declared.numbers.Slot.{Slot};
-    ghost use Rattle.fa_mount.specs.Pages.{places_from};
+    ghost use Rattle.fa_machine.specs.Copies.{copy_on};
+    ghost use Rattle.fa_mount.specs.Pages.{places_left};
 
     ghost Value = { List (Die × Slot) };
 
-    ghost view = { λ places. places_from (M.view places.map.now) places.page.0 places.next };
+    ghost view = { λ places. places_left (M.view places.map.now) places.page.0 places.next };
 
     ghost invariant = { λ places. (places.page.0 < (M.view places.map.now).geometry.pages)
-        × (places.next ≤ (M.view places.map.now).geometry.dies) };
+        × IfSome places.next (λ copy. copy_on (M.view places.map.now) places.page.0 copy.0.0 ≡ Some copy.1.0) };
 }
 
 impl<M: Map + Drop, A: Allocator> Mounted<M, A> {
@@ -128,7 +129,7 @@ impl<'a, M: Map> WrittenPage<'a, M> {
         Places {
             map: self.map,
             page: self.page,
-            next: 0,
+            next: self.map.first_copy(self.page),
         }
     }
 }
@@ -141,14 +142,9 @@ impl<'a, M: Map> Iterator for Places<'a, M> {
     ghost remaining = { item_count (λ rest. rest) };
 
     fn next(&mut self) -> Option<(Die, Slot)> {
-        while self.next < self.map.geometry().dies {
-            let die = Die(self.next as u8);
-            self.next += 1;
-            if let Some(slot) = self.map.copy_on(self.page, die) {
-                return Some((die, slot));
-            }
-        }
-        None
+        let (die, slot) = self.next?;
+        self.next = self.map.next_copy(self.page, die, slot);
+        Some((die, slot))
     }
 }
 

@@ -1,14 +1,12 @@
 //! An array's images, mounted in one call.
-ghost use Rattle.std.specs.Prelude.{◌≡◌, IfOk, MatchResult, length, map};
+ghost use Rattle.std.specs.Prelude.{◌≡◌, List, IfOk, MatchResult, length, map};
 ghost use Rattle.fa_map.specs.PageView.{page_view};
-ghost use Rattle.fa_mount.specs.Found.{AreOnlyRead};
-ghost use Rattle.fa_mount.specs.Mounting.{Mounts, RefusesMount};
+ghost use Rattle.fa_headers.specs.Found.{AreFound, AreOnlyRead, IsReadOf};
+ghost use Rattle.fa_mount.specs.Mounting.{Mounts, MountsBy, RefusesMount};
 
-use crate::fault::{MountFault, MountRefused};
-use crate::headers_scan::scan_headers;
 use crate::mounted::Mounted;
-use crate::rules::of_nobody;
-use crate::slots_scan::scan_slots;
+use crate::slots::scan::scan_slots;
+use fa_headers::{Found, MountFault, MountRefused, judge, read_headers};
 use fa_image::Image;
 use fa_map::PageMap;
 use fa_types::Copies;
@@ -34,9 +32,31 @@ pub fn scan<I: Image, A: Allocator + Copy>(
     ensures dies { IfOk result (λ mounted. length mounted.dies.items ≡ (page_view mounted.map).geometry.dies) }
     ensures only_read { AreOnlyRead (map I.view images.old) (map I.view images.new) }
 {
-    let judged = scan_headers(alloc, images, copies, unclean)?;
+    match read_headers(alloc, images) {
+        Ok(founds) => scan_found(alloc, images, founds.as_slice(), copies, unclean),
+        Err(_) => Err(MountRefused::of_nobody(MountFault::NoMemory)),
+    }
+}
+
+/// As [`scan`], of images whose headers were read: `founds` is what was found of them. No header is read again.
+pub fn scan_found<I: Image, A: Allocator + Copy>(
+    alloc: A,
+    images: &mut [I],
+    founds: &[Found],
+    copies: Copies,
+    unclean: bool,
+) -> Result<Mounted<PageMap<A>, A>, MountRefused>
+    requires found { AreFound I.view I.made images.old founds.now }
+    ensures mounts { (before : List I) → IsReadOf I.view I.made before images.old founds.now → MatchResult result
+        (λ mounted. MountsBy A I.view I.made copies.number unclean before images.new founds.now
+        mounted.array mounted.epoch mounted.clean mounted.dies.items (page_view mounted.map))
+        (RefusesMount A I.view I.made copies.number unclean before images.new) }
+    ensures dies { IfOk result (λ mounted. length mounted.dies.items ≡ (page_view mounted.map).geometry.dies) }
+    ensures only_read { AreOnlyRead (map I.view images.old) (map I.view images.new) }
+{
+    let judged = judge(alloc, founds, copies, unclean)?;
     match PageMap::new(alloc, judged.geometry) {
         Ok(map) => scan_slots(alloc, images, judged, map, unclean),
-        Err(_) => Err(of_nobody(MountFault::NoMemory)),
+        Err(_) => Err(MountRefused::of_nobody(MountFault::NoMemory)),
     }
 }

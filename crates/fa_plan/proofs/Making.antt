@@ -71,7 +71,7 @@ module _ {A : Type 0} (batch : List Entry) (current : ℕ) (closed : ℕ → ℕ
           | inr nothing ↦ (let is = none (omega (arith, nothing)) in omega (arith, is))
         ]
 
-    pub begun : IsProgress batch current closed (record { given = given; tables = record { loads = replicate 256 0; rooms = rooms }; walk = walk; number = number; short = short; searches = 0; looks = 0 })
+    pub begun : IsProgress batch current closed (record { given = given; tables = record { loads = replicate 256 0; rooms = rooms }; walk = walk; rounds = number; short = short; searches = 0; looks = 0 })
     begun = record {
       given = subst (λ v. AreGiven batch v (record { loads = replicate 256 0; rooms = rooms })) (sym none_given) (record {
         short = omega arith;
@@ -101,10 +101,10 @@ module _ {A : Type 0} (batch : List Entry) (current : ℕ) (closed : ℕ → ℕ
 
     -- a page more has a die
     pub given_one : (given : Vec Die A) (tables : Tables) → AreGiven batch given.items tables → length given.items ≡ length p.given.items + 1 → tables.rooms ≡ p.tables.rooms
-        → IsProgress batch current closed (record { given = given; tables = tables; walk = walk; number = p.number; short = p.short; searches = p.searches + 1; looks = p.looks + walk.looks })
+        → IsProgress batch current closed (record { given = given; tables = tables; walk = walk; rounds = p.rounds; short = p.short; searches = p.searches + 1; looks = p.looks + walk.looks })
     given_one given tables are longer rooms = record {
       given = are;
-      rooms = subst (λ v. AreRooms current closed p.number v) (sym rooms) is.rooms;
+      rooms = subst (λ v. AreRooms current closed p.rounds v) (sym rooms) is.rooms;
       limit = is.limit;
       shows = is.shows;
       few = λ first bound. let was = is.few first bound in omega (arith, was, longer);
@@ -116,8 +116,8 @@ module _ {A : Type 0} (batch : List Entry) (current : ℕ) (closed : ℕ → ℕ
 
     -- there are more rounds
     pub raised : (given : Vec Die A) (loads rooms : List ℕ) (number : ℕ) (pages : List Page) → given.items ≡ p.given.items → loads ≡ p.tables.loads → AreRooms current closed number rooms
-        → length pages ≤ length batch → IsRaised batch current closed pages p.number number
-        → IsProgress batch current closed (record { given = given; tables = record { loads = loads; rooms = rooms }; walk = walk; number = number; short = pages; searches = p.searches + 1; looks = p.looks + walk.looks })
+        → length pages ≤ length batch → IsRaised batch current closed pages p.rounds number
+        → IsProgress batch current closed (record { given = given; tables = record { loads = loads; rooms = rooms }; walk = walk; rounds = number; short = pages; searches = p.searches + 1; looks = p.looks + walk.looks })
     raised given loads rooms number pages same same_loads are_rooms few_pages up =
         let long = ap (λ v. length v) same in
         let later = up.later in
@@ -131,7 +131,7 @@ module _ {A : Type 0} (batch : List Entry) (current : ℕ) (closed : ℕ → ℕ
                 let was = is.given.within die below in
                 let before = is.rooms die below in
                 let after = are_rooms die below in
-                let grows = open_grows current closed die p.number number (omega (arith, later)) in
+                let grows = open_grows current closed die p.rounds number (omega (arith, later)) in
                 omega (arith, was, before, after, grows);
           });
           rooms = are_rooms;

@@ -16,15 +16,15 @@ pub record AreSeats (batch : List Entry) (given : List Die) (seats : List Seat) 
 module _ {A : Type 0} where
   -- how many steps are left at most: pages that want a die, and rounds that can still be added
   abbrev pub steps_left : List Entry → Progress A → ℕ
-  steps_left batch p = (length batch - length p.given.items) + (length batch + 1048576 - p.number)
+  steps_left batch p = (length batch - length p.given.items) + (length batch + 1048576 - p.rounds)
 
   pub record IsProgress (batch : List Entry) (current : ℕ) (closed : ℕ → ℕ → Bool) (p : Progress A) : Type 0 where
     pub given : AreGiven batch p.given.items p.tables
-    pub rooms : AreRooms current closed p.number p.tables.rooms
-    pub limit : p.number ≤ length batch + 1048576
-    pub shows : ShowsNoFewer batch current closed p.number p.short
-    pub few : (first : ℕ) → IsSimpleBound batch current closed first → p.searches + first ≤ length p.given.items + p.number
-    pub most : p.searches ≤ length p.given.items + p.number
+    pub rooms : AreRooms current closed p.rounds p.tables.rooms
+    pub limit : p.rounds ≤ length batch + 1048576
+    pub shows : ShowsNoFewer batch current closed p.rounds p.short
+    pub few : (first : ℕ) → IsSimpleBound batch current closed first → p.searches + first ≤ length p.given.items + p.rounds
+    pub most : p.searches ≤ length p.given.items + p.rounds
     pub counted : length p.given.items ≤ p.searches
     pub whole : p.searches ≡ length p.given.items → p.short ≡ pages_of batch
     pub looks : p.looks ≤ p.searches * length batch

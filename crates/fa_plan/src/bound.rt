@@ -10,18 +10,23 @@ const MAX_CLOSED: u64 = 1_048_576;
 
 /// The first number of rounds in which the marked dies have open places for so many pages, given a
 /// number that is too low. It is found by bisection.
-pub(crate) fn first_enough<R: Rounds>(rounds: &R, dies: &[bool; 256], pages: usize, low: u64) -> u64
+pub(crate) fn first_enough<R: Rounds>(
+    calendar: &R,
+    dies: &[bool; 256],
+    pages: usize,
+    low: u64,
+) -> u64
     requires few { pages ≤ 1024 }
-    requires early { R.current rounds.now ≤ 2 ^ 56 }
+    requires early { R.current calendar.now ≤ 2 ^ 56 }
     requires some { IsSomeMarked dies.now }
-    requires low { places_of (R.current rounds.now) (R.closed rounds.now) dies.now low < pages }
-    ensures { IsFirstEnough (R.current rounds.now) (R.closed rounds.now) dies.now pages low result }
+    requires low { places_of (R.current calendar.now) (R.closed calendar.now) dies.now low < pages }
+    ensures { IsFirstEnough (R.current calendar.now) (R.closed calendar.now) dies.now pages low result }
 {
     let mut fewer = low;
     let mut enough = pages as u64 + MAX_CLOSED;
     'halves: while 1 < enough - fewer {
         let middle = fewer + (enough - fewer) / 2;
-        if are_more(rounds, middle, dies, pages) {
+        if are_more(calendar, middle, dies, pages) {
             fewer = middle;
         } else {
             enough = middle;
@@ -31,13 +36,13 @@ pub(crate) fn first_enough<R: Rounds>(rounds: &R, dies: &[bool; 256], pages: usi
 }
 
 /// How many of so many rounds are open for each die, by its number.
-pub(crate) fn count_rooms<R: Rounds>(rounds: &R, number: u64) -> [u64; 256]
-    requires { R.current rounds.now + number < 2 ^ 64 }
-    ensures { AreRooms (R.current rounds.now) (R.closed rounds.now) number result }
+pub(crate) fn count_rooms<R: Rounds>(calendar: &R, rounds: u64) -> [u64; 256]
+    requires { R.current calendar.now + rounds < 2 ^ 64 }
+    ensures { AreRooms (R.current calendar.now) (R.closed calendar.now) rounds result }
 {
     let mut rooms = [0; 256];
     for die in 0..256usize {
-        rooms[die] = rounds.open_count(Die(die as u8), number);
+        rooms[die] = calendar.open_count(Die(die as u8), rounds);
     }
     rooms
 }

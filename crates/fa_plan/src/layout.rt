@@ -16,20 +16,20 @@ pub(crate) struct Seat {
 /// The places of pages that rise, each in the first open round of its die that no earlier one takes.
 pub(crate) fn lay_out<R: Rounds, A: Allocator>(
     alloc: A,
-    rounds: &R,
+    calendar: &R,
     seats: &[Seat],
 ) -> Result<Places<A>, AllocError>
     requires few { length seats.now ≤ 1024 }
-    requires early { R.current rounds.now ≤ 2 ^ 56 }
+    requires early { R.current calendar.now ≤ 2 ^ 56 }
     requires rising { AreRising seats.now }
-    ensures { IfOk result (λ places. IsLaidOut (R.current rounds.now) (R.closed rounds.now) seats.now places) }
+    ensures { IfOk result (λ places. IsLaidOut (R.current calendar.now) (R.closed calendar.now) seats.now places) }
 {
     let mut taken = [0u64; 256];
     let mut places = Listing::new(alloc);
     for seat in seats {
         let turn = taken[seat.die.0 as usize] + 1;
         taken[seat.die.0 as usize] = turn;
-        let round = rounds.nth_open(seat.die, turn);
+        let round = calendar.nth_open(seat.die, turn);
         places.push(Place {
             page: seat.page,
             die: seat.die,

@@ -43,7 +43,7 @@ pub(crate) struct Progress<A: Allocator> {
     /// What the last search reached.
     pub(crate) walk: Walk,
     /// A number of rounds that no plan goes below.
-    pub(crate) number: u64,
+    pub(crate) rounds: u64,
     /// The pages that show that.
     pub(crate) short: Shortage<A>,
     pub(crate) searches: u64,
@@ -56,53 +56,53 @@ pub(crate) struct Progress<A: Allocator> {
 pub fn plan<R: Rounds, A: Allocator + Copy>(
     alloc: A,
     batch: &Batch<A>,
-    rounds: &R,
+    calendar: &R,
 ) -> Result<Planned<A>, AllocError>
     requires sound { IsSound batch.now }
-    requires early { R.current rounds.now ≤ 2 ^ 56 - 2 ^ 24 }
-    ensures certificate { IfOk result (λ planned. IsCertificate batch.now (R.current rounds.now) (R.closed rounds.now)
+    requires early { R.current calendar.now ≤ 2 ^ 56 - 2 ^ 24 }
+    ensures certificate { IfOk result (λ planned. IsCertificate batch.now (R.current calendar.now) (R.closed calendar.now)
         planned.rounds planned.plan.places planned.shortage) }
     ensures rounds { IfOk result (λ planned. planned.plan.rounds ≡ planned.rounds) }
-    ensures first { IfOk result (λ planned. AreFirstRounds (R.current rounds.now) (R.closed rounds.now) planned.plan.places) }
-    ensures searches { IfOk result (λ planned. (first : ℕ) → IsSimpleBound batch.now (R.current rounds.now) (R.closed rounds.now) first
+    ensures first { IfOk result (λ planned. AreFirstRounds (R.current calendar.now) (R.closed calendar.now) planned.plan.places) }
+    ensures searches { IfOk result (λ planned. (first : ℕ) → IsSimpleBound batch.now (R.current calendar.now) (R.closed calendar.now) first
         → planned.searches + first ≤ length batch.now + planned.rounds) }
     ensures most { IfOk result (λ planned. planned.searches ≤ length batch.now + planned.rounds) }
     ensures counted { IfOk result (λ planned. length batch.now ≤ planned.searches) }
     ensures whole { IfOk result (λ planned. planned.searches ≡ length batch.now → planned.shortage ≡ pages_of batch.now) }
     ensures looks { IfOk result (λ planned. planned.looks ≤ planned.searches * length batch.now) }
 {
-    let mut progress = begin(alloc, batch, rounds)?;
+    let mut progress = begin(alloc, batch, calendar)?;
     'pages: while progress.given.len() < batch.len() {
-        step(alloc, batch, rounds, &mut progress)?;
+        step(alloc, batch, calendar, &mut progress)?;
     }
-    finish(alloc, batch, rounds, progress)
+    finish(alloc, batch, calendar, progress)
 }
 
 /// A plan of no page yet, in the number of rounds that the batch as a whole needs.
 fn begin<R: Rounds, A: Allocator + Copy>(
     alloc: A,
     batch: &Batch<A>,
-    rounds: &R,
+    calendar: &R,
 ) -> Result<Progress<A>, AllocError>
     requires sound { IsSound batch.now }
-    requires early { R.current rounds.now ≤ 2 ^ 56 - 2 ^ 24 }
-    ensures { IfOk result (λ progress. IsProgress batch.now (R.current rounds.now) (R.closed rounds.now) progress) }
+    requires early { R.current calendar.now ≤ 2 ^ 56 - 2 ^ 24 }
+    ensures { IfOk result (λ progress. IsProgress batch.now (R.current calendar.now) (R.closed calendar.now) progress) }
 {
     let short = all_pages(alloc, batch)?;
-    let mut number = 0;
+    let mut rounds = 0;
     if 0 < batch.len() {
-        number = rounds_for(batch, rounds, short.as_slice(), 0);
+        rounds = rounds_for(batch, calendar, short.as_slice(), 0);
     }
     let given = Vec::with_capacity(alloc, batch.len())?;
     let tables = Tables {
         loads: [0; 256],
-        rooms: count_rooms(rounds, number),
+        rooms: count_rooms(calendar, rounds),
     };
     Ok(Progress {
         given,
         tables,
         walk: Walk::new(),
-        number,
+        rounds,
         short,
         searches: 0,
         looks: 0,
@@ -114,14 +114,14 @@ fn begin<R: Rounds, A: Allocator + Copy>(
 fn step<R: Rounds, A: Allocator + Copy>(
     alloc: A,
     batch: &Batch<A>,
-    rounds: &R,
+    calendar: &R,
     progress: &mut Progress<A>,
 ) -> Result<(), AllocError>
     requires sound { IsSound batch.now }
-    requires early { R.current rounds.now ≤ 2 ^ 56 - 2 ^ 24 }
-    requires progress { IsProgress batch.now (R.current rounds.now) (R.closed rounds.now) progress.old }
+    requires early { R.current calendar.now ≤ 2 ^ 56 - 2 ^ 24 }
+    requires progress { IsProgress batch.now (R.current calendar.now) (R.closed calendar.now) progress.old }
     requires next { length progress.old.given.items < length batch.now }
-    ensures progress { OnOk result (IsProgress batch.now (R.current rounds.now) (R.closed rounds.now) progress.new) }
+    ensures progress { OnOk result (IsProgress batch.now (R.current calendar.now) (R.closed calendar.now) progress.new) }
     ensures nearer { OnOk result (steps_left batch.now progress.new < steps_left batch.now progress.old) }
 {
     let is_given = give(
@@ -134,8 +134,8 @@ fn step<R: Rounds, A: Allocator + Copy>(
     progress.looks += progress.walk.looks;
     if !is_given {
         let pages = reached_pages(alloc, batch, progress.given.as_slice(), &progress.walk)?;
-        progress.number = rounds_for(batch, rounds, pages.as_slice(), progress.number);
-        progress.tables.rooms = count_rooms(rounds, progress.number);
+        progress.rounds = rounds_for(batch, calendar, pages.as_slice(), progress.rounds);
+        progress.tables.rooms = count_rooms(calendar, progress.rounds);
         progress.short = pages;
     }
     Ok(())
@@ -145,28 +145,28 @@ fn step<R: Rounds, A: Allocator + Copy>(
 fn finish<R: Rounds, A: Allocator + Copy>(
     alloc: A,
     batch: &Batch<A>,
-    rounds: &R,
+    calendar: &R,
     progress: Progress<A>,
 ) -> Result<Planned<A>, AllocError>
     requires sound { IsSound batch.now }
-    requires early { R.current rounds.now ≤ 2 ^ 56 - 2 ^ 24 }
-    requires progress { IsProgress batch.now (R.current rounds.now) (R.closed rounds.now) progress }
+    requires early { R.current calendar.now ≤ 2 ^ 56 - 2 ^ 24 }
+    requires progress { IsProgress batch.now (R.current calendar.now) (R.closed calendar.now) progress }
     requires done { length batch.now ≤ length progress.given.items }
-    ensures certificate { IfOk result (λ planned. IsCertificate batch.now (R.current rounds.now) (R.closed rounds.now)
+    ensures certificate { IfOk result (λ planned. IsCertificate batch.now (R.current calendar.now) (R.closed calendar.now)
         planned.rounds planned.plan.places planned.shortage) }
-    ensures first { IfOk result (λ planned. AreFirstRounds (R.current rounds.now) (R.closed rounds.now) planned.plan.places) }
-    ensures rounds { IfOk result (λ planned. planned.rounds ≡ progress.number) }
-    ensures plan { IfOk result (λ planned. planned.plan.rounds ≡ progress.number) }
+    ensures first { IfOk result (λ planned. AreFirstRounds (R.current calendar.now) (R.closed calendar.now) planned.plan.places) }
+    ensures rounds { IfOk result (λ planned. planned.rounds ≡ progress.rounds) }
+    ensures plan { IfOk result (λ planned. planned.plan.rounds ≡ progress.rounds) }
     ensures shortage { IfOk result (λ planned. planned.shortage ≡ progress.short) }
     ensures searches { IfOk result (λ planned. planned.searches ≡ progress.searches) }
     ensures looks { IfOk result (λ planned. planned.looks ≡ progress.looks) }
 {
     let seats = seats_of(alloc, batch, progress.given.as_slice())?;
-    let places = lay_out(alloc, rounds, seats.as_slice())?;
+    let places = lay_out(alloc, calendar, seats.as_slice())?;
     Ok(Planned {
-        rounds: progress.number,
+        rounds: progress.rounds,
         plan: Plan {
-            rounds: progress.number,
+            rounds: progress.rounds,
             places,
         },
         shortage: progress.short,

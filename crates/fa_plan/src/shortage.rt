@@ -49,18 +49,18 @@ pub(crate) fn reached_pages<A: Allocator + Copy>(
 /// them, given a number that is too low.
 pub(crate) fn rounds_for<R: Rounds, A: Allocator>(
     batch: &Batch<A>,
-    rounds: &R,
+    calendar: &R,
     pages: &[Page],
     low: u64,
 ) -> u64
     requires fine { AreFine batch.now }
-    requires early { R.current rounds.now ≤ 2 ^ 56 }
+    requires early { R.current calendar.now ≤ 2 ^ 56 }
     requires named { AreNamed batch.now pages.now }
     requires some { 0 < length pages.now }
     requires few { length pages.now ≤ 1024 }
-    requires low { AreTooFew batch.now (R.current rounds.now) (R.closed rounds.now) low pages.now }
-    ensures { IsRaised batch.now (R.current rounds.now) (R.closed rounds.now) pages.now low result }
+    requires low { AreTooFew batch.now (R.current calendar.now) (R.closed calendar.now) low pages.now }
+    ensures { IsRaised batch.now (R.current calendar.now) (R.closed calendar.now) pages.now low result }
 {
     let dies = holders_of(batch, pages);
-    first_enough(rounds, &dies, pages.len(), low)
+    first_enough(calendar, &dies, pages.len(), low)
 }

@@ -1,4 +1,3 @@
-pub mod DumpLines
 pub mod Lines
 pub mod PlanLemmas
 pub mod TalkLemmas

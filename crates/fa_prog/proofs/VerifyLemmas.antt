@@ -6,17 +6,17 @@ use Rattle.std.proofs.lemmas.List.Elements.{All-nil, All-cons, All-head, All-tai
 use Rattle.fa_types.specs.declared.numbers.Page.{Page}
 use Rattle.fa_cert.specs.declared.closed.Run.{Run}
 use Rattle.fa_cert.specs.declared.plan.Place.{Place}
-use Rattle.fa_cert.specs.declared.text.TextError.{TextError}
-use Rattle.fa_cert.specs.declared.text.TextError.TheVariants.{Line, NoMemory}
-use Rattle.fa_cert.specs.declared.text.batch_text.BatchText.{BatchText}
+use Rattle.fa_texts.specs.declared.text_error.TextError.{TextError}
+use Rattle.fa_texts.specs.declared.text_error.TextError.TheVariants.{Line, NoMemory}
+use Rattle.fa_texts.specs.declared.batch_text.BatchText.{BatchText}
 use Rattle.fa_cert.specs.declared.verdict.Verdict.{Verdict as CheckVerdict}
 use Rattle.fa_cert.specs.Batch.{Entry, AreFine}
 use Rattle.fa_cert.specs.Closed.{current_of, is_closed}
 use Rattle.fa_cert.specs.Runs.{any_closes}
 use Rattle.fa_cert.specs.Verdict.{IsVerdict}
-use Rattle.fa_cert.specs.BatchText.{IsBatchText, IsRead, StartsWithBatch, closed_line, end_line, page_line}
-use Rattle.fa_cert.specs.CertificateText.{HasPlaceLine, IsCertificateText, IsSomeCertificate, certificate_lines}
-use Rattle.fa_cert.specs.Text.{Begins, GoesWrong, IsFirstWrongLine, IsTextError, words_by_line, words_of}
+use Rattle.fa_texts.specs.BatchText.{IsBatchText, IsRead, StartsWithBatch, closed_line, end_line, page_line}
+use Rattle.fa_texts.specs.CertificateText.{HasPlaceLine, IsCertificateText, IsSomeCertificate, certificate_lines}
+use Rattle.fa_texts.specs.Text.{Begins, GoesWrong, IsFirstWrongLine, IsTextError, words_by_line, words_of}
 use Rattle.fa_io.specs.Lines.{lines_of}
 use Rattle.fa_prog.specs.Verify.{AreTexts, AreSomeTexts, IsJudged}
 use Rattle.fa_prog.specs.declared.verify.Judged.TheVariants.{Verdict}

@@ -1,6 +1,4 @@
-pub mod Array
 pub mod HexLines
-pub mod Look
 pub mod Output
 pub mod Plan
 pub mod Program

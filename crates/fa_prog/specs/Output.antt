@@ -6,15 +6,7 @@ use Rattle.std.specs.declared.io.ErrorKind.TheVariants.{Interrupted, OutOfMemory
 use Rattle.clap.specs.declared.error.kind.ErrorKind.{ErrorKind as Finding}
 use Rattle.clap.specs.declared.error.kind.ErrorKind.TheVariants.{DisplayHelp, DisplayVersion, OutOfMemory as NoMemoryFound}
 use Rattle.fa_io.specs.Streams.{Streams, IsCut, Reads}
-
--- What printing a text comes to: it is printed, and the run ends with the status that is meant; or a write
--- fails, a prefix of the text is printed, and the status is 1.
-abbrev pub Prints : List ℕ → ℕ → Option (List ℕ) → Option (List ℕ) → ℕ → Type 0
-Prints text meant old new status = ((status ≡ meant) × Appends old new text) ⊎ ((status ≡ 1) × IsCut old new text)
-
--- What is printed where memory was refused.
-abbrev pub TellsNoMemory : Option (List ℕ) → Option (List ℕ) → ℕ → Type 0
-TellsNoMemory old new status = Prints (codes "no memory" ++ 10 ∷ []) 1 old new status
+use Rattle.fa_admin.specs.Printing.{Prints, TellsNoMemory}
 
 -- What a command prints whose input could not be read to its end, by the kind of the error: that memory was
 -- refused, or that the input cannot be read.

@@ -5,14 +5,15 @@ use Rattle.fa_cert.specs.declared.batch.Unsound.{Unsound as BatchUnsound}
 use Rattle.fa_cert.specs.declared.closed.Run.{Run}
 use Rattle.fa_cert.specs.declared.plan.Place.{Place}
 use Rattle.fa_cert.specs.Batch.{Entry, IsSound, IsFirstWrong}
-use Rattle.fa_cert.specs.BatchText.{IsBatchText}
+use Rattle.fa_texts.specs.BatchText.{IsBatchText}
 use Rattle.fa_cert.specs.Certificate.{IsCertificate}
-use Rattle.fa_cert.specs.CertificateText.{IsPrinted}
+use Rattle.fa_texts.specs.CertificateText.{IsPrinted}
 use Rattle.fa_cert.specs.Plan.{AreFirstRounds}
 use Rattle.fa_cert.specs.Runs.{any_closes}
-use Rattle.fa_cert.specs.Text.{IsFirstWrongLine, words_by_line}
+use Rattle.fa_texts.specs.Text.{IsFirstWrongLine, words_by_line}
 use Rattle.fa_io.specs.Streams.{Streams}
-use Rattle.fa_prog.specs.Output.{Prints, RunsOver}
+use Rattle.fa_admin.specs.Printing.{Prints}
+use Rattle.fa_prog.specs.Output.{RunsOver}
 use Rattle.fa_prog.specs.Verify.{judged_text}
 use Rattle.fa_prog.specs.declared.plan.PlanFault.{PlanFault}
 use Rattle.fa_prog.specs.declared.plan.PlanFault.TheVariants.{Line, NoMemory, Unsound}

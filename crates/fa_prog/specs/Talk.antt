@@ -8,7 +8,8 @@ use Rattle.fa_session.specs.Session.{Session}
 use Rattle.fa_session.specs.declared.session_end.SessionEnd.{SessionEnd}
 use Rattle.fa_prog.specs.HexLines.{bytes_of_text}
 use Rattle.fa_io.specs.Streams.{Streams}
-use Rattle.fa_prog.specs.Output.{Prints, RunsOver}
+use Rattle.fa_admin.specs.Printing.{Prints}
+use Rattle.fa_prog.specs.Output.{RunsOver}
 
 -- a reader that has these bytes left before and after, and a writer that holds these before and after
 abbrev pub known : List ℕ → List ℕ → List ℕ → List ℕ → Streams

@@ -7,13 +7,14 @@ use Rattle.fa_cert.specs.declared.closed.Run.{Run}
 use Rattle.fa_cert.specs.declared.plan.Place.{Place}
 use Rattle.fa_cert.specs.declared.verdict.Verdict.TheVariants.{Least, Refused}
 use Rattle.fa_cert.specs.Batch.{Entry, IsSound, IsFirstWrong}
-use Rattle.fa_cert.specs.BatchText.{IsBatchText}
-use Rattle.fa_cert.specs.CertificateText.{IsCertificateText}
+use Rattle.fa_texts.specs.BatchText.{IsBatchText}
+use Rattle.fa_texts.specs.CertificateText.{IsCertificateText}
 use Rattle.fa_cert.specs.Runs.{any_closes}
-use Rattle.fa_cert.specs.Text.{words_by_line, IsFirstWrongLine}
+use Rattle.fa_texts.specs.Text.{words_by_line, IsFirstWrongLine}
 use Rattle.fa_cert.specs.Verdict.{IsVerdict, verdict_text}
 use Rattle.fa_io.specs.Streams.{Streams}
-use Rattle.fa_prog.specs.Output.{Prints, RunsOver}
+use Rattle.fa_admin.specs.Printing.{Prints}
+use Rattle.fa_prog.specs.Output.{RunsOver}
 use Rattle.fa_prog.specs.declared.verify.Judged.{Judged}
 use Rattle.fa_prog.specs.declared.verify.Judged.TheVariants.{Line, Unsound, Verdict}
 

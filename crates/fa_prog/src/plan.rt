@@ -1,13 +1,15 @@
 //! The command `plan`.
 ghost use Rattle.std.specs.Prelude.{◌≡◌, ◌⊎◌, IfOk, IfErr, string_bytes};
 ghost use Rattle.fa_io.specs.Streams.{between};
-ghost use Rattle.fa_prog.specs.Output.{TellsNoMemory};
+ghost use Rattle.fa_admin.specs.Printing.{TellsNoMemory};
 ghost use Rattle.fa_prog.specs.Plan.{IsPlanFault, IsPlanText, RunsPlan, TellsPlan};
 
 use crate::input::read_input;
-use crate::output::{DONE, FAULTY, print, refuse_for_memory, refuse_input};
+use crate::output::refuse_input;
 use crate::verify::{Judged, told};
-use fa_cert::{TextError, Unsound, read_batch};
+use fa_admin::printing::{DONE, FAULTY, print, refuse_for_memory};
+use fa_cert::Unsound;
+use fa_texts::{TextError, read_batch};
 use std::alloc::{AllocError, Allocator};
 use std::io::{Read, Write};
 
@@ -82,6 +84,6 @@ fn plan_text<A: Allocator + Copy>(alloc: A, text: &[u8]) -> Result<String<A>, Pl
         return Err(PlanFault::Unsound(unsound));
     }
     let planned = fa_plan::plan(alloc, &found.batch, &found.closed)?;
-    let out = fa_cert::print(alloc, &planned.plan, &planned.shortage)?;
+    let out = fa_texts::print(alloc, &planned.plan, &planned.shortage)?;
     Ok(out)
 }

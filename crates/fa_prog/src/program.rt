@@ -4,19 +4,18 @@ ghost use Rattle.std.specs.IoError.{error_kind};
 ghost use Rattle.std.specs.Vec.Iter.{into_iter_items};
 ghost use Rattle.fa_io.specs.Streams.{between};
 ghost use Rattle.clap.specs.Values.{kind_of};
-ghost use Rattle.fa_prog.specs.Output.{ShowsUsage, ShowsText, ShowsMistake, RefusesArguments, TellsNoMemory};
+ghost use Rattle.fa_admin.specs.Printing.{TellsNoMemory};
+ghost use Rattle.fa_prog.specs.Output.{ShowsUsage, ShowsText, ShowsMistake, RefusesArguments};
 ghost use Rattle.fa_prog.specs.Program.{Runs};
 
-use crate::format::run_format;
-use crate::host::Host;
-use crate::look::{Asked, Look, run_look};
-use crate::output::{DONE, FAULTY, print, refuse_for_memory};
 use crate::plan::run_plan;
 use crate::status::Status;
 use crate::talk::run_talk;
 use crate::verify::run_verify;
 use clap::Error;
 use clap::error::ErrorKind as Finding;
+use fa_admin::printing::{DONE, FAULTY, print, refuse_for_memory};
+use fa_admin::{Asked, Host, Look, run_format, run_look};
 use fa_io::send_all;
 use fa_settings::{Subcommand, command};
 use std::alloc::{AllocError, Allocator, Global};
@@ -37,7 +36,7 @@ pub fn start<H: Host, R: Read, W: Write, A: Allocator + Copy>(
     input: &mut R,
     output: &mut W,
 ) -> Status
-    ensures given { IfOk arguments (λ all. Runs (map string_bytes (drop 1 (into_iter_items all)))
+    ensures given { IfOk arguments (λ all. Runs A (map string_bytes (drop 1 (into_iter_items all)))
         (between (R.remaining input.old) (R.remaining input.new)
         (W.contents output.old) (W.contents output.new)) result.number
         ⊎ TellsNoMemory (W.contents output.old) (W.contents output.new) result.number) }
@@ -85,11 +84,11 @@ pub fn run<H: Host, R: Read, W: Write, A: Allocator + Copy>(
     output: &mut W,
 ) -> u8
     ensures { let streams = between (R.remaining input.old) (R.remaining input.new) (W.contents output.old) (W.contents output.new) in
-        Runs (map string_bytes arguments.now) streams result }
+        Runs A (map string_bytes arguments.now) streams result }
 {
     match command(rt.alloc(), arguments) {
         Ok(Some(Subcommand::Format { settings, die })) => {
-            run_format(rt, alloc, settings, die, watched, output)
+            run_format(rt, alloc, settings, die, output)
         }
         Ok(
             Some(

@@ -3,12 +3,13 @@ ghost use Rattle.std.specs.Prelude.{◌≡◌, ◌⊎◌, IfOk, IfErr, codes, st
 ghost use Rattle.fa_session.specs.Ends.{end_number};
 ghost use Rattle.fa_io.specs.Streams.{between};
 ghost use Rattle.fa_prog.specs.HexLines.{bytes_of_text, IsFault};
-ghost use Rattle.fa_prog.specs.Output.{TellsNoMemory};
+ghost use Rattle.fa_admin.specs.Printing.{TellsNoMemory};
 ghost use Rattle.fa_prog.specs.Talk.{Talks, TellsTalk, RunsTalk, talk_text as text_of, line_text as text_of_line};
 
 use crate::hex_lines::{TextFault, read_hex_lines};
 use crate::input::read_input;
-use crate::output::{DONE, FAULTY, print, refuse_for_memory, refuse_input};
+use crate::output::refuse_input;
+use fa_admin::printing::{DONE, FAULTY, print, refuse_for_memory};
 use fa_session::{SessionEnd, serve_stream};
 use fa_types::MemBlocks;
 use std::alloc::{AllocError, Allocator};

@@ -1,13 +1,15 @@
 //! The command `verify`.
 ghost use Rattle.std.specs.Prelude.{◌≡◌, ◌⊎◌, IfOk, IfErr, string_bytes};
-ghost use Rattle.fa_cert.specs.Text.{IsTextError, words_by_line};
+ghost use Rattle.fa_texts.specs.Text.{IsTextError, words_by_line};
 ghost use Rattle.fa_io.specs.Streams.{between};
-ghost use Rattle.fa_prog.specs.Output.{TellsNoMemory};
+ghost use Rattle.fa_admin.specs.Printing.{TellsNoMemory};
 ghost use Rattle.fa_prog.specs.Verify.{AreSomeTexts, IsJudged, TellsVerify, RunsVerify, judged_status, judged_text};
 
 use crate::input::read_input;
-use crate::output::{DONE, FAULTY, REFUSED, print, refuse_for_memory, refuse_input};
-use fa_cert::{TextError, Unsound, Verdict, check, read_batch, read_certificate};
+use crate::output::refuse_input;
+use fa_admin::printing::{DONE, FAULTY, REFUSED, print, refuse_for_memory};
+use fa_cert::{Unsound, Verdict, check};
+use fa_texts::{TextError, read_batch, read_certificate};
 use std::alloc::{AllocError, Allocator};
 use std::io::{Read, Write};
 

@@ -1,4 +1,5 @@
 pub mod CommandLine
+pub mod FaultLines
 pub mod Faults
 pub mod Keys
 pub mod Meanings

@@ -2,33 +2,51 @@
 use crate::Key;
 use fa_types::GeometryFault;
 use std::alloc::{AllocError, AllocFailed, Allocator};
-use thiserror::Error;
+use std::error::Error;
+use std::fmt;
 
 /// Why a text is not read. What it displays is its line for standard output.
-#[derive(Debug, Drop, Error)]
+#[derive(Debug, Drop)]
 pub enum SettingsFault<A: Allocator> {
     /// Fault 1: the text is not UTF-8 or not TOML.
-    #[error("settings: 1")]
     NotToml,
     /// Fault 2: this key is missing.
-    #[error("settings: 2 {0}")]
     Missing(Key),
     /// Fault 3: this key has a value of another type, or `images` a member that is no string.
-    #[error("settings: 3 {0}")]
     WrongType(Key),
     /// Fault 4: there is no key of this name; of such names it is the first by its bytes.
-    #[error("settings: 4 {0}")]
     Unknown(String<A>),
     /// Fault 5: what this key has is outside its limits.
-    #[error("settings: 5 {0}")]
     OutsideLimits(Key),
     /// Fault 6: each number is within its limits, and they do not go together.
-    #[error("settings: 6 {number}", number = .0.number())]
     Geometry(GeometryFault),
     /// Fault 7: memory was refused.
-    #[error("settings: 7")]
     NoMemory,
 }
+
+impl<A: Allocator> fmt::Display for SettingsFault<A> {
+    ghost use Rattle.std.specs.Prelude.{Some};
+    ghost use Rattle.fa_settings.specs.FaultLines.{fault_line};
+
+    ghost output = { λ fault. Some (fault_line fault) };
+
+    fn fmt<W: fmt::Write>(&self, f: &mut fmt::Formatter<W>) -> fmt::Result {
+        match self {
+            SettingsFault::NotToml => f.write_str("settings: 1"),
+            SettingsFault::Missing(key) => write!(f, "settings: 2 {key}"),
+            SettingsFault::WrongType(key) => write!(f, "settings: 3 {key}"),
+            SettingsFault::Unknown(name) => write!(f, "settings: 4 {name}"),
+            SettingsFault::OutsideLimits(key) => write!(f, "settings: 5 {key}"),
+            SettingsFault::Geometry(fault) => {
+                let number = fault.number();
+                write!(f, "settings: 6 {number}")
+            }
+            SettingsFault::NoMemory => f.write_str("settings: 7"),
+        }
+    }
+}
+
+impl<A: Allocator + fmt::Debug> Error for SettingsFault<A> {}
 
 impl<A: Allocator> From<AllocError> for SettingsFault<A> {
     ghost use Rattle.std.specs.Prelude.{◌≡◌};

@@ -97,6 +97,10 @@ const KEYS: [Key; 13] = [
 ];
 
 impl fmt::Display for Key {
+    ghost use Rattle.std.specs.Prelude.{Some};
+
+    ghost output = { λ key. Some (name_of key) };
+
     fn fmt<W: fmt::Write>(&self, f: &mut fmt::Formatter<W>) -> fmt::Result {
         f.write_str(self.name())
     }

@@ -1,15 +1,16 @@
 //! From a text to settings, fault by fault.
-ghost use Rattle.std.specs.Prelude.{IfOk, IfErr};
-ghost use Rattle.toml.specs.View.{table_view};
-ghost use Rattle.fa_settings.specs.Faults.{AllKnown};
+ghost use Rattle.std.specs.Prelude.{◌≡◌, IfOk, IfErr, option_map};
+ghost use Rattle.toml.specs.Data.{Members};
+ghost use Rattle.toml.specs.View.{table_view, view};
+ghost use Rattle.fa_settings.specs.Faults.{AllKnown, held};
 ghost use Rattle.fa_settings.specs.Settings.{IsDocument, IsFault, IsFaultOf, AreSettings};
 
 use crate::shape::{judge, shape_at};
 use crate::table::{number_at, value_at};
 use crate::values::{copies_at, export_at, identity_at, images_at, listen_at};
 use crate::{Key, Settings, SettingsFault};
-use std::alloc::{AllocError, Allocator, Global};
-use toml::Table;
+use std::alloc::{Allocator, Global};
+use toml::{Table, Value};
 
 /// The table that a text is.
 pub(crate) fn read_table<A: Allocator>(
@@ -59,13 +60,17 @@ pub(crate) fn settings_of<A: Allocator + Copy>(
     })
 }
 
-/// What a text has at a key, as TOML spells it, or `nothing`.
-pub fn found_at(global: Global, text: &[u8], key: Key) -> Result<String, AllocError> {
-    match read_table::<Global>(global, text) {
-        Ok(table) => match value_at(&table, key) {
-            Some(value) => value.to_string(global),
-            None => String::from_str(global, "nothing"),
-        },
-        Err(_) => Err(AllocError),
+/// The value that a text has at a key, where it has one. The error is out of memory, or that the text is no TOML.
+pub fn found_at(
+    global: Global,
+    text: &[u8],
+    key: Key,
+) -> Result<Option<Value>, SettingsFault<Global>>
+    ensures { IfOk result (λ found. (document : Members) × IsDocument text.now document × (option_map view found ≡ held document key)) }
+{
+    let table = read_table(global, text)?;
+    match value_at(&table, key) {
+        Some(value) => Ok(Some(value.clone()?)),
+        None => Ok(None),
     }
 }

@@ -3,7 +3,6 @@
 #![tactic(auto)]
 
 mod fields;
-mod hashed;
 mod header;
 pub mod laws;
 mod numbers;

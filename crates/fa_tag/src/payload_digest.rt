@@ -4,9 +4,9 @@ ghost use Rattle.sha2.specs.Sha256.{sha256};
 ghost use Rattle.fa_tag.specs.SlotGrammar.{IsTag, IsPayloadOf, slot_2};
 
 use crate::fields::{FIELD_BYTES, newest_fields};
-use crate::hashed::Hashed;
 use crate::numbers::join;
 use crate::tag::Tag;
+use fa_ghost::History;
 use sha2::{Digest, Sha256};
 use std::marker::Model;
 
@@ -16,7 +16,7 @@ use std::marker::Model;
 #[derive(Drop)]
 pub struct PayloadDigest {
     hasher: Sha256,
-    hashed: Hashed,
+    hashed: History<Bytes>,
 }
 
 impl Model for PayloadDigest {
@@ -25,9 +25,9 @@ impl Model for PayloadDigest {
 
     ghost Value = { List ℕ };
 
-    ghost view = { λ digest. digest.hashed.bytes };
+    ghost view = { λ digest. digest.hashed.shown };
 
-    ghost invariant = { λ digest. Holds256 digest.hasher digest.hashed.bytes };
+    ghost invariant = { λ digest. Holds256 digest.hasher digest.hashed.shown };
 }
 
 impl PayloadDigest {
@@ -37,7 +37,7 @@ impl PayloadDigest {
     {
         let mut hasher = Sha256::new();
         hasher.update(payload);
-        let hashed = Hashed::of_piece(payload);
+        let hashed = History::begin(&payload);
         PayloadDigest { hasher, hashed }
     }
 
@@ -63,6 +63,17 @@ impl PayloadDigest {
         hasher.update(fields);
         hasher.finalize()
     }
+}
+
+/// Bytes, for a history that shows them. No value of it is made.
+struct Bytes {}
+
+impl Model for Bytes {
+    ghost use Rattle.std.specs.Prelude.{List, ℕ, []};
+
+    ghost Value = { List ℕ };
+
+    ghost view = { λ _. [] };
 }
 
 /// A hasher in the same state.

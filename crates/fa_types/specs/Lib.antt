@@ -4,3 +4,4 @@ pub mod MemoryMeets
 pub mod Open
 pub mod Plain
 pub mod Store
+pub mod Windows

@@ -12,6 +12,7 @@ mod mem_blocks;
 mod numbers;
 mod rounds;
 mod sizes;
+mod window;
 
 pub use blocks::{BlockFault, Blocks};
 pub use copies::Copies;
@@ -21,3 +22,4 @@ pub use mem_blocks::MemBlocks;
 pub use numbers::{Die, Page, Round, Seq, Slot};
 pub use rounds::Rounds;
 pub use sizes::{HEADER_BYTES, TAG_BYTES};
+pub use window::Window;

@@ -55,10 +55,10 @@ fn times_of<R: Rounds>(
     rt: &impl Clock,
     alloc: Global,
     batch: &Batch,
-    rounds: &R,
+    calendar: &R,
 ) -> io::Result<Times>
     requires sound { IsSound batch.now }
-    requires early { R.current rounds.now ≤ 2 ^ 56 - 2 ^ 24 }
+    requires early { R.current calendar.now ≤ 2 ^ 56 - 2 ^ 24 }
 {
     let mut times = Times {
         planning: Duration::MAX,
@@ -69,9 +69,9 @@ fn times_of<R: Rounds>(
     };
     for _ in 0..TURNS {
         let start = Instant::now(rt)?;
-        let planned = plan(alloc, batch, rounds)?;
+        let planned = plan(alloc, batch, calendar)?;
         let made = Instant::now(rt)?;
-        let verdict = check(alloc, batch, rounds, &planned.plan, &planned.shortage)?;
+        let verdict = check(alloc, batch, calendar, &planned.plan, &planned.shortage)?;
         let checked = Instant::now(rt)?;
         times.planning = times.planning.min(made.duration_since(start));
         times.checking = times.checking.min(checked.duration_since(made));

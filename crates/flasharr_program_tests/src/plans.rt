@@ -1,136 +1,14 @@
-//! Batches that were planned by hand, each plan checked by `verify` too.
+//! What the planner counts of its searches.
 ghost use Rattle.std.specs.Prelude.{◌≡◌, IfOk};
 ghost use Rattle.fa_cert.specs.Closed.{current_of};
 
-use crate::arguments::printed;
 use crate::cert::checked;
 use fa_cert::{Batch, Closed, Verdict, end_soon};
 use fa_plan::{Planned, plan};
-use fa_prog::Host;
 use fa_types::{Die, Page, Round};
 use flasharr_tests::ensure;
 use std::alloc::Global;
 use std::test::Fail;
-
-/// Plans a batch text, and has `verify` read it with its plan behind it.
-fn plans(rt: &impl Host, text: &str, least: &str) -> Result<Vec<u8>, Fail> {
-    let (status, told) = printed(rt, &["plan"], text)?;
-    ensure!(status == 0, at text);
-    let both = format!(in rt.alloc(); "{text}{}", str::from_utf8(&told)?)?;
-    let (status, verdict) = printed(rt, &["verify"], both.as_str())?;
-    ensure!(status == 0, at text);
-    ensure!(verdict.as_slice() == least.as_bytes(), at text);
-    Ok(told)
-}
-
-/// Tries `plan` on a text with one plan alone.
-fn prints(rt: &impl Host, text: &str, least: &str, told: &str) -> Result<(), Fail> {
-    let output = plans(rt, text, least)?;
-    ensure!(output.as_slice() == told.as_bytes(), at text);
-    Ok(())
-}
-
-/// Tries `plan` on a text of which the first and the last lines of the plan are known.
-fn prints_between(rt: &impl Host, text: &str, least: &str, ends: (&str, &str)) -> Result<(), Fail> {
-    let output = plans(rt, text, least)?;
-    ensure!(output.as_slice().starts_with(ends.0.as_bytes()), at text);
-    ensure!(output.as_slice().ends_with(ends.1.as_bytes()), at text);
-    Ok(())
-}
-
-/// Tries `plan` on a text that it refuses.
-fn refuses(rt: &impl Host, text: &str, told: &str) -> Result<(), Fail> {
-    let (status, output) = printed(rt, &["plan"], text)?;
-    ensure!(status == 2, at text);
-    ensure!(output.as_slice() == told.as_bytes(), at text);
-    Ok(())
-}
-
-#[test]
-fn two_on_one_die(rt: HostRuntime) -> Result<(), Fail> {
-    let text = "batch\npage 1 on 0\npage 2 on 0\nend\n";
-    let told = "rounds 2\nplace 1 0 1\nplace 2 0 2\nshort 1 2\nend\n";
-    prints(&rt, text, "least 2\n", told)
-}
-
-#[test]
-fn greedy_trap(rt: HostRuntime) -> Result<(), Fail> {
-    let text = "batch\npage 1 on 0 1\npage 2 on 0\nend\n";
-    let told = "rounds 1\nplace 1 1 1\nplace 2 0 1\nshort 1 2\nend\n";
-    prints(&rt, text, "least 1\n", told)
-}
-
-#[test]
-fn closed_window(rt: HostRuntime) -> Result<(), Fail> {
-    let text = "batch\npage 1 on 0 1\npage 2 on 0 1\npage 3 on 0 1\nclosed 1 1 2\nend\n";
-    prints_between(&rt, text, "least 3\n", ("rounds 3\n", "short 1 2 3\nend\n"))
-}
-
-#[test]
-fn alternating_chain(rt: HostRuntime) -> Result<(), Fail> {
-    let text = "batch\npage 1 on 0 1\npage 2 on 1 2\npage 3 on 0\nend\n";
-    let told = "rounds 1\nplace 1 1 1\nplace 2 2 1\nplace 3 0 1\nshort 1 2 3\nend\n";
-    prints(&rt, text, "least 1\n", told)
-}
-
-#[test]
-fn empty_batch(rt: HostRuntime) -> Result<(), Fail> {
-    let told = "rounds 0\nend\n";
-    prints(&rt, "batch\nend\n", "least 0\n", told)
-}
-
-#[test]
-fn first_round_closed(rt: HostRuntime) -> Result<(), Fail> {
-    let text = "batch\npage 1 on 0 1\nclosed 0 1 1\nclosed 1 1 1\nend\n";
-    prints_between(
-        &rt,
-        text,
-        "least 2\n",
-        ("rounds 2\nplace 1 ", " 2\nshort 1\nend\n"),
-    )
-}
-
-#[test]
-fn unsound_batches(rt: HostRuntime) -> Result<(), Fail> {
-    let text = "batch\npage 7 on\nend\n";
-    let told = "unsound: page 7 has no holder\n";
-    refuses(&rt, text, told)?;
-    let text = "batch\npage 7 on 0\npage 7 on 0\nend\n";
-    refuses(&rt, text, "unsound: page 7 stands twice\n")
-}
-
-#[test]
-fn wrong_lines(rt: HostRuntime) -> Result<(), Fail> {
-    refuses(&rt, "batch\npage 7\nend\n", "text: line 2\n")?;
-    refuses(&rt, "batch\nend\nrounds 0\n", "text: line 3\n")?;
-    refuses(&rt, "", "text: line 1\n")
-}
-
-#[test]
-fn shortage_of_two_of_three(rt: HostRuntime) -> Result<(), Fail> {
-    let text = "batch\npage 1 on 0\npage 2 on 0\npage 3 on 1 2\nend\n";
-    prints_between(
-        &rt,
-        text,
-        "least 2\n",
-        (
-            "rounds 2\nplace 1 0 1\nplace 2 0 2\nplace 3 ",
-            " 1\nshort 1 2\nend\n",
-        ),
-    )
-}
-
-#[test]
-fn closed_for_a_million_rounds(rt: HostRuntime) -> Result<(), Fail> {
-    let text = "batch\npage 1 on 0 1\npage 2 on 0 1\npage 3 on 0 1
-closed 0 1 1000000\nclosed 1 1 1000000\nend\n";
-    prints_between(
-        &rt,
-        text,
-        "least 1000002\n",
-        ("rounds 1000002\n", "short 1 2 3\nend\n"),
-    )
-}
 
 /// A batch of so many pages, each on these dies.
 fn batch_on(alloc: Global, pages: u64, dies: &[u8]) -> Result<Batch, Fail> {

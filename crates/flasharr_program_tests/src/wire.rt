@@ -49,23 +49,6 @@ fn answered(alloc: Global, said: &[u8]) -> Result<(SessionEnd, Vec<u8>), Fail> {
 }
 
 #[test]
-fn cut_at_each_byte(rt: HostRuntime) -> Result<(), Fail> {
-    let said = client(rt.alloc())?;
-    let answer = server(rt.alloc())?;
-    let mut before = 0;
-    for cut in 0..said.len() {
-        let (ended, told) = answered(rt.alloc(), &said[..cut])?;
-        ensure!(ended == SessionEnd::InputEnded, at cut);
-        ensure!(answer.starts_with(told.as_slice()), at cut);
-        ensure!(before <= told.len(), at cut);
-        before = told.len();
-    }
-    let (ended, told) = answered(rt.alloc(), &said)?;
-    ensure!(ended == SessionEnd::Disconnected && told.as_slice() == answer.as_slice());
-    Ok(())
-}
-
-#[test]
 fn each_byte_of_each_magic_changed(rt: HostRuntime) -> Result<(), Fail> {
     let said = client(rt.alloc())?;
     let answer = server(rt.alloc())?;

@@ -3,7 +3,7 @@ ghost use Rattle.std.specs.Prelude.{◌≡◌};
 
 use fa_calendar::{Calendar, CalendarRefused};
 use fa_cert::{Closed, Place};
-use fa_types::{Die, Page, Round, Rounds};
+use fa_types::{Die, Page, Round, Rounds, Window};
 use linked_list_allocator::LocalHeap;
 use std::alloc::{AllocError, Allocator};
 use std::test::Fail;
@@ -100,7 +100,7 @@ fn closed_but<A: Allocator + Copy>(
 }
 
 // A test makes its calendar and lends it to the function that has the calls: where each of them may end the
-// test with the calendar still there, it is proved once more for each that it is let go.
+// test with the calendar still there, it is proved once more for each that it is dropped.
 
 /// Books rounds of a die, which have to be open.
 fn book_all<A: Allocator>(calendar: &mut Calendar<A>, die: u8, rounds: &[u64]) -> Result<(), Fail> {
@@ -127,7 +127,14 @@ fn is_booked<A: Allocator>(calendar: &Calendar<A>, die: u8, round: u64) -> bool 
 fn keeps_beside_a_booking<A: Allocator>(calendar: &mut Calendar<A>) -> Result<(), Fail> {
     book_all(calendar, 0, &[67])?;
     ensure!(first_kept(calendar, 0, 64)? == 2);
-    ensure!(calendar.window(Die(0)) == Some((Round(2), Round(65))));
+    ensure!(
+        calendar.window(Die(0))
+            == Some(Window {
+                first: Round(2),
+                last: Round(65),
+            })
+    );
+    ensure!(calendar.entries(Die(0)) == 65 && calendar.entries(Die(1)) == 0);
     ensure!(opens(calendar, 65, 2)? == (1, 66));
     ensure!(opens(calendar, 65, 3)? == (1, 68));
     Ok(())
@@ -175,7 +182,13 @@ fn lets_rounds_pass<A: Allocator>(calendar: &mut Calendar<A>) -> Result<(), Fail
     pass(calendar)?;
     ensure!(calendar.now() == Round(2) && !is_booked(calendar, 0, 1));
     pass(calendar)?;
-    ensure!(calendar.window(Die(0)) == Some((Round(2), Round(3))));
+    ensure!(
+        calendar.window(Die(0))
+            == Some(Window {
+                first: Round(2),
+                last: Round(3),
+            })
+    );
     ensure!(!is_open(calendar, 0, 3));
     pass(calendar)?;
     ensure!(calendar.window(Die(0)) == None);
@@ -267,4 +280,30 @@ fn each_allocation_of_a_calendar_fails(rt: HostRuntime) -> Result<(), Fail> {
     ensure!(came.contains(&Came::NoList));
     ensure!(came.contains(&Came::Whole));
     Ok(())
+}
+
+/// Books two of each three rounds of die 0, as many as a die may have.
+fn book_up_to_the_limit<A: Allocator>(calendar: &mut Calendar<A>) -> Result<(), Fail> {
+    for pair in 0..524_288u64 {
+        book_all(calendar, 0, &[3 * pair + 1, 3 * pair + 2])?;
+    }
+    Ok(())
+}
+
+/// A full die takes no round, and one again once another is released. Another die is not full.
+fn takes_a_round_for_each_released<A: Allocator>(calendar: &mut Calendar<A>) -> Result<(), Fail> {
+    ensure!(book(calendar, 0, 1_572_865)? == Err(CalendarRefused::Full));
+    ensure!(keep_window(calendar, 0, 1)? == Err(CalendarRefused::Full));
+    release(calendar, 0, 1)?;
+    book_all(calendar, 0, &[1_572_865])?;
+    ensure!(book(calendar, 0, 1)? == Err(CalendarRefused::Full));
+    book_all(calendar, 1, &[1])
+}
+
+// A die has 1,048,576 entries at most, here in 524,288 runs.
+#[test]
+fn a_die_with_as_many_entries_as_there_may_be(rt: HostRuntime) -> Result<(), Fail> {
+    let mut calendar = Calendar::new(rt.alloc(), Round(1))?;
+    book_up_to_the_limit(&mut calendar)?;
+    takes_a_round_for_each_released(&mut calendar)
 }

@@ -1,5 +1,4 @@
-//! Requests and replies whose bytes were written by another program, and what is decided of requests at
-//! each limit.
+//! Requests and replies whose bytes were written by another program, and what is decided of requests to large stores.
 use fa_cmds::{
     Command, Decision, REPLY_BYTES, REQUEST_BYTES, ReplyCode, Request, WrongMagic, body_len,
     decide, read_request, write_reply,
@@ -55,29 +54,6 @@ fn bytes_of_requests() -> Result<(), Fail> {
 }
 
 #[test]
-fn bytes_of_commands() -> Result<(), Fail> {
-    let commands = [
-        (0, Command::Read, 0),
-        (1, Command::Write, 512),
-        (2, Command::Disconnect, 0),
-        (3, Command::Flush, 0),
-        (4, Command::Trim, 0),
-        (5, Command::Other(5), 0),
-        (6, Command::WriteZeroes, 0),
-        (7, Command::Other(7), 0),
-        (255, Command::Other(255), 0),
-    ];
-    for (number, command, body) in commands {
-        let mut bytes = LAST_READ;
-        bytes[7] = number;
-        let request = read_request(&bytes)?;
-        ensure!(request.command == command, at number);
-        ensure!(body_len(request) == body, at number);
-    }
-    Ok(())
-}
-
-#[test]
 fn bytes_of_replies() -> Result<(), Fail> {
     let invalid = [
         0x67, 0x44, 0x66, 0x98, 0x00, 0x00, 0x00, 0x16, 0x00, 0x00, 0x00, 0x00, 0x00, 0x00, 0x00,
@@ -122,67 +98,20 @@ fn flags_by_their_bits() -> Result<(), Fail> {
     Ok(())
 }
 
-#[test]
-fn decisions_by_command_and_flags() -> Result<(), Fail> {
-    let invalid = Decision::Refuse(ReplyCode::Invalid);
-    let nothing = Decision::Refuse(ReplyCode::Success);
-    let leave = Decision::Disconnect;
-    let most = u64::MAX;
-    let cases = [
-        (Command::Disconnect, 0xffff, most, u32::MAX, leave),
-        (Command::Disconnect, 0, 0, 0, leave),
-        (Command::Other(5), 0, 0, 0, invalid),
-        (Command::Other(7), 0, 0, 512, invalid),
-        (Command::Read, 1, 0, 512, Decision::Do),
-        (Command::Write, 1, 0, 512, Decision::Do),
-        (Command::Flush, 0, 0, 0, Decision::Do),
-        (Command::Flush, 1, most, u32::MAX, Decision::Do),
-        (Command::Trim, 0, 0, 512, Decision::Do),
-        (Command::Trim, 1, 0, 512, Decision::Do),
-        (Command::WriteZeroes, 0, 0, 512, Decision::Do),
-        (Command::WriteZeroes, 3, 0, 512, Decision::Do),
-        (Command::WriteZeroes, 4, 0, 512, invalid),
-        (Command::Trim, 2, 0, 512, invalid),
-        (Command::Flush, 2, 0, 0, invalid),
-        (Command::Write, 2, 0, 512, invalid),
-        (Command::Read, 3, 0, 512, invalid),
-        (Command::Write, 0x8000, 0, 0, invalid),
-        (Command::Trim, 0, most, 0, nothing),
-        (Command::WriteZeroes, 2, 0, 0, nothing),
-    ];
-    for (command, flags, offset, length, want) in cases {
-        let given = decide(request(command, flags, offset, length), SIZE);
-        ensure!(given == want, at command);
-    }
-    Ok(())
-}
-
+// Stores that are larger than the one of `talk`.
 #[test]
 fn decisions_by_range() -> Result<(), Fail> {
     let invalid = Decision::Refuse(ReplyCode::Invalid);
     let no_space = Decision::Refuse(ReplyCode::NoSpace);
-    let nothing = Decision::Refuse(ReplyCode::Success);
     let longest = 33_554_432;
     let cases = [
-        (Command::Read, 32_256, 512, SIZE, Decision::Do),
-        (Command::Read, 32_257, 512, SIZE, invalid),
-        (Command::Write, 32_257, 512, SIZE, no_space),
-        (Command::Write, 700, 100, SIZE, Decision::Do),
-        (Command::Read, u64::MAX, 0, SIZE, nothing),
-        (Command::Write, 32_769, 0, SIZE, nothing),
         (Command::Read, 0, longest, u64::from(longest), Decision::Do),
         (Command::Read, 0, longest + 1, u64::MAX, invalid),
-        (Command::Write, u64::MAX, longest + 1, SIZE, invalid),
+        (Command::Write, 0, longest, u64::MAX, Decision::Do),
         (Command::Read, u64::MAX - 511, 511, u64::MAX, Decision::Do),
         (Command::Read, u64::MAX - 511, 512, u64::MAX, invalid),
         (Command::Write, u64::MAX, 2, u64::MAX, no_space),
-        (Command::Trim, 32_257, 511, SIZE, Decision::Do),
-        (Command::Trim, 32_257, 512, SIZE, invalid),
-        (Command::Trim, u64::MAX, longest, SIZE, invalid),
         (Command::Trim, 0, u32::MAX, u64::MAX, Decision::Do),
-        (Command::WriteZeroes, 32_257, 511, SIZE, Decision::Do),
-        (Command::WriteZeroes, 32_257, 512, SIZE, no_space),
-        (Command::WriteZeroes, 0, longest + 1, SIZE, no_space),
         (Command::WriteZeroes, 0, u32::MAX, u64::MAX, Decision::Do),
     ];
     for (command, offset, length, size, want) in cases {

@@ -1,6 +1,6 @@
-//! The tests of the crates below the program, over their public calls: what no clause says. They stand in a
-//! crate of their own, since a crate with tests is proved once with them and once without. What the tests of the
-//! program need too is public.
+//! The tests of the crates below the program, over their public calls: what no clause says and no process shows. They
+//! stand in a crate of their own, since a crate with tests is proved once with them and once without. What the tests of
+//! the program need too is public.
 #![tactic(auto)]
 
 /// Ends a test with an error, unless the condition holds: `ensure!(CONDITION)`, and in a loop
@@ -34,14 +34,13 @@ mod mount_headers;
 #[cfg(test)]
 mod mount_refusals;
 #[cfg(test)]
-mod mounted_pages;
-#[cfg(test)]
 mod mounting;
 #[cfg(test)]
 mod nego;
 #[cfg(test)]
 mod reopened;
-pub mod slots;
+#[cfg(test)]
+mod slots;
 pub mod spelling;
 #[cfg(test)]
 mod tag;

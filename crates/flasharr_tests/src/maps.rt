@@ -128,6 +128,20 @@ fn page_of<M: Map>(map: &M, page: u64) -> Option<(Option<Version>, Option<Seq>, 
     Some((map.version(page), map.seq(page), map.copies_of(page)))
 }
 
+/// The first two copies of a page.
+fn first_copies<M: Map>(map: &M, page: u64) -> Option<(Option<(Die, Slot)>, Option<(Die, Slot)>)> {
+    if page >= map.geometry().pages {
+        return None;
+    }
+    let page = Page(page);
+    let first = map.first_copy(page);
+    let second = match first {
+        Some((die, slot)) => map.next_copy(page, die, slot),
+        None => None,
+    };
+    Some((first, second))
+}
+
 /// What a map answers of a page's copy on a die.
 fn copy_of<M: Map>(map: &M, page: u64, die: u8) -> Option<Option<Slot>> {
     let g = map.geometry();
@@ -172,6 +186,7 @@ fn are_alike<A: Map, B: Map>(a: &A, b: &B) -> bool {
     let mut alike = a.live_dies() == b.live_dies();
     for page in 0..64u64 {
         alike = alike && are_same(page_of(a, page), page_of(b, page));
+        alike = alike && are_same(first_copies(a, page), first_copies(b, page));
     }
     for die in 0..4u8 {
         for page in 0..64u64 {

@@ -2,8 +2,9 @@
 //! images in two formats side by side.
 use crate::mounting::{Images, images};
 use crate::slots::{put, tag};
+use fa_headers::{MountFault, MountRefused, format, format_1};
 use fa_image::Image;
-use fa_mount::{MountFault, MountRefused, Report, format, format_1, scan, scan_side_by_side};
+use fa_mount::{Report, scan, scan_side_by_side};
 use fa_tag::{Tag, seal_1};
 use fa_types::{Copies, Die, Geometry, HEADER_BYTES, Kind, Page, Seq, Slot};
 use linked_list_allocator::LocalHeap;
@@ -148,20 +149,6 @@ fn reported_side_by_side(
 ) -> Result<Report, MountRefused> {
     let mounted = scan_side_by_side(rt, rt.alloc(), images, copies, unclean)?;
     Ok(mounted.report(copies))
-}
-
-#[test]
-fn images_in_two_formats(rt: HostRuntime) -> Result<(), Fail> {
-    let geometry = shape()?;
-    let mut empty = in_both_formats(&rt)?;
-    let two = Copies::new(2, geometry)?;
-    ensure!(reported(rt.alloc(), &mut empty, two, false) == Ok(told(0, 0)));
-    let mut images = written(&rt)?;
-    ensure!(reported(rt.alloc(), &mut images, two, false) == Ok(told(8, 0)));
-    let three = Copies::new(3, geometry)?;
-    ensure!(reported(rt.alloc(), &mut images, three, false) == Ok(told(8, 8)));
-    ensure!(reported_side_by_side(&rt, &mut images, three, false) == Ok(told(8, 8)));
-    Ok(())
 }
 
 /// Reads a slot, and puts its bytes behind those that were read before it.

@@ -5,10 +5,11 @@ ghost use Rattle.fa_image.specs.Fuse.{fused_view};
 ghost use Rattle.fa_image.specs.Memory.{mem_image_view};
 
 use crate::slots::{put, tag};
+use fa_headers::{MountFault, MountRefused, Standing, format};
 use fa_image::{FuseImage, Image, MemImage};
 use fa_machine::Version;
-use fa_map::{Map, PlainMap, SlotState};
-use fa_mount::{MountFault, MountRefused, Mounted, Standing, format, scan_headers, scan_slots};
+use fa_map::{Map, PageMap, SlotState};
+use fa_mount::{Mounted, scan};
 use fa_tag::{Tag, seal};
 use fa_types::{Copies, Die, Geometry, Kind, Page, Seq, Slot};
 use std::test::Fail;
@@ -56,19 +57,13 @@ pub fn mounted(
     rt: &HostRuntime,
     images: &mut Images,
     unclean: bool,
-) -> Result<Result<Mounted<PlainMap>, MountRefused>, Fail> {
+) -> Result<Result<Mounted<PageMap>, MountRefused>, Fail> {
     let copies = Copies::new(2, shape()?)?;
-    match scan_headers(rt.alloc(), images, copies, unclean) {
-        Ok(judged) => {
-            let map = PlainMap::new(rt.alloc(), judged.geometry)?;
-            Ok(scan_slots(rt.alloc(), images, judged, map, unclean))
-        }
-        Err(refused) => Ok(Err(refused)),
-    }
+    Ok(scan(rt.alloc(), images, copies, unclean))
 }
 
 /// Whether a slot has this state.
-fn is_at(map: &PlainMap, die: u8, slot: u32, state: SlotState) -> Result<bool, Fail> {
+fn is_at(map: &PageMap, die: u8, slot: u32, state: SlotState) -> Result<bool, Fail> {
     let geometry = map.geometry();
     ensure!(u32::from(die) < geometry.dies);
     ensure!(slot < geometry.blocks * geometry.slots);
@@ -82,7 +77,7 @@ fn stands(dies: &[Standing], die: usize, standing: Standing) -> Result<bool, Fai
 }
 
 /// Whether this is the last write of a page.
-fn is_last(map: &PlainMap, page: u64, seq: u64, kind: Kind) -> Result<bool, Fail> {
+fn is_last(map: &PageMap, page: u64, seq: u64, kind: Kind) -> Result<bool, Fail> {
     ensure!(page < map.geometry().pages);
     Ok(
         map.version(Page(page))
@@ -91,20 +86,6 @@ fn is_last(map: &PlainMap, page: u64, seq: u64, kind: Kind) -> Result<bool, Fail
                 kind,
             }),
     )
-}
-
-#[test]
-fn a_new_array_is_mounted_empty(rt: HostRuntime) -> Result<(), Fail> {
-    let mut images = formatted(&rt)?;
-    match mounted(&rt, &mut images, false)? {
-        Ok(array) => {
-            ensure!(array.map.live_dies() == 3 && array.epoch == 1 && array.clean);
-            ensure!(stands(array.dies.as_slice(), 3, Standing::Spare(3))?);
-            ensure!(is_at(&array.map, 0, 0, SlotState::Erased)?);
-            Ok(())
-        }
-        Err(_) => Err(Fail::new("not mounted")),
-    }
 }
 
 /// Writes page 0 in an older and a newer copy, page 1 in copies of one number that are of two kinds, and page
@@ -125,28 +106,6 @@ pub fn written(rt: &HostRuntime) -> Result<Images, Fail> {
     let mut images = formatted(rt)?;
     write_pages(&mut images)?;
     Ok(images)
-}
-
-/// Whether the map is that of these images.
-fn is_of_written(map: &PlainMap) -> Result<(), Fail> {
-    ensure!(is_last(map, 0, 2, Kind::Data)?);
-    ensure!(is_at(map, 0, 0, SlotState::Stale)? && is_at(map, 1, 0, SlotState::Current)?);
-    ensure!(is_last(map, 1, 3, Kind::Hole)?);
-    ensure!(is_at(map, 0, 1, SlotState::Current)? && is_at(map, 1, 1, SlotState::Stale)?);
-    ensure!(is_last(map, 2, 4, Kind::Data)?);
-    ensure!(is_at(map, 2, 1, SlotState::Current)? && is_at(map, 2, 2, SlotState::Stale)?);
-    ensure!(is_at(map, 2, 5, SlotState::Stale)? && is_at(map, 2, 7, SlotState::Stale)?);
-    ensure!(is_at(map, 2, 6, SlotState::Erased)?);
-    Ok(())
-}
-
-#[test]
-fn slots_are_mounted(rt: HostRuntime) -> Result<(), Fail> {
-    let mut images = written(&rt)?;
-    match mounted(&rt, &mut images, false)? {
-        Ok(array) => is_of_written(&array.map),
-        Err(_) => Err(Fail::new("not mounted")),
-    }
 }
 
 /// Images of which die 1 refuses its first slot.
@@ -182,20 +141,6 @@ fn a_die_that_refuses_a_read_is_out(rt: HostRuntime) -> Result<(), Fail> {
             ensure!(stands(array.dies.as_slice(), 1, Standing::Out(1))?);
             ensure!(is_last(&array.map, 0, 1, Kind::Data)?);
             ensure!(is_at(&array.map, 0, 0, SlotState::Current)?);
-            Ok(())
-        }
-        Err(_) => Err(Fail::new("not mounted")),
-    }
-}
-
-#[test]
-fn a_used_spare_is_out(rt: HostRuntime) -> Result<(), Fail> {
-    let mut images = written(&rt)?;
-    put(&mut images[3], 15, tag(0, 50, Kind::Data, 3, 15))?;
-    match mounted(&rt, &mut images, false)? {
-        Ok(array) => {
-            ensure!(stands(array.dies.as_slice(), 3, Standing::Out(3))?);
-            ensure!(is_last(&array.map, 0, 2, Kind::Data)?);
             Ok(())
         }
         Err(_) => Err(Fail::new("not mounted")),

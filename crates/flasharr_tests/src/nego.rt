@@ -1,6 +1,7 @@
-//! Cases of the handshake, each in every cutting, for an export `disk` of 32,768 bytes.
+//! What a negotiation uses and wants of its input, in every cutting, and what it keeps where memory is refused. The export is
+//! `disk`, of 32,768 bytes.
 use crate::spelling::spelled;
-use fa_nego::{CloseCause, Fed, Nego, Step, greeting};
+use fa_nego::{CloseCause, Fed, Nego, Step};
 use linked_list_allocator::LocalHeap;
 use std::alloc::{AllocError, Global};
 use std::process::Abort;
@@ -72,17 +73,6 @@ fn holds(rt: &(impl Abort + AllocGlobal), case: &Case) -> Result<(), Fail> {
     Ok(())
 }
 
-/// A case of flags that are known and one option, after which the negotiation goes on.
-fn goes_on<'a>(input: &'a [u8], output: &'a [u8]) -> Case<'a> {
-    Case {
-        input,
-        output,
-        step: Step::More,
-        cause: None,
-        used: input.len(),
-    }
-}
-
 /// A case with which the server closes the connection with no word.
 fn closes<'a>(input: &'a [u8], cause: CloseCause, used: usize) -> Case<'a> {
     Case {
@@ -92,12 +82,6 @@ fn closes<'a>(input: &'a [u8], cause: CloseCause, used: usize) -> Case<'a> {
         cause: Some(cause),
         used,
     }
-}
-
-#[test]
-fn greets() -> Result<(), Fail> {
-    ensure!(greeting() == *b"NBDMAGICIHAVEOPT\x00\x03");
-    Ok(())
 }
 
 #[test]
@@ -121,27 +105,6 @@ fn wants_the_next_item(rt: HostRuntime) -> Result<(), Fail> {
 }
 
 #[test]
-fn go_begins_transmission(rt: HostRuntime) -> Result<(), Fail> {
-    let inputs: [&[u8]; 2] = [
-        b"\x00\x00\x00\x03IHAVEOPT\x00\x00\x00\x07\x00\x00\x00\x06\x00\x00\x00\x00\x00\x00",
-        b"\x00\x00\x00\x01IHAVEOPT\x00\x00\x00\x07\x00\x00\x00\x0a\x00\x00\x00\x04disk\x00\x00",
-    ];
-    for input in inputs {
-        let case = Case {
-            input,
-            output: b"\x00\x03\xe8\x89\x04\x55\x65\xa9\x00\x00\x00\x07\x00\x00\x00\x03\x00\x00\x00\x0c\
-                \x00\x00\x00\x00\x00\x00\x00\x00\x80\x00\x01\x6d\
-                \x00\x03\xe8\x89\x04\x55\x65\xa9\x00\x00\x00\x07\x00\x00\x00\x01\x00\x00\x00\x00",
-            step: Step::Go,
-            cause: None,
-            used: input.len(),
-        };
-        holds(&rt, &case)?;
-    }
-    Ok(())
-}
-
-#[test]
 fn old_way_begins_transmission(rt: HostRuntime) -> Result<(), Fail> {
     let case = Case {
         input: b"\x00\x00\x00\x02IHAVEOPT\x00\x00\x00\x01\x00\x00\x00\x04disk\x25\x60",
@@ -149,46 +112,6 @@ fn old_way_begins_transmission(rt: HostRuntime) -> Result<(), Fail> {
         step: Step::Go,
         cause: None,
         used: 24,
-    };
-    holds(&rt, &case)
-}
-
-#[test]
-fn count_without_its_second_byte(rt: HostRuntime) -> Result<(), Fail> {
-    let case = goes_on(
-        b"\x00\x00\x00\x03IHAVEOPT\x00\x00\x00\x07\x00\x00\x00\x06\x00\x00\x00\x01\x00\x00",
-        b"\x00\x03\xe8\x89\x04\x55\x65\xa9\x00\x00\x00\x07\x80\x00\x00\x03\x00\x00\x00\x00",
-    );
-    holds(&rt, &case)
-}
-
-#[test]
-fn name_of_no_export(rt: HostRuntime) -> Result<(), Fail> {
-    let case = goes_on(
-        b"\x00\x00\x00\x03IHAVEOPT\x00\x00\x00\x07\x00\x00\x00\x07\x00\x00\x00\x01x\x00\x00",
-        b"\x00\x03\xe8\x89\x04\x55\x65\xa9\x00\x00\x00\x07\x80\x00\x00\x06\x00\x00\x00\x00",
-    );
-    holds(&rt, &case)
-}
-
-#[test]
-fn unknown_options(rt: HostRuntime) -> Result<(), Fail> {
-    let case = goes_on(
-        b"\x00\x00\x00\x03IHAVEOPT\x00\x00\x00\x08\x00\x00\x00\x00IHAVEOPT\x00\x00\x00\x05\x00\x00\x00\x02ab",
-        b"\x00\x03\xe8\x89\x04\x55\x65\xa9\x00\x00\x00\x08\x80\x00\x00\x01\x00\x00\x00\x00\
-            \x00\x03\xe8\x89\x04\x55\x65\xa9\x00\x00\x00\x05\x80\x00\x00\x01\x00\x00\x00\x00",
-    );
-    holds(&rt, &case)
-}
-
-#[test]
-fn abort_with_data(rt: HostRuntime) -> Result<(), Fail> {
-    let case = Case {
-        input: b"\x00\x00\x00\x03IHAVEOPT\x00\x00\x00\x02\x00\x00\x00\x03bye",
-        output: b"\x00\x03\xe8\x89\x04\x55\x65\xa9\x00\x00\x00\x02\x00\x00\x00\x01\x00\x00\x00\x00",
-        step: Step::Aborted,
-        cause: None,
-        used: 23,
     };
     holds(&rt, &case)
 }

@@ -1,8 +1,8 @@
 //! The texts of all faults, once.
-use fa_cert::TextError;
 use fa_cmds::WrongMagic;
+use fa_headers::{FormatFault, MountFault, MountRefused};
 use fa_image::ImageFault;
-use fa_mount::{FormatFault, MountFault, MountRefused};
+use fa_texts::TextError;
 use fa_types::{BlockFault, Die, GeometryFault};
 use std::alloc::Global;
 use std::fmt::Display;

@@ -1,5 +1,5 @@
 use Rattle.std.proofs.Common.{sym, ◌∙◌, arith}
-use Rattle.fa_cert.proofs.Merged.{length_fits}
+use Rattle.fa_calendar.proofs.Merged.{length_fits}
 use Rattle.fa_calendar.proofs.Refusals.{on_err}
 use Rattle.fa_calendar.proofs.die.close.Goals as goal
 

@@ -1,7 +1,8 @@
 use Rattle.std.proofs.Common.{◌≡◌, ℕ, ◌+◌, ◌*◌, ◌<◌, ◌≤◌, false, take, get_or}
 use Rattle.fa_cert.specs.declared.spans.Span.{Span}
-use Rattle.fa_cert.specs.Runs.{is_covered, total_rounds}
-use Rattle.fa_calendar.specs.Windows.{are_open}
+use Rattle.fa_cert.specs.Runs.{is_covered}
+use Rattle.fa_calendar.specs.Merging.{total_rounds}
+use Rattle.fa_types.specs.Windows.{are_open}
 use Rattle.fa_calendar.proofs.gap.first_gap.Given as goal
 
 abbrev pub invariant-loop-index : goal.invariant-loop-index

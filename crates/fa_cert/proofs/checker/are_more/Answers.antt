@@ -8,27 +8,27 @@ use Rattle.fa_cert.proofs.checker.are_more.Goals.{then-marks-die+else-left-open,
 
 pub loop-die-init : goal.loop-die-init
 loop-die-init g c =
-    let none = ap (λ ds. open_places (g.R.Rounds.current c.args.rounds.now) (g.R.Rounds.closed c.args.rounds.now) ds c.args.number) (marked-none c.args.marks.now) in
-    let is : c.args.pages + open_places (g.R.Rounds.current c.args.rounds.now) (g.R.Rounds.closed c.args.rounds.now) (marked c.args.marks.now 0) c.args.number ≡ c.args.pages = omega (arith, none) in
+    let none = ap (λ ds. open_places (g.R.Rounds.current c.args.calendar.now) (g.R.Rounds.closed c.args.calendar.now) ds c.args.rounds) (marked-none c.args.marks.now) in
+    let is : c.args.pages + open_places (g.R.Rounds.current c.args.calendar.now) (g.R.Rounds.closed c.args.calendar.now) (marked c.args.marks.now 0) c.args.rounds ≡ c.args.pages = omega (arith, none) in
     is
 
 pub returns-then-left-open : goal.returns-then-left-open
 returns-then-left-open g c =
-    let one = places-yes (g.R.Rounds.current c.args.rounds.now) (g.R.Rounds.closed c.args.rounds.now) c.args.marks.now c.args.number c.loop-die.die c.if-marks-die.true in
-    let all = places-grow (g.R.Rounds.current c.args.rounds.now) (g.R.Rounds.closed c.args.rounds.now) c.args.marks.now c.args.number (c.loop-die.die + 1) (255 - c.loop-die.die) in
+    let one = places-yes (g.R.Rounds.current c.args.calendar.now) (g.R.Rounds.closed c.args.calendar.now) c.args.marks.now c.args.rounds c.loop-die.die c.if-marks-die.true in
+    let all = places-grow (g.R.Rounds.current c.args.calendar.now) (g.R.Rounds.closed c.args.calendar.now) c.args.marks.now c.args.rounds (c.loop-die.die + 1) (255 - c.loop-die.die) in
     let end : (c.loop-die.die + 1) + (255 - c.loop-die.die) ≡ 256 = omega arith in
-    let most = ap (λ n. open_places (g.R.Rounds.current c.args.rounds.now) (g.R.Rounds.closed c.args.rounds.now) (marked c.args.marks.now n) c.args.number) end in
+    let most = ap (λ n. open_places (g.R.Rounds.current c.args.calendar.now) (g.R.Rounds.closed c.args.calendar.now) (marked c.args.marks.now n) c.args.rounds) end in
     (λ no. cc, λ less. absurd (omega (arith, one, all, most, c.loop-die.invariant, c.open_count-open.ensures, less)))
 
 pub loop-die-preserved : goal.loop-die-preserved
 loop-die-preserved g c =
-    let is : c.if-marks-die.left + open_places (g.R.Rounds.current c.args.rounds.now) (g.R.Rounds.closed c.args.rounds.now) (marked c.args.marks.now (c.loop-die.die + 1)) c.args.number ≡ c.args.pages =
+    let is : c.if-marks-die.left + open_places (g.R.Rounds.current c.args.calendar.now) (g.R.Rounds.closed c.args.calendar.now) (marked c.args.marks.now (c.loop-die.die + 1)) c.args.rounds ≡ c.args.pages =
     elim c.if-marks-die.branch [
       | then-marks-die+else-left-open w ↦
-          (let one = places-yes (g.R.Rounds.current c.args.rounds.now) (g.R.Rounds.closed c.args.rounds.now) c.args.marks.now c.args.number c.loop-die.die w.if-marks-die.true in
+          (let one = places-yes (g.R.Rounds.current c.args.calendar.now) (g.R.Rounds.closed c.args.calendar.now) c.args.marks.now c.args.rounds c.loop-die.die w.if-marks-die.true in
           omega (arith, one, c.loop-die.invariant, w.open_count-open.ensures, w.left-is))
       | else-marks-die w ↦
-          (let same = places-no (g.R.Rounds.current c.args.rounds.now) (g.R.Rounds.closed c.args.rounds.now) c.args.marks.now c.args.number c.loop-die.die w.if-marks-die.false in
+          (let same = places-no (g.R.Rounds.current c.args.calendar.now) (g.R.Rounds.closed c.args.calendar.now) c.args.marks.now c.args.rounds c.loop-die.die w.if-marks-die.false in
           omega (arith, same, c.loop-die.invariant, w.left-is))
     ] in
     is
@@ -36,7 +36,7 @@ loop-die-preserved g c =
 pub returns : goal.returns
 returns g c =
     let end : c.loop-die.die ≡ 256 = omega arith in
-    let all = ap (λ n. open_places (g.R.Rounds.current c.args.rounds.now) (g.R.Rounds.closed c.args.rounds.now) (marked c.args.marks.now n) c.args.number) end in (
+    let all = ap (λ n. open_places (g.R.Rounds.current c.args.calendar.now) (g.R.Rounds.closed c.args.calendar.now) (marked c.args.marks.now n) c.args.rounds) end in (
       λ t. let some = ltb-true 0 c.loop-die.left t in omega (arith, all, c.loop-die.invariant, some),
       λ less. lt-ltb 0 c.loop-die.left (omega (arith, all, c.loop-die.invariant, less)),
     )

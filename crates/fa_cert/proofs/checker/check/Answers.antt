@@ -30,15 +30,15 @@ module _ (batch : List Entry) (current : ℕ) (closed : ℕ → ℕ → Bool) (p
 pub returns-in-Some : goal.returns-in-Some
 returns-in-Some g c =
     let found =
-    where_some (IsPlan c.args.batch.now (g.R.Rounds.current c.args.rounds.now) (g.R.Rounds.closed c.args.rounds.now) c.as_slice-places.result.now × (rounds_of (g.R.Rounds.current c.args.rounds.now) c.as_slice-places.result.now ≡ c.args.plan.now.rounds))
-    (λ r. (pages : List Page) → IsRefused c.args.batch.now (g.R.Rounds.current c.args.rounds.now) (g.R.Rounds.closed c.args.rounds.now) c.args.plan.now.rounds c.as_slice-places.result.now pages r)
+    where_some (IsPlan c.args.batch.now (g.R.Rounds.current c.args.calendar.now) (g.R.Rounds.closed c.args.calendar.now) c.as_slice-places.result.now × (rounds_of (g.R.Rounds.current c.args.calendar.now) c.as_slice-places.result.now ≡ c.args.plan.now.rounds))
+    (λ r. (pages : List Page) → IsRefused c.args.batch.now (g.R.Rounds.current c.args.calendar.now) (g.R.Rounds.closed c.args.calendar.now) c.args.plan.now.rounds c.as_slice-places.result.now pages r)
     c.in-Some.refusal c.in-Some.is c.in_ok-refusal.ensures.found in
-    let is = subst (λ xs. IsRefused c.args.batch.now (g.R.Rounds.current c.args.rounds.now) (g.R.Rounds.closed c.args.rounds.now) c.args.plan.now.rounds xs c.args.shortage.now c.in-Some.refusal)
+    let is = subst (λ xs. IsRefused c.args.batch.now (g.R.Rounds.current c.args.calendar.now) (g.R.Rounds.closed c.args.calendar.now) c.args.plan.now.rounds xs c.args.shortage.now c.in-Some.refusal)
     c.as_slice-places.ensures (found c.args.shortage.now) in
     record {
       verdict = is;
       least = (
         λ no. cc,
-        λ certificate. absurd (refuted c.args.batch.now (g.R.Rounds.current c.args.rounds.now) (g.R.Rounds.closed c.args.rounds.now) c.args.plan.now.places c.args.plan.now.rounds c.args.shortage.now c.in-Some.refusal is certificate),
+        λ certificate. absurd (refuted c.args.batch.now (g.R.Rounds.current c.args.calendar.now) (g.R.Rounds.closed c.args.calendar.now) c.args.plan.now.places c.args.plan.now.rounds c.args.shortage.now c.in-Some.refusal is certificate),
       );
     }

@@ -7,7 +7,7 @@ use Rattle.fa_cert.proofs.checker.refusal_of.Goals as goal
 use Rattle.fa_cert.proofs.checker.refusal_of.Goals.{Else-not-branch}
 
 -- where the places are apart, they are a plan
-is_plan : (g : Over) (c : Else-not-branch g) → IsPlan c.args.batch.now (g.R.Rounds.current c.args.rounds.now) (g.R.Rounds.closed c.args.rounds.now) c.args.places.now
+is_plan : (g : Over) (c : Else-not-branch g) → IsPlan c.args.batch.now (g.R.Rounds.current c.args.calendar.now) (g.R.Rounds.closed c.args.calendar.now) c.args.places.now
 is_plan g c =
     let placed = where_none (ArePlaced c.args.batch.now c.args.places.now × ArePlacedOnce c.args.places.now × AreHeld c.args.batch.now c.args.places.now) _ c.in_default.is c.in_ok-refusal.ensures in
     record {
@@ -21,7 +21,7 @@ is_plan g c =
 pub returns-in-Some-clause-found : goal.returns-in-Some-clause-found
 returns-in-Some-clause-found g c =
     where_some (ArePlaced c.args.batch.now c.args.places.now × ArePlacedOnce c.args.places.now × AreHeld c.args.batch.now c.args.places.now) _ c.in-Some.refusal c.in-Some.is c.in_ok-refusal.ensures
-    (g.R.Rounds.current c.args.rounds.now) c.args.number (g.R.Rounds.closed c.args.rounds.now)
+    (g.R.Rounds.current c.args.calendar.now) c.args.rounds (g.R.Rounds.closed c.args.calendar.now)
 
 pub returns-then-not-take_rounds-clause-found : goal.returns-then-not-take_rounds-clause-found
 returns-then-not-take_rounds-clause-found g c = λ pages. (

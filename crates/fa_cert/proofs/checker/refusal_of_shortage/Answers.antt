@@ -5,14 +5,14 @@ use Rattle.fa_cert.proofs.checker.refusal_of_shortage.Goals as goal
 
 pub returns-then-not-are_more : goal.returns-then-not-are_more
 returns-then-not-are_more g c =
-    let some : 0 < c.args.number = (let no = c.if-number-eq0.false in omega (arith, no)) in
-    let shows = shows_iff c.args.batch.now (g.R.Rounds.current c.args.rounds.now) (g.R.Rounds.closed c.args.rounds.now) c.args.pages.now c.in-Some.dies
-    c.in-Some.ensures.1.long c.in-Some.ensures.1.marks_are c.args.number c.are_more.result some c.in-Some.ensures.0 c.are_more.ensures.0 c.are_more.ensures.1 in
+    let some : 0 < c.args.rounds = (let no = c.if-rounds-eq0.false in omega (arith, no)) in
+    let shows = shows_iff c.args.batch.now (g.R.Rounds.current c.args.calendar.now) (g.R.Rounds.closed c.args.calendar.now) c.args.pages.now c.in-Some.dies
+    c.in-Some.ensures.1.long c.in-Some.ensures.1.marks_are c.args.rounds c.are_more.result some c.in-Some.ensures.0 c.are_more.ensures.0 c.are_more.ensures.1 in
     λ places plan same. (plan, same, c.in-Some.ensures.0, iff_false shows c.if-not-are_more.true)
 
 pub returns-else-not-are_more : goal.returns-else-not-are_more
 returns-else-not-are_more g c =
-    let some : 0 < c.args.number = (let no = c.if-number-eq0.false in omega (arith, no)) in
-    let shows = shows_iff c.args.batch.now (g.R.Rounds.current c.args.rounds.now) (g.R.Rounds.closed c.args.rounds.now) c.args.pages.now c.in-Some.dies
-    c.in-Some.ensures.1.long c.in-Some.ensures.1.marks_are c.args.number c.are_more.result some c.in-Some.ensures.0 c.are_more.ensures.0 c.are_more.ensures.1 in
+    let some : 0 < c.args.rounds = (let no = c.if-rounds-eq0.false in omega (arith, no)) in
+    let shows = shows_iff c.args.batch.now (g.R.Rounds.current c.args.calendar.now) (g.R.Rounds.closed c.args.calendar.now) c.args.pages.now c.in-Some.dies
+    c.in-Some.ensures.1.long c.in-Some.ensures.1.marks_are c.args.rounds c.are_more.result some c.in-Some.ensures.0 c.are_more.ensures.0 c.are_more.ensures.1 in
     shows.0 c.if-not-are_more.false

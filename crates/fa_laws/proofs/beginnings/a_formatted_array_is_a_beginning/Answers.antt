@@ -58,7 +58,7 @@ returns c geometry two none = record {
   stands = λ die slot alive low. stands_new (formatted geometry) die slot (used_at (new_map geometry) die slot) (get-empty place_cmp (die, slot)) refl;
   once = λ page die slot other a b. absurd (no_current geometry page die slot a);
   written = λ page e. absurd (false≢true (sym (ap is_some (none_number page)) ∙ e));
-  plain = λ page low. plain_new (formatted geometry) page (get (new_map geometry).numbers page) (none_number page)
+  plain = λ page low. plain_new (formatted geometry) page (get (new_map geometry).versions page) (none_number page)
       (zeros_at geometry.pages (replicate geometry.page_bytes 0) page low);
   pages = (length-replicate geometry.pages _, has_zero_pages geometry.pages _ geometry.page_bytes (length-replicate geometry.page_bytes 0));
   idle = λ die. refl;

@@ -7,7 +7,7 @@ use Rattle.fa_machine.specs.Copies.{holders}
 use Rattle.fa_machine.specs.Maps.{insert_all, place_cmp}
 use Rattle.fa_machine.specs.Reading.{IsPlanned, answered, at_once, booked, entries_with, has_data, is_fresh, names_batch}
 use Rattle.fa_machine.specs.Reading.{released, to_read, zeros}
-use Rattle.fa_machine.specs.Rounds.{window_rounds}
+use Rattle.fa_types.specs.Windows.{window_rounds}
 use Rattle.fa_machine.specs.Run.{HappensEvent}
 use Rattle.fa_machine.specs.State.{CalendarState, Core, MapState, OpenBatch}
 use Rattle.fa_machine.specs.Step.{EndBatch}
@@ -15,7 +15,7 @@ use Rattle.fa_machine.specs.World.{World}
 use Rattle.fa_machine.specs.declared.jobs.Flight.{Flight}
 use Rattle.fa_machine.specs.declared.places.Booking.{Booking}
 use Rattle.fa_machine.specs.declared.places.Version.{Version}
-use Rattle.fa_machine.specs.declared.places.Window.{Window as WindowOf}
+use Rattle.fa_types.specs.declared.window.Window.{Window as WindowOf}
 use Rattle.fa_types.specs.Open.{max_closed}
 use Rattle.fa_types.specs.declared.geometry.Geometry.{Geometry}
 use Rattle.std.proofs.Common.{List, None, Some, [], ap, arith, cond, eq-eqb, inl, length, map, not, refl, subst, sym, true, ℕ, ◌<◌}

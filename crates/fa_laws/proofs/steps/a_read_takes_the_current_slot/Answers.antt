@@ -32,10 +32,10 @@ current : (m : MapState) (die : ℕ) (booking : Option Booking) (flight : Flight
     → is_current m (page_of flight) die (slot_of flight) ≡ true
 current m die None flight e = absurd (none-some flight e)
 current m die (Some b) flight e =
-    elim b.started as (λ started. cond started None (read_from b (get m.numbers b.page.0) (copy_on m b.page.0 die)) ≡ Some flight
+    elim b.started as (λ started. cond started None (read_from b (get m.versions b.page.0) (copy_on m b.page.0 die)) ≡ Some flight
     → is_current m (page_of flight) die (slot_of flight) ≡ true) [
       | true ↦ λ same. absurd (none-some flight same)
-      | false ↦ λ same. from_booking m die b (get m.numbers b.page.0) (copy_on m b.page.0 die) refl flight same
+      | false ↦ λ same. from_booking m die b (get m.versions b.page.0) (copy_on m b.page.0 die) refl flight same
     ] e
 
 pub returns : goal.returns

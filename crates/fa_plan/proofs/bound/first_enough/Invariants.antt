@@ -7,8 +7,8 @@ invariant-halves g l = record {
   later : l.fn.low ≤ l.fewer;
   between : l.fewer < l.enough;
   limit : l.enough ≤ l.pages + 1048576;
-  too_few : places_of (g.R.Rounds.current l.rounds) (g.R.Rounds.closed l.rounds) l.dies l.fewer < l.pages;
-  enough : l.pages ≤ places_of (g.R.Rounds.current l.rounds) (g.R.Rounds.closed l.rounds) l.dies l.enough;
+  too_few : places_of (g.R.Rounds.current l.calendar) (g.R.Rounds.closed l.calendar) l.dies l.fewer < l.pages;
+  enough : l.pages ≤ places_of (g.R.Rounds.current l.calendar) (g.R.Rounds.closed l.calendar) l.dies l.enough;
 }
 
 abbrev pub decreases-halves : goal.decreases-halves

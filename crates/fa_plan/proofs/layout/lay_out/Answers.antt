@@ -12,7 +12,7 @@ pub loop-seat-init : goal.loop-seat-init
 loop-seat-init g c = record {
   long = refl;
   taken = λ die known. get_or-replicate_default 256 die 0 ∙ sym (ap (λ v. count_by (is_at_die die) v) c.new-places.ensures);
-  laid = subst (λ v. IsLaidOut (g.R.Rounds.current c.args.rounds.now) (g.R.Rounds.closed c.args.rounds.now) _ v) (sym c.new-places.ensures) (laid_none (g.R.Rounds.current c.args.rounds.now) (g.R.Rounds.closed c.args.rounds.now) c.args.seats.now);
+  laid = subst (λ v. IsLaidOut (g.R.Rounds.current c.args.calendar.now) (g.R.Rounds.closed c.args.calendar.now) _ v) (sym c.new-places.ensures) (laid_none (g.R.Rounds.current c.args.calendar.now) (g.R.Rounds.closed c.args.calendar.now) c.args.seats.now);
 }
 
 pub loop-seat-preserved : goal.loop-seat-preserved
@@ -27,7 +27,7 @@ loop-seat-preserved g c =
       long = length-set c.loop-seat.taken seat.die.0 (get_or c.loop-seat.taken seat.die.0 0 + 1) ∙ i.long;
       taken = subst (λ v. (die : ℕ) → die < 256 → get_or (set c.loop-seat.taken seat.die.0 (get_or c.loop-seat.taken seat.die.0 0 + 1)) die 0 ≡ count_by (is_at_die die) v) (sym c.in_ok-push.ensures.ok)
           (taken_more c.loop-seat.taken c.loop-seat.places y i.long known i.taken);
-      laid = subst (λ v. IsLaidOut (g.R.Rounds.current c.args.rounds.now) (g.R.Rounds.closed c.args.rounds.now) (take (c.loop-seat.seat-index + 1) c.args.seats.now) v) (sym c.in_ok-push.ensures.ok)
-          (laid_more (g.R.Rounds.current c.args.rounds.now) (g.R.Rounds.closed c.args.rounds.now) c.args.seats.now c.loop-seat.seat-index d c.loop-seat-test.true c.requires.rising c.loop-seat.places y refl known i.laid
-          (subst (λ n. IsNthOpen (g.R.Rounds.current c.args.rounds.now) (g.R.Rounds.closed c.args.rounds.now) seat.die.0 (n + 1) c.nth_open-round.result.0) turn c.nth_open-round.ensures));
+      laid = subst (λ v. IsLaidOut (g.R.Rounds.current c.args.calendar.now) (g.R.Rounds.closed c.args.calendar.now) (take (c.loop-seat.seat-index + 1) c.args.seats.now) v) (sym c.in_ok-push.ensures.ok)
+          (laid_more (g.R.Rounds.current c.args.calendar.now) (g.R.Rounds.closed c.args.calendar.now) c.args.seats.now c.loop-seat.seat-index d c.loop-seat-test.true c.requires.rising c.loop-seat.places y refl known i.laid
+          (subst (λ n. IsNthOpen (g.R.Rounds.current c.args.calendar.now) (g.R.Rounds.closed c.args.calendar.now) seat.die.0 (n + 1) c.nth_open-round.result.0) turn c.nth_open-round.ensures));
     }

@@ -6,5 +6,5 @@ abbrev pub invariant-loop-seat : goal.invariant-loop-seat
 invariant-loop-seat g l = record {
   long : length l.taken ≡ 256;
   taken : (die : ℕ) → die < 256 → slice_index l.taken die ≡ count_by (is_at_die die) l.places;
-  laid : IsLaidOut (g.R.Rounds.current l.rounds) (g.R.Rounds.closed l.rounds) (take l.seat-index l.seats) l.places;
+  laid : IsLaidOut (g.R.Rounds.current l.calendar) (g.R.Rounds.closed l.calendar) (take l.seat-index l.seats) l.places;
 }

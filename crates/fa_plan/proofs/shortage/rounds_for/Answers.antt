@@ -7,9 +7,9 @@ first_enough-requires-clause-some g c = some_marked c.args.batch.now c.args.page
 pub first_enough-requires-clause-low : goal.first_enough-requires-clause-low
 first_enough-requires-clause-low g c =
     marked_are_few c.args.batch.now c.args.pages.now c.holders_of-dies.result c.holders_of-dies.ensures.long c.holders_of-dies.ensures.marks
-    (g.R.Rounds.current c.args.rounds.now) (g.R.Rounds.closed c.args.rounds.now) c.args.low c.requires.low
+    (g.R.Rounds.current c.args.calendar.now) (g.R.Rounds.closed c.args.calendar.now) c.args.low c.requires.low
 
 pub returns : goal.returns
 returns g c =
     raised_from_first c.args.batch.now c.args.pages.now c.holders_of-dies.result c.holders_of-dies.ensures.long c.holders_of-dies.ensures.marks
-    (g.R.Rounds.current c.args.rounds.now) (g.R.Rounds.closed c.args.rounds.now) c.requires.named c.args.low c.first_enough.result c.first_enough.ensures
+    (g.R.Rounds.current c.args.calendar.now) (g.R.Rounds.closed c.args.calendar.now) c.requires.named c.args.low c.first_enough.result c.first_enough.ensures

@@ -1,8 +1,8 @@
 use Rattle.std.proofs.Common.{length, ◌∙◌, sym, subst, eqb-true, string_bytes}
 use Rattle.std.proofs.lemmas.Bool.{eqb-false}
-use Rattle.fa_cert.specs.BatchText.{StartsWithBatch}
-use Rattle.fa_cert.specs.CertificateText.{IsPrinted}
-use Rattle.fa_cert.specs.Text.{IsFirstWrongLine, IsTextError, words_by_line}
+use Rattle.fa_texts.specs.BatchText.{StartsWithBatch}
+use Rattle.fa_texts.specs.CertificateText.{IsPrinted}
+use Rattle.fa_texts.specs.Text.{IsFirstWrongLine, IsTextError, words_by_line}
 use Rattle.fa_prog.specs.Plan.{IsSomeBatch}
 use Rattle.fa_prog.proofs.PlanLemmas.{input_fault, nothing_left, planned, rest_is_wrong}
 use Rattle.fa_prog.proofs.plan.plan_text.Goals as goal

@@ -8,58 +8,63 @@ use Rattle.std.specs.Borrow.{Bor}
 use Rattle.fa_types.specs.declared.numbers.Die.{Die}
 use Rattle.fa_settings.specs.CommandLine.{Wanted, Formats, Checks, Dumps, Plans, Talks, Verifies, IsWanted, found_instead, wanted_in}
 use Rattle.fa_settings.specs.declared.command_line.Subcommand.TheVariants.{Format, Check, Dump}
-use Rattle.fa_prog.specs.Array.{TellsFormat, TellsLook}
-use Rattle.fa_prog.specs.Output.{ShowsText, TellsNoMemory}
+use Rattle.fa_admin.specs.Array.{TellsLook}
+use Rattle.fa_admin.specs.Formatting.{TellsFormat}
+use Rattle.fa_admin.specs.declared.look.Asked.TheVariants.{Check as CheckAsked, Dump as DumpAsked}
+use Rattle.fa_admin.specs.Printing.{TellsNoMemory}
+use Rattle.fa_prog.specs.Output.{ShowsText}
 use Rattle.fa_prog.specs.Program.{Runs, RunsCommand}
 use Rattle.fa_prog.proofs.program.run.Goals as goal
 
 -- arguments that are no command, and what was shown for them
-shown : (arguments : List (List ℕ)) (s : Streams) (status : ℕ) (e : Error) → HasKind (found_instead arguments) e → Reads s []
-    → ShowsText (kind_of e) s.held_before s.held_after status ⊎ TellsNoMemory s.held_before s.held_after status → Runs arguments s status
-shown arguments s status e (inl none) reads (inl text) = inr (reads, inr (subst (λ k. ShowsText k s.held_before s.held_after status) none text))
-shown arguments s status e (inr among) reads (inl text) = inr (reads, inl (kind_of e, among, text))
-shown arguments s status e kinds reads (inr told) = inr (reads, inr told)
+shown : (A : Type 0) (arguments : List (List ℕ)) (s : Streams) (status : ℕ) (e : Error) → HasKind (found_instead arguments) e → Reads s []
+    → ShowsText (kind_of e) s.held_before s.held_after status ⊎ TellsNoMemory s.held_before s.held_after status → Runs A arguments s status
+shown A arguments s status e (inl none) reads (inl text) = inr (reads, inr (subst (λ k. ShowsText k s.held_before s.held_after status) none text))
+shown A arguments s status e (inr among) reads (inl text) = inr (reads, inl (kind_of e, among, text))
+shown A arguments s status e kinds reads (inr told) = inr (reads, inr told)
 
 pub returns-in-Err : goal.returns-in-Err
-returns-in-Err g c = shown _ _ _ c.in-Err.error c.in-Err.ensures.instead (Consumes-nil _) c.show_text.ensures
+returns-in-Err g c = shown _ _ _ _ c.in-Err.error c.in-Err.ensures.instead (Consumes-nil _) c.show_text.ensures
 
 -- a command on an array is the one that was wanted
-ran_format : (settings : Bor (List ℕ)) (die : Option Die) (wanted : Option Wanted) (s : Streams) (status : ℕ) → IsWanted (Some (Format settings die)) wanted
-    → Reads s [] → TellsFormat s.held_before s.held_after status → RunsCommand wanted s status
-ran_format settings die (Some (Formats path text)) s status is reads tells = (reads, tells)
-ran_format settings die None s status is reads tells = absurd is
-ran_format settings die (Some (Checks path u j)) s status is reads tells = absurd is
-ran_format settings die (Some (Dumps path u j)) s status is reads tells = absurd is
-ran_format settings die (Some Plans) s status is reads tells = absurd is
-ran_format settings die (Some Talks) s status is reads tells = absurd is
-ran_format settings die (Some Verifies) s status is reads tells = absurd is
+ran_format : (A : Type 0) (settings : Bor (List ℕ)) (die : Option Die) (wanted : Option Wanted) (s : Streams) (status : ℕ) → IsWanted (Some (Format settings die)) wanted
+    → Reads s [] → TellsFormat A die s.held_before s.held_after status → RunsCommand A wanted s status
+ran_format A settings die (Some (Formats path text)) s status is reads tells = (reads, (die, is.1, tells))
+ran_format A settings die None s status is reads tells = absurd is
+ran_format A settings die (Some (Checks path u j)) s status is reads tells = absurd is
+ran_format A settings die (Some (Dumps path u j)) s status is reads tells = absurd is
+ran_format A settings die (Some Plans) s status is reads tells = absurd is
+ran_format A settings die (Some Talks) s status is reads tells = absurd is
+ran_format A settings die (Some Verifies) s status is reads tells = absurd is
 
-ran_check : (settings : Bor (List ℕ)) (unclean json : Bool) (wanted : Option Wanted) (s : Streams) (status : ℕ) → IsWanted (Some (Check settings unclean json)) wanted
-    → Reads s [] → TellsLook s.held_before s.held_after status → RunsCommand wanted s status
-ran_check settings unclean json (Some (Checks path u j)) s status is reads tells = (reads, tells)
-ran_check settings unclean json None s status is reads tells = absurd is
-ran_check settings unclean json (Some (Formats path text)) s status is reads tells = absurd is
-ran_check settings unclean json (Some (Dumps path u j)) s status is reads tells = absurd is
-ran_check settings unclean json (Some Plans) s status is reads tells = absurd is
-ran_check settings unclean json (Some Talks) s status is reads tells = absurd is
-ran_check settings unclean json (Some Verifies) s status is reads tells = absurd is
+ran_check : (A : Type 0) (settings : Bor (List ℕ)) (unclean json : Bool) (wanted : Option Wanted) (s : Streams) (status : ℕ) → IsWanted (Some (Check settings unclean json)) wanted
+    → Reads s [] → TellsLook A CheckAsked unclean json s.held_before s.held_after status → RunsCommand A wanted s status
+ran_check A settings unclean json (Some (Checks path u j)) s status is reads tells =
+    (reads, subst (λ b. TellsLook A CheckAsked b j s.held_before s.held_after status) is.1 (subst (λ b. TellsLook A CheckAsked unclean b s.held_before s.held_after status) is.2 tells))
+ran_check A settings unclean json None s status is reads tells = absurd is
+ran_check A settings unclean json (Some (Formats path text)) s status is reads tells = absurd is
+ran_check A settings unclean json (Some (Dumps path u j)) s status is reads tells = absurd is
+ran_check A settings unclean json (Some Plans) s status is reads tells = absurd is
+ran_check A settings unclean json (Some Talks) s status is reads tells = absurd is
+ran_check A settings unclean json (Some Verifies) s status is reads tells = absurd is
 
-ran_dump : (settings : Bor (List ℕ)) (unclean json : Bool) (wanted : Option Wanted) (s : Streams) (status : ℕ) → IsWanted (Some (Dump settings unclean json)) wanted
-    → Reads s [] → TellsLook s.held_before s.held_after status → RunsCommand wanted s status
-ran_dump settings unclean json (Some (Dumps path u j)) s status is reads tells = (reads, tells)
-ran_dump settings unclean json None s status is reads tells = absurd is
-ran_dump settings unclean json (Some (Formats path text)) s status is reads tells = absurd is
-ran_dump settings unclean json (Some (Checks path u j)) s status is reads tells = absurd is
-ran_dump settings unclean json (Some Plans) s status is reads tells = absurd is
-ran_dump settings unclean json (Some Talks) s status is reads tells = absurd is
-ran_dump settings unclean json (Some Verifies) s status is reads tells = absurd is
+ran_dump : (A : Type 0) (settings : Bor (List ℕ)) (unclean json : Bool) (wanted : Option Wanted) (s : Streams) (status : ℕ) → IsWanted (Some (Dump settings unclean json)) wanted
+    → Reads s [] → TellsLook A DumpAsked unclean json s.held_before s.held_after status → RunsCommand A wanted s status
+ran_dump A settings unclean json (Some (Dumps path u j)) s status is reads tells =
+    (reads, subst (λ b. TellsLook A DumpAsked b j s.held_before s.held_after status) is.1 (subst (λ b. TellsLook A DumpAsked unclean b s.held_before s.held_after status) is.2 tells))
+ran_dump A settings unclean json None s status is reads tells = absurd is
+ran_dump A settings unclean json (Some (Formats path text)) s status is reads tells = absurd is
+ran_dump A settings unclean json (Some (Checks path u j)) s status is reads tells = absurd is
+ran_dump A settings unclean json (Some Plans) s status is reads tells = absurd is
+ran_dump A settings unclean json (Some Talks) s status is reads tells = absurd is
+ran_dump A settings unclean json (Some Verifies) s status is reads tells = absurd is
 
 pub returns-in-Ok-Some-Format : goal.returns-in-Ok-Some-Format
 returns-in-Ok-Some-Format g c =
     let k = c.in-Ok-Some-Format in
     inl (
       k.ensures.no_other,
-      ran_format k.settings k.die (wanted_in (map string_bytes c.args.arguments.now)) _ c.run_format.result
+      ran_format _ k.settings k.die (wanted_in (map string_bytes c.args.arguments.now)) _ c.run_format.result
           (subst (λ o. IsWanted o (wanted_in (map string_bytes c.args.arguments.now))) (k.field-0-is ∙ ap Some k.field-0-0-is) k.ensures.command) (Consumes-nil _) c.run_format.ensures,
     )
 
@@ -68,7 +73,7 @@ returns-in-Ok-Some-Check g c =
     let k = c.in-Ok-Some-Check in
     inl (
       k.ensures.no_other,
-      ran_check k.settings k.unclean k.json (wanted_in (map string_bytes c.args.arguments.now)) _ c.run_look.result
+      ran_check _ k.settings k.unclean k.json (wanted_in (map string_bytes c.args.arguments.now)) _ c.run_look.result
           (subst (λ o. IsWanted o (wanted_in (map string_bytes c.args.arguments.now))) (k.field-0-is ∙ ap Some k.field-0-0-is) k.ensures.command) (Consumes-nil _) c.run_look.ensures,
     )
 
@@ -77,7 +82,7 @@ returns-in-Ok-Some-Dump g c =
     let k = c.in-Ok-Some-Dump in
     inl (
       k.ensures.no_other,
-      ran_dump k.settings k.unclean k.json (wanted_in (map string_bytes c.args.arguments.now)) _
+      ran_dump _ k.settings k.unclean k.json (wanted_in (map string_bytes c.args.arguments.now)) _
           c.run_look-in-Ok-Some-Dump.result
           (subst (λ o. IsWanted o (wanted_in (map string_bytes c.args.arguments.now))) (k.field-0-is ∙ ap Some k.field-0-0-is) k.ensures.command) (Consumes-nil _) c.run_look-in-Ok-Some-Dump.ensures,
     )

@@ -1,6 +1,6 @@
 use Rattle.std.proofs.Common.{ℕ, ◌≡◌, ◌≤◌, true, ap}
 use Rattle.fa_calendar.specs.Dies.{closed_by, window_by}
-use Rattle.fa_calendar.specs.Windows.{is_in_window}
+use Rattle.fa_types.specs.Windows.{is_in_window}
 use Rattle.fa_calendar.proofs.Sound.{few_taken}
 use Rattle.fa_calendar.proofs.calendar.Calendar.new.Goals as goal
 

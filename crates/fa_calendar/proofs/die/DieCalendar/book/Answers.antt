@@ -1,6 +1,6 @@
 use Rattle.std.proofs.Common.{ap, subst, arith}
-use Rattle.fa_cert.specs.Runs.{total_rounds, AreMerged}
-use Rattle.fa_cert.proofs.Merged.{length_fits}
+use Rattle.fa_calendar.specs.Merging.{total_rounds, AreMerged}
+use Rattle.fa_calendar.proofs.Merged.{length_fits}
 use Rattle.fa_calendar.specs.DieState.{DieState}
 use Rattle.fa_calendar.proofs.Totals.{one_more}
 use Rattle.fa_calendar.proofs.die.DieCalendar.book.Goals as goal

@@ -1,4 +1,4 @@
-use Rattle.fa_cert.proofs.Merged.{merged_rising}
+use Rattle.fa_calendar.proofs.Merged.{merged_rising}
 use Rattle.fa_calendar.proofs.die.DieCalendar.count.Goals as goal
 
 pub count_covered-requires-clause-rising : goal.count_covered-requires-clause-rising

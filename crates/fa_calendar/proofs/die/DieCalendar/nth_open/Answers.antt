@@ -1,5 +1,5 @@
 use Rattle.std.proofs.Common.{arith}
-use Rattle.fa_cert.proofs.Merged.{merged_rising}
+use Rattle.fa_calendar.proofs.Merged.{merged_rising}
 use Rattle.fa_calendar.proofs.Totals.{total_bounds}
 use Rattle.fa_calendar.proofs.die.DieCalendar.nth_open.Goals as goal
 

@@ -1,4 +1,4 @@
-use Rattle.fa_cert.proofs.Merged.{merged_rising}
+use Rattle.fa_calendar.proofs.Merged.{merged_rising}
 use Rattle.fa_calendar.proofs.die.DieCalendar.open.Goals as goal
 
 pub covers-requires : goal.covers-requires

@@ -1,7 +1,8 @@
 use Rattle.std.proofs.Common.{ℕ, ◌+◌, ◌≤◌, ap, subst, arith}
 use Rattle.fa_types.specs.Open.{rounds_that, max_closed}
-use Rattle.fa_cert.specs.Runs.{is_covered, total_rounds, AreMerged}
-use Rattle.fa_cert.proofs.Merged.{length_fits}
+use Rattle.fa_cert.specs.Runs.{is_covered}
+use Rattle.fa_calendar.specs.Merging.{total_rounds, AreMerged}
+use Rattle.fa_calendar.proofs.Merged.{length_fits}
 use Rattle.fa_calendar.specs.DieState.{DieState}
 use Rattle.fa_calendar.proofs.Gaps.{open_in}
 use Rattle.fa_calendar.proofs.Totals.{total_reached, total_bounds}

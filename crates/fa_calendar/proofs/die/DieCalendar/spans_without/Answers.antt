@@ -1,4 +1,4 @@
-use Rattle.fa_cert.proofs.Merged.{merged_rising}
+use Rattle.fa_calendar.proofs.Merged.{merged_rising}
 use Rattle.fa_calendar.proofs.die.DieCalendar.spans_without.Goals as goal
 
 pub of-requires : goal.of-requires

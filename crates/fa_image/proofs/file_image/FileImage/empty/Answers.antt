@@ -26,4 +26,4 @@ zeros g =
 pub returns-clause-view : goal.returns-clause-view
 returns-clause-view g c =
     let g' = c.args.self.now.geometry in
-    ap (λ (held : Contents). state_in g' held.bytes 0 0) c.anew-self.ensures ∙ zeros g'
+    ap (λ (held : Contents). state_in g' held.bytes 0 0) c.begin-self.ensures ∙ zeros g'

@@ -18,9 +18,9 @@ invariant_of-result g c =
     let long = t.sound.tallied.slots ∙ ap (λ (k : Geometry). k.dies * die_slots k) c.in_ok-tables.ensures.geometry in
     record {
       sound =
-          subst (λ l. IsShown c.new-2.result.state c.args.geometry l 0 c.in_ok-versions.versions.items t.entries.items) (sym live)
-          (subst (λ l. IsShown c.new-2.result.state c.args.geometry (replicate c.args.geometry.dies false) 0 l t.entries.items) (sym versions)
-          (subst (λ m. IsShown m c.args.geometry (replicate c.args.geometry.dies false) 0 (replicate c.args.geometry.pages None) t.entries.items) (sym c.new-2.ensures)
+          subst (λ l. IsShown c.begin.result.shown c.args.geometry l 0 c.in_ok-versions.versions.items t.entries.items) (sym live)
+          (subst (λ l. IsShown c.begin.result.shown c.args.geometry (replicate c.args.geometry.dies false) 0 l t.entries.items) (sym versions)
+          (subst (λ m. IsShown m c.args.geometry (replicate c.args.geometry.dies false) 0 (replicate c.args.geometry.pages None) t.entries.items) (sym c.begin.ensures)
           (shown_new c.args.geometry t.entries.items long c.in_ok-tables.ensures.entries)));
       same = c.in_ok-tables.ensures.geometry;
       few = omega arith;

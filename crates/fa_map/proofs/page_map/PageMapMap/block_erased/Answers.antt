@@ -17,7 +17,7 @@ invariant_of-self g c =
     record {
       sound =
           subst (λ m. IsShown m s.geometry s.live.items s.live_dies s.versions.items new) (sym c.note.ensures)
-          (shown_erased s.shown.state s.geometry s.live.items s.live_dies s.versions.items s.tables.entries.items s.sound c.args.die.0 c.args.block.0 new long each);
+          (shown_erased s.history.shown s.geometry s.live.items s.live_dies s.versions.items s.tables.entries.items s.sound c.args.die.0 c.args.block.0 new long each);
       same = c.erase_block.ensures.geometry ∙ s.same;
       few = s.few;
     }

@@ -21,8 +21,8 @@ invariant_of-self g c =
     record {
       sound =
           subst (λ m. IsShown m s.geometry (set s.live.items c.args.die.0 false) c.less_one-self.result s.versions.items new) (sym c.note.ensures)
-          (subst (λ k. IsShown (dropped c.args.die.0 s.shown.state) s.geometry (set s.live.items c.args.die.0 false) k s.versions.items new) (sym less)
-          (shown_dropped s.shown.state s.geometry s.live.items s.live_dies s.versions.items s.tables.entries.items s.sound c.args.die.0 new fits long each));
+          (subst (λ k. IsShown (dropped c.args.die.0 s.history.shown) s.geometry (set s.live.items c.args.die.0 false) k s.versions.items new) (sym less)
+          (shown_dropped s.history.shown s.geometry s.live.items s.live_dies s.versions.items s.tables.entries.items s.sound c.args.die.0 new fits long each));
       same = c.erase_die.ensures.geometry ∙ s.same;
       few = s.few;
     }

@@ -18,7 +18,7 @@ add_copy-requires-clause-free g c =
     let full = s.tables.sound.tallied.slots ∙ size in
     let long = mid.sound.tallied.slots ∙ ap (λ (k : Geometry). k.dies * die_slots k) c.renew.ensures.geometry ∙ size in
     let now = ap die_slots (c.renew.ensures.geometry ∙ s.same) in
-    subst (λ k. is_current_entry (entry_of mid.entries.items k c.args.die.0 c.args.slot.0) ≡ false) (sym now) (renewed_free s.shown.state s.geometry s.live.items s.live_dies s.versions.items s.tables.entries.items s.sound c.args.page c.args.version c.args.die.0 c.args.slot.0 c.is_last-is_last.result mid.entries.items c.requires c.is_last-is_last.ensures full long each)
+    subst (λ k. is_current_entry (entry_of mid.entries.items k c.args.die.0 c.args.slot.0) ≡ false) (sym now) (renewed_free s.history.shown s.geometry s.live.items s.live_dies s.versions.items s.tables.entries.items s.sound c.args.page c.args.version c.args.die.0 c.args.slot.0 c.is_last-is_last.result mid.entries.items c.requires c.is_last-is_last.ensures full long each)
 
 pub add_copy-requires-clause-once : goal.add_copy-requires-clause-once
 add_copy-requires-clause-once g c = λ other within is.
@@ -30,7 +30,7 @@ add_copy-requires-clause-once g c = λ other within is.
     let full = s.tables.sound.tallied.slots ∙ size in
     let long = mid.sound.tallied.slots ∙ ap (λ (k : Geometry). k.dies * die_slots k) c.renew.ensures.geometry ∙ size in
     let now = ap die_slots (c.renew.ensures.geometry ∙ s.same) in
-    renewed_once s.shown.state s.geometry s.live.items s.live_dies s.versions.items s.tables.entries.items s.sound c.args.page c.args.version c.args.die.0 c.args.slot.0 c.is_last-is_last.result mid.entries.items c.requires c.is_last-is_last.ensures full long each other (subst (λ k. other < k) now within) (subst (λ k. entry_of mid.entries.items k c.args.die.0 other ≡ Current c.args.page.0) now is)
+    renewed_once s.history.shown s.geometry s.live.items s.live_dies s.versions.items s.tables.entries.items s.sound c.args.page c.args.version c.args.die.0 c.args.slot.0 c.is_last-is_last.result mid.entries.items c.requires c.is_last-is_last.ensures full long each other (subst (λ k. other < k) now within) (subst (λ k. entry_of mid.entries.items k c.args.die.0 other ≡ Current c.args.page.0) now is)
 
 pub invariant_of-self : goal.invariant_of-self
 invariant_of-self g c =
@@ -45,9 +45,9 @@ invariant_of-self g c =
     let written = c.add_copy.ensures.entries ∙ ap (λ k. set mid.entries.items (c.args.die.0 * k + c.args.slot.0) (Current c.args.page.0)) now in
     record {
       sound =
-          subst (λ l. IsShown c.note.new.self.state s.geometry s.live.items s.live_dies (set s.versions.items c.args.page.0 (Some c.args.version)) l) (sym written)
+          subst (λ l. IsShown c.note.new.history.shown s.geometry s.live.items s.live_dies (set s.versions.items c.args.page.0 (Some c.args.version)) l) (sym written)
           (subst (λ m. IsShown m s.geometry s.live.items s.live_dies (set s.versions.items c.args.page.0 (Some c.args.version)) (set mid.entries.items (c.args.die.0 * die_slots s.geometry + c.args.slot.0) (Current c.args.page.0))) (sym c.note.ensures)
-          (shown_current s.shown.state s.geometry s.live.items s.live_dies s.versions.items s.tables.entries.items s.sound c.args.page c.args.version c.args.die.0 c.args.slot.0 c.is_last-is_last.result mid.entries.items c.requires c.is_last-is_last.ensures full long each));
+          (shown_current s.history.shown s.geometry s.live.items s.live_dies s.versions.items s.tables.entries.items s.sound c.args.page c.args.version c.args.die.0 c.args.slot.0 c.is_last-is_last.result mid.entries.items c.requires c.is_last-is_last.ensures full long each));
       same = c.add_copy.ensures.geometry ∙ c.renew.ensures.geometry ∙ s.same;
       few = s.few;
     }

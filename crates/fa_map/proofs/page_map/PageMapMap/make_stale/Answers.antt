@@ -12,9 +12,9 @@ invariant_of-self g c =
     let s = c.args.self.now in
     let same = ap die_slots s.same in
     record {
-      sound = (subst (IsShown c.note.new.self.state s.geometry s.live.items s.live_dies s.versions.items) (sym (c.put.ensures.entries ∙ ap (λ k. set s.tables.entries.items (c.args.die.0 * k + c.args.slot.0) Stale) same))
+      sound = (subst (IsShown c.note.new.history.shown s.geometry s.live.items s.live_dies s.versions.items) (sym (c.put.ensures.entries ∙ ap (λ k. set s.tables.entries.items (c.args.die.0 * k + c.args.slot.0) Stale) same))
           (subst (λ k. IsShown k s.geometry s.live.items s.live_dies s.versions.items (set s.tables.entries.items (c.args.die.0 * die_slots s.geometry + c.args.slot.0) Stale)) (sym c.note.ensures)
-          (shown_used s.shown.state s.geometry s.live.items s.live_dies s.versions.items s.tables.entries.items s.sound c.args.die.0 c.args.slot.0 used.Stale Stale c.requires.die c.requires.slot refl refl refl (s.tables.sound.tallied.slots ∙ ap (λ (k : Geometry). k.dies * die_slots k) s.same))));
+          (shown_used s.history.shown s.geometry s.live.items s.live_dies s.versions.items s.tables.entries.items s.sound c.args.die.0 c.args.slot.0 used.Stale Stale c.requires.die c.requires.slot refl refl refl (s.tables.sound.tallied.slots ∙ ap (λ (k : Geometry). k.dies * die_slots k) s.same))));
       same = c.put.ensures.geometry ∙ s.same;
       few = s.few;
     }

@@ -21,8 +21,8 @@ invariant_of-result g c =
     let size = ap (λ (k : ℕ). replicate (c.args.geometry.dies * k) nothing) c.slots_of_die.ensures in
     record {
       sound =
-          subst (λ l. IsPlain c.new.result.state c.args.geometry l 0 c.in_ok-versions.versions.items c.in_ok-used.used.items) (sym live)
-          (subst (λ l. IsPlain c.new.result.state c.args.geometry (replicate c.args.geometry.dies false) 0 l c.in_ok-used.used.items) (sym versions)
-          (told c.args.geometry (replicate c.args.geometry.dies false) (replicate c.args.geometry.pages None) (new_map c.args.geometry) c.new.result.state 0 0 _ _ c.new.ensures refl (used ∙ size)
+          subst (λ l. IsPlain c.begin.result.shown c.args.geometry l 0 c.in_ok-versions.versions.items c.in_ok-used.used.items) (sym live)
+          (subst (λ l. IsPlain c.begin.result.shown c.args.geometry (replicate c.args.geometry.dies false) 0 l c.in_ok-used.used.items) (sym versions)
+          (told c.args.geometry (replicate c.args.geometry.dies false) (replicate c.args.geometry.pages None) (new_map c.args.geometry) c.begin.result.shown 0 0 _ _ c.begin.ensures refl (used ∙ size)
           (plain_new c.args.geometry)));
     }

@@ -13,7 +13,7 @@ pub erase_unreserved-requires : goal.erase_unreserved-requires
 erase_unreserved-requires g c =
     let s = c.args.self.now in
     let block = subst (λ (k : Geometry). c.args.block.0 < k.blocks) s.sound.geometry c.requires.block in
-    let low = live_fits s.shown.state s.geometry s.live.items s.live_dies s.versions.items s.used.items s.sound c.args.die.0 c.requires.die in
+    let low = live_fits s.history.shown s.geometry s.live.items s.live_dies s.versions.items s.used.items s.sound c.args.die.0 c.requires.die in
     let room = die_fits c.args.block.0 s.geometry.blocks s.geometry.slots block in
     let all = die_fits c.args.die.0 s.geometry.dies (die_slots s.geometry) low in
     omega (arith, room, all, c.first_slot.ensures, c.deref_mut.ensures.len, s.used.ok.0, s.sound.slots)
@@ -30,9 +30,9 @@ invariant_of-self g c =
     λ k. c.erase_unreserved.ensures k
     ∙ (λ i. if nat_le (c.first_slot.ensures i + low) k && nat_lt k (c.first_slot.ensures i + low + s.geometry.slots)
     && not (is_reserved_slot (slot_at (c.deref_mut.ensures.value i) k)) then None else slot_at (c.deref_mut.ensures.value i) k) in
-    let after = plain_erased s.shown.state s.geometry s.live.items s.live_dies s.versions.items s.used.items s.sound c.args.die.0 c.args.block.0 t long
+    let after = plain_erased s.history.shown s.geometry s.live.items s.live_dies s.versions.items s.used.items s.sound c.args.die.0 c.args.block.0 t long
     (λ d k below. each (d * die_slots s.geometry + k)
     ∙ ap (λ b. if b && not (is_reserved_slot (slot_at s.used.items (d * die_slots s.geometry + k))) then None else slot_at s.used.items (d * die_slots s.geometry + k))
     (in_die_block d k c.args.die.0 c.args.block.0 s.geometry.blocks s.geometry.slots (omega arith) block below)) in
     let part = whole_part s.used.len t s.used.items (omega (arith, long, s.used.ok.0)) in
-    record { sound = told s.geometry s.live.items s.versions.items _ c.note.new.self.state _ s.live_dies _ _ c.note.ensures refl part after }
+    record { sound = told s.geometry s.live.items s.versions.items _ c.note.new.history.shown _ s.live_dies _ _ c.note.ensures refl part after }

@@ -11,7 +11,7 @@ use Rattle.fa_map.proofs.plain_map.PlainMapMap.copies_of.Goals as goal
 pub loop-die-preserved : goal.loop-die-preserved
 loop-die-preserved g c =
     let s = c.args.self.now in
-    let test = holds_page s.shown.state c.args.page.0 in
+    let test = holds_page s.history.shown c.args.page.0 in
     let more = count_more test 0 c.loop-die.die in
     let same : 0 + c.loop-die.die ≡ c.loop-die.die = omega arith in
     let held : test (0 + c.loop-die.die) ≡ is_some c.copy_on.result =
@@ -29,6 +29,6 @@ pub returns : goal.returns
 returns g c =
     let s = c.args.self.now in
     let all : c.loop-die.die ≡ s.geometry.dies = omega arith in
-    c.loop-die.invariant.counted ∙ ap (λ (k : ℕ). count_by (holds_page s.shown.state c.args.page.0) (below k)) all
-    ∙ ap (λ (k : Geometry). count_by (holds_page s.shown.state c.args.page.0) (below k.dies)) (sym s.sound.geometry)
-    ∙ sym (holders_counted s.shown.state c.args.page.0)
+    c.loop-die.invariant.counted ∙ ap (λ (k : ℕ). count_by (holds_page s.history.shown c.args.page.0) (below k)) all
+    ∙ ap (λ (k : Geometry). count_by (holds_page s.history.shown c.args.page.0) (below k.dies)) (sym s.sound.geometry)
+    ∙ sym (holders_counted s.history.shown c.args.page.0)

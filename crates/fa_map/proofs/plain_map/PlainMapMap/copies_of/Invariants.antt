@@ -6,5 +6,5 @@ use Rattle.fa_map.proofs.plain_map.PlainMapMap.copies_of.Given as goal
 abbrev pub invariant-loop-die : goal.invariant-loop-die
 invariant-loop-die g l = record {
   few : l.copies ≤ l.die;
-  counted : l.copies ≡ count_by (holds_page l.self.shown.state l.page.0) (below l.die);
+  counted : l.copies ≡ count_by (holds_page l.self.history.shown l.page.0) (below l.die);
 }

@@ -19,7 +19,7 @@ invariant_of-self g c =
     ∙ (λ i. if nat_le (c.first_slot-first.ensures i) k && nat_lt k (c.first_slot-first.ensures i + c.slots_of_die.ensures i) then None else slot_at (c.deref_mut.ensures.value i) k) in
     let was : get_or s.live.items c.args.die.0 false ≡ c.index.result.now = get_or_default s.live.items c.args.die.0 false c.index.result.now (omega (arith, fits, s.sound.dies)) ∙ sym c.index.ensures in
     let less = c.less_one-self.ensures ∙ ap (λ (b : Bool). if b then s.live_dies - 1 else s.live_dies) (sym was) in
-    let after = plain_dropped s.shown.state s.geometry s.live.items s.live_dies s.versions.items s.used.items s.sound c.args.die.0 t fits long
+    let after = plain_dropped s.history.shown s.geometry s.live.items s.live_dies s.versions.items s.used.items s.sound c.args.die.0 t fits long
     (λ d k below. each (d * die_slots s.geometry + k) ∙ ap (λ b. if b then None else slot_at s.used.items (d * die_slots s.geometry + k)) (in_die d k c.args.die.0 (die_slots s.geometry) below)) in
     let part = whole_part s.used.len t s.used.items (omega (arith, long, s.used.ok.0)) in
-    record { sound = told s.geometry (set s.live.items c.args.die.0 false) s.versions.items _ c.note.new.self.state _ c.less_one-self.result _ _ c.note.ensures less part after }
+    record { sound = told s.geometry (set s.live.items c.args.die.0 false) s.versions.items _ c.note.new.history.shown _ c.less_one-self.result _ _ c.note.ensures less part after }

@@ -7,4 +7,4 @@ pub returns : goal.returns
 returns g c =
     let s = c.args.self.now in
     c.count_erased.ensures
-    ∙ plain_count s.shown.state s.geometry s.live.items s.live_dies s.versions.items s.used.items s.sound is_none c.args.die.0 c.first_slot-first.result c.slots_of_die.result c.deref.result.now c.first_slot-first.ensures c.slots_of_die.ensures c.deref.ensures.value
+    ∙ plain_count s.history.shown s.geometry s.live.items s.live_dies s.versions.items s.used.items s.sound is_none c.args.die.0 c.first_slot-first.result c.slots_of_die.result c.deref.result.now c.first_slot-first.ensures c.slots_of_die.ensures c.deref.ensures.value

@@ -1,27 +1,26 @@
-use Rattle.std.proofs.Common.{rules, ◌∙◌, sym, ap, arith}
-use Rattle.fa_types.specs.declared.geometry.Geometry.{Geometry}
-use Rattle.fa_mount.proofs.PagesLeft.{place_given, place_passed}
+use Rattle.std.proofs.Common.{rules, ◌+◌, List, ◌∷◌, ◌∙◌, sym, ap}
+use Rattle.fa_types.specs.declared.numbers.Die.{Die}
+use Rattle.fa_types.specs.declared.numbers.Slot.{Slot}
+use Rattle.fa_mount.specs.Pages.{places_left}
+use Rattle.fa_mount.proofs.PagesLeft.{left_from}
 use Rattle.fa_mount.proofs.pages.PlacesIterator.next.Goals as goal
 
-pub returns-in-Some-clause-steps : goal.returns-in-Some-clause-steps
-returns-in-Some-clause-steps g c =
-    let at = c.loop-self.self-inside in
-    let dies = ap (λ (geometry : Geometry). geometry.dies) c.geometry.ensures in
-    sym c.loop-self.invariant.left ∙ place_given (g.M.Map.view at.map.now) at.page.0 at.next c.in-Some.slot (omega arith) c.in-Some.ensures
+pub returns-clause-steps : goal.returns-clause-steps
+returns-clause-steps g c =
+    let at = c.self.inside in
+    let m = g.M.Map.view at.map.now in
+    let place : Die × Slot = (c.in_ok-die.die, c.in_ok-die.slot) in
+    let next = c.next_copy-self-inside in
+    sym c.self.view_is ∙ ap (places_left m at.page.0) c.in_ok-die.was
+    ∙ ap (λ (l : List (Die × Slot)). place ∷ l) (sym (left_from m at.page.0 (place.0.0 + 1) next.result next.ensures.die next.ensures.slot))
 
-pub returns-in-Some-clause-goes : goal.returns-in-Some-clause-goes
-returns-in-Some-clause-goes g c =
-    let at = c.loop-self.self-inside in
-    let dies = ap (λ (geometry : Geometry). geometry.dies) c.geometry.ensures in
-    let steps = sym c.loop-self.invariant.left ∙ place_given (g.M.Map.view at.map.now) at.page.0 at.next c.in-Some.slot (omega arith) c.in-Some.ensures in
+pub returns-clause-goes : goal.returns-clause-goes
+returns-clause-goes g c =
+    let at = c.self.inside in
+    let m = g.M.Map.view at.map.now in
+    let place : Die × Slot = (c.in_ok-die.die, c.in_ok-die.slot) in
+    let next = c.next_copy-self-inside in
+    let steps =
+    sym c.self.view_is ∙ ap (places_left m at.page.0) c.in_ok-die.was
+    ∙ ap (λ (l : List (Die × Slot)). place ∷ l) (sym (left_from m at.page.0 (place.0.0 + 1) next.result next.ensures.die next.ensures.slot)) in
     search rules
-
-pub loop-self-preserved : goal.loop-self-preserved
-loop-self-preserved g c =
-    let at = c.loop-self.self-inside in
-    let dies = ap (λ (geometry : Geometry). geometry.dies) c.geometry.ensures in
-    record {
-      page = c.loop-self.invariant.page;
-      within = omega arith;
-      left = sym (place_passed (g.M.Map.view at.map.now) at.page.0 at.next (omega arith) c.in_default.ensures) ∙ c.loop-self.invariant.left;
-    }

@@ -1,5 +1,0 @@
-use Rattle.std.proofs.Common.{◌≡◌, map, take}
-use Rattle.fa_cert.proofs.text.batch_text.dies_of.Given as goal
-
-abbrev pub invariant-loop-n : goal.invariant-loop-n
-invariant-loop-n g l = map (λ d. d.0) l.dies.items ≡ take l.n-index l.numbers

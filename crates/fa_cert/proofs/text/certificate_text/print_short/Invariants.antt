@@ -1,9 +1,0 @@
-use Rattle.std.proofs.Common.{◌≡◌, ◌++◌, take, map, codes, All, string_bytes}
-use Rattle.std.specs.Fmt.{decimal}
-use Rattle.fa_cert.proofs.Printed.{IsWord, spaced}
-use Rattle.fa_cert.proofs.text.certificate_text.print_short.Given as goal
-
-abbrev pub invariant-loop-page : goal.invariant-loop-page
-invariant-loop-page g l =
-    (string_bytes l.out ≡ string_bytes l.fn.out ++ (codes "short" ++ spaced (map (λ p. decimal p.0) (take l.page-index l.pages))))
-    × All (λ p. IsWord (decimal p.0)) (take l.page-index l.pages)

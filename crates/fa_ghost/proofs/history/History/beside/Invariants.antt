@@ -1,0 +1,4 @@
+use Rattle.fa_ghost.proofs.history.History.beside.Given as goal
+
+abbrev pub ghost-new : goal.ghost-new
+ghost-new g a = g.shown

@@ -1,0 +1,9 @@
+pub mod Erasing
+pub mod FirstHeaders
+pub mod FoundAgain
+pub mod Images
+pub mod NewArray
+pub mod NewImages
+pub mod Numbers
+pub mod Reading
+pub mod Rows

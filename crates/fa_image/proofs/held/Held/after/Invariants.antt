@@ -1,4 +1,0 @@
-use Rattle.fa_image.proofs.held.Held.after.Given as goal
-
-abbrev pub ghost-new : goal.ghost-new
-ghost-new g a = g.contents

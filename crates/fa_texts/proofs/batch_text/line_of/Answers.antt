@@ -1,0 +1,10 @@
+use Rattle.std.proofs.lemmas.Bool.{false≢true}
+use Rattle.fa_texts.proofs.LinesRead.{other_first}
+use Rattle.fa_texts.proofs.batch_text.line_of.Goals as goal
+
+pub returns : goal.returns
+returns g c = (
+  λ e fine. other_first c.cut_word.ensures.words c.if-is_word.ensures.1,
+  λ run fine. other_first c.cut_word.ensures.words c.if-is_word-2.ensures.1,
+  λ is. false≢true (c.if-is_only_word.ensures.1 is),
+)

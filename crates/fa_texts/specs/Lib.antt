@@ -1,0 +1,4 @@
+pub mod BatchText
+pub mod CertificateText
+pub mod Numbers
+pub mod Text

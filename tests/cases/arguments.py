@@ -1,0 +1,119 @@
+"""The command line: help, the version, and arguments that are no command."""
+from cases import Case, Like, Run
+
+HELP = """A block server over mirrored flash dies, proved before it is built
+
+Usage: flasharr <COMMAND>
+
+Commands:
+  format  Makes the images of an array, which holds zeros
+  check   Reads the images of an array, and tells what they hold
+  dump    Reads the images of an array, and lists its written pages
+  plan    Plans a batch of reads, given as a batch text on standard input, in the least number of rounds
+  talk    Serves one NBD client, whose bytes are given on standard input as lines of hexadecimal digits
+  verify  Checks a batch text and a certificate text, given one behind the other on standard input
+
+Options:
+  -h, --help     Print help
+  -V, --version  Print version
+
+Status: 0 where the work was done, 1 where it was refused or memory, input or output failed,
+2 at a fault of the arguments, the settings or the input's text.
+"""
+
+HELP_OF_PLAN = """Plans a batch of reads, given as a batch text on standard input, in the least number of rounds
+
+Usage: flasharr plan < TEXT
+
+Options:
+  -h, --help  Print help
+
+Printed is the text of a certificate, which `verify` takes behind the batch text: the rounds, a place
+for each page, and the pages that show that no plan has fewer rounds.
+"""
+
+HELP_OF_TALK = """Serves one NBD client, whose bytes are given on standard input as lines of hexadecimal digits
+
+Usage: flasharr talk < LINES
+
+Options:
+  -h, --help  Print help
+
+The client finds a store of 64 pages of 512 zero bytes under the name disk. Printed are the server's
+bytes, in hexadecimal on one line, and `end E`, where E is 1 disconnected, 2 aborted, 3 closed for a wrong
+message, 4 input ended, 5 read failed, 6 write failed, 7 no memory in the negotiation.
+"""
+
+HELP_OF_VERIFY = """Checks a batch text and a certificate text, given one behind the other on standard input
+
+Usage: flasharr verify < TEXTS
+
+Options:
+  -h, --help  Print help
+
+Printed is `least R`, or `refused K WORDS` with status 1 for the first rule that is broken.
+"""
+
+NO_COMMAND = """error: 'flasharr' requires a subcommand but one was not provided
+  [subcommands: format, check, dump, plan, talk, verify]
+
+Usage: flasharr <COMMAND>
+
+For more information, try '--help'.
+"""
+
+WORD_TOO_MANY = """error: unexpected argument 'talk' found
+
+Usage: flasharr talk < LINES
+
+For more information, try '--help'.
+"""
+
+USAGE = "usage: flasharr format | check | dump | plan | talk | verify\n"
+
+SHOWN = [
+    ("help", ("--help",), HELP), ("short_help", ("-h",), HELP),
+    ("help_of_plan", ("plan", "--help"), HELP_OF_PLAN), ("help_of_talk", ("talk", "--help"), HELP_OF_TALK),
+    ("help_of_verify", ("verify", "-h"), HELP_OF_VERIFY),
+    ("version", ("--version",), "flasharr 0.1.0\n"), ("short_version", ("-V",), "flasharr 0.1.0\n"),
+]
+
+# Arguments that are a mistake, and what the first line of the output names.
+MISTAKES = [
+    ("unknown_command", ("serves",), "serves"), ("command_in_another_case", ("Talk",), "Talk"), ("cut_command", ("verif",), "verif"),
+    ("unknown_option", ("check", "array.toml", "--cleanly"), "--cleanly"), ("word_behind_plan", ("plan", "batch.txt"), "batch.txt"),
+    ("die_64", ("format", "array.toml", "--die", "64"), "64"), ("die_below_0", ("format", "array.toml", "--die=-1"), "-1"),
+    ("die_that_is_no_number", ("format", "array.toml", "--die", "x"), "'x'"),
+    ("no_settings", ("check",), ""), ("unclean_format", ("format", "array.toml", "--unclean"), "--unclean"),
+    ("json_twice", ("dump", "array.toml", "--json", "--json"), "--json"),
+]
+
+
+def mistake(word):
+    """The text of a mistake in the arguments, of which the first line names a word."""
+    def fault(output):
+        text = output.decode("utf-8", "replace")
+        if not (text.startswith("error: ") and word in text.splitlines()[0]):
+            return f"does not begin with an error that names {word!r}"
+        return None if text.endswith("\n\nFor more information, try '--help'.\n") else "does not end with where to find help"
+    return Like(f"a mistake at {word!r}", fault)
+
+
+def cases():
+    for name, words, text in SHOWN:
+        yield Case(name, [Run(words, text)])
+    yield Case("mistake/no_command", [Run((), NO_COMMAND, 2)])
+    yield Case("mistake/word_too_many", [Run(("talk", "talk"), WORD_TOO_MANY, 2)])
+    for name, words, word in MISTAKES:
+        yield Case(f"mistake/{name}", [Run(words, mistake(word), 2)])
+    yield Case("mistake/no_text", [Run((b"talk", b"\xff"), USAGE, 2)])
+    # The arguments are judged before the settings are read, and a command that reads no input leaves it alone.
+    yield Case("mistake/before_the_settings", [Run(("check", "none.toml", "--cleanly"), mistake("--cleanly"), 2)])
+    # An input that cannot be read, here a folder, and an output that takes nothing.
+    for command in ("talk", "plan", "verify"):
+        yield Case(f"streams/{command}_cannot_read", [Run((command,), f"{command}: cannot read\n", 1, source=".")])
+    for name, words, text in [("talk", ("talk",), ""), ("plan", ("plan",), "batch\nend\n"),
+                              ("verify", ("verify",), "batch\nend\nrounds 0\nend\n"), ("a_faulty_text", ("verify",), "batch"),
+                              ("help", ("--help",), "")]:
+        yield Case(f"streams/output_of_{name}_fails", [Run(words, status=1, input=text, sink="/dev/full")])
+    yield Case("streams/output_of_a_mistake_fails", [Run(("serves",), status=2, sink="/dev/full")])
