@@ -2,8 +2,9 @@
 ghost use Rattle.std.specs.Prelude.{◌-◌, ◌^◌, ◌≤◌};
 ghost use Rattle.fa_cert.specs.Batch.{IsSound};
 
-use fa_cert::{Batch, Verdict, check, read_batch};
+use fa_cert::{Batch, Verdict, check};
 use fa_plan::plan;
+use fa_texts::read_batch;
 use fa_types::Rounds;
 use std::alloc::Global;
 use std::io::{self, Read};
