@@ -41,6 +41,8 @@ mod nego;
 mod reopened;
 #[cfg(test)]
 mod slots;
+#[cfg(test)]
+mod sockets;
 pub mod spelling;
 #[cfg(test)]
 mod tag;
