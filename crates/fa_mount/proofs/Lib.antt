@@ -2,6 +2,7 @@ pub mod ByDie
 pub mod Cells
 pub mod ContentsRead
 pub mod Filling
+pub mod FoundMounted
 pub mod GivenNumbers
 pub mod HonestSlots
 pub mod LastWrites

@@ -1,8 +1,8 @@
-use Rattle.std.proofs.Common.{inl, inr, map, refl}
+use Rattle.std.proofs.Common.{map}
 use Rattle.fa_headers.proofs.Reading.{as_they_were}
-use Rattle.fa_mount.specs.Mounting.{SayArray}
+use Rattle.fa_map.specs.PageView.{page_view}
+use Rattle.fa_mount.proofs.FoundMounted.{mounted_by}
 use Rattle.fa_mount.proofs.Readable.{are_readable}
-use Rattle.fa_mount.proofs.SlotsScanned.{joined}
 use Rattle.fa_mount.proofs.scanning.scan_found.Goals as goal
 
 pub returns-in_err-judged-clause-only_read : goal.returns-in_err-judged-clause-only_read
@@ -15,32 +15,16 @@ scan_slots-requires-clause-images g c =
 
 pub returns-in-Ok-clause-mounts : goal.returns-in-Ok-clause-mounts
 returns-in-Ok-clause-mounts g c = λ before read.
-    let say : SayArray g.row.A.Denot g.I.Image.view g.I.Image.made c.args.copies.number c.args.unclean before c.args.images.now
-    c.in_ok-judged.judged =
-    record {
+    mounted_by g.I.Image.view g.I.Image.made c.args.copies.number c.args.unclean before c.args.images.now _ c.in_ok-judged.judged
+    (record {
       founds = c.args.founds.now;
       read = read.0;
       each = read.1;
       fine = c.in_ok-judged.ensures.ok;
       judges = c.in_ok-judged.ensures.judged;
-    } in
-    joined c.scan_slots.result c.scan_slots.ensures.scanned c.scan_slots.ensures.array
-    (λ x p e. (
-      record {
-        between = c.args.images.now;
-        judged = c.in_ok-judged.judged;
-        headers = say;
-        outcomes = p.0;
-        read = p.1;
-        scan = p.2;
-        identity = e;
-      },
-      refl,
-    ))
-    (λ y q. elim q [
-      | inl n ↦ inl n
-      | inr s ↦ inr (inr (c.args.images.now, c.in_ok-judged.judged, say, s.0, s.1, s.2))
-    ])
+    })
+    (λ x. x.array) (λ x. x.epoch) (λ x. x.clean) (λ x. x.dies.items) (λ x. page_view x.map)
+    c.scan_slots.result c.scan_slots.ensures.scanned c.scan_slots.ensures.array
 
 pub returns-in-Err-clause-only_read : goal.returns-in-Err-clause-only_read
 returns-in-Err-clause-only_read g c = as_they_were (map g.I.Image.view c.args.images.now)
