@@ -6,11 +6,11 @@ use Rattle.std.proofs.lemmas.Bool.{cases_eq, cases_lt, and_from, and_left, and_p
 use Rattle.std.proofs.lemmas.List.{get_or_default, get_or-set_same, get_or-set_other, length-set}
 use Rattle.std.proofs.Math.Bool.{and-true}
 use Rattle.fa_types.specs.Open.{rounds_that, max_closed, FewClosed, IsOpen}
-use Rattle.fa_cert.specs.declared.plan.Place.{Place}
+use Rattle.fa_batch.specs.declared.plan.Place.{Place}
 use Rattle.fa_types.specs.declared.window.Window.{Window}
-use Rattle.fa_cert.specs.Runs.{is_covered, is_from}
-use Rattle.fa_cert.proofs.Covered.{before, outside}
-use Rattle.fa_cert.proofs.Windows.{rounds_that-same, rounds_that-none, rounds_that-join}
+use Rattle.fa_batch.specs.Runs.{is_covered, is_from}
+use Rattle.fa_batch.proofs.Covered.{before, outside}
+use Rattle.fa_batch.proofs.Windows.{rounds_that-same, rounds_that-none, rounds_that-join}
 use Rattle.fa_calendar.specs.DieState.{DieState, HasRoom, IsRoomy}
 use Rattle.fa_calendar.specs.Dies.{booked_by, closed_by, no_rounds, room_by, state_of, taken_by, window_by, is_at, AllHaveRoom, HasRoomFor, IsCalendar, KeepsDies}
 use Rattle.fa_types.specs.Windows.{is_in_window, IsFirstWindow, IsFull}

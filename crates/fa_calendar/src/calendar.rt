@@ -2,7 +2,7 @@
 ghost use Rattle.std.specs.Prelude.{◌≡◌, ℕ, ◌+◌, ◌-◌, ◌^◌, ◌<◌, ◌≤◌, ◌||◌, ◌&&◌, ◌==◌, not, nat_lt, if◌then◌else◌, Bool, true, false, List, IfOk, IsOk, OnOk, OnErr, IsErrOf, IsTrue, Some, None};
 ghost use Rattle.std.specs.List.{AllByRecursion};
 ghost use Rattle.fa_types.specs.Open.{rounds_that, max_closed, FewClosed, IsOpen};
-ghost use Rattle.fa_cert.specs.Plan.{AreApart};
+ghost use Rattle.fa_batch.specs.Plan.{AreApart};
 ghost use Rattle.fa_calendar.specs.Dies.{IsCalendar, is_at};
 ghost use Rattle.fa_types.specs.Windows.{AreEntries, IsFirstWindow, IsFull};
 ghost use Rattle.fa_calendar.specs.Windows.{left_window};
@@ -10,7 +10,7 @@ ghost use Rattle.fa_calendar.specs.Windows.{left_window};
 use crate::die::DieCalendar;
 use crate::dies::{book_all, open_all, open_dies, open_one, pass_all, restore_all, spans_without};
 use crate::refused::CalendarRefused;
-use fa_cert::{Closed, Place};
+use fa_batch::{Closed, Place};
 use fa_types::{Die, Round, Rounds, Window};
 use std::alloc::{AllocError, Allocator, Global};
 
@@ -148,7 +148,7 @@ impl<A: Allocator> Calendar<A> {
 }
 
 impl<A: Allocator + Copy> Calendar<A> {
-    ghost use Rattle.fa_cert.specs.Closed as spans;
+    ghost use Rattle.fa_batch.specs.Closed as spans;
     ghost use Rattle.fa_calendar.specs.Calendar.{current_of, is_booked, is_closed_without};
 
     /// The closed rounds of all dies, these booked places left out.

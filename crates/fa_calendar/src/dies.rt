@@ -2,14 +2,14 @@
 ghost use Rattle.std.specs.Prelude.{◌≡◌, ℕ, ◌≤◌, ◌<◌, ◌≢◌, ◌==◌, ◌&&◌, ◌||◌, Bool, true, false, not, length, IfOk, OnOk, OnErr, IsErrOf, None};
 ghost use Rattle.std.specs.List.{AllByRecursion};
 ghost use Rattle.fa_types.specs.Open.{rounds_that, max_closed};
-ghost use Rattle.fa_cert.specs.Plan.{AreApart};
-ghost use Rattle.fa_cert.specs.Runs.{closed_by as spans_close};
+ghost use Rattle.fa_batch.specs.Plan.{AreApart};
+ghost use Rattle.fa_batch.specs.Runs.{closed_by as spans_close};
 ghost use Rattle.fa_calendar.specs.Dies.{closed_by, room_by, window_by, is_at, is_one, AllHaveRoom, HasRoomFor, KeepsDies};
 ghost use Rattle.fa_calendar.specs.Windows.{left_window};
 
 use crate::die::DieCalendar;
 use crate::refused::CalendarRefused;
-use fa_cert::{Place, Spans};
+use fa_batch::{Place, Spans};
 use fa_types::{Die, Round};
 use std::alloc::{AllocError, Allocator};
 

@@ -1,45 +1,20 @@
 -- The index of a page's entry in a batch, and marks of entries as things with pages are gone through.
-use Rattle.std.proofs.Common.{◌≡◌, ℕ, ◌+◌, ◌<◌, ◌≤◌, inl, inr, Bool, true, false, cond, ◌||◌, Some, None, is_some, IfSome, List, [], length, take, set, get_or, nat_eq, ◌==◌, sym, ap, ◌∙◌, subst, arith, eq-eqb, eqb-true}
-use Rattle.std.specs.List.{list_any, position_or_len, slice_get}
-use Rattle.std.proofs.lemmas.Bool.{cases_eq, cases_lt, ne_eqb}
-use Rattle.std.proofs.lemmas.List.{get_or-take, length-take, get_or-set_other}
+use Rattle.std.proofs.Common.{◌≡◌, ℕ, ◌+◌, ◌<◌, ◌≤◌, inl, inr, Bool, true, false, ◌||◌, Some, None, is_some, IfSome, List, [], length, take, set, get_or, nat_eq, ◌==◌, sym, ap, ◌∙◌, subst, arith, eq-eqb, eqb-true}
+use Rattle.std.specs.List.{list_any, slice_get}
+use Rattle.std.proofs.lemmas.Bool.{cases_eq, ne_eqb}
+use Rattle.std.proofs.lemmas.List.{get_or-set_other}
 use Rattle.std.proofs.lemmas.Grind.{get_or-set_at}
 use Rattle.std.proofs.lemmas.List.Folds.{list_any_at, list_any_more}
 use Rattle.std.proofs.lemmas.List.Quantifiers.{position-Some}
 use Rattle.std.proofs.lemmas.Option.{slice_get-get_or}
-use Rattle.std.proofs.lemmas.List.Sums.{count_by_more_yes, sum_by-take-le, fails_before_first}
 use Rattle.std.proofs.Math.Bool.{or-false, or-true}
 use Rattle.fa_types.specs.declared.numbers.Die.{Die}
-use Rattle.fa_cert.specs.Batch.{Entry, holds, is_among, times_named}
-use Rattle.fa_cert.specs.Index.{entry_index}
+use Rattle.fa_batch.specs.Batch.{Entry, holds, is_among, times_named}
+use Rattle.fa_batch.specs.Index.{entry_index}
 use Rattle.fa_cert.specs.Marks.{AreMarks}
-use Rattle.fa_cert.proofs.Counting.{count-from-any}
-use Rattle.fa_cert.proofs.Batches.{is_some-find, named_holds}
-use Rattle.fa_cert.proofs.Indexed.{position-at, find-at, find-nowhere}
-
--- a page that is named once stands at one index
-pub index_is : (batch : List Entry) (page k : ℕ) (e : Entry) → times_named batch page ≤ 1 → k < length batch → (get_or batch k e).page.0 ≡ page → entry_index batch page ≡ Some k
-index_is batch page k e once below is =
-    let test : Entry → Bool = λ v. v.page.0 == page in
-    let yes : test (get_or batch k e) ≡ true = eq-eqb (get_or batch k e).page.0 page is in
-    let n : ℕ = position_or_len test batch in
-    elim (cases_lt k n) [
-      | inl before ↦ (let no = fails_before_first test batch k e before in let not : ⊥ = cc in absurd not)
-      | inr upto ↦ elim (cases_lt n k) [
-        | inl less ↦
-            (let found = position-at test batch (omega arith) in
-            let first : test (get_or batch n e) ≡ true = (position-Some test batch n e found).1 in
-            let size = length-take k batch in
-            let any = list_any_at test (take k batch) n e (omega (arith, size)) (ap test (get_or-take k batch n e less) ∙ first) in
-            let one = count-from-any test (take k batch) any in
-            let more = count_by_more_yes test batch k e below yes in
-            let part = sum_by-take-le (λ v. cond (test v) 1 0) batch (k + 1) in
-            absurd (omega (arith, one, more, part)))
-        | inr past ↦
-            (let same : n ≡ k = omega arith in
-            position-at test batch (omega (arith, same)) ∙ ap (λ v. Some v) same)
-      ]
-    ]
+use Rattle.fa_batch.proofs.Counting.{count-from-any}
+use Rattle.fa_batch.proofs.Batches.{is_some-find, named_holds}
+use Rattle.fa_batch.proofs.Indexed.{find-at, find-nowhere, index_is}
 
 -- what stands at a page's index has the page
 pub page_there : (batch : List Entry) (page k : ℕ) → entry_index batch page ≡ Some k → (e : Entry) → (get_or batch k e).page.0 ≡ page

@@ -1,10 +1,4 @@
-pub mod Batches
-pub mod Counting
-pub mod Covered
 pub mod Entries
-pub mod Indexed
 pub mod Marked
-pub mod Parts
 pub mod Placed
 pub mod Shortages
-pub mod Windows

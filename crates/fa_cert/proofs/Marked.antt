@@ -6,10 +6,10 @@ use Rattle.std.proofs.lemmas.Bool.{cond-true, cond-false, cases_eq, cases_lt, ne
 use Rattle.std.proofs.lemmas.List.{get_or_past}
 use Rattle.fa_types.specs.Open.{open_among}
 use Rattle.fa_types.specs.declared.numbers.Page.{Page}
-use Rattle.fa_cert.specs.Batch.{Entry}
-use Rattle.fa_cert.specs.Certificate.{AreNamed, AreTheHolders, ShowsNoFewer, holds_any, open_places}
+use Rattle.fa_batch.specs.Batch.{Entry}
+use Rattle.fa_batch.specs.Certificate.{AreNamed, AreTheHolders, ShowsNoFewer, holds_any, open_places}
 use Rattle.fa_cert.specs.Marks.{marked}
-use Rattle.fa_cert.proofs.Counting.{count_by-cons}
+use Rattle.fa_batch.proofs.Counting.{count_by-cons}
 
 pub marked-none : (marks : List Bool) → marked marks 0 ≡ []
 unfolding marked

@@ -1,5 +1,5 @@
 -- The places of a plan, gone through one after the other.
-use Rattle.std.proofs.Common.{◌≡◌, ℕ, zero, suc, ◌+◌, ◌-◌, ◌<◌, ◌≤◌, inl, inr, Bool, true, false, cond, not, ◌&&◌, ◌||◌, IsTrue, ◌↔◌, Some, List, [], ◌∷◌, ◌++◌, length, take, set, get_or, replicate, nat_eq, ◌==◌, nat_cmp, max, refl, sym, ap, ◌∙◌, subst, arith, eq-eqb, eqb-true}
+use Rattle.std.proofs.Common.{◌≡◌, ℕ, ◌+◌, ◌-◌, ◌<◌, ◌≤◌, inl, inr, Bool, true, false, cond, not, ◌&&◌, ◌||◌, IsTrue, ◌↔◌, Some, List, [], ◌∷◌, ◌++◌, length, take, set, get_or, nat_eq, ◌==◌, nat_cmp, max, refl, sym, ap, ◌∙◌, subst, arith, eq-eqb, eqb-true}
 use Rattle.std.specs.List.{list_any, count_by, fold, All}
 use Rattle.std.proofs.Common.{Ordering, Less, Equal, Greater}
 use Rattle.std.specs.Ordering.{is_eq, ordering_then}
@@ -12,12 +12,12 @@ use Rattle.std.proofs.lemmas.List.{take_more, get_or-take, get_or-set_same, get_
 use Rattle.std.proofs.lemmas.List.Elements.{All-more, All-pop, All-weaker, recursion_from_All}
 use Rattle.std.proofs.lemmas.List.Folds.{list_any_more}
 use Rattle.fa_types.specs.declared.numbers.Page.{Page}
-use Rattle.fa_cert.specs.declared.plan.Place.{Place}
-use Rattle.fa_cert.specs.Batch.{Entry, holds, times_named}
-use Rattle.fa_cert.specs.Certificate.{AreNamed}
+use Rattle.fa_batch.specs.declared.plan.Place.{Place}
+use Rattle.fa_batch.specs.Batch.{Entry, holds, times_named}
+use Rattle.fa_batch.specs.Certificate.{AreNamed}
 use Rattle.fa_cert.specs.Marks.{AreMarks}
-use Rattle.fa_cert.specs.Plan.{ArePlaced, ArePlacedOnce, AreHeld, AreApart, rounds_of}
-use Rattle.fa_cert.proofs.Counting.{AllByRecursion-weaker, count_by-none, any-from-count, count-from-any, once-push, twice-push, once-whole}
+use Rattle.fa_batch.specs.Plan.{ArePlaced, ArePlacedOnce, AreHeld, AreApart, rounds_of}
+use Rattle.fa_batch.proofs.Counting.{AllByRecursion-weaker, count_by-none, any-from-count, count-from-any, once-push, twice-push, once-whole}
 
 cond-or : (b c : Bool) → cond b true c ≡ (c || b)
 cond-or true true = refl
@@ -98,12 +98,6 @@ module _ (batch : List Entry) (pages : List Page) (i : ℕ) (d : Page) (below : 
       twice-push is_page (λ p. p.0) (λ p. eq-eqb p.0 p.0 refl) (λ k p e. sym (eqb-true p.0 k e)) (take i pages) (get_or pages i d) met
       (subst (λ ps. (page : ℕ) → count_by (λ (p : Page). p.0 == page) ps ≤ 1) (take_more pages i d below)
       (once-whole is_page (λ p. p.0) (λ p. eq-eqb p.0 p.0 refl) (λ k p e. sym (eqb-true p.0 k e)) pages (i + 1) all.once))
-
--- a table of one answer gives it everywhere
-pub get_or-replicate_default : {X : Type 0} (n i : ℕ) (x : X) → get_or (replicate n x) i x ≡ x
-get_or-replicate_default zero i x = refl
-get_or-replicate_default (suc n) zero x = refl
-get_or-replicate_default (suc n) (suc i) x = get_or-replicate_default n i x
 
 -- The last round, and the number of rounds up to it.
 last-from : (now a : ℕ) (places : List Place) → fold (λ last x. max last x.round.0) a places + 1 - now ≡ max (a + 1 - now) (rounds_of now places)

@@ -1,8 +1,2 @@
-pub mod Batch
-pub mod Certificate
-pub mod Closed
-pub mod Index
 pub mod Marks
-pub mod Plan
-pub mod Runs
 pub mod Verdict

@@ -1,8 +1,8 @@
 -- Tables of marks: of dies by their numbers, and of the entries of a batch by their indices.
 use Rattle.std.specs.Prelude.{◌≡◌, ℕ, zero, suc, ◌<◌, Bool, false, if◌then◌else◌, List, [], ◌∷◌, length, slice_index_or}
 use Rattle.fa_types.specs.declared.numbers.Page.{Page}
-use Rattle.fa_cert.specs.Batch.{Entry}
-use Rattle.fa_cert.specs.Certificate.{holds_any}
+use Rattle.fa_batch.specs.Batch.{Entry}
+use Rattle.fa_batch.specs.Certificate.{holds_any}
 
 -- the dies below a number that are marked, each once
 unfoldable pub marked : List Bool → ℕ → List ℕ

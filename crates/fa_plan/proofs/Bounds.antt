@@ -1,10 +1,10 @@
 -- Dies have enough open places in time, since few of their rounds are closed.
 use Rattle.std.proofs.Common.{◌≡◌, ℕ, zero, suc, ◌+◌, ◌-◌, ◌≤◌, Bool, true, false, cond, not, List, refl, ap, arith}
 use Rattle.fa_types.specs.Open.{rounds_that, open_among, FewClosed}
-use Rattle.fa_cert.specs.Certificate.{open_places}
+use Rattle.fa_batch.specs.Certificate.{open_places}
 use Rattle.fa_cert.specs.Marks.{marked}
 use Rattle.fa_cert.proofs.Marked.{places-yes, places-grow}
-use Rattle.fa_cert.proofs.Windows.{rounds_that-join}
+use Rattle.fa_batch.proofs.Windows.{rounds_that-join}
 use Rattle.fa_plan.specs.Bound.{IsSomeMarked, places_of}
 
 -- each round is open or closed

@@ -9,10 +9,10 @@ use Rattle.std.proofs.lemmas.List.Sums.{sum_by_push, sum_by_more, sum_by-cons, s
 use Rattle.fa_types.specs.Open.{open_among}
 use Rattle.fa_types.specs.declared.numbers.Die.{Die}
 use Rattle.fa_types.specs.declared.numbers.Page.{Page}
-use Rattle.fa_cert.specs.Batch.{AreFine, Entry, holds, is_among, times_named}
-use Rattle.fa_cert.specs.Certificate.{AreNamed, AreTheHolders, holds_any, open_places}
+use Rattle.fa_batch.specs.Batch.{AreFine, Entry, holds, is_among, times_named}
+use Rattle.fa_batch.specs.Certificate.{AreNamed, AreTheHolders, holds_any, open_places}
 use Rattle.fa_cert.specs.Marks.{marked}
-use Rattle.fa_cert.proofs.Counting.{AllByRecursion-of, AllByRecursion-weaker, count-from-any, count_by-cons, count_by-le-on, sum_by-add, sum_by-le-on}
+use Rattle.fa_batch.proofs.Counting.{AllByRecursion-of, AllByRecursion-weaker, count-from-any, count_by-cons, count_by-le-on, sum_by-add, sum_by-le-on}
 use Rattle.fa_cert.proofs.Marked.{are_the_holders, shows_iff, sum_by-same_counts}
 use Rattle.fa_plan.specs.declared.walk.Walk.{Walk}
 use Rattle.fa_plan.specs.Bound.{AreRooms, IsFirstEnough, IsSomeMarked, pages_of, places_of}

@@ -8,9 +8,9 @@ use Rattle.std.proofs.lemmas.List.Sums.{sum_by-set, sum_by_push, count_by-le-len
 use Rattle.std.proofs.lemmas.List.Folds.{list_any_at, list_any_more, sum_by-replicate}
 use Rattle.std.proofs.lemmas.Option.{slice_get-get_or}
 use Rattle.fa_types.specs.declared.numbers.Die.{Die}
-use Rattle.fa_cert.specs.Batch.{Entry, is_among}
-use Rattle.fa_cert.proofs.Counting.{count_by-two-le}
-use Rattle.fa_cert.proofs.Placed.{get_or-replicate_default}
+use Rattle.fa_batch.specs.Batch.{Entry, is_among}
+use Rattle.fa_batch.proofs.Counting.{count_by-two-le}
+use Rattle.fa_batch.proofs.Counting.{get_or-replicate_default}
 use Rattle.fa_plan.specs.declared.walk.Tables.{Tables}
 use Rattle.fa_plan.specs.declared.walk.Walk.{Walk}
 use Rattle.fa_plan.specs.Reading.{AreGiven, AreReaders, can_read, die_of, load_of, no_die, no_entry}

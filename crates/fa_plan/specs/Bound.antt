@@ -2,8 +2,8 @@
 use Rattle.std.specs.Prelude.{◌≡◌, ℕ, ◌+◌, ◌-◌, ◌<◌, ◌≤◌, Bool, true, false, List, length, map, slice_index, slice_index_or}
 use Rattle.fa_types.specs.Open.{open_among}
 use Rattle.fa_types.specs.declared.numbers.Page.{Page}
-use Rattle.fa_cert.specs.Batch.{Entry}
-use Rattle.fa_cert.specs.Certificate.{AreTheHolders, open_places}
+use Rattle.fa_batch.specs.Batch.{Entry}
+use Rattle.fa_batch.specs.Certificate.{AreTheHolders, open_places}
 use Rattle.fa_cert.specs.Marks.{marked}
 
 -- the pages of a batch

@@ -3,7 +3,7 @@
 use Rattle.std.specs.Prelude.{◌≡◌, ℕ, ◌+◌, ◌<◌, ◌≤◌, Bool, true, false, ◌==◌, if◌then◌else◌, List, length, count_by}
 use Rattle.std.specs.Prelude.{slice_index, slice_index_or, slice_set, Option, IfSome, IfNone}
 use Rattle.fa_types.specs.declared.numbers.Die.{Die}
-use Rattle.fa_cert.specs.Batch.{Entry}
+use Rattle.fa_batch.specs.Batch.{Entry}
 use Rattle.fa_plan.specs.declared.walk.Tables.{Tables}
 use Rattle.fa_plan.specs.declared.walk.Walk.{Walk}
 use Rattle.fa_plan.specs.Reading.{AreLoads, AreReaders, can_read, die_of, load_of}

@@ -2,8 +2,8 @@
 use Rattle.std.specs.Prelude.{◌≡◌, ℕ, ◌+◌, ◌<◌, ◌≤◌, Bool, ◌==◌, List, length, count_by, All, slice_index_or, take}
 use Rattle.fa_types.specs.declared.numbers.Die.{Die}
 use Rattle.fa_types.specs.declared.numbers.Page.{Page}
-use Rattle.fa_cert.specs.Batch.{Entry, times_named}
-use Rattle.fa_cert.specs.Certificate.{AreTheHolders, ShowsNoFewer, open_places}
+use Rattle.fa_batch.specs.Batch.{Entry, times_named}
+use Rattle.fa_batch.specs.Certificate.{AreTheHolders, ShowsNoFewer, open_places}
 use Rattle.fa_plan.specs.declared.walk.Walk.{Walk}
 use Rattle.fa_plan.specs.Reading.{no_entry}
 use Rattle.fa_plan.specs.Search.{IsReached, has_reached}

@@ -4,7 +4,7 @@ ghost use Rattle.fa_plan.specs.Reading.{AreGiven};
 ghost use Rattle.fa_plan.specs.Search.{IsAtItsEnd, IsWalk};
 
 use crate::walk::{Tables, Walk, search};
-use fa_cert::Batch;
+use fa_batch::Batch;
 use fa_types::Die;
 use std::alloc::{AllocError, Allocator};
 

@@ -2,7 +2,7 @@
 ghost use Rattle.std.specs.Prelude.{◌≡◌, ◌≤◌, ◌^◌, length, IfOk};
 ghost use Rattle.fa_plan.specs.Layout.{AreRising, IsLaidOut};
 
-use fa_cert::{Listing, Place, Places};
+use fa_batch::{Listing, Place, Places};
 use fa_types::{Die, Page, Rounds};
 use std::alloc::{AllocError, Allocator};
 

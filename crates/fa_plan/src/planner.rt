@@ -1,8 +1,8 @@
 //! The plan of a batch of reads.
 ghost use Rattle.std.specs.Prelude.{◌≡◌, ℕ, ◌+◌, ◌-◌, ◌*◌, ◌<◌, ◌≤◌, ◌^◌, length, List, IfOk, OnOk};
-ghost use Rattle.fa_cert.specs.Batch.{IsSound};
-ghost use Rattle.fa_cert.specs.Certificate.{IsCertificate};
-ghost use Rattle.fa_cert.specs.Plan.{AreFirstRounds};
+ghost use Rattle.fa_batch.specs.Batch.{IsSound};
+ghost use Rattle.fa_batch.specs.Certificate.{IsCertificate};
+ghost use Rattle.fa_batch.specs.Plan.{AreFirstRounds};
 ghost use Rattle.std.specs.List.Sorted.{IsPermutation};
 ghost use Rattle.fa_plan.specs.declared.layout.Seat.{Seat};
 ghost use Rattle.fa_plan.specs.Bound.{IsSimpleBound, pages_of};
@@ -14,7 +14,7 @@ use crate::giving::give;
 use crate::layout::{Seat, lay_out};
 use crate::shortage::{all_pages, reached_pages, rounds_for};
 use crate::walk::{Tables, Walk};
-use fa_cert::{Batch, Plan, Shortage};
+use fa_batch::{Batch, Plan, Shortage};
 use fa_types::{Die, Rounds};
 use std::alloc::{AllocError, Allocator, Global};
 

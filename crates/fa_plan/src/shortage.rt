@@ -1,13 +1,14 @@
 //! The pages that show that no plan has fewer rounds.
 ghost use Rattle.std.specs.Prelude.{◌≡◌, ◌<◌, ◌≤◌, ◌^◌, length, All, IfOk};
-ghost use Rattle.fa_cert.specs.Batch.{AreFine};
-ghost use Rattle.fa_cert.specs.Certificate.{AreNamed};
+ghost use Rattle.fa_batch.specs.Batch.{AreFine};
+ghost use Rattle.fa_batch.specs.Certificate.{AreNamed};
 ghost use Rattle.fa_plan.specs.Bound.{pages_of};
 ghost use Rattle.fa_plan.specs.Shortage.{AreReached, AreTooFew, IsRaised};
 
 use crate::bound::first_enough;
 use crate::walk::Walk;
-use fa_cert::{Batch, Listing, Shortage, holders_of};
+use fa_batch::{Batch, Listing, Shortage};
+use fa_cert::holders_of;
 use fa_types::{Die, Page, Rounds};
 use std::alloc::{AllocError, Allocator};
 

@@ -5,7 +5,7 @@ ghost use Rattle.std.specs.Prelude.{IfNone, ℕ, replicate};
 ghost use Rattle.fa_plan.specs.Reading.{AreLoads, die_of};
 ghost use Rattle.fa_plan.specs.Search.{HasFound, HasGoneOn, IsAtItsEnd, IsFollowed, IsReached, IsSearching, IsWalk, has_reached, with_die};
 
-use fa_cert::Batch;
+use fa_batch::Batch;
 use fa_types::Die;
 use std::alloc::Allocator;
 

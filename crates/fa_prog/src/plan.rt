@@ -8,7 +8,7 @@ use crate::input::read_input;
 use crate::output::refuse_input;
 use crate::verify::{Judged, told};
 use fa_admin::printing::{DONE, FAULTY, print, refuse_for_memory};
-use fa_cert::Unsound;
+use fa_batch::Unsound;
 use fa_texts::{TextError, read_batch};
 use std::alloc::{AllocError, Allocator};
 use std::io::{Read, Write};

@@ -8,7 +8,8 @@ ghost use Rattle.fa_prog.specs.Verify.{AreSomeTexts, IsJudged, TellsVerify, Runs
 use crate::input::read_input;
 use crate::output::refuse_input;
 use fa_admin::printing::{DONE, FAULTY, REFUSED, print, refuse_for_memory};
-use fa_cert::{Unsound, Verdict, check};
+use fa_batch::Unsound;
+use fa_cert::{Verdict, check};
 use fa_texts::{TextError, read_batch, read_certificate};
 use std::alloc::{AllocError, Allocator};
 use std::io::{Read, Write};

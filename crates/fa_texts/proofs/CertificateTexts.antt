@@ -3,12 +3,12 @@ use Rattle.std.proofs.Common.{◌≡◌, ◌≢◌, ◌⊎◌, ℕ, ◌≤◌, i
 use Rattle.std.proofs.lemmas.List.{append-nil, map-append}
 use Rattle.std.proofs.lemmas.List.Elements.{All-nil, All-push, All-head, All-tail}
 use Rattle.fa_types.specs.declared.numbers.Page.{Page}
-use Rattle.fa_cert.specs.declared.plan.Place.{Place}
+use Rattle.fa_batch.specs.declared.plan.Place.{Place}
 use Rattle.fa_texts.specs.BatchText.{end_line}
 use Rattle.fa_texts.specs.CertificateText.{rounds_line, place_line, short_line, short_lines, certificate_lines, HasPlaceLine, HaveShortLine, IsCertificateText, IsSomeCertificate}
 use Rattle.fa_texts.specs.Text.{Begins}
 use Rattle.fa_texts.proofs.LinesRead.{other_word}
-use Rattle.fa_cert.proofs.Parts.{first_same, rest_same, some_left}
+use Rattle.fa_batch.proofs.Parts.{first_same, rest_same, some_left}
 
 -- the lines up to those of these places and pages, with more behind them
 abbrev pub front : ℕ → List Place → List Page → List (List (List ℕ)) → List (List (List ℕ))

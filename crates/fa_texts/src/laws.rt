@@ -2,9 +2,9 @@
 ghost use Rattle.std.specs.Prelude.{◌≡◌, ℕ, List};
 ghost use Rattle.std.specs.List.Sorted.{IsPermutation};
 ghost use Rattle.fa_types.specs.declared.numbers.Page.{Page};
-ghost use Rattle.fa_cert.specs.declared.closed.Run.{Run};
-ghost use Rattle.fa_cert.specs.declared.plan.Place.{Place};
-ghost use Rattle.fa_cert.specs.Batch.{Entry};
+ghost use Rattle.fa_batch.specs.declared.closed.Run.{Run};
+ghost use Rattle.fa_batch.specs.declared.plan.Place.{Place};
+ghost use Rattle.fa_batch.specs.Batch.{Entry};
 ghost use Rattle.fa_texts.specs.BatchText.{IsBatchText, StartsWithBatch};
 ghost use Rattle.fa_texts.specs.CertificateText.{HasCertificateText, IsCertificateText, IsPrinted, IsSomeCertificate};
 ghost use Rattle.fa_texts.specs.Text.{IsFirstWrongLine, words_by_line};

@@ -1,8 +1,9 @@
 //! How long it takes to plan a batch, and to check the plan.
 ghost use Rattle.std.specs.Prelude.{◌-◌, ◌^◌, ◌≤◌};
-ghost use Rattle.fa_cert.specs.Batch.{IsSound};
+ghost use Rattle.fa_batch.specs.Batch.{IsSound};
 
-use fa_cert::{Batch, Verdict, check};
+use fa_batch::Batch;
+use fa_cert::{Verdict, check};
 use fa_plan::plan;
 use fa_texts::read_batch;
 use fa_types::Rounds;

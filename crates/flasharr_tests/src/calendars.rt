@@ -1,8 +1,8 @@
 //! Calendars by hand: windows beside bookings, rounds that pass, and memory that is refused.
 ghost use Rattle.std.specs.Prelude.{◌≡◌};
 
+use fa_batch::{Closed, Place};
 use fa_calendar::{Calendar, CalendarRefused};
-use fa_cert::{Closed, Place};
 use fa_types::{Die, Page, Round, Rounds, Window};
 use linked_list_allocator::LocalHeap;
 use std::alloc::{AllocError, Allocator};

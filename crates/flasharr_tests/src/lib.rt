@@ -1,6 +1,6 @@
-//! The tests of the crates below the program, over their public calls: what no clause says and no process shows. They
-//! stand in a crate of their own, since a crate with tests is proved once with them and once without. What the tests of
-//! the program need too is public.
+//! The tests of the lower crates, over their public calls: what no clause says and no process shows. They stand in a crate
+//! of their own, since a crate with tests is proved once with them and once without. What the tests of the page map, of
+//! sessions and of the program need too is public.
 #![tactic(auto)]
 
 /// Ends a test with an error, unless the condition holds: `ensure!(CONDITION)`, and in a loop
@@ -22,25 +22,19 @@ macro_rules! ensure {
 #[cfg(test)]
 mod calendars;
 #[cfg(test)]
+mod cert;
+#[cfg(test)]
 mod cmds;
 #[cfg(test)]
 mod image;
 #[cfg(test)]
 mod io;
 #[cfg(test)]
-mod maps;
-#[cfg(test)]
-mod mount_headers;
-#[cfg(test)]
-mod mount_refusals;
-#[cfg(test)]
-mod mounting;
-#[cfg(test)]
 mod nego;
 #[cfg(test)]
-mod reopened;
+mod plans;
 #[cfg(test)]
-mod slots;
+mod reopened;
 #[cfg(test)]
 mod sockets;
 pub mod spelling;

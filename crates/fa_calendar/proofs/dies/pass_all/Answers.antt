@@ -1,7 +1,7 @@
 use Rattle.std.proofs.Common.{ℕ, ◌≡◌, ◌≢◌, ◌<◌, ◌&&◌, not, nat_eq, set, inl, inr, length, sym, ap, ◌∙◌, subst, arith}
 use Rattle.std.proofs.lemmas.Bool.{cases_eq}
 use Rattle.std.proofs.lemmas.List.{get_or_default, get_or-set_same, get_or-set_other, length-set}
-use Rattle.fa_cert.specs.Runs.{is_covered}
+use Rattle.fa_batch.specs.Runs.{is_covered}
 use Rattle.fa_calendar.specs.DieState.{DieState, HasRoom}
 use Rattle.fa_calendar.specs.Dies.{no_rounds, state_of}
 use Rattle.fa_calendar.specs.Windows.{left_window}

@@ -1,5 +1,5 @@
 use Rattle.std.proofs.Common.{◌≡◌, ◌+◌}
-use Rattle.fa_cert.specs.Certificate.{open_places}
+use Rattle.fa_batch.specs.Certificate.{open_places}
 use Rattle.fa_cert.specs.Marks.{marked}
 use Rattle.fa_cert.proofs.checker.are_more.Given as goal
 

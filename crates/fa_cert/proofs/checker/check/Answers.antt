@@ -1,13 +1,13 @@
 use Rattle.std.proofs.Common.{◌≡◌, ℕ, zero, suc, Bool, List, subst, sym, arith}
 use Rattle.fa_types.specs.declared.numbers.Page.{Page}
-use Rattle.fa_cert.specs.declared.plan.Place.{Place}
+use Rattle.fa_batch.specs.declared.plan.Place.{Place}
 use Rattle.fa_cert.specs.declared.verdict.Refusal.{Refusal}
 use Rattle.fa_cert.specs.declared.verdict.Refusal.TheVariants.{PageMissing, PageTwice, NotAHolder, RoundClosed, PlaceTwice, LastRound, ShortagePage, NotShort}
-use Rattle.fa_cert.specs.Batch.{Entry}
-use Rattle.fa_cert.specs.Plan.{IsPlan, rounds_of}
-use Rattle.fa_cert.specs.Certificate.{IsCertificate, ShowsNoFewer, AreNamed}
+use Rattle.fa_batch.specs.Batch.{Entry}
+use Rattle.fa_batch.specs.Plan.{IsPlan, rounds_of}
+use Rattle.fa_batch.specs.Certificate.{IsCertificate, ShowsNoFewer, AreNamed}
 use Rattle.fa_cert.specs.Verdict.{IsRefused}
-use Rattle.fa_cert.proofs.Parts.{where_some}
+use Rattle.fa_batch.proofs.Parts.{where_some}
 use Rattle.fa_cert.proofs.checker.check.Goals as goal
 
 -- what shows that no plan has fewer rounds names pages of the batch: with no round there is no page to name

@@ -1,6 +1,6 @@
 use Rattle.std.proofs.Common.{◌||◌, false, None, sym, ap, ◌∙◌, slice_index_or}
 use Rattle.std.proofs.Math.Bool.{or-false}
-use Rattle.fa_cert.proofs.Batches.{found_holders, unnamed_holds, is_named}
+use Rattle.fa_batch.proofs.Batches.{found_holders, unnamed_holds, is_named}
 use Rattle.fa_cert.proofs.checker.mark_holders.Goals as goal
 
 pub returns-in-Some : goal.returns-in-Some

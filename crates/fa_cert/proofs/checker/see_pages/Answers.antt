@@ -3,12 +3,13 @@ use Rattle.std.proofs.Math.Seq.{take-length}
 use Rattle.std.proofs.lemmas.Bool.{and_parts, not-true}
 use Rattle.std.proofs.lemmas.List.{length-set}
 use Rattle.std.specs.List.{list_any}
-use Rattle.fa_cert.specs.declared.plan.Place.{Place}
+use Rattle.fa_batch.specs.declared.plan.Place.{Place}
 use Rattle.fa_cert.specs.Marks.{AreMarks}
-use Rattle.fa_cert.specs.Plan.{ArePlacedOnce, AreHeld}
-use Rattle.fa_cert.proofs.Batches.{unnamed_holds}
+use Rattle.fa_batch.specs.Plan.{ArePlacedOnce, AreHeld}
+use Rattle.fa_batch.proofs.Batches.{unnamed_holds}
 use Rattle.fa_cert.proofs.Entries.{holds_there, mark_is, mark_more, mark_none, no_entry, not_named}
-use Rattle.fa_cert.proofs.Placed.{get_or-replicate_default, held_more, no_place, page_once_more}
+use Rattle.fa_batch.proofs.Counting.{get_or-replicate_default}
+use Rattle.fa_cert.proofs.Placed.{held_more, no_place, page_once_more}
 use Rattle.fa_cert.proofs.checker.see_pages.Goals as goal
 use Rattle.fa_cert.proofs.checker.see_pages.Goals.{in-Some, in-None}
 

@@ -1,5 +1,5 @@
 use Rattle.std.proofs.Common.{arith, ◌∙◌}
-use Rattle.fa_cert.proofs.Batches.{page_at}
+use Rattle.fa_batch.proofs.Batches.{page_at}
 use Rattle.fa_plan.specs.Reading.{no_entry}
 use Rattle.fa_plan.proofs.Reached.{pages_more}
 use Rattle.fa_plan.proofs.shortage.all_pages.Goals as goal

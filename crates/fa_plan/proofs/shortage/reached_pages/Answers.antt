@@ -1,5 +1,5 @@
 use Rattle.std.proofs.Common.{◌≡◌, ◌+◌, length, get_or, refl, arith, ap, ◌∙◌, sym, subst}
-use Rattle.fa_cert.proofs.Batches.{page_at}
+use Rattle.fa_batch.proofs.Batches.{page_at}
 use Rattle.fa_plan.specs.Reading.{no_die, no_entry}
 use Rattle.fa_plan.specs.Shortage.{AreReached, AreReachedAmong}
 use Rattle.fa_plan.proofs.Reached.{reached_with, reached_without, reached_all}

@@ -1,9 +1,9 @@
 use Rattle.std.proofs.Common.{◌≡◌, ◌≢◌, ◌∷◌, codes, sym, subst}
 use Rattle.std.specs.Option.{MatchOption}
-use Rattle.fa_cert.specs.declared.plan.Place.{Place}
+use Rattle.fa_batch.specs.declared.plan.Place.{Place}
 use Rattle.fa_texts.specs.CertificateText.{HasPlaceLine, place_line}
 use Rattle.fa_texts.specs.Text.{words_left}
-use Rattle.fa_cert.proofs.Parts.{rest_same}
+use Rattle.fa_batch.proofs.Parts.{rest_same}
 use Rattle.fa_texts.proofs.certificate_text.place_of.Goals as goal
 
 pub returns-in_err-page : goal.returns-in_err-page

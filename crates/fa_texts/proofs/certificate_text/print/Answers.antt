@@ -2,7 +2,7 @@ use Rattle.std.proofs.Common.{rules, ◌≡◌, ℕ, [], ◌∷◌, ◌++◌, Li
 use Rattle.std.specs.Fmt.{decimal}
 use Rattle.std.proofs.lemmas.List.{map_more, take_all}
 use Rattle.std.proofs.lemmas.List.Elements.{All-cons, All-nil}
-use Rattle.fa_cert.specs.declared.plan.Place.{Place}
+use Rattle.fa_batch.specs.declared.plan.Place.{Place}
 use Rattle.fa_texts.specs.BatchText.{end_line}
 use Rattle.fa_texts.specs.CertificateText.{place_line, rounds_line, short_lines}
 use Rattle.fa_texts.specs.Text.{words_by_line}

@@ -7,7 +7,7 @@ use Rattle.std.proofs.lemmas.Map.Keys.{IsStrictlyIncreasing-from_distinct}
 use Rattle.fa_types.specs.declared.numbers.Page.{Page}
 use Rattle.fa_texts.specs.CertificateText.{certificate_lines, HasPlaceLine}
 use Rattle.fa_texts.specs.Text.{words_by_line}
-use Rattle.fa_cert.proofs.Counting.{count_by-cons}
+use Rattle.fa_batch.proofs.Counting.{count_by-cons}
 use Rattle.fa_texts.proofs.laws.printed_is_a_text.Goals as goal
 
 -- a number that no page has is none of theirs
