@@ -1,3 +1,4 @@
+pub mod Commands
 pub mod Faulty
 pub mod Limits
 pub mod Texts

@@ -1,12 +1,12 @@
 //! The command line, as `clap` reads it.
 ghost use Rattle.std.specs.Prelude.{◌≡◌, [], ◌∷◌, false, map, option_map, string_bytes, codes, IfOk, IfErr};
 ghost use Rattle.clap.specs.Kinds.{HasKind};
-ghost use Rattle.clap.specs.Simple.{app_of, new_app};
+ghost use Rattle.clap.specs.Simple.{app_of, new_app, with_subcommand};
 ghost use Rattle.clap.specs.declared.builder.command.Command.TheViews.{out-Command as fields_of};
 ghost use Rattle.clap.specs.Walk.{rows_of, rule_of, first_of, one_of};
 ghost use Rattle.clap.specs.Matches.{found_of};
 ghost use Rattle.fa_settings.specs.CommandLine.{command_line as line, found_instead, wanted_in, wanted_by, formats, checks, dumps, IsWanted, IsDie, is_given as flag_given, with_arguments, look_arguments};
-ghost use Rattle.fa_settings.specs.CommandLine.{settings_argument as settings_rule, die_argument as die_rule, flag as flag_rule};
+ghost use Rattle.fa_settings.specs.CommandLine.{program as program_shape, settings_argument as settings_rule, die_argument as die_rule, flag as flag_rule};
 
 use crate::help::{self, Help};
 use clap::{Arg, ArgAction, ArgMatches, Command, Error};
@@ -72,20 +72,35 @@ pub fn command<'a, A: Allocator>(
 fn command_line<'a>(global: Global) -> Result<Command<'a>, AllocError>
     ensures { IfOk result (λ command. app_of command ≡ line) }
 {
-    let program = Command::new(global, "flasharr")
+    let Ok(format) = with_format(global, program(global)) else {
+        return Err(AllocError);
+    };
+    let Ok(check) = with_look(global, format, "check", help::CHECK) else {
+        return Err(AllocError);
+    };
+    let Ok(dump) = with_look(global, check, "dump", help::DUMP) else {
+        return Err(AllocError);
+    };
+    let Ok(plan) = dump.subcommand(plain_line(global, "plan", help::PLAN)) else {
+        return Err(AllocError);
+    };
+    let Ok(talk) = plan.subcommand(plain_line(global, "talk", help::TALK)) else {
+        return Err(AllocError);
+    };
+    talk.subcommand(plain_line(global, "verify", help::VERIFY))
+}
+
+/// The program with no commands.
+fn program<'a>(global: Global) -> Command<'a>
+    ensures { app_of result ≡ record { top = program_shape; subs = [] } }
+{
+    Command::new(global, "flasharr")
         .about(help::ABOUT)
         .after_help(help::STATUSES)
         .version(help::VERSION)
         .subcommand_required(true)
         .disable_help_subcommand(true)
-        .no_binary_name(true);
-    program
-        .subcommand(format_line(global)?)?
-        .subcommand(look_line(global, "check", help::CHECK)?)?
-        .subcommand(look_line(global, "dump", help::DUMP)?)?
-        .subcommand(plain_line(global, "plan", help::PLAN))?
-        .subcommand(plain_line(global, "talk", help::TALK))?
-        .subcommand(plain_line(global, "verify", help::VERIFY))
+        .no_binary_name(true)
 }
 
 /// A command with no arguments.
@@ -99,26 +114,41 @@ fn plain_line<'a>(global: Global, name: &'a str, help: Help) -> Command<'a>
         .after_help(help.more)
 }
 
-/// The command that makes images.
-fn format_line<'a>(global: Global) -> Result<Command<'a>, AllocError>
-    ensures shape { IfOk result (λ c. app_of c
-        ≡ record { top = with_arguments (codes "format") (settings_rule ∷ die_rule ∷ []); subs = [] }) }
-    ensures local { IfOk result (λ c. (fields_of c).has_globals ≡ false) }
+/// The program with the command that makes images besides.
+fn with_format<'a>(global: Global, program: Command<'a>) -> Result<Command<'a>, AllocError>
+    ensures { IfOk result (λ c. app_of c
+        ≡ with_subcommand (app_of program.entry) (with_arguments (codes "format") (settings_rule ∷ die_rule ∷ []))) }
 {
-    plain_line(global, "format", help::FORMAT)
-        .arg(settings_argument(global))?
-        .arg(die_argument(global))
+    let format = plain_line(global, "format", help::FORMAT);
+    let Ok(format) = format.arg(settings_argument(global)) else {
+        return Err(AllocError);
+    };
+    let Ok(format) = format.arg(die_argument(global)) else {
+        return Err(AllocError);
+    };
+    program.subcommand(format)
 }
 
-/// A command that looks at an array.
-fn look_line<'a>(global: Global, name: &'a str, help: Help) -> Result<Command<'a>, AllocError>
-    ensures shape { IfOk result (λ c. app_of c ≡ record { top = with_arguments name.entry.now look_arguments; subs = [] }) }
-    ensures local { IfOk result (λ c. (fields_of c).has_globals ≡ false) }
+/// The program with a command that looks at an array besides.
+fn with_look<'a>(
+    global: Global,
+    program: Command<'a>,
+    name: &'a str,
+    help: Help,
+) -> Result<Command<'a>, AllocError>
+    ensures { IfOk result (λ c. app_of c ≡ with_subcommand (app_of program.entry) (with_arguments name.entry.now look_arguments)) }
 {
-    plain_line(global, name, help)
-        .arg(settings_argument(global))?
-        .arg(flag(global, "unclean", help::ABOUT_UNCLEAN))?
-        .arg(flag(global, "json", help::ABOUT_JSON))
+    let look = plain_line(global, name, help);
+    let Ok(look) = look.arg(settings_argument(global)) else {
+        return Err(AllocError);
+    };
+    let Ok(look) = look.arg(flag(global, "unclean", help::ABOUT_UNCLEAN)) else {
+        return Err(AllocError);
+    };
+    let Ok(look) = look.arg(flag(global, "json", help::ABOUT_JSON)) else {
+        return Err(AllocError);
+    };
+    program.subcommand(look)
 }
 
 /// The path of the settings.
@@ -214,7 +244,6 @@ fn wanted_dump<'a>(found: &ArgMatches<'a>) -> Option<Subcommand<'a>>
 }
 
 /// What was given for an argument.
-
 fn text_of<'a>(found: &ArgMatches<'a>, name: &str) -> Option<&'a str>
     ensures { option_map (λ text. text.now) result ≡ first_of name.now (rows_of (found_of found.now)) }
 {
@@ -232,7 +261,6 @@ fn is_given(found: &ArgMatches<'_>, name: &str) -> bool
 }
 
 /// The die that was named.
-
 fn die_of(found: &ArgMatches<'_>) -> Option<Die>
     ensures { IsDie (one_of (codes "die") (rows_of (found_of found.now))) result }
 {
