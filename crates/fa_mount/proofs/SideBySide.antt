@@ -1,5 +1,6 @@
 -- The images of dies that are read side by side, in halves, and what stands ready for them.
 use Rattle.std.proofs.Common.{◌≡◌, ◌≢◌, ℕ, ◌+◌, ◌<◌, suc, inl, inr, List, [], ◌∷◌, ◌++◌, Option, Some, None, length, refl, sym, ap, subst, ◌∙◌, arith, slice_get}
+use Rattle.std.specs.Option.{option_map}
 use Rattle.std.proofs.lemmas.Bool.{cases_eq, cases_lt}
 use Rattle.std.proofs.lemmas.List.{length-set}
 use Rattle.std.proofs.lemmas.Option.{none-some, same_Some}
@@ -8,8 +9,14 @@ use Rattle.fa_image.specs.Image.{ImageState, ImageCall, ImageAnswer}
 use Rattle.fa_headers.specs.declared.judging.Standing.{Standing}
 use Rattle.fa_mount.specs.declared.slots.readings.Reading.{Reading}
 use Rattle.fa_mount.specs.ContentReading.{AreApart, image_read}
-use Rattle.fa_mount.specs.Readings.{AddsReading, AreImagesRead, AreReady, AreReadingsOf, IsRoomy, outcome_from}
+use Rattle.fa_mount.specs.Readings.{AddsReading, AreImagesRead, AreReady, AreReadingsOf, IsRoomy, outcome_from, outcome_of}
 use Rattle.fa_mount.proofs.ByDie.{AreUntouched, put_at, put_other, still_there}
+
+-- what comes of a place in a list of readings
+pub came_of_place : {A : Type 0} (readings : List (Option (Reading A))) (index : ℕ) (place : Option (Reading A))
+    → slice_get readings index ≡ Some place → option_map outcome_of place ≡ outcome_from readings (Some index)
+came_of_place readings index None at = let is = at in cc
+came_of_place readings index (Some reading) at = let is = at in cc
 
 module _ {I A : Type 0} (view : I → ImageState) (geometry : Geometry) where
   pub as_many_ready : (images : List I) (readings : List (Option (Reading A))) → AreReady view geometry images readings

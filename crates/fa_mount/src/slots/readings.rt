@@ -1,7 +1,7 @@
 //! The readings of an array's images, made before any image is read, and what comes of them die by die.
-ghost use Rattle.std.specs.Prelude.{◌≡◌, ◌≤◌, ◌<◌, ℕ, Some, None, length, slice_get, All, IfOk, OnOk};
+ghost use Rattle.std.specs.Prelude.{◌≡◌, ◌≤◌, ◌<◌, ℕ, Some, None, length, slice_get, option_map, All, IfOk, OnOk};
 ghost use Rattle.fa_mount.specs.ContentReading.{AreApart, image_read};
-ghost use Rattle.fa_mount.specs.Readings.{AddsReading, AreFrom, AreReadingsOf, IsRoomy, outcome_from};
+ghost use Rattle.fa_mount.specs.Readings.{AddsReading, AreFrom, AreReadingsOf, IsRoomy, outcome_from, outcome_of};
 ghost use Rattle.fa_headers.specs.declared.judging.Standing.{Standing};
 
 use crate::slots::content::{DieContents, SlotContent};
@@ -130,10 +130,28 @@ fn take_outcome<A: Allocator>(
     ensures value { result ≡ outcome_from readings.old (image_read standing) }
     ensures others { (index : ℕ) → ¬ (image_read standing ≡ Some index) → slice_get readings.new index ≡ slice_get readings.old index }
 {
-    let index = index_read(standing)?;
-    let reading = readings[index].take()?;
+    let Some(index) = index_read(standing) else {
+        return None;
+    };
+    taken(&mut readings[index])
+}
+
+/// What came of a reading that stands ready, which is moved out of its place.
+fn taken<A: Allocator>(place: &mut Option<Reading<A>>) -> Option<DieRead<A>>
+    ensures value { result ≡ option_map outcome_of place.old }
+{
+    match place.take() {
+        None => None,
+        Some(reading) => Some(came_of(reading)),
+    }
+}
+
+/// What came of a reading.
+fn came_of<A: Allocator>(reading: Reading<A>) -> DieRead<A>
+    ensures { result ≡ outcome_of reading }
+{
     match reading.fault {
-        None => Some(Ok(DieContents::new(reading.contents))),
-        Some(fault) => Some(Err(fault)),
+        None => Ok(DieContents::new(reading.contents)),
+        Some(fault) => Err(fault),
     }
 }
