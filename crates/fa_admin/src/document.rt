@@ -8,7 +8,7 @@ ghost use Rattle.fa_admin.specs.Documents.{WritesMember, check_data, document_li
 
 use crate::table::DieRow;
 use fa_machine::Version;
-use fa_map::PageMap;
+use fa_map::{Map, PageMap};
 use fa_mount::{Mounted, Report, WrittenPage};
 use fa_types::{Die, Kind, Page, Slot};
 use serde::{Described, Serialize, Serializer};
@@ -90,8 +90,11 @@ fn line_of<T: Serialize>(global: Global, document: &T) -> Result<String, AllocEr
 }
 
 /// The rows of the pages that were written, the pages rising.
-fn page_rows(global: Global, mounted: &Mounted<PageMap>) -> Result<Vec<PageRow>, AllocError>
-    ensures { IfOk result (λ rows. map written_of rows.items ≡ written_pages (page_view mounted.now.map)) }
+fn page_rows<M: Map + Drop>(
+    global: Global,
+    mounted: &Mounted<M>,
+) -> Result<Vec<PageRow>, AllocError>
+    ensures { IfOk result (λ rows. map written_of rows.items ≡ written_pages (M.view mounted.now.map)) }
 {
     let mut rows = Vec::new(global);
     for page in mounted.pages() {
@@ -101,7 +104,7 @@ fn page_rows(global: Global, mounted: &Mounted<PageMap>) -> Result<Vec<PageRow>,
 }
 
 /// The row of a page that was written.
-fn page_row(global: Global, page: &WrittenPage<'_, PageMap>) -> Result<PageRow, AllocError>
+fn page_row<M: Map + Drop>(global: Global, page: &WrittenPage<'_, M>) -> Result<PageRow, AllocError>
     ensures { IfOk result (λ row. written_of row ≡ page.now) }
 {
     let copies = place_rows(global, page)?;
@@ -113,7 +116,10 @@ fn page_row(global: Global, page: &WrittenPage<'_, PageMap>) -> Result<PageRow, 
 }
 
 /// The places of the copies of a page.
-fn place_rows(global: Global, page: &WrittenPage<'_, PageMap>) -> Result<Vec<PlaceRow>, AllocError>
+fn place_rows<M: Map + Drop>(
+    global: Global,
+    page: &WrittenPage<'_, M>,
+) -> Result<Vec<PlaceRow>, AllocError>
     ensures { IfOk result (λ rows. map (λ row. (row.die, row.slot)) rows.items ≡ page.now.places) }
 {
     let mut rows = Vec::new(global);

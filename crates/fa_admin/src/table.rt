@@ -1,11 +1,10 @@
 //! The table of the dies of an array.
 ghost use Rattle.std.specs.Prelude.{◌≡◌, ◌<◌, ℕ, length, map, string_bytes, option_map, option_and_then, IfOk};
-ghost use Rattle.fa_map.specs.PageView.{page_view};
-ghost use Rattle.fa_admin.specs.Table.{AreRowsFrom, IsRow, header_of as header_in, image_of as image_at, path_at, slots_on, slots_read as counts_read, standing_of as standing_in, state_text};
+ghost use Rattle.fa_admin.specs.Table.{AreRowsFrom, IsRow, good_header as good, header_of as header_in, image_of as image_at, path_at, slots_on, slots_read as counts_read, standing_of as standing_in, state_text};
 
 use fa_headers::{Found, HeaderFound, Standing};
 use fa_machine::Block;
-use fa_map::{Map, PageMap};
+use fa_map::Map;
 use fa_mount::Mounted;
 use fa_tag::Header;
 use fa_types::Die;
@@ -75,16 +74,16 @@ impl DieRow<'_> {
 }
 
 /// A row for each die of an array. The images were opened from the paths at these places, and these are their headers.
-pub(crate) fn rows_of<'a, A: Allocator>(
+pub(crate) fn rows_of<'a, A: Allocator, M: Map + Drop>(
     global: Global,
     paths: &'a [String<A>],
     places: &[usize],
     founds: &[Found],
-    mounted: &Mounted<PageMap>,
+    mounted: &Mounted<M>,
 ) -> Result<Vec<DieRow<'a>>, AllocError>
     ensures each { IfOk result (λ rows. AreRowsFrom (map string_bytes paths.now) places.now founds.now mounted.now.dies.items
-        (page_view mounted.now.map) 0 rows.items) }
-    ensures all { IfOk result (λ rows. length rows.items ≡ (page_view mounted.now.map).geometry.dies) }
+        (M.view mounted.now.map) 0 rows.items) }
+    ensures all { IfOk result (λ rows. length rows.items ≡ (M.view mounted.now.map).geometry.dies) }
 {
     let mut rows = Vec::new(global);
     for die in 0..mounted.map.geometry().dies {
@@ -95,15 +94,15 @@ pub(crate) fn rows_of<'a, A: Allocator>(
 }
 
 /// What is known of a die.
-fn row_of<'a, A: Allocator>(
+fn row_of<'a, A: Allocator, M: Map + Drop>(
     paths: &'a [String<A>],
     places: &[usize],
     founds: &[Found],
-    mounted: &Mounted<PageMap>,
+    mounted: &Mounted<M>,
     die: Die,
 ) -> DieRow<'a>
-    requires { die.0 < (page_view mounted.now.map).geometry.dies }
-    ensures { IsRow (map string_bytes paths.now) places.now founds.now mounted.now.dies.items (page_view mounted.now.map) die.0 result }
+    requires { die.0 < (M.view mounted.now.map).geometry.dies }
+    ensures { IsRow (map string_bytes paths.now) places.now founds.now mounted.now.dies.items (M.view mounted.now.map) die.0 result }
 {
     let standing = standing_of(mounted.dies.as_slice(), die);
     let index = image_of(standing);
@@ -163,7 +162,17 @@ pub(crate) fn path_of<'a, A: Allocator>(
 fn header_of(founds: &[Found], index: Option<usize>) -> Option<Header>
     ensures { result ≡ option_and_then (header_in founds.now) index }
 {
-    match founds.get(index?)?.header {
+    match founds.get(index?) {
+        Some(found) => good_header(found.header),
+        None => None,
+    }
+}
+
+/// The header that was found, if it is good.
+fn good_header(header: HeaderFound) -> Option<Header>
+    ensures { result ≡ good header }
+{
+    match header {
         HeaderFound::Good(header) => Some(header),
         HeaderFound::Unread | HeaderFound::Bad => None,
     }

@@ -1,5 +1,4 @@
 use Rattle.std.proofs.Common.{map, string_bytes, arith}
-use Rattle.fa_map.specs.PageView.{page_view}
 use Rattle.fa_admin.proofs.Rows.{one_longer, rows_more}
 use Rattle.fa_admin.proofs.table.rows_of.Goals as goal
 
@@ -10,6 +9,6 @@ loop-die-preserved g c =
       order = omega arith;
       long = omega (arith, longer, c.loop-die.invariant.long);
       each = rows_more (map string_bytes c.args.paths.now) c.args.places.now c.args.founds.now c.args.mounted.now.dies.items
-          (page_view c.args.mounted.now.map) c.loop-die.die c.loop-die.rows.items c.push.new.self.items c.row_of-row.result
+          (g.M.Map.view c.args.mounted.now.map) c.loop-die.die c.loop-die.rows.items c.push.new.self.items c.row_of-row.result
           c.loop-die.invariant.long c.in_ok-push.ensures.items c.loop-die.invariant.each c.row_of-row.ensures;
     }
