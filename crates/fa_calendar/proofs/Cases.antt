@@ -113,3 +113,7 @@ without_is false false true h0 h1 = refl
 without_is false false false h0 h1 = refl
 
 -- what is booked when a round has passed: l says that the round is later, e that it is the one
+
+pub or_none : (b : Bool) → b ≡ (b || false)
+or_none true = refl
+or_none false = refl

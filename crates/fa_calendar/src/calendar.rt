@@ -85,6 +85,16 @@ impl<A: Allocator> Calendar<A> {
         open_one(&mut self.dies, die, round);
     }
 
+    /// Releases these booked places. It takes no memory.
+    pub fn release_all(&mut self, places: &[Place])
+        requires { AllByRecursion (λ x. is_booked self.old x.die.0 x.round.0 ≡ true) places.now }
+        ensures current { current_of self.new ≡ current_of self.old }
+        ensures windows { (d : ℕ) → window_of self.new d ≡ window_of self.old d }
+        ensures booked { (d r : ℕ) → is_booked self.new d r ≡ (is_booked self.old d r && not (is_at places.now d r)) }
+    {
+        open_all(&mut self.dies, places);
+    }
+
     /// Keeps the first run of so many open rounds of a die after the current one as its window, and
     /// answers its first round: 1 to 64 rounds, of a die that has no window which has not passed.
     /// Refused, the calendar is as it was.

@@ -36,6 +36,8 @@ mod plans;
 #[cfg(test)]
 mod reopened;
 #[cfg(test)]
+mod sets;
+#[cfg(test)]
 mod sockets;
 pub mod spelling;
 #[cfg(test)]

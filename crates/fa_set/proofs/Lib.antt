@@ -1,0 +1,5 @@
+pub mod Bits
+pub mod Empty
+pub mod Leveled
+pub mod Lowest
+pub mod Membership
