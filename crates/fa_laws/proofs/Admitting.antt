@@ -9,7 +9,7 @@ use Rattle.fa_laws.proofs.Scene.{Among}
 use Rattle.fa_machine.specs.Maps.{insert_all}
 use Rattle.fa_machine.specs.Reading.{at_once, has_data, is_data, is_fresh, names_batch, zeros}
 use Rattle.fa_machine.specs.State.{CalendarState, OpenBatch}
-use Rattle.fa_machine.specs.World.{Due, Told, Work, World, told_at_once, with_batch, with_value, with_value_at}
+use Rattle.fa_machine.specs.World.{Due, Told, Work, World, plain_page, told_at_once, with_batch, with_value, with_value_at}
 use Rattle.fa_machine.specs.declared.ids.BatchId.{BatchId}
 use Rattle.fa_machine.specs.declared.jobs.Flight.TheVariants.{Read}
 use Rattle.fa_machine.specs.declared.places.Booking.{Booking}
@@ -19,7 +19,7 @@ use Rattle.fa_machine.specs.declared.places.Version.{Version}
 use Rattle.fa_types.specs.declared.numbers.Page.{Page}
 use Rattle.fa_types.specs.declared.numbers.Slot.{Slot}
 use Rattle.std.proofs.Common.{List, None, Option, Some, [], ap, arith, eq-eqb, false, inl, inr, not, refl, subst, suc, sym, true, ℕ}
-use Rattle.std.proofs.Common.{◌++◌, ◌||◌, ◌∙◌, ◌∷◌, ◌≡◌, ◌≤◌, ◌⊎◌}
+use Rattle.std.proofs.Common.{◌++◌, ◌||◌, ◌<◌, ◌∙◌, ◌∷◌, ◌≡◌, ◌≤◌, ◌⊎◌}
 use Rattle.std.proofs.lemmas.Bool.{cases_eq, false≢true, ne_eqb, not-true, or_parts, true≢false}
 use Rattle.std.proofs.lemmas.Option.{none-some, same_Some}
 use Rattle.std.specs.Cmp.{nat_cmp_total}
@@ -29,16 +29,16 @@ use Rattle.std.specs.Ordering.{nat_cmp}
 use Rattle.std.specs.Prelude.{fold, if◌then◌else◌, option_map, ◌==◌}
 
 -- what is due to the pages that are answered at once, and to the others
-value_fold : (batch : ℕ) (due : Due) (pages : List ℕ) (values : ℕ → ℕ → Due) (page : ℕ)
-    → (fold (λ vs p. with_value_at batch p due vs) values pages batch page ≡ due)
-    ⊎ ((fold (λ vs p. with_value_at batch p due vs) values pages batch page ≡ values batch page) × (Among page pages → ⊥))
+value_fold : (batch : ℕ) (due : ℕ → Due) (pages : List ℕ) (values : ℕ → ℕ → Due) (page : ℕ)
+    → (fold (λ vs p. with_value_at batch p (due p) vs) values pages batch page ≡ due page)
+    ⊎ ((fold (λ vs p. with_value_at batch p (due p) vs) values pages batch page ≡ values batch page) × (Among page pages → ⊥))
 value_fold batch due [] values page = inr (refl, λ i. i)
 value_fold batch due (p ∷ ps) values page =
-    elim (value_fold batch due ps (with_value_at batch p due values) page) [
+    elim (value_fold batch due ps (with_value_at batch p (due p) values) page) [
       | inl is ↦ inl is
       | inr was ↦ elim (cases_eq page p) [
-        | inl same ↦ inl (was.0 ∙ ap (with_value_at batch p due values batch) same ∙ value_same batch p due values)
-        | inr apart ↦ inr (was.0 ∙ value_other batch p due values batch page (λ e f. apart f), λ i. elsewhere i apart was.1)
+        | inl same ↦ inl (was.0 ∙ ap (with_value_at batch p (due p) values batch) same ∙ value_same batch p (due p) values ∙ ap due (sym same))
+        | inr apart ↦ inr (was.0 ∙ value_other batch p (due p) values batch page (λ e f. apart f), λ i. elsewhere i apart was.1)
       ]
     ]
   where
@@ -46,12 +46,12 @@ value_fold batch due (p ∷ ps) values page =
     elsewhere (inl same) apart none = apart (sym same)
     elsewhere (inr rest) apart none = none rest
 
-value_elsewhere : (batch : ℕ) (due : Due) (pages : List ℕ) (values : ℕ → ℕ → Due) (other page : ℕ) → (other ≡ batch → ⊥)
-    → fold (λ vs p. with_value_at batch p due vs) values pages other page ≡ values other page
+value_elsewhere : (batch : ℕ) (due : ℕ → Due) (pages : List ℕ) (values : ℕ → ℕ → Due) (other page : ℕ) → (other ≡ batch → ⊥)
+    → fold (λ vs p. with_value_at batch p (due p) vs) values pages other page ≡ values other page
 value_elsewhere batch due [] values other page apart = refl
 value_elsewhere batch due (p ∷ ps) values other page apart =
-    value_elsewhere batch due ps (with_value_at batch p due values) other page apart
-    ∙ value_other batch p due values other page (λ e f. apart e)
+    value_elsewhere batch due ps (with_value_at batch p (due p) values) other page apart
+    ∙ value_other batch p (due p) values other page (λ e f. apart e)
 
 pub one_value_same : {X : Type 0} (n : ℕ) (x : X) (f : ℕ → X) (m : ℕ) → m ≡ n → with_value n x f m ≡ x
 one_value_same n x f m e = ap (λ b. if b then x else f m) (eq-eqb m n e)
@@ -63,15 +63,16 @@ kind_hole : (k : Kind) → is_data k ≡ false → k ≡ Hole
 kind_hole Data e = absurd (true≢false e)
 kind_hole Hole e = refl
 
-module _ (w : World) (h : Holds w) (batch : ℕ) (pages : List ℕ) (calendar : CalendarState) (fresh : is_fresh w.core batch ≡ true) where
+module _ (w : World) (h : Holds w) (batch : ℕ) (pages : List ℕ) (calendar : CalendarState) (fresh : is_fresh w.core batch ≡ true)
+    (inside : (page : ℕ) → Among page pages → page < w.core.page_map.geometry.pages) where
   abbrev opened : OpenBatch
   opened = record { pages = pages; answers = insert_all (at_once w.core.page_map pages) (zeros w.core.page_map) empty }
 
-  abbrev at_once_due : Due
-  at_once_due = record { bytes = zeros w.core.page_map; since = w.moment }
+  abbrev at_once_due : ℕ → Due
+  at_once_due page = record { bytes = plain_page w page; since = w.moment }
 
   abbrev values_then : ℕ → ℕ → Due
-  values_then = fold (λ vs p. with_value_at batch p at_once_due vs) w.values (at_once w.core.page_map pages)
+  values_then = fold (λ vs p. with_value_at batch p (at_once_due p) vs) w.values (at_once w.core.page_map pages)
 
   abbrev admitted_then : ℕ → ℕ
   admitted_then = with_value batch w.moment w.admitted
@@ -86,6 +87,19 @@ module _ (w : World) (h : Holds w) (batch : ℕ) (pages : List ℕ) (calendar : 
       h.jobs die ∙ ap (option_map {T = Work} (λ k. k.job.flight)) e ∙ ap Some flight in
       false≢true (sym jobs ∙ any_value (names_batch batch) w.core.jobs die (Read b page version slot) job (eq-eqb b.0 batch same))
 
+  -- what the plain array has of a page without data is zeros
+  plain_zeros : (page : ℕ) (o : Option Version) → get w.core.page_map.versions page ≡ o → page < w.core.page_map.geometry.pages
+      → not (has_data o) ≡ true → plain_page w page ≡ zeros w.core.page_map
+  plain_zeros page None is low no_data = h.unwritten page low is
+  plain_zeros page (Some v) is low no_data =
+      let number = h.sound.numbered page v is in
+      sym number.right ∙ number.hole (kind_hole v.kind (not-true (is_data v.kind) no_data))
+
+  zeros_due : (page : ℕ) → Among page (at_once w.core.page_map pages) → zeros w.core.page_map ≡ plain_page w page
+  zeros_due page among =
+      let found = among-filter (λ page. not (has_data (get w.core.page_map.versions page))) page pages among in
+      sym (plain_zeros page (get w.core.page_map.versions page) refl (inside page found.0) found.1)
+
   at_once_answer : (page : ℕ) (bytes : List ℕ) → get opened.answers page ≡ Some bytes
       → (bytes ≡ (values_then batch page).bytes) × (admitted_then batch ≤ (values_then batch page).since)
   at_once_answer page bytes e =
@@ -94,7 +108,7 @@ module _ (w : World) (h : Holds w) (batch : ℕ) (pages : List ℕ) (calendar : 
         | inr found ↦ elim (value_fold batch at_once_due (at_once w.core.page_map pages) w.values page) [
           | inr was ↦ absurd (was.1 found.0)
           | inl is ↦ (
-            same_Some bytes (zeros w.core.page_map) (sym e ∙ found.1) ∙ sym (ap (λ (d : Due). d.bytes) is),
+            same_Some bytes (zeros w.core.page_map) (sym e ∙ found.1) ∙ zeros_due page found.0 ∙ sym (ap (λ (d : Due). d.bytes) is),
             let a = one_value_same batch w.moment w.admitted batch refl in
                 let s = ap (λ (d : Due). d.since) is in omega (arith, a, s),
           )
@@ -158,6 +172,7 @@ module _ (w : World) (h : Holds w) (batch : ℕ) (pages : List ℕ) (calendar : 
     told = told_then;
     ordered = h.ordered;
     plain = h.plain;
+    unwritten = h.unwritten;
     answered = answered_then;
   }
 
@@ -170,6 +185,7 @@ end_batch_holds w h batch calendar = record {
   told = h.told;
   ordered = h.ordered;
   plain = h.plain;
+  unwritten = h.unwritten;
   answered = later (remove w.core.batches batch) w.admitted w.values w.works w.due w.moment (record {
     since = λ other b e. h.answered.since other b (get-remove_some w.core.batches batch other b e).0;
     answers = λ other b page bytes e f. h.answered.answers other b page bytes (get-remove_some w.core.batches batch other b e).0 f;

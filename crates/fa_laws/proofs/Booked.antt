@@ -20,6 +20,7 @@ use Rattle.fa_machine.specs.declared.jobs.Flight.{Flight}
 use Rattle.fa_machine.specs.declared.jobs.Flight.TheVariants.{Erase, Header, Move, Program, Read, Sync}
 use Rattle.fa_machine.specs.declared.places.Booking.{Booking}
 use Rattle.fa_types.specs.Open.{IsOpen}
+use Rattle.fa_types.specs.Windows.{is_in_window}
 use Rattle.std.proofs.Common.{Bool, List, None, Option, Some, [], ap, arith, false, inl, inr, not, refl, subst, sym, true, ℕ, ◌+◌, ◌-◌}
 use Rattle.std.proofs.Common.{◌<◌, ◌||◌, ◌∙◌, ◌∷◌, ◌≡◌, ◌≤◌, ◌⊎◌}
 use Rattle.std.proofs.lemmas.Bool.{false≢true, not-false, or_left, or_parts, or_right}
@@ -80,6 +81,14 @@ opened_live m calendar pages planned is x among =
     let opened = all_among (λ x. IsOpen calendar.round (is_closed m calendar) x.die.0 x.round.0) planned.places
     (recursion_from_All (λ x. IsOpen calendar.round (is_closed m calendar) x.die.0 x.round.0) planned.places is.certificate.plan.opens) x among in
     not-false (is_live m x.die.0) (or_parts (not (is_live m x.die.0)) _ opened.1).0
+
+-- and their rounds are in no window
+pub opened_outside : (m : MapState) (calendar : CalendarState) (pages : List ℕ) (planned : Planned) → IsPlanned m calendar pages planned
+    → (x : Place) → Among x planned.places → is_in_window (get calendar.windows x.die.0) x.round.0 ≡ false
+opened_outside m calendar pages planned is x among =
+    let opened = all_among (λ x. IsOpen calendar.round (is_closed m calendar) x.die.0 x.round.0) planned.places
+    (recursion_from_All (λ x. IsOpen calendar.round (is_closed m calendar) x.die.0 x.round.0) planned.places is.certificate.plan.opens) x among in
+    (or_parts (contains_key calendar.bookings (x.die.0, x.round.0)) _ (or_parts (not (is_live m x.die.0)) _ opened.1).1).1
 
 rounds_among : (current : ℕ) (places : List Place) (x : Place) → Among x places → x.round.0 + 1 - current ≤ rounds_of current places
 rounds_among current [] x i = absurd i
@@ -175,8 +184,8 @@ module _ (K : ℕ → ℕ → BatchId → Type 0) where
 
   begun_good : (core : Core) → Good K core → (die seat : ℕ) (flight : Flight) → die < core.page_map.geometry.dies → IsUrgent core die flight
       → Good K (begun die seat flight core)
-  begun_good core g die seat (Header epoch) low u =
-      record { timely = begun_timely _ _ core.jobs core.page_map.geometry.dies die (Header epoch) refl low g.timely; all = g.all }
+  begun_good core g die seat (Header epoch live) low u =
+      record { timely = begun_timely _ _ core.jobs core.page_map.geometry.dies die (Header epoch live) refl low g.timely; all = g.all }
   begun_good core g die seat (Move page version from to) low u =
       record { timely = begun_timely _ _ core.jobs core.page_map.geometry.dies die (Move page version from to) refl low g.timely; all = g.all }
   begun_good core g die seat (Erase block) low u =

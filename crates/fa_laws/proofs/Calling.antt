@@ -1,6 +1,6 @@
 -- An image call of a job touches no slot in which a copy stands.
 use Rattle.fa_laws.proofs.Scene.{Among, Bytes, GaveFits, IsHeld, IsTargetAt, JobFits, Owned, Scene, Sound, Stands, WorkFits, writes}
-use Rattle.fa_machine.specs.Cells.{Cell, payload_of}
+use Rattle.fa_machine.specs.Cells.{Cell, moved_payload, payload_of}
 use Rattle.fa_machine.specs.Copies.{is_held_slot}
 use Rattle.fa_machine.specs.State.{is_live}
 use Rattle.fa_machine.specs.World.{Accepted, Gave, GaveCell, Work}
@@ -33,10 +33,10 @@ module _ (s : Scene) (h : Sound s) (out : ℕ) (seen : ℕ → ℕ → Cell) (wo
   stands_held die slot page version e =
       let was = h.held die slot page version e in
       elim (cases_eq die out) [
-        | inr away ↦ record { cell = ap (payload_of page.0 version die slot) (c.elsewhere die slot away) ∙ was.cell; below = was.below }
+        | inr away ↦ record { cell = ap (moved_payload page.0 version die slot) (c.elsewhere die slot away) ∙ was.cell; below = was.below }
         | inl same ↦ elim (c.here slot) [
           | inl kept ↦ record {
-            cell = ap (payload_of page.0 version die slot) (ap (λ (d : ℕ). seen d slot) same ∙ kept ∙ ap (λ (d : ℕ). s.bytes.seen d slot) (sym same)) ∙ was.cell;
+            cell = ap (moved_payload page.0 version die slot) (ap (λ (d : ℕ). seen d slot) same ∙ kept ∙ ap (λ (d : ℕ). s.bytes.seen d slot) (sym same)) ∙ was.cell;
             below = was.below;
           }
           | inr touched ↦ absurd (false≢true (sym touched.0 ∙ ap is_held_slot (ap (λ (d : ℕ). s.places.used d slot) (sym same) ∙ e)))
@@ -48,9 +48,9 @@ module _ (s : Scene) (h : Sound s) (out : ℕ) (seen : ℕ → ℕ → Cell) (wo
   stands_done q x t owns among is_live done =
       let was = ((h.owned q x owns).targets t among).done is_live done in
       elim (cases_eq t.die.0 out) [
-        | inr away ↦ ap (payload_of x.page x.version t.die.0 t.slot.0) (c.elsewhere t.die.0 t.slot.0 away) ∙ was
+        | inr away ↦ ap (moved_payload x.page x.version t.die.0 t.slot.0) (c.elsewhere t.die.0 t.slot.0 away) ∙ was
         | inl same ↦ elim (c.here t.slot.0) [
-          | inl kept ↦ ap (payload_of x.page x.version t.die.0 t.slot.0)
+          | inl kept ↦ ap (moved_payload x.page x.version t.die.0 t.slot.0)
               (ap (λ (d : ℕ). seen d t.slot.0) same ∙ kept ∙ ap (λ (d : ℕ). s.bytes.seen d t.slot.0) (sym same)) ∙ was
           | inr touched ↦ absurd (false≢true (sym (touched.1 q x t (record { owns = owns; among = among; on_die = same; at_slot = refl })) ∙ done))
         ]
@@ -58,9 +58,9 @@ module _ (s : Scene) (h : Sound s) (out : ℕ) (seen : ℕ → ℕ → Cell) (wo
 
   job_elsewhere : (die : ℕ) → (die ≡ out → ⊥) → (due : List ℕ) (flight : Flight) (payload : List ℕ)
       → JobFits s.bytes s.places s.in_block due die flight payload → JobFits now s.places s.in_block due die flight payload
-  job_elsewhere die away due (Header epoch) payload before = tt
+  job_elsewhere die away due (Header epoch live) payload before = tt
   job_elsewhere die away due (Move page version from to) payload before = record {
-    cell = ap (payload_of page.0 version die from.0) (c.elsewhere die from.0 away) ∙ before.cell;
+    cell = ap (moved_payload page.0 version die from.0) (c.elsewhere die from.0 away) ∙ before.cell;
     below = before.below;
     settled = before.settled;
     kept = before.kept;
@@ -78,10 +78,10 @@ module _ (s : Scene) (h : Sound s) (out : ℕ) (seen : ℕ → ℕ → Cell) (wo
 
   gave_elsewhere : (die : ℕ) → (die ≡ out → ⊥) → (flight : Flight) (gave : List Gave) → GaveFits s.bytes die flight gave → GaveFits now die flight gave
   gave_elsewhere die away (Read batch page version slot) (GaveCell cell ∷ []) g = g ∙ sym (c.elsewhere die slot.0 away)
-  gave_elsewhere die away (Program page version slot) (Accepted ∷ []) g = ap (payload_of page.0 version die slot.0) (c.elsewhere die slot.0 away) ∙ g
+  gave_elsewhere die away (Program page version slot) (Accepted ∷ []) g = ap (moved_payload page.0 version die slot.0) (c.elsewhere die slot.0 away) ∙ g
   gave_elsewhere die away (Move page version from to) (GaveCell cell ∷ []) g = g
   gave_elsewhere die away (Move page version from to) (GaveCell cell ∷ Accepted ∷ []) g =
-      ap (payload_of page.0 version die to.0) (c.elsewhere die to.0 away) ∙ g
+      ap (moved_payload page.0 version die to.0) (c.elsewhere die to.0 away) ∙ g
   gave_elsewhere die away flight gave g = tt
 
   pub touched_is_sound : Sound (record s { bytes = now; works = works })

@@ -1,16 +1,16 @@
 -- Each call of each job keeps what holds.
 use Rattle.fa_laws.proofs.Endings.{HappensCall}
 use Rattle.fa_laws.proofs.Admitting.{one_value_same}
-use Rattle.fa_laws.proofs.ImageCalls.{call_holds, job_seen, kept_unheld, opens, with_cell_other, with_cell_same}
+use Rattle.fa_laws.proofs.ImageCalls.{call_holds, job_seen, kept_unheld, moves, with_cell_other, with_cell_same}
 use Rattle.fa_laws.proofs.Invariant.{Holds, owned_of, scene_of}
 use Rattle.fa_laws.proofs.Parts.{kept≢settled, target_at}
 use Rattle.fa_laws.proofs.Scene.{Bytes, GaveFits, JobFits, is_settled}
-use Rattle.fa_machine.specs.Cells.{Cell, Empty, Sealed, payload_of}
+use Rattle.fa_machine.specs.Cells.{Cell, Empty, Sealed, moved_payload}
 use Rattle.fa_machine.specs.Collecting.{is_in_block}
 use Rattle.fa_machine.specs.Copies.{is_held_slot}
 use Rattle.fa_machine.specs.Run.{CallsNext}
 use Rattle.fa_machine.specs.State.{used_at}
-use Rattle.fa_machine.specs.World.{Accepted, Calls, DieImage, Gave, GaveCell, ProgramsSlot, Refused, Work, World, first_call}
+use Rattle.fa_machine.specs.World.{Accepted, Calls, DieImage, Gave, GaveCell, HeaderTells, ProgramsSlot, Refused, Work, World, first_call}
 use Rattle.fa_machine.specs.World.{next_call, second_call, with_cell, with_value}
 use Rattle.fa_machine.specs.declared.ids.Block.{Block}
 use Rattle.fa_machine.specs.declared.jobs.Flight.{Flight}
@@ -43,14 +43,26 @@ module _ (w : World) (h : Holds w) (die : ℕ) (list : List Gave) (image : DieIm
   fits_before flight payload works = (h.sound.works die (working flight payload list) works).job
 
   -- a call that changes no slot
+  unseen_call : (flight : Flight) (payload : List ℕ) → w.works die ≡ Some (working flight payload list) → (gave : List Gave)
+      → ((slot : ℕ) → image.seen slot ≡ (w.images die).seen slot)
+      → GaveFits (bytes_then w die image) die flight gave → Holds (then_world w die flight payload gave image)
+  unseen_call flight payload works gave same fits =
+      call_holds w h die (working flight payload list) works image gave (λ slot. inl (same slot)) (record {
+        job = job_seen (scene_of w).bytes (λ d slot. (with_value die image w.images d).seen slot) (scene_of w).places (scene_of w).in_block (w.due die).bytes die flight payload
+            (λ slot. here slot ∙ same slot) (fits_before flight payload works);
+        gave = fits;
+      })
+
   quiet_call : (flight : Flight) (payload : List ℕ) → w.works die ≡ Some (working flight payload list) → (gave : List Gave) → image ≡ w.images die
       → GaveFits (bytes_then w die image) die flight gave → Holds (then_world w die flight payload gave image)
   quiet_call flight payload works gave same fits =
-      call_holds w h die (working flight payload list) works image gave (λ slot. inl (ap (λ (i : DieImage). i.seen slot) same)) (record {
-        job = job_seen (scene_of w).bytes (λ d slot. (with_value die image w.images d).seen slot) (scene_of w).places (scene_of w).in_block (w.due die).bytes die flight payload
-            (λ slot. here slot ∙ ap (λ (i : DieImage). i.seen slot) same) (fits_before flight payload works);
-        gave = fits;
-      })
+      unseen_call flight payload works gave (λ slot. ap (λ (i : DieImage). i.seen slot) same) fits
+
+  header_call : (flight : Flight) (payload : List ℕ) → w.works die ≡ Some (working flight payload list) → (gave : List Gave) (header : Option HeaderTells)
+      → image ≡ record (w.images die) { header = header }
+      → GaveFits (bytes_then w die image) die flight gave → Holds (then_world w die flight payload gave image)
+  header_call flight payload works gave header is fits =
+      unseen_call flight payload works gave (λ slot. ap (λ (i : DieImage). i.seen slot) is) fits
 
   -- a call that writes the slot of a program or of a move
   program_call : (page : Page) (version : Version) (slot : Slot) (payload : List ℕ) → w.works die ≡ Some (working (Program page version slot) payload list)
@@ -84,7 +96,7 @@ module _ (w : World) (h : Holds w) (die : ℕ) (list : List Gave) (image : DieIm
       ])
       (record {
         job = record {
-          cell = ap (payload_of page.0 version die from.0) (here from.0 ∙ ap (λ (i : DieImage). i.seen from.0) is ∙ with_cell_other to.0 from.0 cell (w.images die) away) ∙ before.cell;
+          cell = ap (moved_payload page.0 version die from.0) (here from.0 ∙ ap (λ (i : DieImage). i.seen from.0) is ∙ with_cell_other to.0 from.0 cell (w.images die) away) ∙ before.cell;
           below = before.below;
           settled = before.settled;
           kept = before.kept;
@@ -109,9 +121,9 @@ pub first_call_holds : (w : World) (h : Holds w) (die : ℕ) (flight : Flight) (
     → w.works die ≡ Some (working flight payload [])
     → Calls (is_in_block w.core.page_map) (first_call die flight payload) g (w.images die) image
     → Holds (then_world w die flight payload (g ∷ []) image)
-first_call_holds w h die (Header epoch) payload Accepted image works c = quiet_call w h die [] image (Header epoch) payload works (Accepted ∷ []) c tt
-first_call_holds w h die (Header epoch) payload Refused image works c = quiet_call w h die [] image (Header epoch) payload works (Refused ∷ []) c tt
-first_call_holds w h die (Header epoch) payload (GaveCell cell) image works c = absurd c
+first_call_holds w h die (Header epoch live) payload Accepted image works c = header_call w h die [] image (Header epoch live) payload works (Accepted ∷ []) (Some (record { epoch = epoch; live = live })) c tt
+first_call_holds w h die (Header epoch live) payload Refused image works c = header_call w h die [] image (Header epoch live) payload works (Refused ∷ []) c.0 c.1 tt
+first_call_holds w h die (Header epoch live) payload (GaveCell cell) image works c = absurd c
 first_call_holds w h die (Sync flushes) payload Accepted image works c = quiet_call w h die [] image (Sync flushes) payload works (Accepted ∷ []) c tt
 first_call_holds w h die (Sync flushes) payload Refused image works c = quiet_call w h die [] image (Sync flushes) payload works (Refused ∷ []) c tt
 first_call_holds w h die (Sync flushes) payload (GaveCell cell) image works c = absurd c
@@ -123,7 +135,7 @@ first_call_holds w h die (Read batch page version slot) payload Refused image wo
 first_call_holds w h die (Read batch page version slot) payload Accepted image works c = absurd c
 first_call_holds w h die (Move page version from to) payload (GaveCell cell) image works c =
     quiet_call w h die [] image (Move page version from to) payload works (GaveCell cell ∷ []) c.1
-    (ap (payload_of page.0 version die from.0) c.0 ∙ (fits_before w h die [] image (Move page version from to) payload works).cell)
+    (ap (moved_payload page.0 version die from.0) c.0 ∙ (fits_before w h die [] image (Move page version from to) payload works).cell)
 first_call_holds w h die (Move page version from to) payload Refused image works c =
     quiet_call w h die [] image (Move page version from to) payload works (Refused ∷ []) c tt
 first_call_holds w h die (Move page version from to) payload Accepted image works c = absurd c
@@ -134,8 +146,8 @@ first_call_holds w h die (Erase block) payload Refused image works c =
 first_call_holds w h die (Erase block) payload (GaveCell cell) image works c = absurd c
 first_call_holds w h die (Program page version slot) payload Accepted image works c =
     program_call w h die [] image page version slot payload works (Accepted ∷ []) (Sealed page.0 version die slot.0 payload) c
-    (ap (payload_of page.0 version die slot.0) (here w h die [] image slot.0 ∙ ap (λ (i : DieImage). i.seen slot.0) c ∙ with_cell_same slot.0 (Sealed page.0 version die slot.0 payload) (w.images die))
-    ∙ opens page.0 version die slot.0 payload ∙ ap Some (fits_before w h die [] image (Program page version slot) payload works).bytes)
+    (ap (moved_payload page.0 version die slot.0) (here w h die [] image slot.0 ∙ ap (λ (i : DieImage). i.seen slot.0) c ∙ with_cell_same slot.0 (Sealed page.0 version die slot.0 payload) (w.images die))
+    ∙ moves page.0 version die slot.0 payload ∙ ap Some (fits_before w h die [] image (Program page version slot) payload works).bytes)
 first_call_holds w h die (Program page version slot) payload Refused image works c =
     program_call w h die [] image page version slot payload works (Refused ∷ []) c.0 c.1 tt
 first_call_holds w h die (Program page version slot) payload (GaveCell cell) image works c = absurd c
@@ -147,8 +159,8 @@ second_move : (w : World) (h : Holds w) (die : ℕ) (page : Page) (version : Ver
     → Holds (then_world w die (Move page version from to) payload (GaveCell cell ∷ g ∷ []) image)
 second_move w h die page version from to payload cell Accepted image bytes right works c =
     move_call w h die (GaveCell cell ∷ []) image page version from to payload works (GaveCell cell ∷ Accepted ∷ []) (Sealed page.0 version die to.0 bytes) c
-    (ap (payload_of page.0 version die to.0) (here w h die [] image to.0 ∙ ap (λ (i : DieImage). i.seen to.0) c ∙ with_cell_same to.0 (Sealed page.0 version die to.0 bytes) (w.images die))
-    ∙ opens page.0 version die to.0 bytes ∙ ap Some right)
+    (ap (moved_payload page.0 version die to.0) (here w h die [] image to.0 ∙ ap (λ (i : DieImage). i.seen to.0) c ∙ with_cell_same to.0 (Sealed page.0 version die to.0 bytes) (w.images die))
+    ∙ moves page.0 version die to.0 bytes ∙ ap Some right)
 second_move w h die page version from to payload cell Refused image bytes right works c =
     move_call w h die (GaveCell cell ∷ []) image page version from to payload works (GaveCell cell ∷ Refused ∷ []) c.0 c.1 tt
 second_move w h die page version from to payload cell (GaveCell other) image bytes right works c = absurd c
@@ -157,11 +169,11 @@ pub second_call_holds : (w : World) (h : Holds w) (die : ℕ) (flight : Flight) 
     → w.works die ≡ Some (working flight payload (GaveCell cell ∷ []))
     → CallsNext w die (Some (working flight payload (GaveCell cell ∷ []))) (second_call die flight cell) g after → Holds after
 second_call_holds w h die (Move page version from to) payload cell g after works c =
-    let gives : payload_of page.0 version die from.0 cell ≡ Some (w.payloads page.0 version.seq.0) =
+    let gives : moved_payload page.0 version die from.0 cell ≡ Some (w.payloads page.0 version.seq.0) =
     (h.sound.works die (working (Move page version from to) payload (GaveCell cell ∷ [])) works).gave in
     let d = subst (λ o. CallsNext w die (Some (working (Move page version from to) payload (GaveCell cell ∷ []))) (option_map (λ bytes. ProgramsSlot to.0 (Sealed page.0 version die to.0 bytes)) o) g after) gives c in
     subst Holds (sym d.2) (second_move w h die page version from to payload cell g d.0 (w.payloads page.0 version.seq.0) refl works d.1)
-second_call_holds w h die (Header epoch) payload cell g after works c = absurd c
+second_call_holds w h die (Header epoch live) payload cell g after works c = absurd c
 second_call_holds w h die (Erase block) payload cell g after works c = absurd c
 second_call_holds w h die (Read batch page version slot) payload cell g after works c = absurd c
 second_call_holds w h die (Program page version slot) payload cell g after works c = absurd c

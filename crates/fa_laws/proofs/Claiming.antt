@@ -84,6 +84,7 @@ claim_holds w h page id within = record {
   told = h.told;
   ordered = h.ordered;
   plain = h.plain;
+  unwritten = h.unwritten;
   answered = later w.core.batches w.admitted w.values w.works w.due w.moment h.answered;
 }
 
@@ -95,6 +96,7 @@ release_holds w h id = record {
   told = h.told;
   ordered = h.ordered;
   plain = h.plain;
+  unwritten = h.unwritten;
   answered = later w.core.batches w.admitted w.values w.works w.due w.moment h.answered;
 }
 
@@ -135,16 +137,16 @@ abbrev reserved_owned : Core → ℕ → Kind → Owned
 reserved_owned core claim kind = record {
   page = claimed_page core claim;
   version = record { seq = record { 0 = core.last + 1 }; kind = kind };
-  targets = map (target_on core.page_map) (targets core (claimed_page core claim));
+  targets = map (target_on core.page_map) (targets core.copies core.page_map (claimed_page core claim));
 }
 
-a_target : (core : Core) (page : ℕ) (t : Target) → Among t (map (target_on core.page_map) (targets core page))
+a_target : (core : Core) (page : ℕ) (t : Target) → Among t (map (target_on core.page_map) (targets core.copies core.page_map page))
     → (die : ℕ) × (target_on core.page_map die ≡ t) × (has_room core.page_map die ≡ true)
 a_target core page t among =
-    let found = among-map (target_on core.page_map) t (targets core page) among in
+    let found = among-map (target_on core.page_map) t (targets core.copies core.page_map page) among in
     let d = found.0 in
-    let in_order = among-take (copies_asked core) d (filter (has_room core.page_map) (order_of core page)) found.1 in
-    (d, found.2, (among-filter (has_room core.page_map) d (order_of core page) in_order).1)
+    let in_order = among-take (copies_asked core.copies core.page_map) d (filter (has_room core.page_map) (order_of core.copies core.page_map page)) found.1 in
+    (d, found.2, (among-filter (has_room core.page_map) d (order_of core.copies core.page_map page) in_order).1)
 
 module _ (w : World) (h : Holds w) (claim : ℕ) (kind : Kind) (payload : List ℕ) (opened : claim_open w.core claim ≡ true)
     (hole : kind ≡ Hole → payload ≡ zeros w.core.page_map) where
@@ -155,7 +157,7 @@ module _ (w : World) (h : Holds w) (claim : ℕ) (kind : Kind) (payload : List �
   version = record { seq = record { 0 = w.core.last + 1 }; kind = kind }
 
   abbrev slots : List Target
-  slots = map (target_on w.core.page_map) (targets w.core page)
+  slots = map (target_on w.core.page_map) (targets w.core.copies w.core.page_map page)
 
   abbrev x : Owned
   x = record { page = page; version = version; targets = slots }
@@ -208,9 +210,9 @@ module _ (w : World) (h : Holds w) (claim : ℕ) (kind : Kind) (payload : List �
   distinct die slot =
       let a = tally-map-le (program_is_at die slot) (λ (t : Target). t.die.0 == die) (program_at page version payload)
       (λ t here. (and_parts (t.die.0 == die) (t.slot.0 == slot) here).0) slots in
-      let b = tally-map-le (λ (t : Target). t.die.0 == die) (λ (d : ℕ). d == die) (target_on w.core.page_map) (λ d here. here) (targets w.core page) in
-      let c = tally-take-le (λ (d : ℕ). d == die) (copies_asked w.core) (filter (has_room w.core.page_map) (order_of w.core page)) in
-      let d = tally-filter-le (λ (d : ℕ). d == die) (has_room w.core.page_map) (order_of w.core page) in
+      let b = tally-map-le (λ (t : Target). t.die.0 == die) (λ (d : ℕ). d == die) (target_on w.core.page_map) (λ d here. here) (targets w.core.copies w.core.page_map page) in
+      let c = tally-take-le (λ (d : ℕ). d == die) (copies_asked w.core.copies w.core.page_map) (filter (has_room w.core.page_map) (order_of w.core.copies w.core.page_map page)) in
+      let d = tally-filter-le (λ (d : ℕ). d == die) (has_room w.core.page_map) (order_of w.core.copies w.core.page_map page) in
       let e = h.ordered page die in
       omega (arith, a, b, c, d, e)
 
@@ -256,5 +258,6 @@ module _ (w : World) (h : Holds w) (claim : ℕ) (kind : Kind) (payload : List �
         (was.0 ∙ sym (records.same t.page t.seq was.1), let n = was.1 in omega (arith, n));
     ordered = h.ordered;
     plain = h.plain;
+    unwritten = h.unwritten;
     answered = later w.core.batches w.admitted w.values w.works w.due w.moment h.answered;
   }

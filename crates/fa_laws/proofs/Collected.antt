@@ -109,6 +109,7 @@ module _ (v : World) (h : Holds v) (die : ℕ) (over : v.works die ≡ None) (pa
     told = h.told;
     ordered = h.ordered;
     plain = h.plain;
+    unwritten = h.unwritten;
     answered = h.answered;
   }
 
@@ -154,6 +155,7 @@ module _ (v : World) (h : Holds v) (die : ℕ) (over : v.works die ≡ None) (bl
     told = h.told;
     ordered = h.ordered;
     plain = h.plain;
+    unwritten = h.unwritten;
     answered = h.answered;
   }
 
@@ -228,6 +230,7 @@ module _ (v : World) (h : Holds v) (die batch page : ℕ) (version : Version) (b
     told = are_told;
     ordered = h.ordered;
     plain = h.plain;
+    unwritten = h.unwritten;
     answered = answered_closed is;
   }
   answer_holds (Some b) is = record {
@@ -237,6 +240,7 @@ module _ (v : World) (h : Holds v) (die batch page : ℕ) (version : Version) (b
     told = are_told;
     ordered = h.ordered;
     plain = h.plain;
+    unwritten = h.unwritten;
     answered = answered_open b is;
   }
 

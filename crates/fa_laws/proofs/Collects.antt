@@ -16,7 +16,7 @@ use Rattle.fa_machine.specs.Run.{HappensEvent}
 use Rattle.fa_machine.specs.State.{Core, MapState, slots_of, used_at}
 use Rattle.fa_machine.specs.Step.{Done, FlushBegin, FlushState, Take, Window, is_die}
 use Rattle.fa_machine.specs.Taking.{flight_of, handed, move_from}
-use Rattle.fa_machine.specs.Turning.{window_refusal}
+use Rattle.fa_machine.specs.Turning.{MayHaveWindow}
 use Rattle.fa_machine.specs.World.{World}
 use Rattle.fa_machine.specs.Reading.{is_late}
 use Rattle.fa_machine.specs.declared.answers.Flush.{Flush}
@@ -31,12 +31,16 @@ use Rattle.fa_machine.specs.declared.places.Used.TheVariants.{Held, Reserved, St
 use Rattle.fa_machine.specs.declared.places.Version.{Version}
 use Rattle.fa_machine.specs.declared.refusals.WindowRefused.{WindowRefused}
 use Rattle.fa_machine.specs.declared.refusals.WindowRefused.TheVariants.{Busy as WindowBusy, HasOne}
-use Rattle.fa_types.specs.Open.{max_closed}
+use Rattle.fa_types.specs.Open.{max_closed, rounds_that}
 use Rattle.fa_types.specs.declared.geometry.Geometry.{Geometry}
 use Rattle.fa_types.specs.declared.numbers.Page.{Page}
 use Rattle.fa_types.specs.declared.numbers.Round.{Round}
 use Rattle.fa_types.specs.declared.numbers.Slot.{Slot}
-use Rattle.std.proofs.Common.{Bool, List, None, Option, Some, [], ap, arith, false, map, not, refl, suc, sym, true, ℕ, ◌+◌, ◌-◌, ◌∙◌, ◌∷◌, ◌≡◌}
+use Rattle.std.proofs.Common.{Bool, List, None, Option, Some, [], ap, arith, false, length, map, not, refl, suc, sym, true, ℕ, ◌+◌, ◌-◌, ◌∙◌, ◌∷◌, ◌≡◌}
+use Rattle.std.proofs.lemmas.Bool.{and_parts, leb-true, not-true}
+use Rattle.fa_laws.proofs.Rounds.{taken_rounds}
+use Rattle.fa_types.specs.Windows.{is_in_window, window_rounds}
+use Rattle.fa_machine.specs.Rounds.{is_taken}
 use Rattle.std.specs.FinMap.Entries.{is_sorted-put}
 use Rattle.std.specs.Cmp.{nat_cmp_total}
 use Rattle.std.specs.FinMap.{FinMap, entries-from_sorted, find as find_entry, from_sorted, get-from_sorted, insert, put, remove}
@@ -137,33 +141,39 @@ module _ (g : Geometry) where
     abbrev pub collects_in : Option Flight
     collects_in = collects_with core.page_map states die
 
-    abbrev pub entries_listed : ℕ
-    entries_listed = count_by (λ (place : ℕ × ℕ). place.0 == die) (map (λ e. e.0) t.bookings) + window_rounds t.round (at_number die t.windows)
+    -- the die is live, rounds are left, and its calendar has room
+    abbrev pub may_have : ℕ → Bool
+    may_have count = is_some (at_number die t.live) && (not (is_late core.calendar)
+        && nat_le (length t.bookings + window_rounds t.round (at_number die t.windows) + count) max_closed)
 
-    abbrev pub window_refused : ℕ → Option WindowRefused
-    window_refused count = first_that (
-        (not (is_some (at_number die t.live)) || nat_lt max_closed (entries_listed + count) || is_late core.calendar, WindowBusy)
-        ∷ (is_some (at_number die t.windows), HasOne) ∷ [])
-
-    refusal_same : (count : ℕ) → window_refusal core die count ≡ window_refused count
-    refusal_same count = λ i. first_that {R = WindowRefused} ((
-      not (is_some (get-from_sorted nat_cmp t.live die o.live i))
-          || nat_lt max_closed (count_by (λ (place : ℕ × ℕ). place.0 == die) (map (λ e. e.0) (entries-from_sorted place_cmp t.bookings o.bookings i))
-          + window_rounds t.round (get-from_sorted nat_cmp t.windows die o.windows i) + count) || is_late core.calendar,
-      WindowBusy,
-    )
-        ∷ (is_some (get-from_sorted nat_cmp t.windows die o.windows i), HasOne) ∷ [])
+    may_take : (count : ℕ) → may_have count ≡ true → MayHaveWindow core die count
+    may_take count e =
+        let a = and_parts (is_some (at_number die t.live)) _ e in
+        let b = and_parts (not (is_late core.calendar)) _ a.1 in
+        record {
+          live = ap is_some (get-from_sorted nat_cmp t.live die o.live) ∙ a.0;
+          early = not-true (is_late core.calendar) b.0;
+          room = λ n.
+              let same : rounds_that (is_taken core.calendar die) t.round n
+              ≡ rounds_that (λ r. is_some (find_entry place_cmp (die, r) t.bookings) || is_in_window (at_number die t.windows) r) t.round n =
+              λ i. rounds_that (λ r. is_some (get-from_sorted place_cmp t.bookings (die, r) o.bookings i)
+              || is_in_window (get-from_sorted nat_cmp t.windows die o.windows i) r) t.round n in
+              let taken = taken_rounds t.bookings (at_number die t.windows) die t.round n in
+              let few = leb-true _ _ b.1 in
+              omega (arith, same, taken, few);
+        }
 
     -- a window in the very next rounds
     pub takes_window : (v : World) (count : ℕ) (first last : Round) → (is_die core die && nat_le 1 count && nat_le count 64) ≡ true
-        → window_refused count ≡ None → first.0 ≡ t.round + 1 → last.0 ≡ first.0 + count - 1
+        → may_have count ≡ true → is_some (at_number die t.windows) ≡ false → first.0 ≡ t.round + 1 → last.0 ≡ first.0 + count - 1
         → list_all (λ round. not (closed_in g t t.bookings die round)) (range_with_len first.0 count) ≡ true
         → HappensEvent (at g t v) (Window die count (Ok first)) (at g (windowed die first last t) (record v { moment = suc v.moment }))
-    takes_window v count first last may free next ends_at opens = record {
+    takes_window v count first last may room free next ends_at opens = record {
       step = record {
         allows = may;
         does = (
-          refusal_same count ∙ free,
+          may_take count room,
+          ap is_some (get-from_sorted nat_cmp t.windows die o.windows) ∙ free,
           record {
             later = omega (arith, next);
             opens = (λ i. list_all (λ round. not (closed_same g t o t.bookings o.bookings i die round)) (range_with_len first.0 count)) ∙ opens;

@@ -4,7 +4,7 @@ use Rattle.fa_laws.proofs.Ending.{among-map}
 use Rattle.fa_laws.proofs.Invariant.{Holds, later, owned_claim, owned_of, scene_of}
 use Rattle.fa_laws.proofs.Keeping.{Keeps, kept_is_sound, renumbered_is_sound}
 use Rattle.fa_laws.proofs.Lists.{among-filter, among-filter-intro, any_none, any_some, no_refusal, tally-filter-le}
-use Rattle.fa_machine.proofs.Maps.{get-change, get-insert_cases, place_cmp_total, place_same}
+use Rattle.fa_machine.proofs.Maps.{get-change, get-insert_cases, get-insert_other, get-insert_same, place_cmp_total, place_same}
 use Rattle.fa_laws.proofs.Maps.{get-insert_all}
 use Rattle.fa_laws.proofs.Parts.{held≢stale, kept≢held}
 use Rattle.fa_laws.proofs.Scene.{Among, IsNumbered, IsTargetAt, JobFits, Owned, Scene, Sound, is_settled, program_is_at}
@@ -29,7 +29,7 @@ use Rattle.fa_types.specs.declared.numbers.Slot.{Slot}
 use Rattle.std.proofs.Common.{Bool, List, None, Option, Some, [], ap, arith, eq-eqb, false, inl, inr, map, not, refl, subst, suc, sym}
 use Rattle.std.proofs.Common.{true, ℕ, ◌<◌, ◌∙◌, ◌≡◌, ◌⊎◌}
 use Rattle.std.proofs.Math.ListN.{length-set}
-use Rattle.std.proofs.lemmas.Bool.{and_from, false≢true, not-false, not-true}
+use Rattle.std.proofs.lemmas.Bool.{and_from, cases_eq, false≢true, not-false, not-true}
 use Rattle.std.proofs.lemmas.List.{get_or-set_other, get_or-set_same}
 use Rattle.std.proofs.lemmas.Option.{none-some}
 use Rattle.std.specs.FinMap.{FinMap, get, insert}
@@ -214,6 +214,12 @@ module _ (w : World) (h : Holds w) (claim : ℕ) (r : Reservation) (is : reserve
       told = h.told;
       ordered = h.ordered;
       plain = length-set w.plain page (w.payloads page seq.0) ∙ h.plain;
+      unwritten = λ p low e. elim (cases_eq p page) [
+        | inl same ↦ absurd (none-some r.version (sym (sym (get-insert_same w.core.page_map.versions page r.version)
+            ∙ ap (get (insert w.core.page_map.versions page r.version)) (sym same) ∙ e)))
+        | inr apart ↦ get_or-set_other w.plain page p (w.payloads page seq.0) [] apart
+            ∙ h.unwritten p low (sym (get-insert_other w.core.page_map.versions page r.version p apart) ∙ e)
+      ];
       answered = later w.core.batches w.admitted w.values w.works w.due w.moment h.answered;
     }
 
@@ -261,5 +267,6 @@ module _ (w : World) (h : Holds w) (claim : ℕ) (r : Reservation) (is : reserve
       told = h.told;
       ordered = h.ordered;
       plain = h.plain;
+      unwritten = h.unwritten;
       answered = later w.core.batches w.admitted w.values w.works w.due w.moment h.answered;
     }

@@ -11,7 +11,7 @@ use Rattle.fa_laws.proofs.Settling.{Settles, settled_is_sound}
 use Rattle.fa_machine.specs.Maps.{insert_all}
 use Rattle.fa_machine.specs.Placement.{has_room}
 use Rattle.fa_machine.specs.State.{WaitingProgram, is_live, used_at}
-use Rattle.fa_machine.specs.Turning.{copying_to}
+use Rattle.fa_machine.specs.Turning.{copied_payload, copying_to}
 use Rattle.fa_machine.specs.World.{World}
 use Rattle.fa_machine.specs.Writing.{program_at, target_on, with_targets}
 use Rattle.fa_machine.specs.declared.places.Copying.{Copying}
@@ -45,6 +45,7 @@ module _ (w : World) (h : Holds w) (c : Copying) (is : w.core.copying ≡ Some c
     told = h.told;
     ordered = h.ordered;
     plain = h.plain;
+    unwritten = h.unwritten;
     answered = later w.core.batches w.admitted w.values w.works w.due w.moment h.answered;
   }
 
@@ -117,12 +118,16 @@ module _ (w : World) (h : Holds w) (c : Copying) (is : w.core.copying ≡ Some c
       told = h.told;
       ordered = h.ordered;
       plain = h.plain;
+      unwritten = h.unwritten;
       answered = later w.core.batches w.admitted w.values w.works w.due w.moment h.answered;
     }
 
 module _ (w : World) (h : Holds w) (page die : ℕ) (version : Version) (payload : List ℕ) (within : page < w.core.page_map.geometry.pages)
     (number : get w.core.page_map.versions page ≡ Some version) (room : has_room w.core.page_map die ≡ true)
-    (bytes : payload ≡ w.payloads page version.seq.0) where
+    (bytes : copied_payload w.core.page_map version.kind payload ≡ w.payloads page version.seq.0) where
+  abbrev copied : List ℕ
+  copied = copied_payload w.core.page_map version.kind payload
+
   abbrev t : Target
   t = target_on w.core.page_map die
 
@@ -155,8 +160,8 @@ module _ (w : World) (h : Holds w) (page die : ℕ) (version : Version) (payload
   owner_new None y e = inr (refl, same_Some (owned_copy copy) y e)
   owner_new (Some j) y e = inl e
 
-  programs : (p : WaitingProgram) → Among p (program_at page version payload t ∷ [])
-      → (u : Target) × Among u (t ∷ []) × (p.die ≡ u.die.0) × (p.slot ≡ u.slot.0) × (p.page ≡ page) × (p.version ≡ version) × (p.payload ≡ payload)
+  programs : (p : WaitingProgram) → Among p (program_at page version copied t ∷ [])
+      → (u : Target) × Among u (t ∷ []) × (p.die ≡ u.die.0) × (p.slot ≡ u.slot.0) × (p.page ≡ page) × (p.version ≡ version) × (p.payload ≡ copied)
   programs p (inl e) = (
     t,
     inl refl,
@@ -175,7 +180,7 @@ module _ (w : World) (h : Holds w) (page die : ℕ) (version : Version) (payload
   numbered : IsNumbered (scene_of w).bytes (scene_of w).plain page version
   numbered = h.sound.numbered page version number
 
-  reserves : Reserves (scene_of w) None (owned_copy copy) payload used (owned_of (Some copy) w.core.claims) (program_at page version payload t ∷ [])
+  reserves : Reserves (scene_of w) None (owned_copy copy) copied used (owned_of (Some copy) w.core.claims) (program_at page version copied t ∷ [])
   reserves = record {
     right = record { inside = within; hole = numbered.hole; below = numbered.below };
     payload = bytes;
@@ -188,17 +193,18 @@ module _ (w : World) (h : Holds w) (page die : ℕ) (version : Version) (payload
     placed = placed_new;
     owner = owner_new;
     programs = programs;
-    distinct = λ d slot. one_at_most (program_is_at d slot (program_at page version payload t));
+    distinct = λ d slot. one_at_most (program_is_at d slot (program_at page version copied t));
   }
 
   pub copy_reserves : Holds (record w { core = copying_to w.core page payload (Some version) (Some die); moment = suc w.moment })
   copy_reserves = record {
-    sound = reserved_is_sound (scene_of w) h.sound None (owned_copy copy) payload used (owned_of (Some copy) w.core.claims)
-        (program_at page version payload t ∷ []) reserves;
+    sound = reserved_is_sound (scene_of w) h.sound None (owned_copy copy) copied used (owned_of (Some copy) w.core.claims)
+        (program_at page version copied t ∷ []) reserves;
     jobs = h.jobs;
     claims = h.claims;
     told = h.told;
     ordered = h.ordered;
     plain = h.plain;
+    unwritten = h.unwritten;
     answered = later w.core.batches w.admitted w.values w.works w.due w.moment h.answered;
   }

@@ -41,5 +41,6 @@ module _ (w : World) (h : Holds w) (die : ℕ) (was_spare : contains_key w.core.
     told = h.told;
     ordered = h.ordered;
     plain = h.plain;
+    unwritten = h.unwritten;
     answered = later w.core.batches w.admitted w.values w.works w.due w.moment h.answered;
   }

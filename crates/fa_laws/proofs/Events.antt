@@ -18,8 +18,8 @@ use Rattle.fa_machine.specs.Run.{Event, Happening, Happens, ImageCall}
 use Rattle.fa_machine.specs.State.{Core, Reservation, is_live}
 use Rattle.fa_machine.specs.Step.{Abandon, Act, Admit, Advance, Claim, Commit, CommitCopy, Does, Done, EndBatch, FlushBegin}
 use Rattle.fa_machine.specs.Step.{FlushState, Fold, Release, Replan, Reserve, ReserveCopy, ReserveFewer, ReserveHole, SpareIn, Take}
-use Rattle.fa_machine.specs.Step.{Window, allowed, is_page}
-use Rattle.fa_machine.specs.Turning.{CommitsCopy, copying_to, has_number}
+use Rattle.fa_machine.specs.Step.{Window, allowed, is_distinct, is_page}
+use Rattle.fa_machine.specs.Turning.{CommitsCopy, copied_payload, copying_to, has_number}
 use Rattle.fa_machine.specs.World.{IsTold, World, with_payload}
 use Rattle.fa_machine.specs.Writing.{Abandons, Commits, Reserves, committed, reserved}
 use Rattle.fa_machine.specs.declared.answers.Copied.{Copied}
@@ -40,10 +40,12 @@ use Rattle.fa_machine.specs.declared.refusals.ReserveCopyRefused.TheVariants.{Go
 use Rattle.fa_machine.specs.declared.refusals.ReserveRefused.{ReserveRefused}
 use Rattle.fa_machine.specs.declared.refusals.ReserveRefused.TheVariants.{NoMemory as ReserveNoMemory}
 use Rattle.fa_machine.specs.declared.refusals.SpareRefused.TheVariants.{NotSpare}
-use Rattle.fa_machine.specs.declared.refusals.WindowRefused.TheVariants.{NoMemory as WindowNoMemory}
+use Rattle.fa_machine.specs.declared.refusals.WindowRefused.TheVariants.{Busy as WindowBusy, HasOne, NoMemory as WindowNoMemory}
 use Rattle.fa_types.specs.declared.numbers.Seq.{Seq}
 use Rattle.std.proofs.Common.{Bool, List, None, Option, Some, [], ap, cond, eqb-true, false, inl, inr, not, refl, subst, suc, sym}
-use Rattle.std.proofs.Common.{true, ℕ, ◌+◌, ◌∙◌, ◌≡◌}
+use Rattle.std.proofs.Common.{true, ℕ, ◌+◌, ◌<◌, ◌∙◌, ◌∷◌, ◌≡◌}
+use Rattle.fa_laws.proofs.Scene.{Among}
+use Rattle.std.specs.List.{list_all}
 use Rattle.std.proofs.lemmas.Bool.{and_parts, false≢true, ltb-true, not-false, true≢false}
 use Rattle.std.proofs.lemmas.Option.{none-some}
 use Rattle.std.specs.FinMap.{empty, get, insert}
@@ -78,7 +80,6 @@ reserve_answer w h claim least kind payload opened hole seq core d =
 
 reserve_refused : (w : World) → Holds w → (claim least : ℕ) (kind : Kind) (payload : List ℕ) (refused : ReserveRefused) (core : Core)
     → Reserves w.core claim least kind payload (Err refused) core → Holds (record w { core = core; moment = suc w.moment })
-reserve_refused w h claim least kind payload ReserveNoMemory core d = subst (λ (c : Core). Holds (record w { core = c; moment = suc w.moment })) (sym d.1) (still w h)
 reserve_refused w h claim least kind payload refused core d = subst (λ (c : Core). Holds (record w { core = c; moment = suc w.moment })) (sym d.1) (still w h)
 
 data_no_hole : (p q : List ℕ) → Data ≡ Hole → p ≡ q
@@ -112,20 +113,31 @@ copy_case w h (Some c) is (Err CopyFailed) core d = to_next w (CommitCopy (Err C
 
 reserve_copy_case : (w : World) → Holds w → (page seq : ℕ) (payload : List ℕ) → is_page w.core page ≡ true
     → Contains w.told (record { page = page; seq = seq; bytes = payload }) → (v : Option Version) → get w.core.page_map.versions page ≡ v
-    → (die : Option ℕ) → copy_place w.core page ≡ die → has_number seq v ≡ true
+    → (die : Option ℕ) → copy_place w.core.copies w.core.page_map page ≡ die → has_number seq v ≡ true
     → Holds (record w { core = copying_to w.core page payload v die; moment = suc w.moment })
 reserve_copy_case w h page seq payload within told None number die place numbered = absurd (false≢true numbered)
 reserve_copy_case w h page seq payload within told (Some v) number None place numbered = still w h
 reserve_copy_case w h page seq payload within told (Some v) number (Some die) place numbered =
-    let found = found_passes (λ d. has_room w.core.page_map d && not (holds_page w.core.page_map page d)) (order_of w.core page) die place in
+    let found = found_passes (λ d. has_room w.core.page_map d && not (holds_page w.core.page_map page d)) (order_of w.core.copies w.core.page_map page) die place in
     let t = h.told (record { page = page; seq = seq; bytes = payload }) (among-contains (record { page = page; seq = seq; bytes = payload }) w.told told.0 told.1 told.2) in
     copy_reserves w h page die v payload (ltb-true page w.core.page_map.geometry.pages within) number
     (and_parts (has_room w.core.page_map die) (not (holds_page w.core.page_map page die)) found.0).0
-    (t.0 ∙ ap (w.payloads page) (sym (eqb-true v.seq.0 seq numbered)))
+    (copied v.kind (λ is. (h.sound.numbered page v number).hole is) (t.0 ∙ ap (w.payloads page) (sym (eqb-true v.seq.0 seq numbered))))
+  where
+    copied : (k : Kind) → (k ≡ Hole → w.payloads page v.seq.0 ≡ zeros w.core.page_map) → payload ≡ w.payloads page v.seq.0
+        → copied_payload w.core.page_map k payload ≡ w.payloads page v.seq.0
+    copied Data hole e = e
+    copied Hole hole e = sym (hole refl)
 
 pub first_refusal : {R : Type 0} (a b c : Bool) (x y z : R) → cond a (Some x) (cond b (Some y) (cond c (Some z) None)) ≡ None → a ≡ false
 first_refusal true b c x y z e = absurd (none-some x (sym e))
 first_refusal false b c x y z e = refl
+
+pages_inside : (core : Core) (pages : List ℕ) → list_all (is_page core) pages ≡ true → (page : ℕ) → Among page pages → page < core.page_map.geometry.pages
+pages_inside core [] e page among = absurd among
+pages_inside core (p ∷ ps) e page (inl same) =
+    subst (λ n. n < core.page_map.geometry.pages) same (ltb-true p core.page_map.geometry.pages (and_parts (is_page core p) (list_all (is_page core) ps) e).0)
+pages_inside core (p ∷ ps) e page (inr rest) = pages_inside core ps (and_parts (is_page core p) (list_all (is_page core) ps) e).1 page rest
 
 pub event_holds : (w : World) → Holds w → (act : Act) (core : Core) → allowed w.core act ≡ true → Does w.core act core → IsTold w act
     → Holds (next act core w)
@@ -144,7 +156,7 @@ event_holds w h (ReserveFewer claim payload (Ok seq)) core may d told =
 event_holds w h (ReserveFewer claim payload (Err refused)) core may d told = reserve_refused w h claim _ Data payload refused core d
 event_holds w h (Commit claim seat answer) core may d told = commit_case w h claim seat (reserved_under w.core claim) refl answer core d
 event_holds w h (Abandon claim answer) core may d told = abandon_case w h claim (reserved_under w.core claim) refl answer core d
-event_holds w h (Admit pages (Ok admitted)) core may d told = to_next w (Admit pages (Ok admitted)) _ core d.2 (admit_holds w h admitted.batch.0 pages _ d.1)
+event_holds w h (Admit pages (Ok admitted)) core may d told = to_next w (Admit pages (Ok admitted)) _ core d.2 (admit_holds w h admitted.batch.0 pages _ d.1 (pages_inside w.core pages (and_parts (is_distinct pages) _ (and_parts (is_distinct pages && list_all (is_page w.core) pages) _ may).0).1))
 event_holds w h (Admit pages (Err refused)) core may d told = to_next w (Admit pages (Err refused)) w.core core d.1 (still w h)
 event_holds w h (Replan batch (Ok planned)) core may d told =
     to_next w (Replan batch (Ok planned)) _ core d.1
@@ -154,10 +166,11 @@ event_holds w h (EndBatch batch answer) core may d told = to_next w (EndBatch ba
 event_holds w h (Take die seat answer) core may d told = take_holds w h die seat answer core d
 event_holds w h (Done die outcome) core may d told = done_holds w h die outcome core may told d
 event_holds w h (Window die count (Ok first)) core may d told =
-    to_next w (Window die count (Ok first)) _ core d.2
+    to_next w (Window die count (Ok first)) _ core d.3
     (quiet w h _ w.core.epoch w.core.behind w.core.stepped w.core.flushes w.core.asked w.core.synced w.core.base w.core.history)
-event_holds w h (Window die count (Err WindowNoMemory)) core may d told = to_next w (Window die count (Err WindowNoMemory)) w.core core d.1 (still w h)
-event_holds w h (Window die count (Err refused)) core may d told = to_next w (Window die count (Err refused)) w.core core d.1 (still w h)
+event_holds w h (Window die count (Err WindowBusy)) core may d told = to_next w (Window die count (Err WindowBusy)) w.core core d.1 (still w h)
+event_holds w h (Window die count (Err HasOne)) core may d told = to_next w (Window die count (Err HasOne)) w.core core d.2 (still w h)
+event_holds w h (Window die count (Err WindowNoMemory)) core may d told = to_next w (Window die count (Err WindowNoMemory)) w.core core d.2 (still w h)
 event_holds w h (Advance (Ok round)) core may d told =
     to_next w (Advance (Ok round)) _ core d.2
     (quiet w h _ w.core.epoch w.core.behind empty w.core.flushes w.core.asked w.core.synced w.core.base w.core.history)
@@ -166,11 +179,10 @@ event_holds w h (SpareIn die (Ok made)) core may d told =
     to_next w (SpareIn die (Ok made)) _ core d.1 (spare_holds w h die d.0 (w.core.epoch + 1) (insert w.core.page_map.live die tt))
 event_holds w h (SpareIn die (Err NotSpare)) core may d told = to_next w (SpareIn die (Err NotSpare)) w.core core d.1 (still w h)
 event_holds w h (ReserveCopy page seq payload (Ok made)) core may d told =
-    let refused = first_refusal (not (is_thin w.core page && has_number seq (get w.core.page_map.versions page))) (is_none (copy_place w.core page)) (copy_open w.core) Gone _ _ d.0 in
+    let refused = first_refusal (not (is_thin w.core.copies w.core.page_map page && has_number seq (get w.core.page_map.versions page))) (is_none (copy_place w.core.copies w.core.page_map page)) (copy_open w.core) Gone _ _ d.0 in
     to_next w (ReserveCopy page seq payload (Ok made)) _ core d.1
-    (reserve_copy_case w h page seq payload (and_parts (is_page w.core page) _ may).0 told (get w.core.page_map.versions page) refl (copy_place w.core page) refl
-    (not_none_of (is_thin w.core page) (has_number seq (get w.core.page_map.versions page)) refused).1)
-event_holds w h (ReserveCopy page seq payload (Err CopyNoMemory)) core may d told = to_next w (ReserveCopy page seq payload (Err CopyNoMemory)) w.core core d.1 (still w h)
+    (reserve_copy_case w h page seq payload (and_parts (is_page w.core page) _ may).0 told (get w.core.page_map.versions page) refl (copy_place w.core.copies w.core.page_map page) refl
+    (not_none_of (is_thin w.core.copies w.core.page_map page) (has_number seq (get w.core.page_map.versions page)) refused).1)
 event_holds w h (ReserveCopy page seq payload (Err refused)) core may d told = to_next w (ReserveCopy page seq payload (Err refused)) w.core core d.1 (still w h)
 event_holds w h (CommitCopy answer) core may d told = copy_case w h w.core.copying refl answer core d
 event_holds w h (FlushBegin (Ok flush)) core may d told =

@@ -5,7 +5,7 @@ use Rattle.fa_machine.proofs.Maps.{get-insert_other, get-insert_same, get-remove
 use Rattle.fa_laws.proofs.Outcomes.{gave_read, tag}
 use Rattle.fa_laws.proofs.Scene.{Bytes, GaveFits, JobFits}
 use Rattle.fa_machine.specs.Cells.{DidErase, DidMove, DidProgram, DidRead, DidSync, DidWriteHeader, Fault, Outcome, Wrong, is_of_kind}
-use Rattle.fa_machine.specs.Cells.{payload_of}
+use Rattle.fa_machine.specs.Cells.{moved_payload, payload_of}
 use Rattle.fa_laws.specs.Kept.{KeepsLive}
 use Rattle.fa_machine.specs.Run.{HappensEvent}
 use Rattle.fa_machine.specs.State.{Core, OpenBatch, is_live}
@@ -31,7 +31,7 @@ wrong_if false e f = absurd (false≢true e)
 never_wrong : (b : Bytes) (die : ℕ) (flight : Flight) (payload : List ℕ) (gave : List Gave)
     → outcome_of die flight payload gave ≡ Some Wrong → is_of_kind flight Wrong ≡ true → GaveFits b die flight gave → ⊥
 never_wrong b die (Move page version from to) payload (GaveCell cell ∷ []) e k g =
-    wrong_if (is_some (payload_of page.0 version die from.0 cell)) (ap is_some g) (ap tag e)
+    wrong_if (is_some (moved_payload page.0 version die from.0 cell)) (ap is_some g) (ap tag e)
 never_wrong b die (Move page version from to) payload (GaveCell cell ∷ Accepted ∷ []) e k g = absurd (omega (arith, ap tag e))
 never_wrong b die (Move page version from to) payload (GaveCell cell ∷ Refused ∷ []) e k g = absurd (omega (arith, ap tag e))
 never_wrong b die (Move page version from to) payload (Accepted ∷ []) e k g = absurd (omega (arith, ap tag e))
@@ -39,7 +39,7 @@ never_wrong b die (Move page version from to) payload (Refused ∷ []) e k g = a
 never_wrong b die (Move page version from to) payload gave e k g = absurd (omega (arith, ap tag e))
 never_wrong b die (Read batch page version slot) payload gave e k g = absurd (false≢true k)
 never_wrong b die (Program page version slot) payload gave e k g = absurd (false≢true k)
-never_wrong b die (Header epoch) payload gave e k g = absurd (false≢true k)
+never_wrong b die (Header epoch live) payload gave e k g = absurd (false≢true k)
 never_wrong b die (Erase block) payload gave e k g = absurd (false≢true k)
 never_wrong b die (Sync flushes) payload gave e k g = absurd (false≢true k)
 
@@ -70,7 +70,7 @@ ends_live w h die (Read batch page version slot) payload gave (DidRead cell) cor
 ends_live w h die (Program page version slot) payload gave DidProgram core fits g out kind = inl refl
 ends_live w h die (Move page version from to) payload gave DidMove core fits g out kind = inl refl
 ends_live w h die (Erase block) payload gave DidErase core fits g out kind = inl refl
-ends_live w h die (Header epoch) payload gave DidWriteHeader core fits g out kind = inl (header_live (epoch == core.epoch) _ core refl)
+ends_live w h die (Header epoch live) payload gave DidWriteHeader core fits g out kind = inl (header_live (epoch == core.epoch) _ core refl)
 ends_live w h die (Sync flushes) payload gave DidSync core fits g out kind = inl refl
 ends_live w h die flight payload gave (Fault call) core fits g out kind = inr (call, refl, refl)
 ends_live w h die flight payload gave Wrong core fits g out kind = absurd (never_wrong (scene_of w).bytes die flight payload gave out kind g)

@@ -1,23 +1,24 @@
 -- Done keeps what holds: first the job is over, then comes what its outcome changes.
 use Rattle.fa_laws.proofs.Admitting.{one_value_other, one_value_same}
-use Rattle.fa_laws.proofs.Ending.{marked, marked_is_sound}
+use Rattle.fa_laws.proofs.Ending.{mark_other, marked, marked_is_sound}
 use Rattle.fa_laws.proofs.Invariant.{AreAt, AreInside, Holds, later, owned_claim, owned_of, scene_of}
 use Rattle.fa_laws.proofs.Keeping.{worked_is_sound}
 use Rattle.fa_laws.proofs.Leaving.{Drops, dropped_is_sound}
 use Rattle.fa_laws.proofs.Lists.{among-filter, tally-filter-le}
 use Rattle.fa_machine.proofs.Maps.{get-change, get-keep, get-remove_other, get-remove_same, get-remove_some, has_some, nat_same, passed}
 use Rattle.fa_machine.proofs.Maps.{place_cmp_total, place_same}
-use Rattle.fa_laws.proofs.Scene.{Among, IsToCome, Owned, Stands, program_is_at, writes}
+use Rattle.fa_laws.proofs.Scene.{Among, IsTargetAt, IsToCome, Owned, Stands, program_is_at, writes}
 use Rattle.fa_machine.specs.Conditions.{drop_die}
 use Rattle.fa_machine.specs.Maps.{change, keep, place_cmp}
 use Rattle.fa_machine.specs.State.{OpenClaim, Reservation, WaitingProgram}
+use Rattle.fa_machine.specs.declared.places.Target.{Target}
 use Rattle.fa_machine.specs.Taking.{mark, mark_claim, program_ends}
 use Rattle.fa_machine.specs.World.{Work, World, with_value}
 use Rattle.fa_machine.specs.declared.jobs.Flight.{Flight}
 use Rattle.fa_machine.specs.declared.places.Copying.{Copying}
 use Rattle.fa_machine.specs.declared.places.Used.{Used}
 use Rattle.fa_machine.specs.declared.places.Version.{Version}
-use Rattle.std.proofs.Common.{Bool, None, Option, Some, [], ap, arith, eq-eqb, false, inl, inr, not, refl, subst, suc, sym, true, ℕ}
+use Rattle.std.proofs.Common.{Bool, List, None, Option, Some, [], ap, arith, eq-eqb, false, inl, inr, map, not, refl, subst, suc, sym, true, ℕ}
 use Rattle.std.proofs.Common.{◌<◌, ◌∙◌, ◌∷◌, ◌≡◌, ◌≤◌}
 use Rattle.std.proofs.lemmas.Bool.{cases_eq, ne_eqb, not-true, not_from_false, not_from_true, true≢false}
 use Rattle.std.proofs.lemmas.Option.{none-some, same_Some}
@@ -87,6 +88,7 @@ ended_holds w h die = record {
   told = h.told;
   ordered = h.ordered;
   plain = h.plain;
+  unwritten = h.unwritten;
   answered = later w.core.batches w.admitted w.values (with_value die None w.works) w.due w.moment (record {
     since = h.answered.since;
     answers = h.answered.answers;
@@ -138,51 +140,98 @@ module _ (v : World) (h : Holds v) (die : ℕ) (over : v.works die ≡ None) whe
     told = h.told;
     ordered = h.ordered;
     plain = h.plain;
+    unwritten = h.unwritten;
     answered = h.answered;
   }
 
+-- the claims of the page have the slot marked
+abbrev marks_of : (page die slot id : ℕ) → OpenClaim → OpenClaim
+marks_of page die slot id c = if c.page == page then mark_claim die slot c else c
+
+marks_same : (page die slot : ℕ) (c : OpenClaim) → c.page ≡ page → marks_of page die slot 0 c ≡ mark_claim die slot c
+marks_same page die slot c same = ap {B = OpenClaim} (λ b. if b then mark_claim die slot c else c) (eq-eqb c.page page same)
+
+marks_apart : (page die slot : ℕ) (c : OpenClaim) → (c.page ≡ page → ⊥) → marks_of page die slot 0 c ≡ c
+marks_apart page die slot c apart = ap {B = OpenClaim} (λ b. if b then mark_claim die slot c else c) (ne_eqb c.page page apart)
+
+none_marked : (die slot : ℕ) (targets : List Target) → ((t : Target) → Among t targets → t.die.0 ≡ die → t.slot.0 ≡ slot → ⊥)
+    → map (mark die slot) targets ≡ targets
+none_marked die slot [] far = refl
+none_marked die slot (t ∷ ts) far =
+    λ i. mark_other die slot t (far t (inl refl)) i ∷ none_marked die slot ts (λ u among. far u (inr among)) i
+
 -- what was reserved, with a target marked
-own_marked : (die slot : ℕ) (copying : Option Copying) (claims : FinMap nat_cmp OpenClaim) (q : Option ℕ) (y : Owned)
-    → owned_of (option_map {T = Copying} (λ c. record c { target = mark die slot c.target }) copying) (change (λ id c. mark_claim die slot c) claims) q ≡ Some y
+own_marked : (page die slot : ℕ) (copying : Option Copying) (claims : FinMap nat_cmp OpenClaim) (q : Option ℕ) (y : Owned)
+    → owned_of (option_map {T = Copying} (λ c. record c { target = mark die slot c.target }) copying) (change (marks_of page die slot) claims) q ≡ Some y
+    → ((x : Owned) → owned_of copying claims q ≡ Some x → (x.page ≡ page → ⊥) → (t : Target) → Among t x.targets → t.die.0 ≡ die → t.slot.0 ≡ slot → ⊥)
     → (x : Owned) × (owned_of copying claims q ≡ Some x) × (marked die slot x ≡ y)
-own_marked die slot None claims None y e = absurd (none-some y e)
-own_marked die slot (Some c) claims None y e =
+own_marked page die slot None claims None y e away = absurd (none-some y e)
+own_marked page die slot (Some c) claims None y e away =
     (record { page = c.page.0; version = c.version; targets = c.target ∷ [] }, refl, same_Some _ y e)
-own_marked die slot copying claims (Some id) y e =
-    of_claim (get claims id) (sym (ap (option_and_then owned_claim) (get-change nat_cmp_total nat_same (λ id c. mark_claim die slot c) claims id)) ∙ e)
+own_marked page die slot copying claims (Some id) y e away =
+    of_claim (get claims id) away (sym (ap (option_and_then owned_claim) (get-change nat_cmp_total nat_same (marks_of page die slot) claims id)) ∙ e)
   where
-    of_reserved : (page : ℕ) (r : Option Reservation)
-        → owned_claim (mark_claim die slot (record { page = page; reserved = r })) ≡ Some y
-        → (x : Owned) × (owned_claim (record { page = page; reserved = r }) ≡ Some x) × (marked die slot x ≡ y)
-    of_reserved page None e = absurd (none-some y e)
-    of_reserved page (Some r) e = (record { page = page; version = r.version; targets = r.targets }, refl, same_Some _ y e)
+    of_reserved : (p : ℕ) (r : Option Reservation)
+        → owned_claim (mark_claim die slot (record { page = p; reserved = r })) ≡ Some y
+        → (x : Owned) × (owned_claim (record { page = p; reserved = r }) ≡ Some x) × (marked die slot x ≡ y)
+    of_reserved p None e = absurd (none-some y e)
+    of_reserved p (Some r) e = (record { page = p; version = r.version; targets = r.targets }, refl, same_Some _ y e)
 
-    of_claim : (c : Option OpenClaim) → option_and_then owned_claim (option_map (mark_claim die slot) c) ≡ Some y
+    of_another : (p : ℕ) (r : Option Reservation) → (p ≡ page → ⊥)
+        → ((x : Owned) → owned_claim (record { page = p; reserved = r }) ≡ Some x → (x.page ≡ page → ⊥) → (t : Target) → Among t x.targets
+        → t.die.0 ≡ die → t.slot.0 ≡ slot → ⊥)
+        → owned_claim (record { page = p; reserved = r }) ≡ Some y
+        → (x : Owned) × (owned_claim (record { page = p; reserved = r }) ≡ Some x) × (marked die slot x ≡ y)
+    of_another p None apart far e = absurd (none-some y e)
+    of_another p (Some r) apart far e =
+        let x : Owned = record { page = p; version = r.version; targets = r.targets } in
+        (x, refl, ap (λ ts. record x { targets = ts }) (none_marked die slot r.targets (far x refl apart)) ∙ same_Some x y e)
+
+    of_claim : (c : Option OpenClaim)
+        → ((x : Owned) → option_and_then owned_claim c ≡ Some x → (x.page ≡ page → ⊥) → (t : Target) → Among t x.targets → t.die.0 ≡ die → t.slot.0 ≡ slot → ⊥)
+        → option_and_then owned_claim (option_map (marks_of page die slot 0) c) ≡ Some y
         → (x : Owned) × (option_and_then owned_claim c ≡ Some x) × (marked die slot x ≡ y)
-    of_claim None e = absurd (none-some y e)
-    of_claim (Some c) e = of_reserved c.page c.reserved e
+    of_claim None far e = absurd (none-some y e)
+    of_claim (Some c) far e =
+        elim (cases_eq c.page page) [
+          | inl same ↦ of_reserved c.page c.reserved (sym (ap owned_claim (marks_same page die slot c same)) ∙ e)
+          | inr apart ↦ of_another c.page c.reserved apart far (sym (ap owned_claim (marks_apart page die slot c apart)) ∙ e)
+        ]
 
-inside_changed : (die slot pages : ℕ) (claims : FinMap nat_cmp OpenClaim) → AreInside pages claims
-    → AreInside pages (change (λ id c. mark_claim die slot c) claims)
-inside_changed die slot pages claims inside id c e =
-    of_claim (get claims id) refl (sym (get-change nat_cmp_total nat_same (λ id c. mark_claim die slot c) claims id) ∙ e)
+inside_changed : (page die slot pages : ℕ) (claims : FinMap nat_cmp OpenClaim) → AreInside pages claims
+    → AreInside pages (change (marks_of page die slot) claims)
+inside_changed page die slot pages claims inside id c e =
+    of_claim (get claims id) refl (sym (get-change nat_cmp_total nat_same (marks_of page die slot) claims id) ∙ e)
   where
-    of_claim : (o : Option OpenClaim) → get claims id ≡ o → option_map (mark_claim die slot) o ≡ Some c → c.page < pages
+    same_page : (b : Bool) (d : OpenClaim) → ◌≡◌ {A = ℕ} (if b then mark_claim die slot d else d).page d.page
+    same_page true d = refl
+    same_page false d = refl
+
+    of_claim : (o : Option OpenClaim) → get claims id ≡ o → option_map (marks_of page die slot id) o ≡ Some c → c.page < pages
     of_claim None is e = absurd (none-some c e)
-    of_claim (Some d) is e = subst (λ (k : OpenClaim). k.page < pages) (same_Some _ c e) (inside id d is)
+    of_claim (Some d) is e =
+        subst (λ (k : OpenClaim). k.page < pages) (same_Some _ c e) (subst (λ n. n < pages) (sym (same_page (d.page == page) d)) (inside id d is))
 
 pub program_ends_holds : (v : World) → Holds v → (die slot page : ℕ) (version : Version) → v.works die ≡ None
     → IsToCome (scene_of v).places die slot page version → Stands (scene_of v).bytes page version die slot
-    → ((p : WaitingProgram) → Among p v.core.waiting → p.die ≡ die → p.slot ≡ slot → ⊥) → Holds (record v { core = program_ends die slot v.core })
+    → ((p : WaitingProgram) → Among p v.core.waiting → p.die ≡ die → p.slot ≡ slot → ⊥) → Holds (record v { core = program_ends page die slot v.core })
 program_ends_holds v h die slot page version over come stands calm = record {
   sound = marked_is_sound (scene_of v) h.sound die slot page version
-      (owned_of (option_map {T = Copying} (λ c. record c { target = mark die slot c.target }) v.core.copying) (change (λ id c. mark_claim die slot c) v.core.claims))
-      (record { owner = own_marked die slot v.core.copying v.core.claims; come = come; stands = stands; calm = calm; free = over });
+      (owned_of (option_map {T = Copying} (λ c. record c { target = mark die slot c.target }) v.core.copying) (change (marks_of page die slot) v.core.claims))
+      (record {
+        owner = λ q y e. own_marked page die slot v.core.copying v.core.claims q y e
+            (λ x owns apart t among on at. apart (come.target q x t (record { owns = owns; among = among; on_die = on; at_slot = at })).1);
+        come = come;
+        stands = stands;
+        calm = calm;
+        free = over;
+      });
   jobs = h.jobs;
-  claims = inside_changed die slot v.core.page_map.geometry.pages v.core.claims h.claims;
+  claims = inside_changed page die slot v.core.page_map.geometry.pages v.core.claims h.claims;
   told = h.told;
   ordered = h.ordered;
   plain = h.plain;
+  unwritten = h.unwritten;
   answered = h.answered;
 }
 

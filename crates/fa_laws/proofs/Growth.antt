@@ -38,7 +38,7 @@ use Rattle.fa_machine.specs.declared.refusals.ReserveCopyRefused.TheVariants.{No
 use Rattle.fa_machine.specs.declared.refusals.ReserveRefused.{ReserveRefused}
 use Rattle.fa_machine.specs.declared.refusals.ReserveRefused.TheVariants.{NoMemory as ReserveNoMemory}
 use Rattle.fa_machine.specs.declared.refusals.SpareRefused.TheVariants.{NotSpare}
-use Rattle.fa_machine.specs.declared.refusals.WindowRefused.TheVariants.{NoMemory as WindowNoMemory}
+use Rattle.fa_machine.specs.declared.refusals.WindowRefused.TheVariants.{Busy as WindowBusy, HasOne, NoMemory as WindowNoMemory}
 use Rattle.fa_types.specs.declared.numbers.Page.{Page}
 use Rattle.fa_types.specs.declared.numbers.Seq.{Seq}
 use Rattle.std.proofs.Common.{Bool, List, None, Option, Some, [], ap, arith, cond, eq-eqb, false, inl, inr, refl, subst, sym, true, ℕ}
@@ -183,7 +183,7 @@ TakeGrows old pair = Grows (three old) (three pair.1) 0 (started_by pair.0)
 
 begun_urgent : (old : Core) (die seat : ℕ) (flight : Flight) → IsUrgent old die flight
     → TakeGrows old (Some (handed flight), begun die seat flight old)
-begun_urgent old die seat (Header epoch) u = grows_same (three old)
+begun_urgent old die seat (Header epoch live) u = grows_same (three old)
 begun_urgent old die seat (Move page version from to) u = grows_same (three old)
 begun_urgent old die seat (Erase block) u = grows_same (three old)
 begun_urgent old die seat (Read batch page version slot) u = start_grows (three old) seat page version u.number
@@ -220,7 +220,7 @@ header_ends_three false x core e = refl
 
 finished_three : (die : ℕ) (flight : Flight) (outcome : Outcome) (core : Core) → three (finished die flight outcome core) ≡ three core
 finished_three die (Read batch page version slot) (DidRead cell) core = read_ends_three die batch.0 page.0 _ core
-finished_three die (Header epoch) DidWriteHeader core = header_ends_three (epoch == core.epoch) _ core refl
+finished_three die (Header epoch live) DidWriteHeader core = header_ends_three (epoch == core.epoch) _ core refl
 finished_three die (Program page version slot) DidProgram core = refl
 finished_three die (Move page version from to) DidMove core = refl
 finished_three die (Erase block) DidErase core = refl
@@ -264,15 +264,16 @@ event_grows old (EndBatch batch answer) new d = leaves old new _ d.1 refl
 event_grows old (Take die seat None) new d = take old new die seat None d
 event_grows old (Take die seat (Some job)) new d = take old new die seat (Some job) d
 event_grows old (Done die outcome) new d = done old new die (get old.jobs die) outcome d
-event_grows old (Window die count (Ok first)) new d = leaves old new _ d.2 refl
-event_grows old (Window die count (Err WindowNoMemory)) new d = leaves old new _ d.1 refl
-event_grows old (Window die count (Err refused)) new d = leaves old new _ d.1 refl
+event_grows old (Window die count (Ok first)) new d = leaves old new _ d.3 refl
+event_grows old (Window die count (Err WindowBusy)) new d = leaves old new _ d.1 refl
+event_grows old (Window die count (Err HasOne)) new d = leaves old new _ d.2 refl
+event_grows old (Window die count (Err WindowNoMemory)) new d = leaves old new _ d.2 refl
 event_grows old (Advance (Ok round)) new d = leaves old new _ d.2 refl
 event_grows old (Advance (Err refused)) new d = leaves old new _ d.1 refl
 event_grows old (SpareIn die (Ok in_it)) new d = leaves old new _ d.1 refl
 event_grows old (SpareIn die (Err NotSpare)) new d = leaves old new _ d.1 refl
 event_grows old (ReserveCopy page seq payload (Ok in_it)) new d =
-    leaves old new _ d.1 (copying_three old page payload (get old.page_map.versions page) (copy_place old page))
+    leaves old new _ d.1 (copying_three old page payload (get old.page_map.versions page) (copy_place old.copies old.page_map page))
 event_grows old (ReserveCopy page seq payload (Err CopyNoMemory)) new d = leaves old new _ d.1 refl
 event_grows old (ReserveCopy page seq payload (Err refused)) new d = leaves old new _ d.1 refl
 event_grows old (CommitCopy answer) new d = commit_copy old new old.copying answer d

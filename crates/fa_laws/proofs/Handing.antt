@@ -1,5 +1,6 @@
 -- Each job that Take may hand out fits what stands.
 use Rattle.fa_laws.proofs.Admitting.{one_value_other, one_value_same}
+use Rattle.fa_laws.proofs.ImageCalls.{read_too}
 use Rattle.fa_laws.proofs.Invariant.{Holds, next, quiet, scene_of, still}
 use Rattle.fa_laws.proofs.Keeping.{Keeps, kept_is_sound}
 use Rattle.fa_laws.proofs.Lists.{among-without, counted_none, cut_first, found_passes, in_the_block, none_passes, tally-without}
@@ -67,7 +68,8 @@ current_copy w h page die slot v number current =
     let holds = (and_parts (is_live w.core.page_map die) _ current).1 in
     let held = holds_held page v (used_at w.core.page_map die slot) (ap (λ o. holds_last page o (used_at w.core.page_map die slot)) (sym number) ∙ holds) in
     let stands = h.sound.held die slot held.0 held.1 held.2 in
-    payload_same page held.0.0 v held.1 die slot ((w.images die).seen slot) (sym held.3) (sym held.4) ∙ stands.cell
+    payload_same page held.0.0 v held.1 die slot ((w.images die).seen slot) (sym held.3) (sym held.4)
+    ∙ read_too held.0.0 held.1 die slot ((w.images die).seen slot) _ stands.cell
     ∙ ap Some ((λ i. w.payloads (held.3 i) (held.4 i)) ∙ (h.sound.numbered page v number).right)
 
 pub no_state : (o : Option Used) → is_none o ≡ true → o ≡ None
@@ -291,9 +293,9 @@ TakeHolds w die seat pair = Holds (next (Take die seat pair.0) pair.1 w)
 
 urgent_holds : (w : World) (h : Holds w) (die seat : ℕ) (flight : Flight) → is_idle w.core die ≡ true → IsUrgent w.core die flight
     → TakeHolds w die seat (Some (handed flight), begun die seat flight w.core)
-urgent_holds w h die seat (Header epoch) idle u =
-    begin_holds w h die (handed (Header epoch)) w.core.page_map.used w.core.waiting w.due w.core.calendar w.core.history (idle_works w h die idle).1
-    (plain_fits w h die (idle_works w h die idle).1 w.core.calendar w.core.history (Header epoch) (λ slot. refl) refl tt)
+urgent_holds w h die seat (Header epoch live) idle u =
+    begin_holds w h die (handed (Header epoch live)) w.core.page_map.used w.core.waiting w.due w.core.calendar w.core.history (idle_works w h die idle).1
+    (plain_fits w h die (idle_works w h die idle).1 w.core.calendar w.core.history (Header epoch live) (λ slot. refl) refl tt)
 urgent_holds w h die seat (Erase block) idle u =
     begin_holds w h die (handed (Erase block)) w.core.page_map.used w.core.waiting w.due w.core.calendar w.core.history (idle_works w h die idle).1
     (erase_fits w h die (idle_works w h die idle).1 w.core.calendar w.core.history block (idle_works w h die idle).0 u)

@@ -64,7 +64,7 @@ module _ (size : ℕ) (within : IsGeometry 2 0 4 4 size 8) (bytes : ℕ → List
   pub opening : Run (at g t46 v46) (opening_a_window) (at g t48 v48)
   opening = (
     at g t47 v47,
-    takes_window g t46 (in_order t46 tt) 0 v46 1 (record { 0 = 2 }) (record { 0 = 2 }) refl refl refl refl refl,
+    takes_window g t46 (in_order t46 tt) 0 v46 1 (record { 0 = 2 }) (record { 0 = 2 }) refl refl refl refl refl refl,
     (
       at g t48 v48,
       advances g t47 v47 (record { 0 = 2 }) tt tt refl refl refl refl,

@@ -3,7 +3,7 @@ use Rattle.fa_laws.proofs.Listed.{empty_listed, insert_listed}
 use Rattle.fa_laws.proofs.Making.{called}
 use Rattle.fa_machine.proofs.Maps.{nat_same, place_cmp_total, place_same}
 use Rattle.fa_laws.proofs.Table.{Table, core_of, in_order}
-use Rattle.fa_laws.proofs.Tabled.{at, did, ends_header, fresh, head_done}
+use Rattle.fa_laws.proofs.Tabled.{at, did, ends_header, fresh, head_done, headed}
 use Rattle.fa_laws.proofs.Tabled.{head_taken, takes_header, took, writes_header}
 use Rattle.fa_laws.proofs.Writes.{claimed_in, claims_page, commits, commits_beside, committed_in, ends_program, keeps_payload, program_done, program_taken}
 use Rattle.fa_laws.proofs.Writes.{released_claim, releases, reserved_in, reserves, reserves_hole, takes_cell, takes_program, zero_bytes}
@@ -99,34 +99,34 @@ module _ (size : ℕ) (within : IsGeometry 2 0 4 4 size 8) (bytes : ℕ → List
   }
 
   abbrev pub t1 : Table
-  t1 = head_taken 0 t0
+  t1 = head_taken 0 3 t0
 
   abbrev pub v1 : World
-  v1 = took 0 (handed (Header 1)) v0
+  v1 = took 0 (handed (Header 1 3)) v0
 
   abbrev pub v2 : World
-  v2 = called 0 Accepted (v1.images 0) (fresh g (handed (Header 1))) v1
+  v2 = called 0 Accepted (headed 1 3 (v1.images 0)) (fresh g (handed (Header 1 3))) v1
 
   abbrev pub t3 : Table
   t3 = head_done 0 t1
 
   abbrev pub v3 : World
-  v3 = did 0 (Header 1) DidWriteHeader v2
+  v3 = did 0 (Header 1 3) DidWriteHeader v2
 
   abbrev pub t4 : Table
-  t4 = head_taken 1 t3
+  t4 = head_taken 1 3 t3
 
   abbrev pub v4 : World
-  v4 = took 1 (handed (Header 1)) v3
+  v4 = took 1 (handed (Header 1 3)) v3
 
   abbrev pub v5 : World
-  v5 = called 1 Accepted (v4.images 1) (fresh g (handed (Header 1))) v4
+  v5 = called 1 Accepted (headed 1 3 (v4.images 1)) (fresh g (handed (Header 1 3))) v4
 
   abbrev pub t6 : Table
   t6 = head_done 1 t4
 
   abbrev pub v6 : World
-  v6 = did 1 (Header 1) DidWriteHeader v5
+  v6 = did 1 (Header 1 3) DidWriteHeader v5
 
   abbrev pub t7 : Table
   t7 = claimed_in 0 0 t6
@@ -150,7 +150,7 @@ module _ (size : ℕ) (within : IsGeometry 2 0 4 4 size 8) (bytes : ℕ → List
   v10 = called 0 Accepted (with_cell 0 (Sealed 0 (write_of 0) 0 0 (bytes 0)) (v9.images 0)) (fresh g (program_of_page 0 0 (write_of 0) (bytes 0))) v9
 
   abbrev pub t11 : Table
-  t11 = program_done 0 0 t9
+  t11 = program_done 0 0 0 t9
 
   abbrev pub v11 : World
   v11 = did 0 (program_of_page 0 0 (write_of 0) (bytes 0)).flight DidProgram v10
@@ -165,7 +165,7 @@ module _ (size : ℕ) (within : IsGeometry 2 0 4 4 size 8) (bytes : ℕ → List
   v13 = called 1 Accepted (with_cell 0 (Sealed 0 (write_of 0) 1 0 (bytes 0)) (v12.images 1)) (fresh g (program_of_page 0 0 (write_of 0) (bytes 0))) v12
 
   abbrev pub t14 : Table
-  t14 = program_done 1 0 t12
+  t14 = program_done 0 1 0 t12
 
   abbrev pub v14 : World
   v14 = did 1 (program_of_page 0 0 (write_of 0) (bytes 0)).flight DidProgram v13
@@ -204,7 +204,7 @@ module _ (size : ℕ) (within : IsGeometry 2 0 4 4 size 8) (bytes : ℕ → List
   v20 = called 0 Accepted (with_cell 1 (Sealed 1 (write_of 1) 0 1 (bytes 1)) (v19.images 0)) (fresh g (program_of_page 1 1 (write_of 1) (bytes 1))) v19
 
   abbrev pub t21 : Table
-  t21 = program_done 0 1 t19
+  t21 = program_done 1 0 1 t19
 
   abbrev pub v21 : World
   v21 = did 0 (program_of_page 1 1 (write_of 1) (bytes 1)).flight DidProgram v20
@@ -219,7 +219,7 @@ module _ (size : ℕ) (within : IsGeometry 2 0 4 4 size 8) (bytes : ℕ → List
   v23 = called 1 Accepted (with_cell 1 (Sealed 1 (write_of 1) 1 1 (bytes 1)) (v22.images 1)) (fresh g (program_of_page 1 1 (write_of 1) (bytes 1))) v22
 
   abbrev pub t24 : Table
-  t24 = program_done 1 1 t22
+  t24 = program_done 1 1 1 t22
 
   abbrev pub v24 : World
   v24 = did 1 (program_of_page 1 1 (write_of 1) (bytes 1)).flight DidProgram v23
@@ -258,7 +258,7 @@ module _ (size : ℕ) (within : IsGeometry 2 0 4 4 size 8) (bytes : ℕ → List
   v30 = called 0 Accepted (with_cell 2 (Sealed 2 (write_of 2) 0 2 (bytes 2)) (v29.images 0)) (fresh g (program_of_page 2 2 (write_of 2) (bytes 2))) v29
 
   abbrev pub t31 : Table
-  t31 = program_done 0 2 t29
+  t31 = program_done 2 0 2 t29
 
   abbrev pub v31 : World
   v31 = did 0 (program_of_page 2 2 (write_of 2) (bytes 2)).flight DidProgram v30
@@ -273,7 +273,7 @@ module _ (size : ℕ) (within : IsGeometry 2 0 4 4 size 8) (bytes : ℕ → List
   v33 = called 1 Accepted (with_cell 2 (Sealed 2 (write_of 2) 1 2 (bytes 2)) (v32.images 1)) (fresh g (program_of_page 2 2 (write_of 2) (bytes 2))) v32
 
   abbrev pub t34 : Table
-  t34 = program_done 1 2 t32
+  t34 = program_done 2 1 2 t32
 
   abbrev pub v34 : World
   v34 = did 1 (program_of_page 2 2 (write_of 2) (bytes 2)).flight DidProgram v33
@@ -293,22 +293,22 @@ module _ (size : ℕ) (within : IsGeometry 2 0 4 4 size 8) (bytes : ℕ → List
   pub writing_three : Run (at g t0 v0) (writing bytes) (at g t36 v36)
   writing_three = (
     at g t1 v1,
-    takes_header g t0 v0 0 0 tt refl refl refl,
+    takes_header g t0 v0 0 0 3 tt refl refl refl refl,
     (
       at g t1 v2,
-      writes_header g t1 v1 0 1 refl,
+      writes_header g t1 v1 0 1 3 refl,
       (
         at g t3 v3,
-        ends_header g t1 v2 0 1 tt refl refl refl,
+        ends_header g t1 v2 0 1 3 tt refl refl refl,
         (
           at g t4 v4,
-          takes_header g t3 v3 1 0 tt refl refl refl,
+          takes_header g t3 v3 1 0 3 tt refl refl refl refl,
           (
             at g t4 v5,
-            writes_header g t4 v4 1 1 refl,
+            writes_header g t4 v4 1 1 3 refl,
             (
               at g t6 v6,
-              ends_header g t4 v5 1 1 tt refl refl refl,
+              ends_header g t4 v5 1 1 3 tt refl refl refl,
               (
                 at g t7 v7,
                 claims_page g t6 v6 0 (record { 0 = 0 }) tt refl refl refl,
@@ -460,7 +460,7 @@ module _ (size : ℕ) (within : IsGeometry 2 0 4 4 size 8) (bytes : ℕ → List
   v40 = called 0 Accepted (with_cell 3 (Sealed 0 the_hole 0 3 (zero_bytes g)) (v39.images 0)) (fresh g (program_of_page 0 3 the_hole (zero_bytes g))) v39
 
   abbrev pub t41 : Table
-  t41 = program_done 0 3 t39
+  t41 = program_done 0 0 3 t39
 
   abbrev pub v41 : World
   v41 = did 0 (program_of_page 0 3 the_hole (zero_bytes g)).flight DidProgram v40
@@ -475,7 +475,7 @@ module _ (size : ℕ) (within : IsGeometry 2 0 4 4 size 8) (bytes : ℕ → List
   v43 = called 1 Accepted (with_cell 3 (Sealed 0 the_hole 1 3 (zero_bytes g)) (v42.images 1)) (fresh g (program_of_page 0 3 the_hole (zero_bytes g))) v42
 
   abbrev pub t44 : Table
-  t44 = program_done 1 3 t42
+  t44 = program_done 0 1 3 t42
 
   abbrev pub v44 : World
   v44 = did 1 (program_of_page 0 3 the_hole (zero_bytes g)).flight DidProgram v43

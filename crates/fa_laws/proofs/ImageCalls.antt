@@ -3,7 +3,9 @@ use Rattle.fa_laws.proofs.Admitting.{one_value_other, one_value_same}
 use Rattle.fa_laws.proofs.Calling.{touched_is_sound}
 use Rattle.fa_laws.proofs.Invariant.{Holds, owned_of, scene_of}
 use Rattle.fa_laws.proofs.Scene.{Bytes, IsTargetAt, JobFits, Owned, Places, WorkFits, writes}
-use Rattle.fa_machine.specs.Cells.{Cell, Sealed, payload_of}
+use Rattle.fa_machine.specs.Cells.{Broken, Cell, Empty, Sealed, is_same_kind, moved_payload, payload_of}
+use Rattle.fa_types.specs.declared.kind.Kind.{Kind}
+use Rattle.fa_types.specs.declared.kind.Kind.TheVariants.{Data, Hole}
 use Rattle.fa_machine.specs.Copies.{is_held_slot}
 use Rattle.fa_machine.specs.State.{used_at}
 use Rattle.fa_machine.specs.World.{DieImage, Gave, Work, World, with_cell, with_value}
@@ -13,10 +15,10 @@ use Rattle.fa_machine.specs.declared.places.Target.{Target}
 use Rattle.fa_machine.specs.declared.places.Used.{Used}
 use Rattle.fa_machine.specs.declared.places.Used.TheVariants.{Reserved}
 use Rattle.fa_machine.specs.declared.places.Version.{Version}
-use Rattle.std.proofs.Common.{Bool, List, None, Option, Some, ap, cond, eq-eqb, false, inl, inr, refl, subst, sym, ℕ, ◌∙◌, ◌≡◌, ◌≤◌}
+use Rattle.std.proofs.Common.{Bool, List, None, Option, Some, ap, cond, eq-eqb, false, inl, inr, refl, subst, sym, ℕ, ◌∙◌, ◌≡◌, ◌≤◌, true}
 use Rattle.std.proofs.Common.{◌⊎◌}
 use Rattle.std.proofs.lemmas.Bool.{and_from, cases_eq, ne_eqb}
-use Rattle.std.proofs.lemmas.Option.{same_Some}
+use Rattle.std.proofs.lemmas.Option.{none-some, same_Some}
 use Rattle.std.specs.Prelude.{if◌then◌else◌, option_map, ◌&&◌, ◌==◌}
 
 module _ (w : World) (h : Holds w) (die : ℕ) (work : Work) (works : w.works die ≡ Some work) (image : DieImage) (gave : List Gave) where
@@ -82,6 +84,7 @@ module _ (w : World) (h : Holds w) (die : ℕ) (work : Work) (works : w.works di
     told = h.told;
     ordered = h.ordered;
     plain = h.plain;
+    unwritten = h.unwritten;
     answered = record {
       since = h.answered.since;
       answers = h.answered.answers;
@@ -97,9 +100,9 @@ module _ (w : World) (h : Holds w) (die : ℕ) (work : Work) (works : w.works di
 pub job_seen : (b : Bytes) (seen : ℕ → ℕ → Cell) (p : Places) (in_block : ℕ → ℕ → Bool) (due : List ℕ) (die : ℕ) (flight : Flight) (payload : List ℕ)
     → ((slot : ℕ) → seen die slot ≡ b.seen die slot) → JobFits b p in_block due die flight payload
     → JobFits (record b { seen = seen }) p in_block due die flight payload
-job_seen b seen p in_block due die (Header epoch) payload same before = tt
+job_seen b seen p in_block due die (Header epoch live) payload same before = tt
 job_seen b seen p in_block due die (Move page version from to) payload same before = record {
-  cell = ap (payload_of page.0 version die from.0) (same from.0) ∙ before.cell;
+  cell = ap (moved_payload page.0 version die from.0) (same from.0) ∙ before.cell;
   below = before.below;
   settled = before.settled;
   kept = before.kept;
@@ -123,6 +126,27 @@ opens page version die slot payload =
     (and_from (page == page && version.seq.0 == version.seq.0) (die == die)
     (and_from (page == page) (version.seq.0 == version.seq.0) (eq-eqb page page refl) (eq-eqb version.seq.0 version.seq.0 refl))
     (eq-eqb die die refl)) (eq-eqb slot slot refl))
+
+pub same_kind : (k : Kind) → is_same_kind k k ≡ true
+same_kind Data = refl
+same_kind Hole = refl
+
+-- also for a move
+pub moves : (page : ℕ) (version : Version) (die slot : ℕ) (payload : List ℕ) → moved_payload page version die slot (Sealed page version die slot payload) ≡ Some payload
+moves page version die slot payload =
+    ap (λ b. cond b (payload_of page version die slot (Sealed page version die slot payload)) None) (same_kind version.kind) ∙ opens page version die slot payload
+
+-- what a move may copy a read gives too
+pub read_too : (page : ℕ) (version : Version) (die slot : ℕ) (cell : Cell) (bytes : List ℕ) → moved_payload page version die slot cell ≡ Some bytes
+    → payload_of page version die slot cell ≡ Some bytes
+read_too page version die slot Empty bytes e = absurd (none-some bytes e)
+read_too page version die slot Broken bytes e = absurd (none-some bytes e)
+read_too page version die slot (Sealed p v d s payload) bytes e = of_kind (is_same_kind v.kind version.kind) e
+  where
+    of_kind : (b : Bool) → cond b (payload_of page version die slot (Sealed p v d s payload)) None ≡ Some bytes
+        → payload_of page version die slot (Sealed p v d s payload) ≡ Some bytes
+    of_kind true e = e
+    of_kind false e = absurd (none-some bytes e)
 
 pub with_cell_same : (slot : ℕ) (cell : Cell) (image : DieImage) → (with_cell slot cell image).seen slot ≡ cell
 with_cell_same slot cell image = ap (λ b. if b then cell else image.seen slot) (eq-eqb slot slot refl)

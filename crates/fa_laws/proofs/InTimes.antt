@@ -48,7 +48,7 @@ use Rattle.fa_machine.specs.declared.refusals.ReserveCopyRefused.TheVariants.{No
 use Rattle.fa_machine.specs.declared.refusals.ReserveRefused.{ReserveRefused}
 use Rattle.fa_machine.specs.declared.refusals.ReserveRefused.TheVariants.{NoMemory as ReserveNoMemory}
 use Rattle.fa_machine.specs.declared.refusals.SpareRefused.TheVariants.{NotSpare}
-use Rattle.fa_machine.specs.declared.refusals.WindowRefused.TheVariants.{NoMemory as WindowNoMemory}
+use Rattle.fa_machine.specs.declared.refusals.WindowRefused.TheVariants.{Busy as WindowBusy, HasOne, NoMemory as WindowNoMemory}
 use Rattle.fa_types.specs.declared.numbers.Seq.{Seq}
 use Rattle.std.proofs.Common.{Bool, List, None, Option, Some, [], ap, arith, eq-eqb, eqb-true, false, inl, inr, max, nat_lt, not, refl}
 use Rattle.std.proofs.Common.{subst, sym, true, ℕ, ◌+◌, ◌<◌, ◌^◌, ◌||◌, ◌∙◌, ◌∷◌, ◌≡◌, ◌≤◌, ◌⊎◌}
@@ -81,7 +81,7 @@ module _ (K : ℕ → ℕ → BatchId → Type 0) where
   finished_good core g die (Program page version slot) DidProgram = good_same K core g _ refl refl refl refl
   finished_good core g die (Move page version from to) DidMove = good_same K core g _ refl refl refl refl
   finished_good core g die (Erase block) DidErase = good_same K core g _ refl refl refl refl
-  finished_good core g die (Header epoch) DidWriteHeader = header_good (epoch == core.epoch) core g _ (good_same K core g _ refl refl refl refl)
+  finished_good core g die (Header epoch live) DidWriteHeader = header_good (epoch == core.epoch) core g _ (good_same K core g _ refl refl refl refl)
   finished_good core g die (Sync flushes) DidSync = good_same K core g _ refl refl refl refl
   finished_good core g die flight (Fault call) = dropped_good K core g die
   finished_good core g die flight Wrong = dropped_good K core g die
@@ -157,9 +157,10 @@ module _ (K : ℕ → ℕ → BatchId → Type 0) where
   event_good old (Take die seat answer) new may d g k =
       take_good K old g die seat answer new (ltb-true die old.page_map.geometry.dies (and_parts (is_die old die) _ may).0) d
   event_good old (Done die outcome) new may d g k = done_good old new g die (get old.jobs die) outcome d
-  event_good old (Window die count (Ok first)) new may d g k = same_after K old new _ d.2 g refl refl refl refl
-  event_good old (Window die count (Err WindowNoMemory)) new may d g k = to_good K new old d.1 g
-  event_good old (Window die count (Err refused)) new may d g k = to_good K new old d.1 g
+  event_good old (Window die count (Ok first)) new may d g k = same_after K old new _ d.3 g refl refl refl refl
+  event_good old (Window die count (Err WindowBusy)) new may d g k = to_good K new old d.1 g
+  event_good old (Window die count (Err HasOne)) new may d g k = to_good K new old d.2 g
+  event_good old (Window die count (Err WindowNoMemory)) new may d g k = to_good K new old d.2 g
   event_good old (Advance (Ok round)) new may d g k = to_good K new _ d.2 (record {
     timely = advanced_timely old.calendar.bookings old.calendar.round old.jobs old.page_map.geometry.dies (not_pending old d.0) g.timely;
     all = kept_all K old.calendar.bookings (λ place b. nat_lt old.calendar.round place.1) g.all;
@@ -168,7 +169,7 @@ module _ (K : ℕ → ℕ → BatchId → Type 0) where
   event_good old (SpareIn die (Ok made)) new may d g k = same_after K old new _ d.1 g refl refl refl refl
   event_good old (SpareIn die (Err NotSpare)) new may d g k = to_good K new old d.1 g
   event_good old (ReserveCopy page seq payload (Ok made)) new may d g k =
-      to_good K new _ d.1 (copying_good old g page payload (get old.page_map.versions page) (copy_place old page))
+      to_good K new _ d.1 (copying_good old g page payload (get old.page_map.versions page) (copy_place old.copies old.page_map page))
   event_good old (ReserveCopy page seq payload (Err CopyNoMemory)) new may d g k = to_good K new old d.1 g
   event_good old (ReserveCopy page seq payload (Err refused)) new may d g k = to_good K new old d.1 g
   event_good old (CommitCopy answer) new may d g k = copy_good old new g old.copying answer d
@@ -313,7 +314,7 @@ none_read core batch until g passed_by page =
         omega (arith, high, passed_by)
     of_flight d (Program p v slot) e is = false≢true is
     of_flight d (Move p v from to) e is = false≢true is
-    of_flight d (Header epoch) e is = false≢true is
+    of_flight d (Header epoch live) e is = false≢true is
     of_flight d (Erase block) e is = false≢true is
     of_flight d (Sync flushes) e is = false≢true is
 

@@ -5,7 +5,7 @@ use Rattle.fa_machine.specs.Placement.{order_of}
 use Rattle.fa_machine.specs.Reading.{zeros}
 use Rattle.fa_machine.specs.State.{Base, CalendarState, Core, OpenBatch, OpenClaim, Reservation}
 use Rattle.fa_machine.specs.Step.{Act}
-use Rattle.fa_machine.specs.World.{Due, Told, Work, World, followed}
+use Rattle.fa_machine.specs.World.{Due, Told, Work, World, followed, plain_page}
 use Rattle.fa_machine.specs.declared.answers.HistoryEntry.{HistoryEntry}
 use Rattle.fa_machine.specs.declared.ids.BatchId.{BatchId}
 use Rattle.fa_machine.specs.declared.jobs.Flight.{Flight}
@@ -64,7 +64,7 @@ AreTold payloads last told = (t : Told) → Among t told → (t.bytes ≡ payloa
 
 -- no die stands twice in the order of a page
 abbrev pub AreOrdered : Core → Type 0
-AreOrdered core = (page die : ℕ) → tally (λ d. d == die) (order_of core page) ≤ 1
+AreOrdered core = (page die : ℕ) → tally (λ d. d == die) (order_of core.copies core.page_map page) ≤ 1
 
 -- answers are what is due, and what is due is not older than the batch
 pub record AreAnswered (batches : FinMap nat_cmp OpenBatch) (admitted : ℕ → ℕ) (values : ℕ → ℕ → Due) (works : ℕ → Option Work)
@@ -76,6 +76,10 @@ pub record AreAnswered (batches : FinMap nat_cmp OpenBatch) (admitted : ℕ → 
       → works die ≡ Some work → work.job.flight ≡ Read batch page version slot → get batches batch.0 ≡ Some b
       → admitted batch.0 ≤ (due die).since
 
+-- what the plain array has of a page that was never written is zeros
+abbrev pub AreUnwritten : World → Type 0
+AreUnwritten w = (page : ℕ) → page < w.core.page_map.geometry.pages → get w.core.page_map.versions page ≡ None → plain_page w page ≡ zeros w.core.page_map
+
 pub record Holds (w : World) : Type 0 where
   pub sound : Sound (scene_of w)
   pub jobs : AreAt w.core.jobs w.works
@@ -83,6 +87,7 @@ pub record Holds (w : World) : Type 0 where
   pub told : AreTold w.payloads w.core.last w.told
   pub ordered : AreOrdered w.core
   pub plain : length w.plain ≡ w.core.page_map.geometry.pages
+  pub unwritten : AreUnwritten w
   pub answered : AreAnswered w.core.batches w.admitted w.values w.works w.due w.moment
 
 -- a moment later
@@ -122,6 +127,7 @@ quiet w h calendar epoch behind stepped flushes asked synced base history = reco
   told = h.told;
   ordered = h.ordered;
   plain = h.plain;
+  unwritten = h.unwritten;
   answered = later w.core.batches w.admitted w.values w.works w.due w.moment h.answered;
 }
 

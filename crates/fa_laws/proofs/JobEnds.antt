@@ -40,6 +40,7 @@ aside v h behind stepped synced = record {
   told = h.told;
   ordered = h.ordered;
   plain = h.plain;
+  unwritten = h.unwritten;
   answered = h.answered;
 }
 
@@ -90,7 +91,7 @@ job_ends w h die (Move page version from to) payload gave DidMove fits g out kin
     omega (arith, n, o, z))
 job_ends w h die (Erase block) payload gave DidErase fits g out kind once since =
     erase_ends_holds (ended die w) (ended_holds w h die) die (is_over w die) block.0
-job_ends w h die (Header epoch) payload gave DidWriteHeader fits g out kind once since =
+job_ends w h die (Header epoch live) payload gave DidWriteHeader fits g out kind once since =
     header_if (ended die w) (ended_holds w h die) (epoch == w.core.epoch) die
 job_ends w h die (Sync flushes) payload gave DidSync fits g out kind once since =
     aside (ended die w) (ended_holds w h die) w.core.behind w.core.stepped (insert w.core.synced die flushes)

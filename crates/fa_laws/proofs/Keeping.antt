@@ -36,7 +36,7 @@ module _ (p q : Places) (die : ℕ) (c : Preserves p q die) where
 
   pub job_preserved : (b : Bytes) (in_block : ℕ → ℕ → Bool) (due : List ℕ) (flight : Flight) (payload : List ℕ)
       → JobFits b p in_block due die flight payload → JobFits b q in_block due die flight payload
-  job_preserved b in_block due (Header epoch) payload before = tt
+  job_preserved b in_block due (Header epoch live) payload before = tt
   job_preserved b in_block due (Move page version from to) payload before = record {
     cell = before.cell;
     below = before.below;
@@ -209,14 +209,14 @@ module _ (s : Scene) (h : Sound s) (payloads : ℕ → ℕ → List ℕ) (last :
   gave_recorded die due in_block p (Program page version slot) payload (Accepted ∷ []) job g = bytes_of _ page.0 version.seq.0 job.below g
   gave_recorded die due in_block p (Move page version from to) payload (GaveCell cell ∷ []) job g = bytes_of _ page.0 version.seq.0 job.below g
   gave_recorded die due in_block p (Move page version from to) payload (GaveCell cell ∷ Accepted ∷ []) job g = bytes_of _ page.0 version.seq.0 job.below g
-  gave_recorded die due in_block p (Header epoch) payload gave job g = g
+  gave_recorded die due in_block p (Header epoch live) payload gave job g = g
   gave_recorded die due in_block p (Erase block) payload gave job g = g
   gave_recorded die due in_block p (Sync flushes) payload gave job g = g
   gave_recorded die due in_block p flight payload gave job g = tt
 
   job_recorded : (die : ℕ) (due : List ℕ) (flight : Flight) (payload : List ℕ) → JobFits s.bytes s.places s.in_block due die flight payload
       → JobFits now s.places s.in_block due die flight payload
-  job_recorded die due (Header epoch) payload before = tt
+  job_recorded die due (Header epoch live) payload before = tt
   job_recorded die due (Move page version from to) payload before = record {
     cell = bytes_of _ page.0 version.seq.0 before.below before.cell;
     below = risen version.seq.0 before.below;

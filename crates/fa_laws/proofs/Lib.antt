@@ -41,6 +41,7 @@ pub mod Planning
 pub mod Ranged
 pub mod Reserving
 pub mod Returning
+pub mod Rounds
 pub mod Runs
 pub mod Scene
 pub mod Settling

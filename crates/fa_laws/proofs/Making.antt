@@ -10,7 +10,7 @@ use Rattle.fa_types.specs.Windows.{is_in_window}
 use Rattle.fa_machine.specs.Run.{CallsNext, Happens, HappensEvent, ImageCall}
 use Rattle.fa_machine.specs.State.{Core, dies_of, is_live}
 use Rattle.fa_machine.specs.Step.{Done, Take, is_die, is_sized_read}
-use Rattle.fa_machine.specs.Taking.{EndsJob, Handed, after_urgent, begins, begun, finished, handed, is_idle, read_from, read_job, read_of}
+use Rattle.fa_machine.specs.Taking.{mask_of, EndsJob, Handed, after_urgent, begins, begun, finished, handed, is_idle, read_from, read_job, read_of}
 use Rattle.fa_machine.specs.Taking.{flight_of, other_job, step_job, urgent_job, without_stale_booking}
 use Rattle.fa_machine.specs.Collecting.{next_step, victim}
 use Rattle.fa_machine.specs.Turning.{advance_refusal, is_read_pending, is_round_pending, is_step_pending, is_collecting}
@@ -59,8 +59,8 @@ takes w die seat flight core allows idle urgent is = record {
 pub is_at_ease : (core : Core) (die : ℕ) → is_live core.page_map die ≡ true → get core.jobs die ≡ None → is_idle core die ≡ true
 is_at_ease core die live none = ap (λ b. b && not (contains_key core.jobs die)) live ∙ ap (λ o. not (is_some o)) none
 
-pub header_first : (core : Core) (die : ℕ) → contains_key core.behind die ≡ true → urgent_job core die ≡ Some (Header core.epoch)
-header_first core die behind = ap (λ b. option_or (if b then Some (Header core.epoch) else None) (option_or (step_job core die) (read_job core die))) behind
+pub header_first : (core : Core) (die : ℕ) → contains_key core.behind die ≡ true → urgent_job core die ≡ Some (Header core.epoch (mask_of core.page_map))
+header_first core die behind = ap (λ b. option_or (if b then Some (Header core.epoch (mask_of core.page_map)) else None) (option_or (step_job core die) (read_job core die))) behind
 
 -- where no header is behind and no window stands, the read of the round's booking
 pub read_first : (core : Core) (die : ℕ) (batch : BatchId) (page : Page) (version : Version) (slot : ℕ)
@@ -69,7 +69,7 @@ pub read_first : (core : Core) (die : ℕ) (batch : BatchId) (page : Page) (vers
     → get core.page_map.versions page.0 ≡ Some version → copy_on core.page_map page.0 die ≡ Some slot
     → urgent_job core die ≡ Some (Read batch page version (record { 0 = slot }))
 read_first core die batch page version slot ahead none books number copy =
-    ap (λ o. option_or (if is_some o then Some (Header core.epoch) else None) (option_or (step_job core die) (read_job core die))) ahead
+    ap (λ o. option_or (if is_some o then Some (Header core.epoch (mask_of core.page_map)) else None) (option_or (step_job core die) (read_job core die))) ahead
     ∙ ap (λ o. option_or (if is_in_window o core.calendar.round && not (contains_key core.stepped die)
     then flight_of core.page_map die (next_step core.page_map die) else None) (read_job core die)) none
     ∙ ap (option_and_then (read_of core.page_map die)) books
@@ -147,7 +147,7 @@ takes_other w die seat job core allows idle urgent other is = record {
 pub none_first : (core : Core) (die : ℕ) → get core.behind die ≡ None → get core.calendar.windows die ≡ None
     → read_job core die ≡ None → urgent_job core die ≡ None
 none_first core die ahead none read =
-    ap (λ o. option_or (if is_some o then Some (Header core.epoch) else None) (option_or (step_job core die) (read_job core die))) ahead
+    ap (λ o. option_or (if is_some o then Some (Header core.epoch (mask_of core.page_map)) else None) (option_or (step_job core die) (read_job core die))) ahead
     ∙ ap (λ o. option_or (if is_in_window o core.calendar.round && not (contains_key core.stepped die)
     then flight_of core.page_map die (next_step core.page_map die) else None) (read_job core die)) none
     ∙ read
@@ -157,6 +157,6 @@ pub step_first : (core : Core) (die : ℕ) (flight : Flight) → get core.behind
     → (is_in_window (get core.calendar.windows die) core.calendar.round && not (contains_key core.stepped die)) ≡ true
     → flight_of core.page_map die (next_step core.page_map die) ≡ Some flight → urgent_job core die ≡ Some flight
 step_first core die flight ahead inside is =
-    ap (λ o. option_or (if is_some o then Some (Header core.epoch) else None) (option_or (step_job core die) (read_job core die))) ahead
+    ap (λ o. option_or (if is_some o then Some (Header core.epoch (mask_of core.page_map)) else None) (option_or (step_job core die) (read_job core die))) ahead
     ∙ ap (λ b. option_or (if b then flight_of core.page_map die (next_step core.page_map die) else None) (read_job core die)) inside
     ∙ ap (λ o. option_or o (read_job core die)) is

@@ -7,7 +7,7 @@ use Rattle.fa_laws.proofs.Certified.{three_holders, worked_first, worked_plan, w
 use Rattle.fa_laws.proofs.Making.{called}
 use Rattle.fa_laws.proofs.Planning.{closed_in, copies_same, entries_in, left_in, released_in, replanned_in, replans}
 use Rattle.fa_laws.proofs.Table.{Table, core_of, in_order}
-use Rattle.fa_laws.proofs.Tabled.{advanced, advances, at, did, did_read, ends_header, ends_read, fresh, gives_cell, head_done}
+use Rattle.fa_laws.proofs.Tabled.{advanced, advances, at, did, did_read, ends_header, ends_read, fresh, gives_cell, head_done, headed}
 use Rattle.fa_laws.proofs.Tabled.{head_taken, read_done, read_taken, takes_header, takes_read, took, writes_header}
 use Rattle.fa_laws.specs.EightPages.{cell_in, eight, held_slots, write_of, written_in_turn}
 use Rattle.fa_laws.specs.FailingDie.{planning_anew, reading_on, second_plan}
@@ -61,34 +61,34 @@ module _ (size : ℕ) (within : IsGeometry 3 0 16 8 size 64) (bytes : ℕ → Li
   right = torn.right size within bytes sized
 
   abbrev pub t30 : Table
-  t30 = head_taken 0 t29
+  t30 = head_taken 0 5 t29
 
   abbrev pub v30 : World
-  v30 = took 0 (handed (Header 2)) v29
+  v30 = took 0 (handed (Header 2 5)) v29
 
   abbrev pub v31 : World
-  v31 = called 0 Accepted (v30.images 0) (fresh g (handed (Header 2))) v30
+  v31 = called 0 Accepted (headed 2 5 (v30.images 0)) (fresh g (handed (Header 2 5))) v30
 
   abbrev pub t32 : Table
   t32 = head_done 0 t30
 
   abbrev pub v32 : World
-  v32 = did 0 (Header 2) DidWriteHeader v31
+  v32 = did 0 (Header 2 5) DidWriteHeader v31
 
   abbrev pub t33 : Table
-  t33 = head_taken 2 t32
+  t33 = head_taken 2 5 t32
 
   abbrev pub v33 : World
-  v33 = took 2 (handed (Header 2)) v32
+  v33 = took 2 (handed (Header 2 5)) v32
 
   abbrev pub v34 : World
-  v34 = called 2 Accepted (v33.images 2) (fresh g (handed (Header 2))) v33
+  v34 = called 2 Accepted (headed 2 5 (v33.images 2)) (fresh g (handed (Header 2 5))) v33
 
   abbrev pub t35 : Table
   t35 = head_done 2 t33
 
   abbrev pub v35 : World
-  v35 = did 2 (Header 2) DidWriteHeader v34
+  v35 = did 2 (Header 2 5) DidWriteHeader v34
 
   abbrev pub t36 : Table
   t36 = replanned_in g 0 second_plan t35
@@ -119,22 +119,22 @@ module _ (size : ℕ) (within : IsGeometry 3 0 16 8 size 64) (bytes : ℕ → Li
   pub planning : Run (at g t29 v29) (planning_anew) (at g t36 v36)
   planning = (
     at g t30 v30,
-    takes_header g t29 v29 0 0 tt refl refl refl,
+    takes_header g t29 v29 0 0 5 tt refl refl refl refl,
     (
       at g t30 v31,
-      writes_header g t30 v30 0 2 refl,
+      writes_header g t30 v30 0 2 5 refl,
       (
         at g t32 v32,
-        ends_header g t30 v31 0 2 tt refl refl refl,
+        ends_header g t30 v31 0 2 5 tt refl refl refl,
         (
           at g t33 v33,
-          takes_header g t32 v32 2 0 tt refl refl refl,
+          takes_header g t32 v32 2 0 5 tt refl refl refl refl,
           (
             at g t33 v34,
-            writes_header g t33 v33 2 2 refl,
+            writes_header g t33 v33 2 2 5 refl,
             (
               at g t35 v35,
-              ends_header g t33 v34 2 2 tt refl refl refl,
+              ends_header g t33 v34 2 2 5 tt refl refl refl,
               (
                 at g t36 v36,
                 replans g t35 (in_order t35 tt) 0 eight (answers_of (0 ∷ 1 ∷ 2 ∷ 3 ∷ 5 ∷ [])) tt refl v35 second_plan tt refl refl second_certificate second_rounds refl refl,
@@ -272,7 +272,7 @@ module _ (size : ℕ) (within : IsGeometry 3 0 16 8 size 64) (bytes : ℕ → Li
       (sym (released_same g t29 (in_order t29 tt) 0 eight (answers_of (0 ∷ 1 ∷ 2 ∷ 3 ∷ 5 ∷ [])) tt refl tt))
       (certified g t29 (in_order t29 tt) (released_in g 0 t29.bookings) tt (4 ∷ 6 ∷ 7 ∷ []) 3 second_plan.places second_plan.shortage second_certificate)
 
-  pub later_targets : targets (core_of g t48) 1 ≡ 2 ∷ 0 ∷ []
+  pub later_targets : targets (core_of g t48).copies (core_of g t48).page_map 1 ≡ 2 ∷ 0 ∷ []
   later_targets = targets_same g t48 (in_order t48 tt) 1
 
   abbrev pub t49 : Table

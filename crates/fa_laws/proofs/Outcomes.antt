@@ -1,7 +1,7 @@
 -- What the calls of a job gave, by the outcome that they come to.
 use Rattle.fa_laws.proofs.Scene.{Bytes, GaveFits, Stands}
 use Rattle.fa_machine.specs.Cells.{Cell, DidErase, DidMove, DidProgram, DidRead, DidSync, DidWriteHeader, Fault, Outcome, Wrong}
-use Rattle.fa_machine.specs.Cells.{payload_of}
+use Rattle.fa_machine.specs.Cells.{moved_payload}
 use Rattle.fa_machine.specs.World.{Accepted, Gave, GaveCell, Refused, outcome_of}
 use Rattle.fa_machine.specs.declared.ids.BatchId.{BatchId}
 use Rattle.fa_machine.specs.declared.jobs.Flight.TheVariants.{Move, Program, Read}
@@ -45,7 +45,7 @@ pub gave_move : (b : Bytes) (die : ℕ) (page : Page) (version : Version) (from 
     → GaveFits b die (Move page version from to) gave → Stands b page.0 version die to.0
 gave_move b die page version from to payload (GaveCell cell ∷ Accepted ∷ []) e g = g
 gave_move b die page version from to payload (GaveCell cell ∷ Refused ∷ []) e g = absurd (omega (arith, ap tag e))
-gave_move b die page version from to payload (GaveCell cell ∷ []) e g = absurd (if_wrong (is_some (payload_of page.0 version die from.0 cell)) (ap tag e))
+gave_move b die page version from to payload (GaveCell cell ∷ []) e g = absurd (if_wrong (is_some (moved_payload page.0 version die from.0 cell)) (ap tag e))
 gave_move b die page version from to payload (Accepted ∷ []) e g = absurd (omega (arith, ap tag e))
 gave_move b die page version from to payload (Refused ∷ []) e g = absurd (omega (arith, ap tag e))
 gave_move b die page version from to payload gave e g = absurd (omega (arith, ap tag e))

@@ -82,7 +82,7 @@ finished_other core out (Move page version from to) DidMove die apart =
     record { versions = refl; geometry = refl; live = refl; used = moved_other core out from.0 to.0 _ die apart }
 finished_other core out (Erase block) DidErase die apart =
     record { versions = refl; geometry = refl; live = refl; used = erased_other core out block.0 die apart }
-finished_other core out (Header epoch) DidWriteHeader die apart = header_other (epoch == core.epoch) _ core die (same_map core _ die refl)
+finished_other core out (Header epoch live) DidWriteHeader die apart = header_other (epoch == core.epoch) _ core die (same_map core _ die refl)
 finished_other core out (Sync flushes) DidSync die apart = same_map core _ die refl
 finished_other core out flight (Fault call) die apart = dropped_other core out die apart
 finished_other core out flight Wrong die apart = dropped_other core out die apart

@@ -116,7 +116,7 @@ flight_kept : (b : Bytes) (p : Places) (in_block : ℕ → ℕ → Bool) (due : 
 flight_kept b p in_block due die (Program page version s) payload slot fits h = ap (p.used die) (sym (if_here s.0 slot h)) ∙ fits.place.kept
 flight_kept b p in_block due die (Move page version from to) payload slot fits h = ap (p.used die) (sym (if_here to.0 slot h)) ∙ fits.kept
 flight_kept b p in_block due die (Read batch page version s) payload slot fits h = absurd (omega arith)
-flight_kept b p in_block due die (Header epoch) payload slot fits h = absurd (omega arith)
+flight_kept b p in_block due die (Header epoch live) payload slot fits h = absurd (omega arith)
 flight_kept b p in_block due die (Erase block) payload slot fits h = absurd (omega arith)
 flight_kept b p in_block due die (Sync flushes) payload slot fits h = absurd (omega arith)
 

@@ -44,7 +44,7 @@ use Rattle.fa_machine.specs.declared.refusals.ReserveCopyRefused.TheVariants.{No
 use Rattle.fa_machine.specs.declared.refusals.ReserveRefused.{ReserveRefused}
 use Rattle.fa_machine.specs.declared.refusals.ReserveRefused.TheVariants.{NoMemory as ReserveNoMemory}
 use Rattle.fa_machine.specs.declared.refusals.SpareRefused.TheVariants.{NotSpare}
-use Rattle.fa_machine.specs.declared.refusals.WindowRefused.TheVariants.{NoMemory as WindowNoMemory}
+use Rattle.fa_machine.specs.declared.refusals.WindowRefused.TheVariants.{Busy as WindowBusy, HasOne, NoMemory as WindowNoMemory}
 use Rattle.fa_types.specs.declared.numbers.Page.{Page}
 use Rattle.fa_types.specs.declared.numbers.Seq.{Seq}
 use Rattle.fa_types.specs.declared.numbers.Slot.{Slot}
@@ -92,7 +92,7 @@ module _ (die : ℕ) (flight : Flight) where
   copy_at old new (Some c) (Err CopyFailed) d at = same_jobs old new _ d.1 refl at
 
   begun_at : (old : Core) (d seat : ℕ) (f : Flight) → (die ≡ d → ⊥) → At old → At (begun d seat f old)
-  begun_at old d seat (Header epoch) apart at = get-insert_other old.jobs d (Header epoch) die apart ∙ at
+  begun_at old d seat (Header epoch live) apart at = get-insert_other old.jobs d (Header epoch live) die apart ∙ at
   begun_at old d seat (Move page version from to) apart at = get-insert_other old.jobs d (Move page version from to) die apart ∙ at
   begun_at old d seat (Erase block) apart at = get-insert_other old.jobs d (Erase block) die apart ∙ at
   begun_at old d seat (Read batch page version slot) apart at = get-insert_other old.jobs d (Read batch page version slot) die apart ∙ at
@@ -131,7 +131,7 @@ module _ (die : ℕ) (flight : Flight) where
   finished_at core out (Program page version slot) DidProgram apart at = at
   finished_at core out (Move page version from to) DidMove apart at = at
   finished_at core out (Erase block) DidErase apart at = at
-  finished_at core out (Header epoch) DidWriteHeader apart at = header_at (epoch == core.epoch)
+  finished_at core out (Header epoch live) DidWriteHeader apart at = header_at (epoch == core.epoch)
     where
       header_at : (b : Bool) → At (if b then record core { behind = remove core.behind out } else core)
       header_at true = at
@@ -163,15 +163,16 @@ module _ (die : ℕ) (flight : Flight) where
   event_at old (EndBatch batch answer) new d k at = same_jobs old new _ d.1 refl at
   event_at old (Take out seat answer) new d k at = (take_at old new out seat answer d at).0
   event_at old (Done out outcome) new d k at = done_at old new out (get old.jobs out) outcome (λ same. k (sym same)) d at
-  event_at old (Window out count (Ok first)) new d k at = same_jobs old new _ d.2 refl at
-  event_at old (Window out count (Err WindowNoMemory)) new d k at = same_jobs old new _ d.1 refl at
-  event_at old (Window out count (Err refused)) new d k at = same_jobs old new _ d.1 refl at
+  event_at old (Window out count (Ok first)) new d k at = same_jobs old new _ d.3 refl at
+  event_at old (Window out count (Err WindowBusy)) new d k at = same_jobs old new _ d.1 refl at
+  event_at old (Window out count (Err HasOne)) new d k at = same_jobs old new _ d.2 refl at
+  event_at old (Window out count (Err WindowNoMemory)) new d k at = same_jobs old new _ d.2 refl at
   event_at old (Advance (Ok round)) new d k at = same_jobs old new _ d.2 refl at
   event_at old (Advance (Err refused)) new d k at = same_jobs old new _ d.1 refl at
   event_at old (SpareIn out (Ok made)) new d k at = same_jobs old new _ d.1 refl at
   event_at old (SpareIn out (Err NotSpare)) new d k at = same_jobs old new _ d.1 refl at
   event_at old (ReserveCopy page seq payload (Ok made)) new d k at =
-      subst At (sym d.1) (copying_at old page payload (get old.page_map.versions page) (copy_place old page) at)
+      subst At (sym d.1) (copying_at old page payload (get old.page_map.versions page) (copy_place old.copies old.page_map page) at)
   event_at old (ReserveCopy page seq payload (Err CopyNoMemory)) new d k at = same_jobs old new _ d.1 refl at
   event_at old (ReserveCopy page seq payload (Err refused)) new d k at = same_jobs old new _ d.1 refl at
   event_at old (CommitCopy answer) new d k at = copy_at old new old.copying answer d at
@@ -183,7 +184,7 @@ module _ (die : ℕ) (flight : Flight) where
   -- what is due to the read of the die
   with_due_other : (out : ℕ) (f : Flight) (w : World) → (die ≡ out → ⊥) → (with_due out f w).due die ≡ w.due die
   with_due_other out (Read batch page version slot) w apart = one_value_other out _ w.due die apart
-  with_due_other out (Header epoch) w apart = refl
+  with_due_other out (Header epoch live) w apart = refl
   with_due_other out (Move page version from to) w apart = refl
   with_due_other out (Erase block) w apart = refl
   with_due_other out (Program page version slot) w apart = refl
@@ -241,7 +242,7 @@ module _ (die : ℕ) (flight : Flight) where
       run_pends due run.0 happenings after (call_pends due before run.0 out (before.works out) gave run.1 p) run.2 none.1
 
 begun_has : (core : Core) (die seat : ℕ) (flight : Flight) → get (begun die seat flight core).jobs die ≡ Some flight
-begun_has core die seat (Header epoch) = get-insert_same core.jobs die (Header epoch)
+begun_has core die seat (Header epoch live) = get-insert_same core.jobs die (Header epoch live)
 begun_has core die seat (Move page version from to) = get-insert_same core.jobs die (Move page version from to)
 begun_has core die seat (Erase block) = get-insert_same core.jobs die (Erase block)
 begun_has core die seat (Read batch page version slot) = get-insert_same core.jobs die (Read batch page version slot)

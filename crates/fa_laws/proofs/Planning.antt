@@ -11,19 +11,20 @@ use Rattle.fa_machine.specs.Copies.{copy_on, holders, holds_last, is_lost}
 use Rattle.fa_machine.specs.Maps.{below, insert_all, place_cmp}
 use Rattle.fa_machine.specs.Reading.{Planned, Plans, answered, at_once, booked, entries_for, has_data}
 use Rattle.fa_machine.specs.Reading.{is_booked, is_late, is_read_for, left_of, names_batch, released, results, to_read}
-use Rattle.fa_machine.specs.Rounds.{is_closed}
+use Rattle.fa_laws.proofs.Rounds.{places_rounds, rounds_or, taken_rounds}
+use Rattle.fa_machine.specs.Rounds.{is_closed, is_taken_with}
 use Rattle.fa_types.specs.Windows.{is_in_window, window_rounds}
 use Rattle.fa_machine.specs.Run.{HappensEvent}
 use Rattle.fa_machine.specs.State.{CalendarState, Core, MapState, dies_of, slots_of, OpenBatch}
 use Rattle.fa_machine.specs.Step.{Admit, EndBatch, Replan, allowed}
-use Rattle.fa_machine.specs.World.{Told, World, with_value, with_value_at}
+use Rattle.fa_machine.specs.World.{Told, World, plain_page, with_value, with_value_at}
 use Rattle.fa_machine.specs.declared.answers.ReadState.{ReadState}
 use Rattle.fa_machine.specs.declared.answers.ReadState.TheVariants.{Ready, Torn, Waiting}
 use Rattle.fa_machine.specs.declared.ids.BatchId.{BatchId}
 use Rattle.fa_machine.specs.declared.places.Booking.{Booking}
 use Rattle.fa_machine.specs.declared.places.Version.{Version}
 use Rattle.fa_types.specs.declared.window.Window.{Window as WindowOf}
-use Rattle.fa_types.specs.Open.{max_closed}
+use Rattle.fa_types.specs.Open.{max_closed, rounds_that}
 use Rattle.fa_types.specs.declared.geometry.Geometry.{Geometry}
 use Rattle.fa_types.specs.declared.numbers.Page.{Page}
 use Rattle.std.proofs.Common.{Bool, List, None, Option, Some, [], ap, arith, cond, false, length, map, not, refl, subst, suc, sym, true, ℕ, ◌+◌, ◌++◌, ◌∙◌, ◌∷◌, ◌≡◌, ◌≤◌}
@@ -127,21 +128,19 @@ module _ (g : Geometry) where
         certificate = certified bookings ordered pages planned.rounds planned.places planned.shortage certificate;
         first = subst (λ (closed : ℕ → ℕ → Bool). AreFirstRounds t.round closed planned.places) (sym (closed_same bookings ordered)) first;
       },
-      (λ die.
-          let calendar : CalendarState = record ((core_of g t).calendar) { bookings = from_sorted bookings } in
-          let a : count_by (λ (place : ℕ × ℕ). place.0 == die) (keys calendar.bookings)
-          ≡ count_by (λ (place : ℕ × ℕ). place.0 == die) (map (λ e. e.0) bookings) =
-          ap (λ (es : List ((ℕ × ℕ) × Booking)). count_by (λ (place : ℕ × ℕ). place.0 == die) (map (λ e. e.0) es)) (entries-from_sorted place_cmp bookings ordered) in
-          let b : window_rounds t.round (get calendar.windows die) ≡ window_rounds t.round (at_number die t.windows) =
-          ap (window_rounds t.round) (get-from_sorted nat_cmp t.windows die o.windows) in
+      (λ die n.
+          let same : rounds_that (is_taken_with (record ((core_of g t).calendar) { bookings = from_sorted bookings }) planned.places die) t.round n
+          ≡ rounds_that (λ r. (is_some (find_entry place_cmp (die, r) bookings) || is_in_window (at_number die t.windows) r)
+          || list_any (λ (x : Place). x.die.0 == die && x.round.0 == r) planned.places) t.round n =
+          λ i. rounds_that (λ r. (is_some (get-from_sorted place_cmp bookings (die, r) ordered i) || is_in_window (get-from_sorted nat_cmp t.windows die o.windows i) r)
+          || list_any (λ (x : Place). x.die.0 == die && x.round.0 == r) planned.places) t.round n in
+          let parts = rounds_or (λ r. is_some (find_entry place_cmp (die, r) bookings) || is_in_window (at_number die t.windows) r)
+          (λ r. list_any (λ (x : Place). x.die.0 == die && x.round.0 == r) planned.places) t.round n in
+          let a = taken_rounds bookings (at_number die t.windows) die t.round n in
+          let b = places_rounds planned.places die t.round n in
           let w = short_window t.round die t.windows short in
-          let c : count_by (λ (place : ℕ × ℕ). place.0 == die) (map (λ e. e.0) bookings) ≤ length (map (λ (e : (ℕ × ℕ) × Booking). e.0) bookings) =
-          count_by-le-length (λ (place : ℕ × ℕ). place.0 == die) (map (λ e. e.0) bookings) in
-          let d : count_by (λ (x : Place). x.die.0 == die) planned.places ≤ length planned.places =
-          count_by-le-length (λ (x : Place). x.die.0 == die) planned.places in
-          let e = length-map bookings (λ (e : (ℕ × ℕ) × Booking). e.0) in
           let f = leb-true _ _ few in
-          omega (arith, a, b, w, c, d, e, f)),
+          omega (arith, same, parts, a, b, w, f)),
     )
 
   abbrev pub booked_in : BatchId → List Place → List ((ℕ × ℕ) × Booking) → List ((ℕ × ℕ) × Booking)
@@ -168,7 +167,7 @@ module _ (g : Geometry) where
   -- what the world keeps beside the state, as a batch is admitted
   abbrev pub admits_beside : ℕ → List ℕ → Table → World → World
   admits_beside batch pages t v = record v {
-    values = fold (λ values page. with_value_at batch page (record { bytes = zero_page; since = v.moment }) values) v.values (zeros_in t pages);
+    values = fold (λ values page. with_value_at batch page (record { bytes = plain_page v page; since = v.moment }) values) v.values (zeros_in t pages);
     told = v.told ++ told_in t pages;
     admitted = with_value batch v.moment v.admitted;
     moment = suc v.moment;
@@ -228,7 +227,7 @@ module _ (g : Geometry) where
         told = tt;
         follows = λ i. record v {
           core = core_of g (admitted_in batch planned pages t);
-          values = fold (λ values page. with_value_at batch.0 page (record { bytes = zero_page; since = v.moment }) values) v.values (sym (zeros_same t o pages) i);
+          values = fold (λ values page. with_value_at batch.0 page (record { bytes = plain_page v page; since = v.moment }) values) v.values (sym (zeros_same t o pages) i);
           told = v.told ++ filter_map (λ page. option_map {T = Version} (λ (x : Version). record { page = page; seq = x.seq.0; bytes = zero_page })
               (sym (get-from_sorted nat_cmp t.versions page o.versions) i)) (sym (zeros_same t o pages) i);
           admitted = with_value batch.0 v.moment v.admitted;

@@ -51,7 +51,7 @@ use Rattle.fa_machine.specs.declared.refusals.ReserveCopyRefused.TheVariants.{No
 use Rattle.fa_machine.specs.declared.refusals.ReserveRefused.{ReserveRefused}
 use Rattle.fa_machine.specs.declared.refusals.ReserveRefused.TheVariants.{NoMemory as ReserveNoMemory}
 use Rattle.fa_machine.specs.declared.refusals.SpareRefused.TheVariants.{NotSpare}
-use Rattle.fa_machine.specs.declared.refusals.WindowRefused.TheVariants.{NoMemory as WindowNoMemory}
+use Rattle.fa_machine.specs.declared.refusals.WindowRefused.TheVariants.{Busy as WindowBusy, HasOne, NoMemory as WindowNoMemory}
 use Rattle.fa_types.specs.declared.numbers.Seq.{Seq}
 use Rattle.std.proofs.Common.{Bool, List, None, Option, Some, [], ap, arith, false, inl, inr, map, not, refl, subst, suc, sym, true}
 use Rattle.std.proofs.Common.{zero, ℕ, ◌*◌, ◌+◌, ◌-◌, ◌/◌, ◌<◌, ◌∙◌, ◌∷◌, ◌≡◌}
@@ -123,17 +123,17 @@ owned_low w h ranged q x owns t among alive =
     ranged t.die.0 t.slot.0 Reserved (((h.sound.owned q x owns).targets t among).kept alive)
 
 module _ (w : World) (h : Holds w) (ranged : Ranged w.core) where
-  new_low : (page : ℕ) (t : Target) → Among t (map (target_on w.core.page_map) (targets w.core page)) → t.slot.0 < slots_total w.core
+  new_low : (page : ℕ) (t : Target) → Among t (map (target_on w.core.page_map) (targets w.core.copies w.core.page_map page)) → t.slot.0 < slots_total w.core
   new_low page t among =
-      let found = among-map (target_on w.core.page_map) t (targets w.core page) among in
-      let in_order = among-take (copies_asked w.core) found.0 (filter (has_room w.core.page_map) (order_of w.core page)) found.1 in
-      let room = (among-filter (has_room w.core.page_map) found.0 (order_of w.core page) in_order).1 in
+      let found = among-map (target_on w.core.page_map) t (targets w.core.copies w.core.page_map page) among in
+      let in_order = among-take (copies_asked w.core.copies w.core.page_map) found.0 (filter (has_room w.core.page_map) (order_of w.core.copies w.core.page_map page)) found.1 in
+      let room = (among-filter (has_room w.core.page_map) found.0 (order_of w.core.copies w.core.page_map page) in_order).1 in
       subst (λ (u : Target). u.slot.0 < slots_total w.core) found.2 (room_low w.core.page_map found.0 room)
 
   reserve_ranged : (claim least : ℕ) (kind : Kind) (payload : List ℕ) (answer : Result Seq ReserveRefused) (core : Core)
       → Reserves w.core claim least kind payload answer core → Ranged core
   reserve_ranged claim least kind payload (Ok seq) core d =
-      subst Ranged (sym d.2) (ranged_all (slots_total w.core) (map (target_on w.core.page_map) (targets w.core (claimed_page w.core claim))) Reserved
+      subst Ranged (sym d.2) (ranged_all (slots_total w.core) (map (target_on w.core.page_map) (targets w.core.copies w.core.page_map (claimed_page w.core claim))) Reserved
       w.core.page_map.used ranged (new_low (claimed_page w.core claim)))
   reserve_ranged claim least kind payload (Err ReserveNoMemory) core d = subst Ranged (sym d.1) ranged
   reserve_ranged claim least kind payload (Err refused) core d = subst Ranged (sym d.1) ranged
@@ -178,16 +178,16 @@ module _ (w : World) (h : Holds w) (ranged : Ranged w.core) where
   commit_copy_ranged (Some c) is (Err CopyPending) core d = subst Ranged (sym d.1) ranged
   commit_copy_ranged (Some c) is (Err CopyFailed) core d = subst Ranged (sym d.1) ranged
 
-  copying_ranged : (page : ℕ) (payload : List ℕ) (v : Option Version) (die : Option ℕ) → copy_place w.core page ≡ die → Ranged (copying_to w.core page payload v die)
+  copying_ranged : (page : ℕ) (payload : List ℕ) (v : Option Version) (die : Option ℕ) → copy_place w.core.copies w.core.page_map page ≡ die → Ranged (copying_to w.core page payload v die)
   copying_ranged page payload (Some v) (Some die) e =
-      let found = found_passes (λ d. has_room w.core.page_map d && not (holds_page w.core.page_map page d)) (order_of w.core page) die e in
+      let found = found_passes (λ d. has_room w.core.page_map d && not (holds_page w.core.page_map page d)) (order_of w.core.copies w.core.page_map page) die e in
       let room = (and_parts (has_room w.core.page_map die) _ found.0).0 in
       ranged_insert (slots_total w.core) w.core.page_map.used die (target_on w.core.page_map die).slot.0 Reserved ranged (room_low w.core.page_map die room)
   copying_ranged page payload (Some v) None e = ranged
   copying_ranged page payload None die e = ranged
 
   begun_ranged : (die seat : ℕ) (flight : Flight) → IsUrgent w.core die flight → Ranged (begun die seat flight w.core)
-  begun_ranged die seat (Header epoch) u = ranged
+  begun_ranged die seat (Header epoch live) u = ranged
   begun_ranged die seat (Move page version from to) u =
       ranged_insert (slots_total w.core) w.core.page_map.used die to.0 Reserved ranged
       (let n = among_low 0 (slots_total w.core) to.0 (found_passes (is_erased_outside w.core.page_map die (from.0 / w.core.page_map.geometry.slots)) (slots_of w.core.page_map) to.0 u.1).1 in omega (arith, n))
@@ -240,7 +240,7 @@ module _ (w : World) (h : Holds w) (ranged : Ranged w.core) where
       ranged_insert (slots_total w.core) (insert w.core.page_map.used (die, from.0) Stale) die to.0 _
       (ranged_insert (slots_total w.core) w.core.page_map.used die from.0 Stale ranged (ranged die from.0 source.0 source.1)) (ranged die to.0 Reserved fits.kept)
   finished_ranged die (Erase block) payload DidErase fits = ranged_keep (slots_total w.core) w.core.page_map.used (stays w.core.page_map die block.0) ranged
-  finished_ranged die (Header epoch) payload DidWriteHeader fits = header_ranged (epoch == w.core.epoch) die
+  finished_ranged die (Header epoch live) payload DidWriteHeader fits = header_ranged (epoch == w.core.epoch) die
   finished_ranged die (Sync flushes) payload DidSync fits = ranged
   finished_ranged die flight payload (Fault call) fits = dropped_ranged die
   finished_ranged die flight payload Wrong fits = dropped_ranged die
@@ -272,15 +272,16 @@ module _ (w : World) (h : Holds w) (ranged : Ranged w.core) where
   event_ranged (EndBatch batch answer) core d told = subst Ranged (sym d.1) ranged
   event_ranged (Take die seat answer) core d told = take_ranged die seat answer core d
   event_ranged (Done die outcome) core d told = done_ranged die (get w.core.jobs die) (w.works die) outcome core refl refl told d
-  event_ranged (Window die count (Ok first)) core d told = subst Ranged (sym d.2) ranged
-  event_ranged (Window die count (Err WindowNoMemory)) core d told = subst Ranged (sym d.1) ranged
-  event_ranged (Window die count (Err refused)) core d told = subst Ranged (sym d.1) ranged
+  event_ranged (Window die count (Ok first)) core d told = subst Ranged (sym d.3) ranged
+  event_ranged (Window die count (Err WindowBusy)) core d told = subst Ranged (sym d.1) ranged
+  event_ranged (Window die count (Err HasOne)) core d told = subst Ranged (sym d.2) ranged
+  event_ranged (Window die count (Err WindowNoMemory)) core d told = subst Ranged (sym d.2) ranged
   event_ranged (Advance (Ok round)) core d told = subst Ranged (sym d.2) ranged
   event_ranged (Advance (Err refused)) core d told = subst Ranged (sym d.1) ranged
   event_ranged (SpareIn die (Ok made)) core d told = subst Ranged (sym d.1) ranged
   event_ranged (SpareIn die (Err NotSpare)) core d told = subst Ranged (sym d.1) ranged
   event_ranged (ReserveCopy page seq payload (Ok made)) core d told =
-      subst Ranged (sym d.1) (copying_ranged page payload (get w.core.page_map.versions page) (copy_place w.core page) refl)
+      subst Ranged (sym d.1) (copying_ranged page payload (get w.core.page_map.versions page) (copy_place w.core.copies w.core.page_map page) refl)
   event_ranged (ReserveCopy page seq payload (Err CopyNoMemory)) core d told = subst Ranged (sym d.1) ranged
   event_ranged (ReserveCopy page seq payload (Err refused)) core d told = subst Ranged (sym d.1) ranged
   event_ranged (CommitCopy answer) core d told = commit_copy_ranged w.core.copying refl answer core d

@@ -210,7 +210,7 @@ module _ (s : Scene) (h : Sound s) (o : Option ℕ) (x : Owned) (bytes : List �
 
   job_then : (die : ℕ) (flight : Flight) (payload : List ℕ) → JobFits s.bytes s.places s.in_block (s.due die) die flight payload
       → JobFits s.bytes then s.in_block (s.due die) die flight payload
-  job_then die (Header epoch) payload before = tt
+  job_then die (Header epoch live) payload before = tt
   job_then die (Move page version from to) payload before = moving_then die page.0 version from.0 to.0 before
   job_then die (Erase block) payload before = erasing_then die block.0 before
   job_then die (Read batch page version slot) payload before = before

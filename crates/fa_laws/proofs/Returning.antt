@@ -48,7 +48,7 @@ finished_live die (Read batch page version slot) (DidRead cell) core =
 finished_live die (Program page version slot) DidProgram core = inl refl
 finished_live die (Move page version from to) DidMove core = inl refl
 finished_live die (Erase block) DidErase core = inl refl
-finished_live die (Header epoch) DidWriteHeader core = header_live (epoch == core.epoch) die _ core refl
+finished_live die (Header epoch live) DidWriteHeader core = header_live (epoch == core.epoch) die _ core refl
 finished_live die (Sync flushes) DidSync core = inl refl
 finished_live die flight (Fault call) core = inr refl
 finished_live die flight Wrong core = inr refl

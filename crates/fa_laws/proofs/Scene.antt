@@ -1,6 +1,6 @@
 -- What the array's parts have to do with one another, told over plain functions: a scene is what of a world bears on which
 -- bytes stand where, and a scene is sound where each of them is the bytes that were reserved.
-use Rattle.fa_machine.specs.Cells.{Cell, payload_of}
+use Rattle.fa_machine.specs.Cells.{Cell, moved_payload, payload_of}
 use Rattle.fa_machine.specs.Copies.{is_held_slot}
 use Rattle.fa_machine.specs.State.{WaitingProgram}
 use Rattle.fa_machine.specs.World.{Accepted, Gave, GaveCell, Work}
@@ -83,7 +83,7 @@ programs_at waiting works die slot = tally (program_is_at die slot) waiting + wr
 
 -- the bytes of a page with a number stand in the slot
 abbrev pub Stands : Bytes → ℕ → Version → ℕ → ℕ → Type 0
-Stands b page version die slot = payload_of page version die slot (b.seen die slot) ≡ Some (b.payloads page version.seq.0)
+Stands b page version die slot = moved_payload page version die slot (b.seen die slot) ≡ Some (b.payloads page version.seq.0)
 
 pub record IsNumbered (b : Bytes) (plain : ℕ → List ℕ) (page : ℕ) (v : Version) : Type 0 where
   pub right : b.payloads page v.seq.0 ≡ plain page
@@ -149,7 +149,7 @@ pub record IsErasing (in_block : ℕ → ℕ → Bool) (p : Places) (die block :
       → t.programmed ≡ false
 
 abbrev pub JobFits : Bytes → Places → (ℕ → ℕ → Bool) → List ℕ → ℕ → Flight → List ℕ → Type 0
-JobFits b p in_block due die (Header epoch) payload = Unit {0}
+JobFits b p in_block due die (Header epoch live) payload = Unit {0}
 JobFits b p in_block due die (Move page version from to) payload = IsMoving b p die page.0 version from.0 to.0
 JobFits b p in_block due die (Erase block) payload = IsErasing in_block p die block.0
 JobFits b p in_block due die (Read batch page version slot) payload = IsReading b due die page.0 version slot.0
@@ -161,7 +161,7 @@ abbrev pub GaveFits : Bytes → ℕ → Flight → List Gave → Type 0
 GaveFits b die (Read batch page version slot) (GaveCell cell ∷ []) = cell ≡ b.seen die slot.0
 GaveFits b die (Program page version slot) (Accepted ∷ []) = Stands b page.0 version die slot.0
 GaveFits b die (Move page version from to) (GaveCell cell ∷ []) =
-    payload_of page.0 version die from.0 cell ≡ Some (b.payloads page.0 version.seq.0)
+    moved_payload page.0 version die from.0 cell ≡ Some (b.payloads page.0 version.seq.0)
 GaveFits b die (Move page version from to) (GaveCell cell ∷ Accepted ∷ []) = Stands b page.0 version die to.0
 GaveFits b die flight gave = Unit {0}
 

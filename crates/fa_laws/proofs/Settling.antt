@@ -142,7 +142,7 @@ module _ (s : Scene) (h : Sound s) (o : Option ℕ) (x : Owned) (final : Used) (
       → ((page : Page) (version : Version) (slot : Slot) → flight ≡ Program page version slot → (t : Target)
       → IsTargetAt s.places.own die slot.0 o x t → s.places.live die ≡ true → ⊥)
       → JobFits s.bytes s.places s.in_block (s.due die) die flight payload → JobFits s.bytes then s.in_block (s.due die) die flight payload
-  job_then die (Header epoch) payload idle before = tt
+  job_then die (Header epoch live) payload idle before = tt
   job_then die (Move page version from to) payload idle before = moving_then die page.0 version from.0 to.0 before
   job_then die (Erase block) payload idle before = erasing_then die block.0 before
   job_then die (Read batch page version slot) payload idle before = before

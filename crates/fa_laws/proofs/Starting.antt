@@ -78,7 +78,7 @@ module _ (w : World) (h : Holds w) (die : ℕ) (job : Handed) (used : FinMap pla
   gave_nothing b (Read batch page version slot) = tt
   gave_nothing b (Program page version slot) = tt
   gave_nothing b (Move page version from to) = tt
-  gave_nothing b (Header epoch) = tt
+  gave_nothing b (Header epoch live) = tt
   gave_nothing b (Erase block) = tt
   gave_nothing b (Sync flushes) = tt
 
@@ -133,6 +133,7 @@ module _ (w : World) (h : Holds w) (die : ℕ) (job : Handed) (used : FinMap pla
     told = h.told;
     ordered = h.ordered;
     plain = h.plain;
+    unwritten = h.unwritten;
     answered = later w.core.batches w.admitted w.values works_then due w.moment (record {
       since = h.answered.since;
       answers = h.answered.answers;

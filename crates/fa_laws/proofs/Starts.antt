@@ -1,10 +1,11 @@
 -- What holds at a beginning.
-use Rattle.fa_laws.proofs.ImageCalls.{opens}
+use Rattle.fa_laws.proofs.ImageCalls.{moves}
 use Rattle.fa_laws.proofs.Invariant.{Holds, owned_claim, owned_of, scene_of}
 use Rattle.fa_laws.proofs.Orders.{order_once}
 use Rattle.fa_laws.proofs.Scene.{Among, IsHeld, IsNumbered, Owned, program_is_at, programs_at, tally, writes}
 use Rattle.fa_machine.specs.Beginning.{IsBeginning, IsPlainOf, StandsAt}
-use Rattle.fa_machine.specs.Cells.{payload_of}
+use Rattle.fa_machine.specs.Cells.{moved_payload}
+use Rattle.fa_machine.specs.Reading.{zeros}
 use Rattle.fa_machine.specs.State.{Core, OpenBatch, OpenClaim, WaitingProgram, is_live, used_at}
 use Rattle.fa_machine.specs.World.{Work, World, plain_page}
 use Rattle.fa_machine.specs.declared.places.Copying.{Copying}
@@ -33,6 +34,10 @@ numbered_at w page (Some u) v e plain =
       below = plain.3;
     })
 
+unwritten_at : (w : World) (page : ℕ) (o : Option Version) → o ≡ None → IsPlainOf w page o → plain_page w page ≡ zeros w.core.page_map
+unwritten_at w page None e plain = plain
+unwritten_at w page (Some u) e plain = absurd (none-some u (sym e))
+
 module _ (w : World) (b : IsBeginning w) where
   no_claims : w.core.claims ≡ empty
   no_claims = ap (λ (c : Core). c.claims) b.fresh
@@ -56,7 +61,7 @@ module _ (w : World) (b : IsBeginning w) where
       (b.stands die slot (or_left (is_live w.core.page_map die) (contains_key w.core.spares die) there.0) there.1) in
       let number = numbered page.0 version stands.0 in
       record {
-        cell = ap (payload_of page.0 version die slot) stands.1 ∙ opens page.0 version die slot (plain_page w page.0) ∙ ap Some (sym number.right);
+        cell = ap (moved_payload page.0 version die slot) stands.1 ∙ moves page.0 version die slot (plain_page w page.0) ∙ ap Some (sym number.right);
         below = number.below;
       }
 
@@ -87,6 +92,7 @@ module _ (w : World) (b : IsBeginning w) where
     told = λ t among. absurd (subst (Among t) b.told among);
     ordered = order_once w.core b.copies b.enough;
     plain = b.pages.0;
+    unwritten = λ page low e. unwritten_at w page (get w.core.page_map.versions page) e (b.plain page low);
     answered = record {
       since = λ batch o e. absurd (no_batch_open batch o e);
       answers = λ batch o page bytes e f. absurd (no_batch_open batch o e);

@@ -6,6 +6,7 @@ use Rattle.fa_laws.proofs.Committing.{reserved_owned}
 use Rattle.fa_laws.proofs.Ending.{among-map}
 use Rattle.fa_laws.proofs.Finishing.{passed_all}
 use Rattle.fa_laws.proofs.Handing.{holds_held, no_state}
+use Rattle.fa_laws.proofs.ImageCalls.{read_too}
 use Rattle.fa_laws.proofs.Invariant.{Holds, scene_of}
 use Rattle.fa_laws.proofs.Lists.{among-filter, among-map-intro, among-range, among-take, found_passes, no_refusal, none_passes}
 use Rattle.fa_machine.proofs.Maps.{get-change, get-insert_other, get-insert_same, get-keep}
@@ -58,7 +59,7 @@ use Rattle.fa_machine.specs.declared.refusals.ReserveCopyRefused.TheVariants.{No
 use Rattle.fa_machine.specs.declared.refusals.ReserveRefused.{ReserveRefused}
 use Rattle.fa_machine.specs.declared.refusals.ReserveRefused.TheVariants.{NoMemory as ReserveNoMemory}
 use Rattle.fa_machine.specs.declared.refusals.SpareRefused.TheVariants.{NotSpare}
-use Rattle.fa_machine.specs.declared.refusals.WindowRefused.TheVariants.{NoMemory as WindowNoMemory}
+use Rattle.fa_machine.specs.declared.refusals.WindowRefused.TheVariants.{Busy as WindowBusy, HasOne, NoMemory as WindowNoMemory}
 use Rattle.fa_types.specs.declared.numbers.Page.{Page}
 use Rattle.fa_types.specs.declared.numbers.Seq.{Seq}
 use Rattle.std.proofs.Common.{Bool, List, None, Option, Some, [], ap, arith, eq-eqb, eqb-true, false, inl, inr, map, not, refl, subst}
@@ -152,18 +153,18 @@ module _ (w : World) (h : Holds w) (page die : ℕ) (c : HasCopy w.core page die
   same_stays : (x core : Core) → core ≡ x → x.page_map.versions ≡ w.core.page_map.versions → x.page_map.used ≡ w.core.page_map.used → Stays core
   same_stays x core e numbers used = to_stays x core e (stays_map w.core x page die c numbers used)
 
-  new_erased : (p : ℕ) (t : Target) → Among t (map (target_on w.core.page_map) (targets w.core p)) → get w.core.page_map.used (t.die.0, t.slot.0) ≡ None
+  new_erased : (p : ℕ) (t : Target) → Among t (map (target_on w.core.page_map) (targets w.core.copies w.core.page_map p)) → get w.core.page_map.used (t.die.0, t.slot.0) ≡ None
   new_erased p t among =
-      let found = among-map (target_on w.core.page_map) t (targets w.core p) among in
-      let in_order = among-take (copies_asked w.core) found.0 (filter (has_room w.core.page_map) (order_of w.core p)) found.1 in
-      let room = (among-filter (has_room w.core.page_map) found.0 (order_of w.core p) in_order).1 in
+      let found = among-map (target_on w.core.page_map) t (targets w.core.copies w.core.page_map p) among in
+      let in_order = among-take (copies_asked w.core.copies w.core.page_map) found.0 (filter (has_room w.core.page_map) (order_of w.core.copies w.core.page_map p)) found.1 in
+      let room = (among-filter (has_room w.core.page_map) found.0 (order_of w.core.copies w.core.page_map p) in_order).1 in
       subst (λ (u : Target). get w.core.page_map.used (u.die.0, u.slot.0) ≡ None) found.2 (room_erased w.core.page_map found.0 room).1
 
   reserve_stays : (claim least : ℕ) (kind : Kind) (payload : List ℕ) (answer : Result Seq ReserveRefused) (core : Core)
       → Reserves w.core claim least kind payload answer core → Stays core
   reserve_stays claim least kind payload (Ok seq) core d =
       to_stays _ core d.2 (stays_same w.core _ page die c refl
-      (stays_all (map (target_on w.core.page_map) (targets w.core (claimed_page w.core claim))) Reserved w.core.page_map.used die c.slot c.tag_page c.tag_version c.held
+      (stays_all (map (target_on w.core.page_map) (targets w.core.copies w.core.page_map (claimed_page w.core claim))) Reserved w.core.page_map.used die c.slot c.tag_page c.tag_version c.held
       (λ t among held. none-some (Held c.tag_page c.tag_version) (sym (new_erased (claimed_page w.core claim) t among) ∙ held))))
   reserve_stays claim least kind payload (Err ReserveNoMemory) core d = to_stays w.core core d.1 c
   reserve_stays claim least kind payload (Err refused) core d = to_stays w.core core d.1 c
@@ -220,9 +221,9 @@ module _ (w : World) (h : Holds w) (page die : ℕ) (c : HasCopy w.core page die
   copy_stays (Some k) is (Err CopyPending) core d = to_stays w.core core d.1 c
   copy_stays (Some k) is (Err CopyFailed) core d = same_stays _ core d.1 refl refl
 
-  copying_stays : (p : ℕ) (payload : List ℕ) (v : Option Version) (d : Option ℕ) → copy_place w.core p ≡ d → Stays (copying_to w.core p payload v d)
+  copying_stays : (p : ℕ) (payload : List ℕ) (v : Option Version) (d : Option ℕ) → copy_place w.core.copies w.core.page_map p ≡ d → Stays (copying_to w.core p payload v d)
   copying_stays p payload (Some v) (Some d) e =
-      let found = found_passes (λ d. has_room w.core.page_map d && not (holds_page w.core.page_map p d)) (order_of w.core p) d e in
+      let found = found_passes (λ d. has_room w.core.page_map d && not (holds_page w.core.page_map p d)) (order_of w.core.copies w.core.page_map p) d e in
       let erased = (room_erased w.core.page_map d (and_parts (has_room w.core.page_map d) _ found.0).0).1 in
       stays_same w.core _ page die c refl
       (get-place_other w.core.page_map.used d (target_on w.core.page_map d).slot.0 Reserved die c.slot
@@ -231,7 +232,7 @@ module _ (w : World) (h : Holds w) (page die : ℕ) (c : HasCopy w.core page die
   copying_stays p payload None d e = c
 
   begun_stays : (d seat : ℕ) (flight : Flight) → IsUrgent w.core d flight → Stays (begun d seat flight w.core)
-  begun_stays d seat (Header epoch) u = stays_map w.core _ page die c refl refl
+  begun_stays d seat (Header epoch live) u = stays_map w.core _ page die c refl refl
   begun_stays d seat (Move p version from to) u =
       let found = found_passes (is_erased_outside w.core.page_map d (from.0 / w.core.page_map.geometry.slots)) (slots_of w.core.page_map) to.0 u.1 in
       let erased = no_state _ (and_parts (is_erased_slot w.core.page_map d to.0) _ found.0).0 in
@@ -313,7 +314,8 @@ module _ (w : World) (h : Holds w) (page die : ℕ) (c : HasCopy w.core page die
       moved_itself same source =
           let held : used_at w.core.page_map d from ≡ Some (Held c.tag_page c.tag_version) = (λ i. get w.core.page_map.used (sym same i, sym source i)) ∙ c.held in
           let stands = (h.sound.held d from c.tag_page c.tag_version held).cell in
-          let tags = same_tag c.tag_page.0 p.0 c.tag_version version d from ((w.images d).seen from) _ _ stands moving.cell in
+          let tags = same_tag c.tag_page.0 p.0 c.tag_version version d from ((w.images d).seen from) _ _
+          (read_too c.tag_page.0 c.tag_version d from ((w.images d).seen from) _ stands) (read_too p.0 version d from ((w.images d).seen from) _ moving.cell) in
           let page_is : p.0 ≡ page = sym tags.0 ∙ c.page_is in
           let current : is_current w.core.page_map p.0 d from ≡ true =
           and_from (is_live w.core.page_map d) _ (sym (ap (is_live w.core.page_map) same) ∙ alive)
@@ -350,7 +352,7 @@ module _ (w : World) (h : Holds w) (page die : ℕ) (c : HasCopy w.core page die
   finished_stays d (Program p version slot) payload DidProgram was fits alive = stays_map w.core _ page die c refl refl
   finished_stays d (Move p version from to) payload DidMove was fits alive = move_stays d p version from.0 to.0 fits was
   finished_stays d (Erase block) payload DidErase was fits alive = erase_stays d block.0 fits
-  finished_stays d (Header epoch) payload DidWriteHeader was fits alive = header_stays (epoch == w.core.epoch) d
+  finished_stays d (Header epoch live) payload DidWriteHeader was fits alive = header_stays (epoch == w.core.epoch) d
   finished_stays d (Sync flushes) payload DidSync was fits alive = stays_map w.core _ page die c refl refl
   finished_stays d flight payload (Fault call) was fits alive = drop_stays d alive
   finished_stays d flight payload Wrong was fits alive = drop_stays d alive
@@ -384,15 +386,16 @@ module _ (w : World) (h : Holds w) (page die : ℕ) (c : HasCopy w.core page die
   event_stays (EndBatch batch answer) core d told leaves was alive = same_stays _ core d.1 refl refl
   event_stays (Take out seat answer) core d told leaves was alive = take_stays out seat answer core d
   event_stays (Done out outcome) core d told leaves was alive = done_stays out (get w.core.jobs out) (w.works out) outcome core was refl refl told d alive
-  event_stays (Window out count (Ok first)) core d told leaves was alive = same_stays _ core d.2 refl refl
-  event_stays (Window out count (Err WindowNoMemory)) core d told leaves was alive = same_stays _ core d.1 refl refl
-  event_stays (Window out count (Err refused)) core d told leaves was alive = same_stays _ core d.1 refl refl
+  event_stays (Window out count (Ok first)) core d told leaves was alive = same_stays _ core d.3 refl refl
+  event_stays (Window out count (Err WindowBusy)) core d told leaves was alive = same_stays _ core d.1 refl refl
+  event_stays (Window out count (Err HasOne)) core d told leaves was alive = same_stays _ core d.2 refl refl
+  event_stays (Window out count (Err WindowNoMemory)) core d told leaves was alive = same_stays _ core d.2 refl refl
   event_stays (Advance (Ok round)) core d told leaves was alive = same_stays _ core d.2 refl refl
   event_stays (Advance (Err refused)) core d told leaves was alive = same_stays _ core d.1 refl refl
   event_stays (SpareIn out (Ok made)) core d told leaves was alive = same_stays _ core d.1 refl refl
   event_stays (SpareIn out (Err NotSpare)) core d told leaves was alive = same_stays _ core d.1 refl refl
   event_stays (ReserveCopy p seq payload (Ok made)) core d told leaves was alive =
-      to_stays _ core d.1 (copying_stays p payload (get w.core.page_map.versions p) (copy_place w.core p) refl)
+      to_stays _ core d.1 (copying_stays p payload (get w.core.page_map.versions p) (copy_place w.core.copies w.core.page_map p) refl)
   event_stays (ReserveCopy p seq payload (Err CopyNoMemory)) core d told leaves was alive = same_stays _ core d.1 refl refl
   event_stays (ReserveCopy p seq payload (Err refused)) core d told leaves was alive = same_stays _ core d.1 refl refl
   event_stays (CommitCopy answer) core d told leaves was alive = copy_stays w.core.copying refl answer core d

@@ -14,9 +14,9 @@ use Rattle.fa_types.specs.Windows.{is_in_window}
 use Rattle.fa_machine.specs.Run.{Happens, HappensEvent, ImageCall}
 use Rattle.fa_machine.specs.State.{Core}
 use Rattle.fa_machine.specs.Step.{Advance, Done, Take, is_die, is_sized_read}
-use Rattle.fa_machine.specs.Taking.{Handed, handed, is_idle, with_answer, read_ends}
+use Rattle.fa_machine.specs.Taking.{Handed, handed, is_idle, mask_of, with_answer, read_ends}
 use Rattle.fa_machine.specs.Turning.{is_read_pending}
-use Rattle.fa_machine.specs.World.{GaveCell, Accepted, Refused, Work, World, WritesHeader, ReadsSlot, with_due, with_told, with_value}
+use Rattle.fa_machine.specs.World.{DieImage, GaveCell, Accepted, Refused, Work, World, WritesHeader, ReadsSlot, with_due, with_told, with_value}
 use Rattle.fa_machine.specs.declared.answers.HistoryEntry.TheVariants.{Start}
 use Rattle.fa_machine.specs.declared.ids.BatchId.{BatchId}
 use Rattle.fa_machine.specs.declared.jobs.Flight.{Flight}
@@ -28,7 +28,7 @@ use Rattle.fa_types.specs.declared.numbers.Round.{Round}
 use Rattle.fa_types.specs.declared.numbers.Slot.{Slot}
 use Rattle.std.proofs.Common.{Bool, List, None, Option, Some, [], ap, false, not, inl, inr, refl, subst, suc, sym, true, ℕ, ◌+◌, ◌++◌, ◌∙◌, ◌∷◌, ◌≡◌}
 use Rattle.std.proofs.lemmas.Bool.{and_parts, false≢true, not-true, or_cases}
-use Rattle.std.specs.List.{list_all}
+use Rattle.std.specs.List.{fold, list_all}
 use Rattle.std.specs.Cmp.{nat_cmp_total}
 use Rattle.std.specs.FinMap.{find as find_entry, from_sorted, get-from_sorted, insert, is_sorted, put, remove}
 use Rattle.std.specs.FinMap.Entries.{is_sorted-where_key}
@@ -62,9 +62,13 @@ did_read die batch page version bytes v = record (with_told die batch.0 page.0 v
   moment = suc v.moment;
 }
 
+-- an image once a header was written
+abbrev pub headed : ℕ → ℕ → DieImage → DieImage
+headed epoch live image = record image { header = Some (record { epoch = epoch; live = live }) }
+
 -- the lists after events
-abbrev pub head_taken : ℕ → Table → Table
-head_taken die t = record t { jobs = with_number die (Header t.epoch) t.jobs }
+abbrev pub head_taken : ℕ → ℕ → Table → Table
+head_taken die live t = record t { jobs = with_number die (Header t.epoch live) t.jobs }
 
 abbrev pub head_done : ℕ → Table → Table
 head_done die t = record t { jobs = without_number die t.jobs; behind = without_number die t.behind }
@@ -120,21 +124,29 @@ module _ (g : Geometry) where
   idle_in t o die free =
       (λ i. is_some (get-from_sorted nat_cmp t.live die o.live i) && not (is_some (get-from_sorted nat_cmp t.jobs die o.jobs i))) ∙ free
 
-  pub takes_header : (t : Table) (v : World) (die seat : ℕ) → T (is_ordered t) → can_take t die ≡ true → free_in t die ≡ true
-      → is_some (at_number die t.behind) ≡ true
-      → HappensEvent (at t v) (Take die seat (Some (handed (Header t.epoch)))) (at (head_taken die t) (took die (handed (Header t.epoch)) v))
-  takes_header t v die seat ordered can free behind =
-      let o = in_order t ordered in
-      takes (at t v) die seat (Header t.epoch) (core_of g (head_taken die t)) can (idle_in t o die free)
-      (header_first (core_of g t) die (ap is_some (get-from_sorted nat_cmp t.behind die o.behind) ∙ behind))
-      (λ i. record (core_of g t) { jobs = sym (insert_listed nat_cmp_total nat_same t.jobs die (Header t.epoch) o.jobs) i })
+  -- the live dies as a header tells them
+  abbrev pub mask_in : Table → ℕ
+  mask_in t = fold (λ mask die. mask + 2 ^ die) 0 (filter (λ die. is_some (at_number die t.live)) (below g.dies))
 
-  pub ends_header : (t : Table) (v : World) (die epoch : ℕ) → T (is_ordered t) → at_number die t.jobs ≡ Some (Header epoch)
-      → (epoch == t.epoch) ≡ true → HasOutcome die (v.works die) DidWriteHeader
-      → HappensEvent (at t v) (Done die DidWriteHeader) (at (head_done die t) (did die (Header epoch) DidWriteHeader v))
-  ends_header t v die epoch ordered there current worked =
+  mask_same : (t : Table) → Ordered t → mask_of (core_of g t).page_map ≡ mask_in t
+  mask_same t o = λ i. fold (λ mask die. mask + 2 ^ die) 0 (filter (λ die. is_some (get-from_sorted nat_cmp t.live die o.live i)) (below g.dies))
+
+  pub takes_header : (t : Table) (v : World) (die seat live : ℕ) → T (is_ordered t) → can_take t die ≡ true → free_in t die ≡ true
+      → is_some (at_number die t.behind) ≡ true → mask_in t ≡ live
+      → HappensEvent (at t v) (Take die seat (Some (handed (Header t.epoch live)))) (at (head_taken die live t) (took die (handed (Header t.epoch live)) v))
+  takes_header t v die seat live ordered can free behind mask =
       let o = in_order t ordered in
-      ends (at t v) die (Header epoch) DidWriteHeader (core_of g (head_done die t)) (get-from_sorted nat_cmp t.jobs die o.jobs ∙ there) refl worked
+      takes (at t v) die seat (Header t.epoch live) (core_of g (head_taken die live t)) can (idle_in t o die free)
+      (header_first (core_of g t) die (ap is_some (get-from_sorted nat_cmp t.behind die o.behind) ∙ behind)
+      ∙ ap (λ n. Some (Header t.epoch n)) (mask_same t o ∙ mask))
+      (λ i. record (core_of g t) { jobs = sym (insert_listed nat_cmp_total nat_same t.jobs die (Header t.epoch live) o.jobs) i })
+
+  pub ends_header : (t : Table) (v : World) (die epoch live : ℕ) → T (is_ordered t) → at_number die t.jobs ≡ Some (Header epoch live)
+      → (epoch == t.epoch) ≡ true → HasOutcome die (v.works die) DidWriteHeader
+      → HappensEvent (at t v) (Done die DidWriteHeader) (at (head_done die t) (did die (Header epoch live) DidWriteHeader v))
+  ends_header t v die epoch live ordered there current worked =
+      let o = in_order t ordered in
+      ends (at t v) die (Header epoch live) DidWriteHeader (core_of g (head_done die t)) (get-from_sorted nat_cmp t.jobs die o.jobs ∙ there) refl worked
       ((λ i. record (core_of g t) {
         jobs = sym (remove_listed nat_cmp_total nat_same t.jobs die o.jobs) i;
         behind = sym (remove_listed nat_cmp_total nat_same t.behind die o.behind) i;
@@ -185,10 +197,10 @@ module _ (g : Geometry) where
   refuses_read t v die batch page version slot there =
       calls (at t v) die Refused (v.images die) (fresh (handed (Read batch page version slot))) (ReadsSlot slot.0) there refl refl
 
-  pub writes_header : (t : Table) (v : World) (die epoch : ℕ) → v.works die ≡ Some (fresh (handed (Header epoch)))
-      → Happens (at t v) (ImageCall die Accepted) (at t (called die Accepted (v.images die) (fresh (handed (Header epoch))) v))
-  writes_header t v die epoch there =
-      calls (at t v) die Accepted (v.images die) (fresh (handed (Header epoch))) WritesHeader there refl refl
+  pub writes_header : (t : Table) (v : World) (die epoch live : ℕ) → v.works die ≡ Some (fresh (handed (Header epoch live)))
+      → Happens (at t v) (ImageCall die Accepted) (at t (called die Accepted (headed epoch live (v.images die)) (fresh (handed (Header epoch live))) v))
+  writes_header t v die epoch live there =
+      calls (at t v) die Accepted (headed epoch live (v.images die)) (fresh (handed (Header epoch live))) (WritesHeader epoch live) there refl refl
 
   pub ends_read : (t : Table) (v : World) (die : ℕ) (batch : BatchId) (page : Page) (version : Version) (slot : Slot) (cell : Cell)
       (bytes : List ℕ) (pages : List ℕ) (answers : List (ℕ × List ℕ)) → T (is_ordered t) → T (is_sorted nat_cmp answers)

@@ -32,7 +32,7 @@ pub record IsBookedRead (core : Core) (die batch page : ℕ) (version : Version)
 
 -- a header, a collector's step or a booked read
 abbrev pub IsUrgent : Core → ℕ → Flight → Type 0
-IsUrgent core die (Header epoch) = Unit {0}
+IsUrgent core die (Header epoch live) = Unit {0}
 IsUrgent core die (Move page version from to) =
     (used_at core.page_map die from.0 ≡ Some (Held page version)) × (move_place core.page_map die (from.0 / core.page_map.geometry.slots) ≡ Some to.0)
 IsUrgent core die (Erase block) = next_step core.page_map die ≡ EraseBlock block

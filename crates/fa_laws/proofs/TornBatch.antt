@@ -8,7 +8,7 @@ use Rattle.fa_laws.proofs.Making.{called}
 use Rattle.fa_machine.proofs.Maps.{nat_same, place_cmp_total, place_same}
 use Rattle.fa_laws.proofs.Planning.{admits, admits_beside, admitted_in, closed_in, copies_same, entries_in, read_in}
 use Rattle.fa_laws.proofs.Table.{Table, core_of, in_order}
-use Rattle.fa_laws.proofs.Tabled.{advanced, advances, at, did, did_read, dropped, ends_faulty, ends_header, ends_read, fresh, gives_cell, head_done}
+use Rattle.fa_laws.proofs.Tabled.{advanced, advances, at, did, did_read, dropped, ends_faulty, ends_header, ends_read, fresh, gives_cell, head_done, headed}
 use Rattle.fa_laws.proofs.Tabled.{head_taken, read_done, read_taken, refuses_read, takes_header, takes_read, took, writes_header}
 use Rattle.fa_laws.specs.EightPages.{cell_in, eight, held_slots, write_of, written_in_turn}
 use Rattle.fa_laws.specs.FailingDie.{admission, failure, first_plan}
@@ -111,49 +111,49 @@ module _ (size : ℕ) (within : IsGeometry 3 0 16 8 size 64) (bytes : ℕ → Li
   first_rounds = worked_first first_entries 1 (closed_in g t0 []) first_plan.places refl
 
   abbrev pub t1 : Table
-  t1 = head_taken 0 t0
+  t1 = head_taken 0 7 t0
 
   abbrev pub v1 : World
-  v1 = took 0 (handed (Header 1)) v0
+  v1 = took 0 (handed (Header 1 7)) v0
 
   abbrev pub v2 : World
-  v2 = called 0 Accepted (v1.images 0) (fresh g (handed (Header 1))) v1
+  v2 = called 0 Accepted (headed 1 7 (v1.images 0)) (fresh g (handed (Header 1 7))) v1
 
   abbrev pub t3 : Table
   t3 = head_done 0 t1
 
   abbrev pub v3 : World
-  v3 = did 0 (Header 1) DidWriteHeader v2
+  v3 = did 0 (Header 1 7) DidWriteHeader v2
 
   abbrev pub t4 : Table
-  t4 = head_taken 1 t3
+  t4 = head_taken 1 7 t3
 
   abbrev pub v4 : World
-  v4 = took 1 (handed (Header 1)) v3
+  v4 = took 1 (handed (Header 1 7)) v3
 
   abbrev pub v5 : World
-  v5 = called 1 Accepted (v4.images 1) (fresh g (handed (Header 1))) v4
+  v5 = called 1 Accepted (headed 1 7 (v4.images 1)) (fresh g (handed (Header 1 7))) v4
 
   abbrev pub t6 : Table
   t6 = head_done 1 t4
 
   abbrev pub v6 : World
-  v6 = did 1 (Header 1) DidWriteHeader v5
+  v6 = did 1 (Header 1 7) DidWriteHeader v5
 
   abbrev pub t7 : Table
-  t7 = head_taken 2 t6
+  t7 = head_taken 2 7 t6
 
   abbrev pub v7 : World
-  v7 = took 2 (handed (Header 1)) v6
+  v7 = took 2 (handed (Header 1 7)) v6
 
   abbrev pub v8 : World
-  v8 = called 2 Accepted (v7.images 2) (fresh g (handed (Header 1))) v7
+  v8 = called 2 Accepted (headed 1 7 (v7.images 2)) (fresh g (handed (Header 1 7))) v7
 
   abbrev pub t9 : Table
   t9 = head_done 2 t7
 
   abbrev pub v9 : World
-  v9 = did 2 (Header 1) DidWriteHeader v8
+  v9 = did 2 (Header 1 7) DidWriteHeader v8
 
   abbrev pub t10 : Table
   t10 = admitted_in g (record { 0 = 0 }) first_plan eight t9
@@ -164,31 +164,31 @@ module _ (size : ℕ) (within : IsGeometry 3 0 16 8 size 64) (bytes : ℕ → Li
   pub admitting : Run (at g t0 v0) (admission) (at g t10 v10)
   admitting = (
     at g t1 v1,
-    takes_header g t0 v0 0 0 tt refl refl refl,
+    takes_header g t0 v0 0 0 7 tt refl refl refl refl,
     (
       at g t1 v2,
-      writes_header g t1 v1 0 1 refl,
+      writes_header g t1 v1 0 1 7 refl,
       (
         at g t3 v3,
-        ends_header g t1 v2 0 1 tt refl refl refl,
+        ends_header g t1 v2 0 1 7 tt refl refl refl,
         (
           at g t4 v4,
-          takes_header g t3 v3 1 0 tt refl refl refl,
+          takes_header g t3 v3 1 0 7 tt refl refl refl refl,
           (
             at g t4 v5,
-            writes_header g t4 v4 1 1 refl,
+            writes_header g t4 v4 1 1 7 refl,
             (
               at g t6 v6,
-              ends_header g t4 v5 1 1 tt refl refl refl,
+              ends_header g t4 v5 1 1 7 tt refl refl refl,
               (
                 at g t7 v7,
-                takes_header g t6 v6 2 0 tt refl refl refl,
+                takes_header g t6 v6 2 0 7 tt refl refl refl refl,
                 (
                   at g t7 v8,
-                  writes_header g t7 v7 2 1 refl,
+                  writes_header g t7 v7 2 1 7 refl,
                   (
                     at g t9 v9,
-                    ends_header g t7 v8 2 1 tt refl refl refl,
+                    ends_header g t7 v8 2 1 7 tt refl refl refl,
                     (
                       at g t10 v10,
                       admits g t9 v9 eight (record { 0 = 0 }) first_plan tt refl refl refl first_certificate first_rounds refl refl refl,

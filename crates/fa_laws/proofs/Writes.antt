@@ -67,8 +67,11 @@ program_taken die job t = record t {
   waiting = before_first (is_for die) t.waiting ++ after_first (is_for die) t.waiting;
 }
 
-abbrev pub program_done : ℕ → ℕ → Table → Table
-program_done die slot t = record t { jobs = without_number die t.jobs; claims = map (λ e. (e.0, mark_claim die slot e.1)) t.claims }
+abbrev pub program_done : ℕ → ℕ → ℕ → Table → Table
+program_done page die slot t = record t {
+  jobs = without_number die t.jobs;
+  claims = map (λ e. (e.0, if e.1.page == page then mark_claim die slot e.1 else e.1)) t.claims;
+}
 
 abbrev pub live_in : Table → List Target → List Target
 live_in t places = filter (λ x. is_some (at_number x.die.0 t.live)) places
@@ -146,7 +149,7 @@ module _ (g : Geometry) where
     page_found : claimed_page core id ≡ page
     page_found = ap (λ x. unwrap_or (option_map (λ (c : OpenClaim). c.page) x) 0) found
 
-    places_same : map (target_on core.page_map) (targets core page) ≡ places_in t page
+    places_same : map (target_on core.page_map) (targets 2 core.page_map page) ≡ places_in t page
     places_same = λ i. map (λ die. record { die = record { 0 = die }; slot = record { 0 = unwrap_or (erased_same g t o die i) 0 }; programmed = false })
         (targets_same g t o page i)
 
@@ -168,14 +171,14 @@ module _ (g : Geometry) where
           claims = sym (insert_listed nat_cmp_total nat_same t.claims id
               (record { page = page; reserved = Some (record { version = next_version kind t; targets = places_in t page }) }) o.claims) i;
         })
-        ∙ sym (ap (λ p. with_places p (map (target_on core.page_map) (targets core p))) page_found ∙ ap (with_places page) places_same)
+        ∙ sym (ap (λ p. with_places p (map (target_on core.page_map) (targets 2 core.page_map p))) page_found ∙ ap (with_places page) places_same)
 
     reserves_at_least : (seq : Seq) → first_that {R = ReserveRefused} (
         (nat_lt (length (targets_in g t page)) (min 2 (length t.live)), NoRoom) ∷ (min 2 (length t.live) == 0, NoDie)
         ∷ (t.last == 2 ^ 62 - 1, Spent) ∷ []) ≡ None → seq.0 ≡ t.last + 1
-        → Reserves core id (copies_asked core) kind payload (Ok seq) (core_of g (reserved_in id page kind payload t))
+        → Reserves core id (copies_asked 2 core.page_map) kind payload (Ok seq) (core_of g (reserved_in id page kind payload t))
     reserves_at_least seq free is = (
-      ap (λ p. reserve_refusal core p (copies_asked core)) page_found
+      ap (λ p. reserve_refusal core p (copies_asked 2 core.page_map)) page_found
           ∙ (λ i. first_that {R = ReserveRefused} (
           (nat_lt (length (targets_same g t o page i)) (asked_same g t o i), NoRoom) ∷ (asked_same g t o i == 0, NoDie)
           ∷ (t.last == 2 ^ 62 - 1, Spent) ∷ [])) ∙ free,
@@ -312,17 +315,17 @@ module _ (g : Geometry) where
       (ProgramsSlot slot.0 (Sealed page.0 version die slot.0 payload)) there refl refl
 
   pub ends_program : (t : Table) (v : World) (die : ℕ) (page : Page) (version : Version) (slot : Slot) → T (is_ordered t)
-      → T (is_ordered (program_done die slot.0 t)) → at_number die t.jobs ≡ Some (Program page version slot)
+      → T (is_ordered (program_done page.0 die slot.0 t)) → at_number die t.jobs ≡ Some (Program page version slot)
       → HasOutcome die (v.works die) DidProgram
-      → HappensEvent (at g t v) (Done die DidProgram) (at g (program_done die slot.0 t) (did die (Program page version slot) DidProgram v))
+      → HappensEvent (at g t v) (Done die DidProgram) (at g (program_done page.0 die slot.0 t) (did die (Program page version slot) DidProgram v))
   ends_program t v die page version slot ordered then_ordered there worked =
       let o = in_order t ordered in
-      let l = in_order (program_done die slot.0 t) then_ordered in
-      ends (at g t v) die (Program page version slot) DidProgram (core_of g (program_done die slot.0 t))
+      let l = in_order (program_done page.0 die slot.0 t) then_ordered in
+      ends (at g t v) die (Program page version slot) DidProgram (core_of g (program_done page.0 die slot.0 t))
       (get-from_sorted nat_cmp t.jobs die o.jobs ∙ there) refl worked
       (λ i. record (core_of g t) {
         jobs = sym (remove_listed nat_cmp_total nat_same t.jobs die o.jobs) i;
-        claims = sym (change_listed nat_cmp_total nat_same (λ id c. mark_claim die slot.0 c) t.claims o.claims l.claims) i;
+        claims = sym (change_listed nat_cmp_total nat_same (λ id c. if c.page == page.0 then mark_claim die slot.0 c else c) t.claims o.claims l.claims) i;
       })
 
   abbrev pub commit_refused : Table → List Target → Option CommitRefused

@@ -55,7 +55,7 @@ cell_in bytes die slot (Some used) = Broken
 abbrev pub written_in_turn : Geometry → (ℕ → List ℕ) → World
 written_in_turn geometry bytes = record {
   core = new_core 8 (eight_written geometry) (from_sorted (map (λ page. (page, page + 1)) eight));
-  images = λ die. record { seen = λ slot. cell_in bytes die slot (used_at (eight_written geometry) die slot) };
+  images = λ die. record { seen = λ slot. cell_in bytes die slot (used_at (eight_written geometry) die slot); header = None };
   works = λ die. None;
   plain = map bytes eight ++ replicate 56 (replicate geometry.page_bytes 0);
   payloads = λ page seq. bytes page;

@@ -40,7 +40,7 @@ second_plan = record {
 
 -- the headers of the mounted array are written, and the eight pages are admitted
 abbrev pub admission : List Happening
-admission = writes_header 0 1 ++ writes_header 1 1 ++ writes_header 2 1
+admission = writes_header 0 1 7 ++ writes_header 1 1 7 ++ writes_header 2 1 7
     ++ Event (Admit eight (Ok (record { batch = record { 0 = 0 }; planned = first_plan }))) ∷ []
 
 -- the reads of the first round, and those of the second, of which that of die 1 meets a fault
@@ -52,7 +52,7 @@ failure bytes =
 
 -- the headers of the dies that are left, of the next epoch, and the plan anew
 abbrev pub planning_anew : List Happening
-planning_anew = writes_header 0 2 ++ writes_header 2 2 ++ Event (Replan 0 (Ok second_plan)) ∷ []
+planning_anew = writes_header 0 2 5 ++ writes_header 2 2 5 ++ Event (Replan 0 (Ok second_plan)) ∷ []
 
 -- the reads that are left, in two rounds
 abbrev pub reading_on : (ℕ → List ℕ) → List Happening
@@ -94,7 +94,7 @@ pub record BatchOutlastsDie (geometry : Geometry) (bytes : ℕ → List ℕ) : T
   pub last : World
   pub ends : HappensEvent ready (EndBatch 0 (map (λ page. (page, bytes page)) eight)) last
   -- a later write of page 1, whose homes were dies 1 and 2, goes to dies 2 and 0
-  pub later : targets last.core 1 ≡ 2 ∷ 0 ∷ []
+  pub later : targets last.core.copies last.core.page_map 1 ≡ 2 ∷ 0 ∷ []
   pub writing : World
   pub writes : Run last (later_write bytes) writing
   pub reserved : option_map {T = Reservation} (λ r. map (λ t. t.die.0) r.targets) (reserved_under writing.core 0) ≡ Some (2 ∷ 0 ∷ [])

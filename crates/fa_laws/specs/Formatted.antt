@@ -38,7 +38,7 @@ new_core last m numbers = record {
 abbrev pub formatted : Geometry → World
 formatted geometry = record {
   core = new_core 0 (new_map geometry) empty;
-  images = λ die. record { seen = λ slot. Empty };
+  images = λ die. record { seen = λ slot. Empty; header = None };
   works = λ die. None;
   plain = replicate geometry.pages (replicate geometry.page_bytes 0);
   payloads = λ page seq. [];

@@ -42,7 +42,7 @@ writes_page page slot payload =
 -- both headers are written, and pages 0, 1 and 2, to slots 0, 1 and 2
 abbrev pub writing : (ℕ → List ℕ) → List Happening
 writing bytes =
-    writes_header 0 1 ++ writes_header 1 1
+    writes_header 0 1 3 ++ writes_header 1 1 3
     ++ writes_page 0 0 (bytes 0) ++ writes_page 1 1 (bytes 1) ++ writes_page 2 2 (bytes 2)
 
 -- the fourth write: a hole

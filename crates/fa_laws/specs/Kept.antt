@@ -1,11 +1,13 @@
 -- What single events keep, for the laws: how a die may go out, and which events change the live dies, the numbers of
 -- pages and the plain array.
-use Rattle.std.specs.Prelude.{◌≡◌, ℕ, Option, Some, None}
+use Rattle.std.specs.Prelude.{◌≡◌, ◌⊎◌, ◌+◌, ◌-◌, ℕ, Option, Some, None, Ok, nat_lt}
+use Rattle.std.specs.FinMap.{insert, remove}
+use Rattle.fa_machine.specs.Maps.{keep}
 use Rattle.fa_machine.specs.declared.jobs.Flight.{Flight}
 use Rattle.fa_machine.specs.declared.jobs.Flight.TheVariants.{Read}
 use Rattle.fa_machine.specs.Cells.{Outcome, DidRead, Fault, Wrong, payload_of}
 use Rattle.fa_machine.specs.State.{Core}
-use Rattle.fa_machine.specs.Step.{Act, Commit, Done, SpareIn}
+use Rattle.fa_machine.specs.Step.{Act, Advance, Commit, Done, SpareIn, Window}
 use Rattle.fa_machine.specs.World.{World}
 
 -- An outcome that takes a die out: a fault, a move's wrong slot, or a read that gave anything but the page asked for.
@@ -35,3 +37,14 @@ KeepsNumbers old act new = new.page_map.versions ≡ old.page_map.versions
 abbrev pub KeepsPlain : World → Act → World → Type 0
 KeepsPlain before (Commit claim seat answer) after = Unit {0}
 KeepsPlain before act after = after.plain ≡ before.plain
+
+-- A window comes by Window alone, and goes by an Advance past its last round, or with its die.
+abbrev pub KeepsWindows : Core → Act → Core → Type 0
+KeepsWindows old (Window die count (Ok first)) new =
+    new.calendar.windows ≡ insert old.calendar.windows die (record { first = first; last = record { 0 = first.0 + count - 1 } })
+KeepsWindows old (Advance (Ok round)) new =
+    new.calendar.windows ≡ keep (λ die window. nat_lt old.calendar.round window.last.0) old.calendar.windows
+KeepsWindows old (Done die outcome) new =
+    (new.calendar.windows ≡ old.calendar.windows)
+    ⊎ ((new.calendar.windows ≡ remove old.calendar.windows die) × (new.page_map.live ≡ remove old.page_map.live die))
+KeepsWindows old act new = new.calendar.windows ≡ old.calendar.windows

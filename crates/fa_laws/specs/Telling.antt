@@ -12,9 +12,9 @@ use Rattle.fa_machine.specs.World.{Accepted, GaveCell}
 use Rattle.fa_laws.specs.EightPages.{write_of}
 
 -- a die writes its header
-abbrev pub writes_header : (die epoch : ℕ) → List Happening
-writes_header die epoch =
-    Event (Take die 0 (Some (handed (Header epoch)))) ∷ ImageCall die Accepted ∷ Event (Done die DidWriteHeader) ∷ []
+abbrev pub writes_header : (die epoch live : ℕ) → List Happening
+writes_header die epoch live =
+    Event (Take die 0 (Some (handed (Header epoch live)))) ∷ ImageCall die Accepted ∷ Event (Done die DidWriteHeader) ∷ []
 
 -- the read of a page for the batch, from a slot
 abbrev pub read_of_page : (page slot : ℕ) → Handed

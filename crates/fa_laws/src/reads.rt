@@ -1,5 +1,6 @@
 //! What batches are answered, over every run.
-ghost use Rattle.std.specs.Prelude.{◌≡◌, ℕ, List, Some};
+ghost use Rattle.std.specs.Prelude.{◌≡◌, ℕ, Contains, List, Some};
+ghost use Rattle.std.specs.FinMap.{get};
 ghost use Rattle.std.specs.List.{AllByRecursion};
 ghost use Rattle.fa_types.specs.declared.numbers.Page.{Page};
 ghost use Rattle.fa_types.specs.declared.numbers.Slot.{Slot};
@@ -13,7 +14,7 @@ ghost use Rattle.fa_machine.specs.Cells.{Cell, DidRead, payload_of};
 ghost use Rattle.fa_machine.specs.Run.{Happening, Happens, HappensEvent, ReadsRight, Run};
 ghost use Rattle.fa_machine.specs.Step.{Act, Done, Take};
 ghost use Rattle.fa_machine.specs.Taking.{Handed};
-ghost use Rattle.fa_machine.specs.World.{World, plain_page};
+ghost use Rattle.fa_machine.specs.World.{Told, World, plain_page};
 
 /// In every run each page that an EndBatch answers has the plain array's page at the Take of the read whose Done gave
 /// the answer, and that Take was not before the batch's Admit; or it has zeros, where it was never written or is a hole.
@@ -33,4 +34,12 @@ pub fn a_read_gives_the_page_of_its_take()
         → Run taken_then happenings last → AllByRecursion (EndsNoJob die) happenings
         → HappensEvent last (Done die (DidRead cell)) after
         → payload_of page.0 version die slot.0 cell ≡ Some (plain_page w page.0) }
+{}
+
+/// What a read told for a page with a number is the bytes that were reserved for the page with that number. As long as the
+/// page has that number, it is what the plain array has of the page.
+pub fn what_was_told_is_the_numbers_bytes()
+    ensures reserved { (w : World) (t : Told) → IsReached w → Contains w.told t → t.bytes ≡ w.payloads t.page t.seq }
+    ensures plain { (w : World) (t : Told) (version : Version) → IsReached w → Contains w.told t
+        → get w.core.page_map.versions t.page ≡ Some version → version.seq.0 ≡ t.seq → t.bytes ≡ plain_page w t.page }
 {}

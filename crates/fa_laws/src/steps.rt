@@ -5,6 +5,7 @@ ghost use Rattle.std.specs.FinMap.{contains_key, get};
 ghost use Rattle.fa_types.specs.declared.numbers.Page.{Page};
 ghost use Rattle.fa_types.specs.declared.numbers.Round.{Round};
 ghost use Rattle.fa_types.specs.declared.numbers.Seq.{Seq};
+ghost use Rattle.fa_types.specs.Windows.{is_in_window};
 ghost use Rattle.fa_machine.specs.declared.jobs.CollectorStep.TheVariants.{EraseBlock};
 ghost use Rattle.fa_machine.specs.declared.jobs.Flight.TheVariants.{Header, Read};
 ghost use Rattle.fa_machine.specs.declared.ids.Block.{Block};
@@ -29,12 +30,12 @@ ghost use Rattle.fa_machine.specs.Placement.{homes};
 ghost use Rattle.fa_machine.specs.declared.ids.BatchId.{BatchId};
 ghost use Rattle.fa_machine.specs.declared.refusals.AdmitRefused.TheVariants.{Lost};
 ghost use Rattle.fa_types.specs.declared.numbers.Slot.{Slot};
-ghost use Rattle.fa_machine.specs.Reading.{Admitted, Admits, EndsBatch, Planned};
+ghost use Rattle.fa_machine.specs.Reading.{Admitted, Admits, EndsBatch, Planned, Replans};
 ghost use Rattle.fa_machine.specs.Conditions.{reserved_under};
-ghost use Rattle.fa_laws.specs.Kept.{IsFatal, KeepsLive, KeepsNumbers, KeepsPlain, KeepsSpares};
+ghost use Rattle.fa_laws.specs.Kept.{IsFatal, KeepsLive, KeepsNumbers, KeepsPlain, KeepsSpares, KeepsWindows};
 ghost use Rattle.fa_machine.specs.State.{Core, MapState, Reservation, dies_of, is_live, used_at};
 ghost use Rattle.fa_machine.specs.Step.{Abandon, Act, Admit, Commit, CommitCopy, Does, Done, Replan, Step};
-ghost use Rattle.fa_machine.specs.Taking.{Handed, Takes, read_job};
+ghost use Rattle.fa_machine.specs.Taking.{Handed, Takes, mask_of, read_job};
 ghost use Rattle.fa_machine.specs.Turning.{Advances, BringsIn, TakesWindow, is_round_pending};
 ghost use Rattle.fa_machine.specs.Writing.{Reserves, claimed_page, live_targets};
 
@@ -53,6 +54,12 @@ pub fn admit_takes_no_window()
         } }
 {}
 
+/// A plan anew changes bookings alone: windows stay, and so do the answers that the batch has.
+pub fn a_plan_anew_changes_bookings_alone()
+    ensures { (old new : Core) (batch : ℕ) (planned : Planned) → Replans old batch (Ok planned) new
+        → new ≡ record old { calendar = record (old.calendar) { bookings = new.calendar.bookings } } }
+{}
+
 /// A window begins after the current round.
 pub fn no_window_starts_now()
     ensures { (old new : Core) (die count : ℕ) (first : Round) → TakesWindow old die count (Ok first) new
@@ -62,7 +69,7 @@ pub fn no_window_starts_now()
 /// A die whose header is behind takes no other job.
 pub fn a_header_that_is_behind_comes_first()
     ensures { (old new : Core) (die seat : ℕ) (job : Handed) → contains_key old.behind die ≡ true
-        → Takes old die seat (Some job) new → job.flight ≡ Header old.epoch }
+        → Takes old die seat (Some job) new → job.flight ≡ Header old.epoch (mask_of old.page_map) }
 {}
 
 /// The collector erases no block with a reserved slot.
@@ -89,6 +96,11 @@ pub fn the_geometry_is_kept()
 /// Which spares there are changes by SpareIn alone.
 pub fn spares_are_kept()
     ensures { (old new : Core) (act : Act) → Step old act new → KeepsSpares old act new }
+{}
+
+/// A window comes by Window alone. It goes by an Advance past its last round, or with its die as a job of the die ends.
+pub fn windows_are_kept()
+    ensures { (old new : Core) (act : Act) → Step old act new → KeepsWindows old act new }
 {}
 
 /// The numbers of pages change by Commit alone.
@@ -176,6 +188,14 @@ pub fn no_dead_die_is_planned()
         → AllByRecursion (λ x. is_live old.page_map x.die.0 ≡ true) admitted.planned.places }
     ensures replan { (old new : Core) (batch : ℕ) (planned : Planned) → Does old (Replan batch (Ok planned)) new
         → AllByRecursion (λ x. is_live old.page_map x.die.0 ≡ true) planned.places }
+{}
+
+/// No read that an admission or a plan anew books is in a window of its die.
+pub fn no_window_is_planned()
+    ensures admit { (old new : Core) (pages : List ℕ) (admitted : Admitted) → Does old (Admit pages (Ok admitted)) new
+        → AllByRecursion (λ x. is_in_window (get old.calendar.windows x.die.0) x.round.0 ≡ false) admitted.planned.places }
+    ensures replan { (old new : Core) (batch : ℕ) (planned : Planned) → Does old (Replan batch (Ok planned)) new
+        → AllByRecursion (λ x. is_in_window (get old.calendar.windows x.die.0) x.round.0 ≡ false) planned.places }
 {}
 
 /// A batch is refused for a lost page only where the page was written and no live die holds it.

@@ -1,1 +1,5 @@
+pub mod Lists
 pub mod Maps
+pub mod Orders
+pub mod Takes
+pub mod Values

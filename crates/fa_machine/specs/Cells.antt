@@ -1,5 +1,7 @@
 -- What stands in a slot of an image, and how a job on a die can end.
 use Rattle.std.specs.Prelude.{ℕ, Bool, true, false, ◌==◌, ◌&&◌, cond, List, Option, Some, None}
+use Rattle.fa_types.specs.declared.kind.Kind.{Kind}
+use Rattle.fa_types.specs.declared.kind.Kind.TheVariants.{Data, Hole}
 use Rattle.fa_machine.specs.declared.jobs.Flight.{Flight}
 use Rattle.fa_machine.specs.declared.jobs.Flight.TheVariants.{Header, Move, Erase, Read, Program, Sync}
 use Rattle.fa_machine.specs.declared.places.Version.{Version}
@@ -15,6 +17,17 @@ abbrev pub payload_of : ℕ → Version → ℕ → ℕ → Cell → Option (Lis
 payload_of page version die slot (Sealed p v d s payload) =
     cond (p == page && v.seq.0 == version.seq.0 && d == die && s == slot) (Some payload) None
 payload_of page version die slot cell = None
+
+abbrev pub is_same_kind : Kind → Kind → Bool
+is_same_kind Data Data = true
+is_same_kind Hole Hole = true
+is_same_kind kind other = false
+
+-- The payload of a cell that a move may copy: its tag is this page, number, die and slot, and says the same kind.
+abbrev pub moved_payload : ℕ → Version → ℕ → ℕ → Cell → Option (List ℕ)
+moved_payload page version die slot (Sealed p v d s payload) =
+    cond (is_same_kind v.kind version.kind) (payload_of page version die slot (Sealed p v d s payload)) None
+moved_payload page version die slot cell = None
 
 pub data Outcome : Type 0 where
   -- a read gave what stands in the slot
@@ -37,6 +50,6 @@ is_of_kind (Program page version slot) DidProgram = true
 is_of_kind (Move page version from to) DidMove = true
 is_of_kind (Move page version from to) Wrong = true
 is_of_kind (Erase block) DidErase = true
-is_of_kind (Header epoch) DidWriteHeader = true
+is_of_kind (Header epoch live) DidWriteHeader = true
 is_of_kind (Sync flushes) DidSync = true
 is_of_kind flight outcome = false

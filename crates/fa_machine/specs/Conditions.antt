@@ -1,7 +1,7 @@
 -- The tests of what is open, by which a caller keeps the conditions of the events, and the first refusal that
 -- applies. Also how a die goes out.
-use Rattle.std.specs.Prelude.{ℕ, ◌+◌, Bool, cond, not, ◌==◌, List}
-use Rattle.std.specs.Prelude.{[], ◌∷◌, length, nat_le, filter, Option, Some, None, is_some, option_and_then}
+use Rattle.std.specs.Prelude.{◌≡◌, ℕ, ◌+◌, Bool, cond, not, ◌==◌, List}
+use Rattle.std.specs.Prelude.{[], ◌∷◌, length, nat_le, filter, Option, Some, None, is_some, unwrap_or, option_and_then}
 use Rattle.std.specs.FinMap.{remove, contains_key, get}
 use Rattle.fa_machine.specs.Maps.{keep}
 use Rattle.fa_machine.specs.State.{Core, Reservation}
@@ -49,3 +49,7 @@ history_full core = nat_le 65536 (length core.history)
 abbrev pub first_that : {R : Type 0} → List (Bool × R) → Option R
 first_that [] = None
 first_that (refusal ∷ refusals) = cond refusal.0 (Some refusal.1) (first_that refusals)
+
+-- The refusal of a call that takes memory: the first that applies, and where none does it is the one for want of memory.
+abbrev pub Refuses : {R : Type 0} → Option R → R → R → Type 0
+Refuses why no_memory refused = refused ≡ unwrap_or why no_memory

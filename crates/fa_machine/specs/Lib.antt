@@ -1,3 +1,4 @@
+pub mod Among
 pub mod Beginning
 pub mod Cells
 pub mod Collecting

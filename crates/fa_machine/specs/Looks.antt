@@ -18,15 +18,16 @@ wants_window m die = is_live m die && nat_lt (room m die) m.geometry.slots && is
 
 -- the lowest thin page that has a place to go, and that place
 abbrev pub next_thin : Core → Option (ℕ × ℕ)
-next_thin core = option_and_then (λ page. option_map (λ die. (page, die)) (copy_place core page))
-    (find (λ page. is_thin core page && is_some (copy_place core page)) (below core.page_map.geometry.pages))
+next_thin core = option_and_then (λ page. option_map (λ die. (page, die)) (copy_place core.copies core.page_map page))
+    (find (λ page. is_thin core.copies core.page_map page && is_some (copy_place core.copies core.page_map page))
+    (below core.page_map.geometry.pages))
 
 -- a job, a claim, a batch or a copy is open
 abbrev pub is_busy : Core → Bool
 is_busy core = nat_lt 0 (len core.jobs + len core.claims + len core.batches) || copy_open core
 
 abbrev pub kind_of : Flight → JobKind
-kind_of (Header epoch) = HeaderJob
+kind_of (Header epoch live) = HeaderJob
 kind_of (Move page version from to) = MoveJob
 kind_of (Erase block) = EraseJob
 kind_of (Read batch page version slot) = ReadJob

@@ -1,11 +1,12 @@
 -- The events of readers: Admit, Replan, EndBatch; and how a batch stands.
 use Rattle.std.specs.Option.{option_map_or}
-use Rattle.std.specs.Prelude.{◌≡◌, ℕ, ◌+◌, ◌-◌, ◌^◌, ◌<◌, ◌≤◌, Bool, true, false, not, ◌==◌, ◌&&◌, ◌||◌, nat_lt, if◌then◌else◌, List, []}
+use Rattle.std.specs.Prelude.{◌≡◌, ℕ, ◌-◌, ◌^◌, Bool, true, false, not, ◌==◌, ◌&&◌, ◌||◌, nat_lt, if◌then◌else◌, List, []}
 use Rattle.std.specs.Prelude.{Option, Some, None, option_map, unwrap_or, Result, Ok, Err}
-use Rattle.std.specs.Prelude.{map, filter, fold, find, filter_map, count_by, replicate}
+use Rattle.std.specs.Prelude.{map, filter, fold, find, filter_map, replicate}
 use Rattle.std.specs.List.{list_any, list_all}
 use Rattle.std.specs.FinMap.{empty, insert, remove, contains_key, get, values}
-use Rattle.fa_types.specs.Open.{max_closed}
+use Rattle.fa_types.specs.Open.{FewClosed}
+use Rattle.fa_types.specs.Windows.{IsFull}
 use Rattle.fa_types.specs.declared.numbers.Page.{Page}
 use Rattle.fa_batch.specs.Batch.{Entry}
 use Rattle.fa_batch.specs.Certificate.{IsCertificate}
@@ -23,7 +24,7 @@ use Rattle.fa_machine.specs.declared.refusals.AdmitRefused.{AdmitRefused}
 use Rattle.fa_machine.specs.declared.refusals.AdmitRefused.TheVariants.{Lost, CalendarFull, Spent, NoMemory}
 use Rattle.fa_machine.specs.Copies.{holders, is_lost}
 use Rattle.fa_machine.specs.Maps.{keep, insert_all}
-use Rattle.fa_machine.specs.Rounds.{is_closed, entries_of}
+use Rattle.fa_machine.specs.Rounds.{is_closed, is_taken_with}
 use Rattle.fa_machine.specs.State.{MapState, CalendarState, Core, OpenBatch}
 
 -- a plan with what shows that it is least
@@ -53,10 +54,6 @@ pub record IsPlanned (m : MapState) (calendar : CalendarState) (pages : List ℕ
   pub certificate : IsCertificate (entries_for m pages) calendar.round (is_closed m calendar) planned.rounds planned.places planned.shortage
   pub first : AreFirstRounds calendar.round (is_closed m calendar) planned.places
 
--- the entries of a die once the plan is booked
-abbrev pub entries_with : CalendarState → List Place → ℕ → ℕ
-entries_with calendar places die = entries_of calendar die + count_by (λ x. x.die.0 == die) places
-
 -- whether so few rounds are left that nothing is planned
 abbrev pub is_late : CalendarState → Bool
 is_late calendar = nat_lt (2 ^ 56 - 2 ^ 24) calendar.round
@@ -66,11 +63,11 @@ is_late calendar = nat_lt (2 ^ 56 - 2 ^ 24) calendar.round
 abbrev pub Plans : MapState → CalendarState → List ℕ → List ℕ → Result Planned AdmitRefused → Type 0
 Plans m calendar asked pages (Ok planned) =
     (find (is_lost m) asked ≡ None) × (is_late calendar ≡ false) × IsPlanned m calendar pages planned
-    × ((die : ℕ) → entries_with calendar planned.places die ≤ max_closed)
+    × FewClosed calendar.round (is_taken_with calendar planned.places)
 Plans m calendar asked pages (Err (Lost page)) = find (is_lost m) asked ≡ Some page.0
 Plans m calendar asked pages (Err CalendarFull) =
     (find (is_lost m) asked ≡ None) × (is_late calendar ≡ false) × ((planned : Planned) × IsPlanned m calendar pages planned
-    × ((die : ℕ) × (max_closed < entries_with calendar planned.places die)))
+    × ((die : ℕ) × IsFull calendar.round (is_taken_with calendar planned.places die) 0))
 Plans m calendar asked pages (Err Spent) = (find (is_lost m) asked ≡ None) × (is_late calendar ≡ true)
 Plans m calendar asked pages (Err NoMemory) = (find (is_lost m) asked ≡ None) × (is_late calendar ≡ false)
 

@@ -1,7 +1,10 @@
--- Which rounds of a die are closed, and how many entries its calendar has.
-use Rattle.std.specs.Prelude.{ℕ, ◌+◌, Bool, not, ◌==◌, ◌||◌, count_by}
-use Rattle.std.specs.FinMap.{get, contains_key, keys}
-use Rattle.fa_types.specs.Windows.{is_in_window, window_rounds}
+-- Which rounds of a die are closed, and when its calendar has room.
+use Rattle.std.specs.Prelude.{ℕ, ◌+◌, ◌≤◌, Bool, not, ◌==◌, ◌&&◌, ◌||◌, List}
+use Rattle.std.specs.List.{list_any}
+use Rattle.std.specs.FinMap.{get, contains_key}
+use Rattle.fa_types.specs.Open.{rounds_that, max_closed}
+use Rattle.fa_types.specs.Windows.{is_in_window}
+use Rattle.fa_batch.specs.declared.plan.Place.{Place}
 use Rattle.fa_machine.specs.State.{MapState, CalendarState, is_live}
 
 -- A round of a die is closed where it is booked or in the die's window. That is all that a calendar knows.
@@ -12,7 +15,10 @@ is_taken calendar die round = contains_key calendar.bookings (die, round) || is_
 abbrev pub is_closed : MapState → CalendarState → ℕ → ℕ → Bool
 is_closed m calendar die round = not (is_live m die) || is_taken calendar die round
 
--- the entries of a die: its booked rounds, and the rounds of its window that have not passed
-abbrev pub entries_of : CalendarState → ℕ → ℕ
-entries_of calendar die =
-    count_by (λ place. place.0 == die) (keys calendar.bookings) + window_rounds calendar.round (get calendar.windows die)
+-- whether a round of a die is closed once the places of a plan are booked
+abbrev pub is_taken_with : CalendarState → List Place → ℕ → ℕ → Bool
+is_taken_with calendar places die round = is_taken calendar die round || list_any (λ x. x.die.0 == die && x.round.0 == round) places
+
+-- The entries of a die are its closed rounds from the current one on. With so many more they are no more than the most.
+abbrev pub HasRoomFor : CalendarState → ℕ → ℕ → Type 0
+HasRoomFor calendar die count = (n : ℕ) → rounds_that (is_taken calendar die) calendar.round n + count ≤ max_closed

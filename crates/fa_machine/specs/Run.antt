@@ -34,8 +34,8 @@ abbrev pub Run : World → List Happening → World → Type 0
 Run before [] after = after ≡ before
 Run before (happening ∷ happenings) after = (middle : World) × Happens before happening middle × Run middle happenings after
 
--- An answer of a page is what was due to it: the plain array's page at the Take of the read that gave it, or zeros
--- where it was answered at its admission. Neither was before the batch's admission.
+-- An answer of a page is what was due to it: the plain array's page at the Take of the read that gave it, or at the batch's
+-- admission where it was answered there. Neither was before the batch's admission.
 abbrev pub IsRightAnswer : World → ℕ → ℕ × List ℕ → Type 0
 IsRightAnswer w batch answer = (answer.1 ≡ (w.values batch answer.0).bytes) × (w.admitted batch ≤ (w.values batch answer.0).since)
 

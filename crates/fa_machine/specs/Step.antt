@@ -100,9 +100,9 @@ allowed core act = true
 abbrev pub Does : Core → Act → Core → Type 0
 Does old (Claim page answer) new = Claims old page answer new
 Does old (Release claim) new = new ≡ record old { claims = remove old.claims claim }
-Does old (Reserve claim payload answer) new = Reserves old claim (copies_asked old) Data payload answer new
-Does old (ReserveHole claim answer) new = Reserves old claim (copies_asked old) Hole (zeros old.page_map) answer new
-Does old (ReserveFewer claim payload answer) new = Reserves old claim (min 1 (copies_asked old)) Data payload answer new
+Does old (Reserve claim payload answer) new = Reserves old claim (copies_asked old.copies old.page_map) Data payload answer new
+Does old (ReserveHole claim answer) new = Reserves old claim (copies_asked old.copies old.page_map) Hole (zeros old.page_map) answer new
+Does old (ReserveFewer claim payload answer) new = Reserves old claim (min 1 (copies_asked old.copies old.page_map)) Data payload answer new
 Does old (Commit claim seat answer) new = Commits old claim seat (reserved_under old claim) answer new
 Does old (Abandon claim answer) new = Abandons old claim (reserved_under old claim) answer new
 Does old (Admit pages answer) new = Admits old pages answer new

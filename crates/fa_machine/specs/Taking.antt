@@ -1,6 +1,6 @@
 -- The events of dies: Take hands out the first job that applies, Done ends the job in flight.
-use Rattle.std.specs.Prelude.{◌≡◌, ℕ, ◌/◌, Bool, true, not, ◌==◌, ◌&&◌, ◌||◌, nat_lt, if◌then◌else◌, List, [], ◌∷◌, ◌++◌}
-use Rattle.std.specs.Prelude.{Option, Some, None, unwrap_or, option_and_then, option_map, map, find}
+use Rattle.std.specs.Prelude.{◌≡◌, ℕ, ◌+◌, ◌/◌, ◌^◌, Bool, true, not, ◌==◌, ◌&&◌, ◌||◌, nat_lt, if◌then◌else◌, List, [], ◌∷◌, ◌++◌}
+use Rattle.std.specs.Prelude.{Option, Some, None, unwrap_or, option_and_then, option_map, map, find, filter, fold}
 use Rattle.std.specs.List.{before_first, after_first}
 use Rattle.std.specs.Option.{option_map_or, option_or}
 use Rattle.std.specs.FinMap.{FinMap, insert, remove, contains_key, get}
@@ -21,7 +21,7 @@ use Rattle.fa_machine.specs.Conditions.{drop_die}
 use Rattle.fa_machine.specs.Copies.{copy_on, is_current, is_reserved_slot}
 use Rattle.fa_machine.specs.Maps.{place_cmp, keep, change}
 use Rattle.fa_types.specs.Windows.{is_in_window}
-use Rattle.fa_machine.specs.State.{Core, MapState, OpenBatch, OpenClaim, Reservation, WaitingProgram, is_live, used_at}
+use Rattle.fa_machine.specs.State.{Core, MapState, dies_of, OpenBatch, OpenClaim, Reservation, WaitingProgram, is_live, used_at}
 
 -- a job as it is handed out, with the payload of a program
 pub record Handed : Type 0 where
@@ -31,9 +31,13 @@ pub record Handed : Type 0 where
 abbrev pub handed : Flight → Handed
 handed flight = record { flight = flight; payload = [] }
 
--- a header that is behind
+-- the live dies as a header tells them: bit d stands for die d
+abbrev pub mask_of : MapState → ℕ
+mask_of m = fold (λ mask die. mask + 2 ^ die) 0 (filter (is_live m) (dies_of m))
+
+-- a header that is behind: it is to tell this epoch and these live dies
 abbrev pub header_job : Core → ℕ → Option Flight
-header_job core die = if contains_key core.behind die then Some (Header core.epoch) else None
+header_job core die = if contains_key core.behind die then Some (Header core.epoch (mask_of core.page_map)) else None
 
 -- a move of what the slot holds, to the lowest erased slot outside its block
 abbrev pub move_from : MapState → ℕ → ℕ → Option Used → Option Flight
@@ -145,10 +149,10 @@ abbrev pub mark_claim : ℕ → ℕ → OpenClaim → OpenClaim
 mark_claim die slot c =
     record c { reserved = option_map {T = Reservation} (λ r. record r { targets = map (mark die slot) r.targets }) c.reserved }
 
--- the reservation to which a slot belongs has its copy there
-abbrev pub program_ends : ℕ → ℕ → Core → Core
-program_ends die slot core = record core {
-  claims = change (λ id c. mark_claim die slot c) core.claims;
+-- the reservation of the page to which a slot belongs has its copy there
+abbrev pub program_ends : ℕ → ℕ → ℕ → Core → Core
+program_ends page die slot core = record core {
+  claims = change (λ id c. if c.page == page then mark_claim die slot c else c) core.claims;
   copying = option_map {T = Copying} (λ c. record c { target = mark die slot c.target }) core.copying;
 }
 
@@ -173,10 +177,10 @@ erase_ends die block core = with_used (keep (stays core.page_map die block) core
 abbrev pub finished : ℕ → Flight → Outcome → Core → Core
 finished die (Read batch page version slot) (DidRead cell) core =
     read_ends die batch.0 page.0 (payload_of page.0 version die slot.0 cell) core
-finished die (Program page version slot) DidProgram core = program_ends die slot.0 core
+finished die (Program page version slot) DidProgram core = program_ends page.0 die slot.0 core
 finished die (Move page version from to) DidMove core = stepped_on die (move_ends die page.0 version from.0 to.0 core)
 finished die (Erase block) DidErase core = stepped_on die (erase_ends die block.0 core)
-finished die (Header epoch) DidWriteHeader core = if epoch == core.epoch then record core { behind = remove core.behind die } else core
+finished die (Header epoch live) DidWriteHeader core = if epoch == core.epoch then record core { behind = remove core.behind die } else core
 finished die (Sync flushes) DidSync core = record core { synced = insert core.synced die flushes }
 finished die flight (Fault call) core = drop_die die core
 finished die flight Wrong core = drop_die die core

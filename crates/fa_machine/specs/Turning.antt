@@ -5,9 +5,10 @@ use Rattle.std.specs.Prelude.{◌≡◌, ℕ, ◌+◌, ◌-◌, ◌^◌, Bool, t
 use Rattle.std.specs.Prelude.{Option, Some, None, is_none, is_some, Result, Ok, Err}
 use Rattle.std.specs.List.{list_any}
 use Rattle.std.specs.FinMap.{empty, insert, remove, contains_key, get, len}
-use Rattle.fa_types.specs.Open.{max_closed}
+use Rattle.fa_types.specs.declared.kind.Kind.{Kind}
+use Rattle.fa_types.specs.declared.kind.Kind.TheVariants.{Data, Hole}
 use Rattle.fa_types.specs.declared.numbers.Round.{Round}
-use Rattle.fa_types.specs.Windows.{is_in_window, IsFirstWindow}
+use Rattle.fa_types.specs.Windows.{is_in_window, IsFirstWindow, IsFull}
 use Rattle.fa_machine.specs.declared.answers.Copied.{Copied}
 use Rattle.fa_machine.specs.declared.answers.Copied.TheVariants.{Current, Late}
 use Rattle.fa_machine.specs.declared.jobs.Flight.{Flight}
@@ -27,33 +28,38 @@ use Rattle.fa_machine.specs.declared.refusals.SpareRefused.TheVariants.{NotSpare
 use Rattle.fa_machine.specs.declared.refusals.WindowRefused.{WindowRefused}
 use Rattle.fa_machine.specs.declared.refusals.WindowRefused.TheVariants.{Busy as WindowBusy, HasOne, NoMemory as WindowNoMemory}
 use Rattle.fa_machine.specs.Collecting.{victim}
-use Rattle.fa_machine.specs.Conditions.{copy_open, first_that}
+use Rattle.fa_machine.specs.Conditions.{copy_open, first_that, Refuses}
 use Rattle.fa_machine.specs.Maps.{keep}
 use Rattle.fa_machine.specs.Placement.{copy_place, is_thin}
-use Rattle.fa_machine.specs.Reading.{is_late}
-use Rattle.fa_machine.specs.Rounds.{entries_of, is_closed}
-use Rattle.fa_machine.specs.State.{Core, is_live, dies_of}
+use Rattle.fa_machine.specs.Reading.{is_late, zeros}
+use Rattle.fa_machine.specs.Rounds.{is_closed, is_taken, HasRoomFor}
+use Rattle.fa_machine.specs.State.{Core, MapState, is_live, dies_of}
 use Rattle.fa_machine.specs.Writing.{program_at, target_on, with_targets}
 
--- Why a die takes no window: it is not live, its calendar has no room for so many rounds, or too few rounds are left;
--- or it has one that has not passed.
-abbrev pub window_refusal : Core → ℕ → ℕ → Option WindowRefused
-window_refusal core die count = first_that (
-    (not (is_live core.page_map die) || nat_lt max_closed (entries_of core.calendar die + count) || is_late core.calendar, WindowBusy)
-    ∷ (contains_key core.calendar.windows die, HasOne) ∷ [])
+-- A die may have a window of so many rounds: it is live, rounds are left, and its calendar has room for them.
+pub record MayHaveWindow (core : Core) (die count : ℕ) : Type 0 where
+  pub live : is_live core.page_map die ≡ true
+  pub early : is_late core.calendar ≡ false
+  pub room : HasRoomFor core.calendar die count
 
--- Window: the first run of so many open rounds after the current one is the die's window.
+-- Window: the first run of so many open rounds after the current one is the die's window. It is Busy where the die may have
+-- none, and HasOne where one of the die has not passed.
 abbrev pub TakesWindow : Core → ℕ → ℕ → Result Round WindowRefused → Core → Type 0
 TakesWindow old die count (Ok first) new =
-    (window_refusal old die count ≡ None)
+    MayHaveWindow old die count × (contains_key old.calendar.windows die ≡ false)
     × IsFirstWindow old.calendar.round (is_closed old.page_map old.calendar die) count first.0
     × (new ≡ record old {
       calendar = record (old.calendar) {
         windows = insert old.calendar.windows die (record { first = first; last = record { 0 = first.0 + count - 1 } });
       };
     })
-TakesWindow old die count (Err WindowNoMemory) new = (window_refusal old die count ≡ None) × (new ≡ old)
-TakesWindow old die count (Err refused) new = (window_refusal old die count ≡ Some refused) × (new ≡ old)
+TakesWindow old die count (Err WindowBusy) new =
+    (is_live old.page_map die ≡ true → is_late old.calendar ≡ false → IsFull old.calendar.round (is_taken old.calendar die) count)
+    × (new ≡ old)
+TakesWindow old die count (Err HasOne) new =
+    MayHaveWindow old die count × (contains_key old.calendar.windows die ≡ true) × (new ≡ old)
+TakesWindow old die count (Err WindowNoMemory) new =
+    MayHaveWindow old die count × (contains_key old.calendar.windows die ≡ false) × (new ≡ old)
 
 abbrev pub is_reading : Option Flight → Bool
 is_reading (Some (Read batch page version slot)) = true
@@ -111,16 +117,22 @@ abbrev pub has_number : ℕ → Option Version → Bool
 has_number seq version = option_map_or (λ v. v.seq.0 == seq) version false
 
 abbrev pub reserve_copy_refusal : Core → ℕ → ℕ → Option ReserveCopyRefused
-reserve_copy_refusal core page seq = first_that ((not (is_thin core page && has_number seq (get core.page_map.versions page)), Gone)
-    ∷ (is_none (copy_place core page), NoRoom)
+reserve_copy_refusal core page seq = first_that (
+    (not (is_thin core.copies core.page_map page && has_number seq (get core.page_map.versions page)), Gone)
+    ∷ (is_none (copy_place core.copies core.page_map page), NoRoom)
     ∷ (copy_open core, CopyBusy) ∷ [])
+
+-- what a copy of a write programs: a hole's is zeros
+abbrev pub copied_payload : MapState → Kind → List ℕ → List ℕ
+copied_payload m Data payload = payload
+copied_payload m Hole payload = zeros m
 
 -- the state in which one more copy of a page is under way to a die
 abbrev pub copying_to : Core → ℕ → List ℕ → Option Version → Option ℕ → Core
 copying_to core page payload (Some version) (Some die) =
     let t = target_on core.page_map die in record core {
       page_map = with_targets Reserved (t ∷ []) core.page_map;
-      waiting = core.waiting ++ program_at page version payload t ∷ [];
+      waiting = core.waiting ++ program_at page version (copied_payload core.page_map version.kind payload) t ∷ [];
       copying = Some (record { page = record { 0 = page }; version = version; target = t });
     }
 copying_to core page payload version die = core
@@ -128,9 +140,9 @@ copying_to core page payload version die = core
 -- ReserveCopy: a slot for one more copy of a thin page, and its program.
 abbrev pub ReservesCopy : Core → ℕ → ℕ → List ℕ → Result (Unit {0}) ReserveCopyRefused → Core → Type 0
 ReservesCopy old page seq payload (Ok done) new =
-    (reserve_copy_refusal old page seq ≡ None) × (new ≡ copying_to old page payload (get old.page_map.versions page) (copy_place old page))
-ReservesCopy old page seq payload (Err CopyNoMemory) new = (reserve_copy_refusal old page seq ≡ None) × (new ≡ old)
-ReservesCopy old page seq payload (Err refused) new = (reserve_copy_refusal old page seq ≡ Some refused) × (new ≡ old)
+    (reserve_copy_refusal old page seq ≡ None)
+    × (new ≡ copying_to old page payload (get old.page_map.versions page) (copy_place old.copies old.page_map page))
+ReservesCopy old page seq payload (Err refused) new = Refuses (reserve_copy_refusal old page seq) CopyNoMemory refused × (new ≡ old)
 
 abbrev pub commit_copy_refusal : Core → Copying → Option CommitCopyRefused
 commit_copy_refusal core c = first_that ((is_live core.page_map c.target.die.0 && not c.target.programmed, CopyPending)

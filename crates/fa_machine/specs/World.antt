@@ -7,7 +7,7 @@ use Rattle.fa_types.specs.Plain.{put}
 use Rattle.fa_machine.specs.declared.jobs.Flight.{Flight}
 use Rattle.fa_machine.specs.declared.jobs.Flight.TheVariants.{Header, Move, Erase, Read, Program, Sync}
 use Rattle.fa_machine.specs.Cells.{Cell, Empty, Sealed, Outcome, DidRead, DidProgram}
-use Rattle.fa_machine.specs.Cells.{DidMove, DidErase, DidWriteHeader, DidSync, Fault, Wrong, payload_of}
+use Rattle.fa_machine.specs.Cells.{DidMove, DidErase, DidWriteHeader, DidSync, Fault, Wrong, payload_of, moved_payload}
 use Rattle.fa_machine.specs.Reading.{at_once, zeros}
 use Rattle.fa_machine.specs.State.{Core}
 use Rattle.fa_machine.specs.Step.{Act, Reserve, ReserveHole, ReserveFewer, Commit, Admit, Take, Done, ReserveCopy}
@@ -19,7 +19,7 @@ pub data JobCall : Type 0 where
   ReadsSlot : (slot : ℕ) → JobCall
   ProgramsSlot : (slot : ℕ) (cell : Cell) → JobCall
   ErasesBlock : (block : ℕ) → JobCall
-  WritesHeader : JobCall
+  WritesHeader : (epoch live : ℕ) → JobCall
   Syncs : JobCall
 
 pub data Gave : Type 0 where
@@ -32,11 +32,11 @@ abbrev pub number_of_call : JobCall → ℕ
 number_of_call (ReadsSlot slot) = 1
 number_of_call (ProgramsSlot slot cell) = 2
 number_of_call (ErasesBlock block) = 3
-number_of_call WritesHeader = 5
+number_of_call (WritesHeader epoch live) = 5
 number_of_call Syncs = 6
 
 abbrev pub first_call : ℕ → Flight → List ℕ → JobCall
-first_call die (Header epoch) payload = WritesHeader
+first_call die (Header epoch live) payload = WritesHeader epoch live
 first_call die (Move page version from to) payload = ReadsSlot from.0
 first_call die (Erase block) payload = ErasesBlock block.0
 first_call die (Read batch page version slot) payload = ReadsSlot slot.0
@@ -46,7 +46,7 @@ first_call die (Sync flushes) payload = Syncs
 -- a move that read the slot that was asked for programs the same page, number and kind into its new slot
 abbrev pub second_call : ℕ → Flight → Cell → Option JobCall
 second_call die (Move page version from to) cell =
-    option_map (λ payload. ProgramsSlot to.0 (Sealed page.0 version die to.0 payload)) (payload_of page.0 version die from.0 cell)
+    option_map (λ payload. ProgramsSlot to.0 (Sealed page.0 version die to.0 payload)) (moved_payload page.0 version die from.0 cell)
 second_call die flight cell = None
 
 -- a job in flight, and what its calls gave so far
@@ -65,23 +65,30 @@ outcome_of die flight payload (Refused ∷ []) = Some (Fault (number_of_call (fi
 outcome_of die flight payload (GaveCell cell ∷ Accepted ∷ []) = Some DidMove
 outcome_of die flight payload (GaveCell cell ∷ Refused ∷ []) = Some (Fault 2)
 outcome_of die (Move page version from to) payload (GaveCell cell ∷ []) =
-    cond (is_some (payload_of page.0 version die from.0 cell)) None (Some Wrong)
+    cond (is_some (moved_payload page.0 version die from.0 cell)) None (Some Wrong)
 outcome_of die (Read batch page version slot) payload (GaveCell cell ∷ []) = Some (DidRead cell)
 outcome_of die (Program page version slot) payload (Accepted ∷ []) = Some DidProgram
 outcome_of die (Erase block) payload (Accepted ∷ []) = Some DidErase
-outcome_of die (Header epoch) payload (Accepted ∷ []) = Some DidWriteHeader
+outcome_of die (Header epoch live) payload (Accepted ∷ []) = Some DidWriteHeader
 outcome_of die (Sync flushes) payload (Accepted ∷ []) = Some DidSync
 outcome_of die flight payload gave = None
 
--- an image: what reads of its slots give
+-- what a header tells that a job wrote: the epoch and the live dies, and no clean mark
+pub record HeaderTells : Type 0 where
+  pub epoch : ℕ
+  pub live : ℕ
+
+-- An image: what reads of its slots give, and its header, where a job wrote it. What a header that no job wrote tells is of
+-- no use here.
 pub record DieImage : Type 0 where
   pub seen : ℕ → Cell
+  pub header : Option HeaderTells
 
 abbrev pub with_cell : ℕ → Cell → DieImage → DieImage
 with_cell slot cell image = record image { seen = λ s. if s == slot then cell else image.seen s }
 
--- Calls of an image that is honest. A refused program or erase may leave anything in what it was writing. A header, a sync
--- and a refused read change nothing that is seen.
+-- Calls of an image that is honest. A refused program, erase or header may leave anything in what it was writing. A sync and a
+-- refused read change nothing.
 abbrev pub Calls : (ℕ → ℕ → Bool) → JobCall → Gave → DieImage → DieImage → Type 0
 Calls is_of (ReadsSlot slot) (GaveCell cell) before after = (cell ≡ before.seen slot) × (after ≡ before)
 Calls is_of (ReadsSlot slot) Accepted before after = ⊥
@@ -92,6 +99,9 @@ Calls is_of (ErasesBlock block) Accepted before after =
     after ≡ record before { seen = λ slot. if is_of block slot then Empty else before.seen slot }
 Calls is_of (ErasesBlock block) Refused before after =
     (left : ℕ → Cell) × (after ≡ record before { seen = λ slot. if is_of block slot then left slot else before.seen slot })
+Calls is_of (WritesHeader epoch live) Accepted before after =
+    after ≡ record before { header = Some (record { epoch = epoch; live = live }) }
+Calls is_of (WritesHeader epoch live) Refused before after = (left : Option HeaderTells) × (after ≡ record before { header = left })
 Calls is_of call gave before after = after ≡ before
 
 -- the bytes that a read is to give, and the moment of its Take
@@ -145,7 +155,7 @@ told_at_once core pages = filter_map
 -- a batch: what its pages that are answered at once are due, from this moment on
 abbrev pub with_batch : ℕ → List ℕ → World → World
 with_batch batch pages w = record w {
-  values = fold (λ values page. with_value_at batch page (record { bytes = zeros w.core.page_map; since = w.moment }) values)
+  values = fold (λ values page. with_value_at batch page (record { bytes = plain_page w page; since = w.moment }) values)
       w.values (at_once w.core.page_map pages);
   told = w.told ++ told_at_once w.core pages;
   admitted = with_value batch w.moment w.admitted;
@@ -183,9 +193,9 @@ followed (Take die seat (Some job)) w =
 followed (Done die outcome) w = record (with_end die (get w.core.jobs die) outcome w) { works = with_value die None w.works }
 followed act w = w
 
--- What an event owes to the world: a Done tells the outcome that its job's calls gave, and one more copy has bytes that
--- were answered by a read which started while the page had this number.
+-- What an event owes to the world: a Done tells the outcome that its job's calls gave, and one more copy that is reserved has
+-- bytes that were answered by a read which started while the page had this number.
 abbrev pub IsTold : World → Act → Type 0
 IsTold w (Done die outcome) = option_and_then (λ k. outcome_of die k.job.flight k.job.payload k.gave) (w.works die) ≡ Some outcome
-IsTold w (ReserveCopy page seq payload answer) = Contains w.told (record { page = page; seq = seq; bytes = payload })
+IsTold w (ReserveCopy page seq payload (Ok done)) = Contains w.told (record { page = page; seq = seq; bytes = payload })
 IsTold w act = Unit {0}

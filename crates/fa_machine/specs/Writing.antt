@@ -21,7 +21,7 @@ use Rattle.fa_machine.specs.declared.refusals.CommitRefused.{CommitRefused}
 use Rattle.fa_machine.specs.declared.refusals.CommitRefused.TheVariants.{Pending as CommitPending, Failed}
 use Rattle.fa_machine.specs.declared.refusals.ReserveRefused.{ReserveRefused}
 use Rattle.fa_machine.specs.declared.refusals.ReserveRefused.TheVariants.{NoRoom, NoDie, Spent, NoMemory}
-use Rattle.fa_machine.specs.Conditions.{first_that}
+use Rattle.fa_machine.specs.Conditions.{first_that, Refuses}
 use Rattle.fa_machine.specs.Maps.{change, insert_all}
 use Rattle.fa_machine.specs.Placement.{copies_asked, lowest_erased, targets}
 use Rattle.fa_machine.specs.State.{Core, MapState, Reservation, WaitingProgram, is_live}
@@ -61,7 +61,7 @@ with_reserved claim reserved core =
 abbrev pub reserved : ℕ → Kind → List ℕ → Core → Core
 reserved claim kind payload core =
     let page = claimed_page core claim in let version : Version = record { seq = record { 0 = core.last + 1 }; kind = kind } in
-    let places = map (target_on core.page_map) (targets core page) in
+    let places = map (target_on core.page_map) (targets core.copies core.page_map page) in
     with_reserved claim (Some (record { version = version; targets = places })) (record core {
       page_map = with_targets Reserved places core.page_map;
       last = core.last + 1;
@@ -71,16 +71,16 @@ reserved claim kind payload core =
 -- Why a number and slots are refused to a write that wants so many targets at least: too few live dies have room, no
 -- die is live, or 2^62 - 1 was given.
 abbrev pub reserve_refusal : Core → ℕ → ℕ → Option ReserveRefused
-reserve_refusal core page least = first_that ((nat_lt (length (targets core page)) least, NoRoom)
-    ∷ (copies_asked core == 0, NoDie)
+reserve_refusal core page least = first_that ((nat_lt (length (targets core.copies core.page_map page)) least, NoRoom)
+    ∷ (copies_asked core.copies core.page_map == 0, NoDie)
     ∷ (core.last == 2 ^ 62 - 1, Spent) ∷ [])
 
 -- Reserve, for a write that wants so many targets at least: the next number, a slot on each target, and a program for each.
 abbrev pub Reserves : Core → ℕ → ℕ → Kind → List ℕ → Result Seq ReserveRefused → Core → Type 0
 Reserves old claim least kind payload (Ok seq) new =
     (reserve_refusal old (claimed_page old claim) least ≡ None) × (seq.0 ≡ old.last + 1) × (new ≡ reserved claim kind payload old)
-Reserves old claim least kind payload (Err NoMemory) new = (reserve_refusal old (claimed_page old claim) least ≡ None) × (new ≡ old)
-Reserves old claim least kind payload (Err refused) new = (reserve_refusal old (claimed_page old claim) least ≡ Some refused) × (new ≡ old)
+Reserves old claim least kind payload (Err refused) new =
+    Refuses (reserve_refusal old (claimed_page old claim) least) NoMemory refused × (new ≡ old)
 
 -- those of some reserved slots whose die is live
 abbrev pub live_targets : Core → List Target → List Target

@@ -10,6 +10,8 @@ pub enum Flight {
     Header {
         /// The epoch in that header.
         epoch: u64,
+        /// The live dies in that header: bit `d` stands for die `d`.
+        live: u64,
     },
     /// The collector moves a copy.
     Move {

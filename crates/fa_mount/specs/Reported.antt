@@ -1,8 +1,8 @@
 -- The numbers of an array.
-use Rattle.std.specs.Prelude.{◌≡◌, ℕ, min, Bool, true, false, ◌&&◌, nat_lt, List, length, is_some, count_by}
+use Rattle.std.specs.Prelude.{◌≡◌, ℕ, Bool, true, false, List, is_some, count_by}
 use Rattle.std.specs.FinMap.{get, len}
-use Rattle.fa_machine.specs.Copies.{holders}
 use Rattle.fa_machine.specs.Maps.{below}
+use Rattle.fa_machine.specs.Placement.{is_thin}
 use Rattle.fa_machine.specs.State.{MapState}
 use Rattle.fa_headers.specs.declared.judging.Standing.{Standing}
 use Rattle.fa_headers.specs.declared.judging.Standing.TheVariants.{Spare}
@@ -14,11 +14,6 @@ is_spare standing = false
 
 abbrev pub is_written : MapState → ℕ → Bool
 is_written m page = is_some (get m.versions page)
-
--- A page has a current copy, fewer than it is to have, and fewer than there are live dies: it is thin, as the array's
--- machine has it.
-abbrev pub is_thin : ℕ → MapState → ℕ → Bool
-is_thin copies m page = let n = length (holders m page) in nat_lt 0 n && nat_lt n (min copies (len m.live))
 
 pub record IsReportOf (copies : ℕ) (m : MapState) (standings : List Standing) (report : Report) : Type 0 where
   pub dies : report.dies ≡ m.geometry.dies

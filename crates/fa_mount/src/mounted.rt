@@ -1,7 +1,8 @@
 //! An array as its images hold it, and its numbers.
 ghost use Rattle.std.specs.Prelude.{◌≡◌, ◌<◌, if◌then◌else◌, count_by};
 ghost use Rattle.fa_machine.specs.Maps.{below};
-ghost use Rattle.fa_mount.specs.Reported.{IsReportOf, is_spare as is_spare_die, is_thin as is_thin_page, is_written};
+ghost use Rattle.fa_machine.specs.Placement.{is_thin as is_thin_page};
+ghost use Rattle.fa_mount.specs.Reported.{IsReportOf, is_spare as is_spare_die, is_written};
 
 use fa_headers::Standing;
 use fa_map::Map;

@@ -6,8 +6,10 @@ use Rattle.fa_laws.specs.Free.{is_free_window}
 use Rattle.fa_machine.specs.Copies.{is_lost}
 use Rattle.fa_machine.specs.Placement.{free}
 use Rattle.fa_machine.specs.Reading.{Admits, Admitted, IsPlanned, Planned, Plans, Replans, is_late, left_of, released, to_read}
-use Rattle.fa_machine.specs.State.{CalendarState, Core, MapState}
-use Rattle.fa_machine.specs.Turning.{ReservesCopy, TakesWindow, reserve_copy_refusal, window_refusal}
+use Rattle.fa_machine.specs.Rounds.{is_taken}
+use Rattle.fa_types.specs.Windows.{IsFull}
+use Rattle.fa_machine.specs.State.{CalendarState, Core, MapState, is_live}
+use Rattle.fa_machine.specs.Turning.{ReservesCopy, MayHaveWindow, TakesWindow, reserve_copy_refusal}
 use Rattle.fa_machine.specs.Writing.{Claims, Reserves, claimed_page, reserve_refusal}
 use Rattle.fa_machine.specs.declared.ids.ClaimId.{ClaimId}
 use Rattle.fa_types.specs.declared.kind.Kind.{Kind}
@@ -21,14 +23,14 @@ use Rattle.fa_machine.specs.declared.refusals.ReserveCopyRefused.TheVariants.{No
 use Rattle.fa_machine.specs.declared.refusals.ReserveRefused.{ReserveRefused}
 use Rattle.fa_machine.specs.declared.refusals.ReserveRefused.TheVariants.{NoMemory as ReserveNoMemory}
 use Rattle.fa_machine.specs.declared.refusals.WindowRefused.{WindowRefused}
-use Rattle.fa_machine.specs.declared.refusals.WindowRefused.TheVariants.{NoMemory as WindowNoMemory}
+use Rattle.fa_machine.specs.declared.refusals.WindowRefused.TheVariants.{Busy as WindowBusy, HasOne, NoMemory as WindowNoMemory}
 use Rattle.fa_types.specs.declared.numbers.Page.{Page}
 use Rattle.fa_types.specs.declared.numbers.Round.{Round}
 use Rattle.fa_types.specs.declared.numbers.Seq.{Seq}
-use Rattle.std.proofs.Common.{Bool, List, None, Option, Some, ap, arith, inl, inr, refl, subst, sym, true, ℕ, ◌+◌, ◌∙◌, ◌≡◌, ◌⊎◌}
+use Rattle.std.proofs.Common.{Bool, List, None, Option, Some, ap, arith, false, inl, inr, refl, subst, sym, true, ℕ, ◌+◌, ◌∙◌, ◌≡◌, ◌⊎◌}
 use Rattle.std.proofs.lemmas.Bool.{cases_order, false≢true}
 use Rattle.std.proofs.lemmas.Option.{none-some, same_Some}
-use Rattle.std.specs.Prelude.{Err, Ok, Result, find, if◌then◌else◌}
+use Rattle.std.specs.Prelude.{Err, Ok, Result, find, if◌then◌else◌, unwrap_or}
 use Rattle.fa_laws.proofs.answers.one_answer_but_for_what_is_free.Goals as goal
 
 abbrev CertificateLaw : Type 0
@@ -65,27 +67,27 @@ alike free agree o (Err r) (Err s) (inl memory) (inr refused) both = absurd (non
 alike free agree o (Err r) (Err s) (inr refused) (inl memory) both = absurd (none-some r (sym memory.1 ∙ refused))
 alike free agree o (Err r) (Err s) (inr refused) (inr other) both = inl (same_Some r s (sym refused ∙ other))
 
+-- a refusal where the first that applies is answered, and else the free one
+says_refused : {R : Type 0} (free : R → Bool) (o : Option R) (no_memory r : R) → free no_memory ≡ true → r ≡ unwrap_or o no_memory
+    → ((free r ≡ true) × (o ≡ None)) ⊎ (o ≡ Some r)
+says_refused free None no_memory r is e = inl (ap free e ∙ is, refl)
+says_refused free (Some s) no_memory r is e = inr (ap Some (sym e))
+
 reserve_says : (old new : Core) (claim least : ℕ) (kind : Kind) (payload : List ℕ) (a : Result Seq ReserveRefused)
     → Reserves old claim least kind payload a new → Says is_free_reserve (reserve_refusal old (claimed_page old claim) least) a
 reserve_says old new claim least kind payload (Ok seq) d = d.0
-reserve_says old new claim least kind payload (Err ReserveNoMemory) d = inl (refl, d.0)
-reserve_says old new claim least kind payload (Err refused) d = inr d.0
+reserve_says old new claim least kind payload (Err refused) d =
+    says_refused is_free_reserve (reserve_refusal old (claimed_page old claim) least) ReserveNoMemory refused refl d.0
 
 given_next : (old new : Core) (claim least : ℕ) (kind : Kind) (payload : List ℕ) (a : Result Seq ReserveRefused) (seq : Seq)
     → Reserves old claim least kind payload a new → a ≡ Ok seq → seq.0 ≡ old.last + 1
 given_next old new claim least kind payload a seq d is = (subst (λ b. Reserves old claim least kind payload b new) is d).1
 
-window_says : (old new : Core) (die count : ℕ) (a : Result Round WindowRefused) → TakesWindow old die count a new
-    → Says is_free_window (window_refusal old die count) a
-window_says old new die count (Ok first) d = d.0
-window_says old new die count (Err WindowNoMemory) d = inl (refl, d.0)
-window_says old new die count (Err refused) d = inr d.0
-
 first_window : (old new other : Core) (die count : ℕ) (a b : Result Round WindowRefused) (x y : Round) → TakesWindow old die count a new
     → TakesWindow old die count b other → a ≡ Ok x → b ≡ Ok y → x.0 ≡ y.0
 first_window old new other die count a b x y d e is too =
-    let f = (subst (λ r. TakesWindow old die count r new) is d).1 in
-    let g = (subst (λ r. TakesWindow old die count r other) too e).1 in
+    let f = (subst (λ r. TakesWindow old die count r new) is d).2 in
+    let g = (subst (λ r. TakesWindow old die count r other) too e).2 in
     elim (cases_order x.0 y.0) [
       | inl same ↦ same
       | inr apart ↦ elim apart [
@@ -94,11 +96,37 @@ first_window old new other die count a b x y d e is too =
       ]
     ]
 
+no_room : (old : Core) (die count : ℕ) → MayHaveWindow old die count
+    → (is_live old.page_map die ≡ true → is_late old.calendar ≡ false → IsFull old.calendar.round (is_taken old.calendar die) count) → ⊥
+no_room old die count may full =
+    let f = full may.live may.early in
+    let n = may.room f.0 in
+    let m = f.1 in
+    absurd (omega (arith, n, m))
+
+same_windows : (old new other : Core) (die count : ℕ) (a b : Result Round WindowRefused) → TakesWindow old die count a new → TakesWindow old die count b other
+    → AreAlike is_free_window (λ a b. a.0 ≡ b.0) a b
+same_windows old new other die count (Ok x) (Ok y) d e = first_window old new other die count (Ok x) (Ok y) x y d e refl refl
+same_windows old new other die count (Ok x) (Err WindowBusy) d e = absurd (no_room old die count d.0 e.0)
+same_windows old new other die count (Ok x) (Err HasOne) d e = absurd (false≢true (sym d.1 ∙ e.1))
+same_windows old new other die count (Ok x) (Err WindowNoMemory) d e = refl
+same_windows old new other die count (Err WindowBusy) (Ok y) d e = absurd (no_room old die count e.0 d.0)
+same_windows old new other die count (Err WindowBusy) (Err WindowBusy) d e = inl refl
+same_windows old new other die count (Err WindowBusy) (Err HasOne) d e = absurd (no_room old die count e.0 d.0)
+same_windows old new other die count (Err WindowBusy) (Err WindowNoMemory) d e = absurd (no_room old die count e.0 d.0)
+same_windows old new other die count (Err HasOne) (Ok y) d e = absurd (false≢true (sym e.1 ∙ d.1))
+same_windows old new other die count (Err HasOne) (Err WindowBusy) d e = absurd (no_room old die count d.0 e.0)
+same_windows old new other die count (Err HasOne) (Err HasOne) d e = inl refl
+same_windows old new other die count (Err HasOne) (Err WindowNoMemory) d e = absurd (false≢true (sym e.1 ∙ d.1))
+same_windows old new other die count (Err WindowNoMemory) (Ok y) d e = refl
+same_windows old new other die count (Err WindowNoMemory) (Err WindowBusy) d e = absurd (no_room old die count d.0 e.0)
+same_windows old new other die count (Err WindowNoMemory) (Err HasOne) d e = absurd (false≢true (sym d.1 ∙ e.1))
+same_windows old new other die count (Err WindowNoMemory) (Err WindowNoMemory) d e = inl refl
+
 copy_says : (old new : Core) (page seq : ℕ) (payload : List ℕ) (a : Result (Unit {0}) ReserveCopyRefused) → ReservesCopy old page seq payload a new
     → Says is_free_copy (reserve_copy_refusal old page seq) a
 copy_says old new page seq payload (Ok made) d = d.0
-copy_says old new page seq payload (Err CopyNoMemory) d = inl (refl, d.0)
-copy_says old new page seq payload (Err refused) d = inr d.0
+copy_says old new page seq payload (Err refused) d = says_refused is_free_copy (reserve_copy_refusal old page seq) CopyNoMemory refused refl d.0
 
 -- of a list the first lost page, or too few rounds left
 abbrev refusal_of : Option ℕ → Bool → Option AdmitRefused
@@ -168,9 +196,7 @@ returns c =
           (alike_planned law old.page_map old.calendar pages (to_read old.page_map pages) (plan_of a) (plan_of b) (admit_says old new pages a d) (admit_says old other pages b e));
       replan = λ old new other batch a b d e.
           alike_planned law old.page_map (released batch old.calendar) (left_of old batch) (left_of old batch) a b (replan_says old new batch a d) (replan_says old other batch b e);
-      window = λ old new other die count a b d e.
-          alike is_free_window (λ a b. a.0 ≡ b.0) (window_refusal old die count) a b (window_says old new die count a d) (window_says old other die count b e)
-          (λ x y is too. first_window old new other die count a b x y d e is too);
+      window = same_windows;
       copy = λ old new other page seq payload a b d e.
           alike is_free_copy (λ a b. Unit {0}) (reserve_copy_refusal old page seq) a b (copy_says old new page seq payload a d) (copy_says old other page seq payload b e)
           (λ x y is too. tt);

@@ -5,9 +5,9 @@ use Rattle.fa_laws.proofs.Scene.{Among}
 use Rattle.fa_laws.specs.Formatted.{admits_one, formatted, new_map}
 use Rattle.fa_machine.specs.Copies.{holders}
 use Rattle.fa_machine.specs.Maps.{insert_all, place_cmp}
-use Rattle.fa_machine.specs.Reading.{IsPlanned, answered, at_once, booked, entries_with, has_data, is_fresh, names_batch}
+use Rattle.fa_machine.specs.Reading.{IsPlanned, answered, at_once, booked, has_data, is_fresh, names_batch}
 use Rattle.fa_machine.specs.Reading.{released, to_read, zeros}
-use Rattle.fa_types.specs.Windows.{window_rounds}
+use Rattle.fa_types.specs.Windows.{is_in_window}
 use Rattle.fa_machine.specs.Run.{HappensEvent}
 use Rattle.fa_machine.specs.State.{CalendarState, Core, MapState, OpenBatch}
 use Rattle.fa_machine.specs.Step.{EndBatch}
@@ -16,9 +16,11 @@ use Rattle.fa_machine.specs.declared.jobs.Flight.{Flight}
 use Rattle.fa_machine.specs.declared.places.Booking.{Booking}
 use Rattle.fa_machine.specs.declared.places.Version.{Version}
 use Rattle.fa_types.specs.declared.window.Window.{Window as WindowOf}
-use Rattle.fa_types.specs.Open.{max_closed}
+use Rattle.fa_types.specs.Open.{FewClosed}
+use Rattle.fa_batch.proofs.Windows.{rounds_that-none}
+use Rattle.fa_machine.specs.Rounds.{is_taken_with}
 use Rattle.fa_types.specs.declared.geometry.Geometry.{Geometry}
-use Rattle.std.proofs.Common.{List, None, Some, [], ap, arith, cond, eq-eqb, inl, length, map, not, refl, subst, sym, true, ℕ, ◌<◌}
+use Rattle.std.proofs.Common.{List, None, Some, [], ap, arith, cond, eq-eqb, false, inl, length, map, not, refl, subst, sym, true, ℕ, ◌<◌}
 use Rattle.std.proofs.Common.{◌∙◌, ◌∷◌, ◌≡◌, ◌≤◌}
 use Rattle.std.proofs.lemmas.Bool.{and_from, false≢true, lt-ltb, not_from_false, or_from}
 use Rattle.std.proofs.lemmas.List.Elements.{All-nil}
@@ -26,7 +28,7 @@ use Rattle.std.specs.Cmp.{nat_cmp_total, unsigned_tied}
 use Rattle.std.specs.FinMap.{empty, entries, get, get-empty, insert, keys, len-empty, len-entries, remove}
 use Rattle.std.specs.List.{cons_option, list_any}
 use Rattle.std.specs.Ordering.{is_eq, nat_cmp}
-use Rattle.std.specs.Prelude.{count_by, is_some, option_map, replicate, unwrap_or, ◌&&◌, ◌==◌}
+use Rattle.std.specs.Prelude.{count_by, is_some, option_map, replicate, unwrap_or, ◌&&◌, ◌||◌, ◌==◌}
 use Rattle.std.specs.declared.cmp.Ordering.{Ordering}
 use Rattle.std.specs.declared.cmp.Ordering.TheVariants.{Equal, Greater, Less}
 use Rattle.fa_laws.proofs.beginnings.a_new_page_is_answered_with_zeros.Goals as goal
@@ -82,12 +84,11 @@ module _ (geometry : Geometry) (page : ℕ) (low : page < geometry.pages) where
   abbrev middle : World
   middle = next (admits_one geometry page) core_then w
 
-  few : (die : ℕ) → entries_with w.core.calendar [] die ≤ max_closed
-  few die =
-      let a : count_by (λ (place : ℕ × ℕ). place.0 == die) (keys (empty {X = Booking} {R = place_cmp})) ≡ 0 =
-      ap (λ (es : List ((ℕ × ℕ) × Booking)). count_by (λ (place : ℕ × ℕ). place.0 == die) (map (λ e. e.0) es)) empty_entries in
-      let b = ap (window_rounds 1) (get-empty {X = WindowOf} nat_cmp die) in
-      omega (arith, a, b)
+  few : FewClosed 1 (is_taken_with w.core.calendar [])
+  few die n =
+      let none = rounds_that-none (is_taken_with w.core.calendar [] die) 1 n
+      (λ r low high i. (is_some (get-empty {X = Booking} place_cmp (die, r) i) || is_in_window (get-empty {X = WindowOf} nat_cmp die i) r) || false) in
+      omega (arith, none)
 
   fresh_id : is_fresh w.core 0 ≡ true
   fresh_id = not_from_false _ (or_from _ _ (or_from _ _ (ap is_some (get-empty {X = OpenBatch} nat_cmp 0))

@@ -1,5 +1,5 @@
 use Rattle.std.proofs.Common.{arith}
-use Rattle.fa_mount.specs.Reported.{is_thin}
+use Rattle.fa_machine.specs.Placement.{is_thin}
 use Rattle.fa_mount.proofs.Tallying.{at_most_one, counted_fits, one_more_page}
 use Rattle.fa_mount.proofs.mounted.thin_pages.Goals as goal
 

@@ -1,7 +1,7 @@
 use Rattle.std.proofs.Common.{◌≡◌}
 use Rattle.std.specs.Prelude.{count_by}
 use Rattle.fa_machine.specs.Maps.{below}
-use Rattle.fa_mount.specs.Reported.{is_thin}
+use Rattle.fa_machine.specs.Placement.{is_thin}
 use Rattle.fa_mount.proofs.mounted.thin_pages.Given as goal
 
 abbrev pub invariant-loop-page : goal.invariant-loop-page
