@@ -1,0 +1,10 @@
+pub mod Beginning
+pub mod Changing
+pub mod Committing
+pub mod Ending
+pub mod Fewer
+pub mod Marking
+pub mod Owning
+pub mod Reserving
+pub mod Steps
+pub mod Taking

@@ -1,0 +1,16 @@
+//! The laws of what is true of the state.
+ghost use Rattle.fa_machine.specs.Beginning.{IsBeginning};
+ghost use Rattle.fa_machine.specs.State.{Core};
+ghost use Rattle.fa_machine.specs.Step.{Act, Step};
+ghost use Rattle.fa_machine.specs.World.{World};
+ghost use Rattle.fa_sound.specs.Sound.{IsSound};
+
+/// A state that was just mounted is sound.
+pub fn a_beginning_is_sound()
+    ensures { (w : World) → IsBeginning w → IsSound w.core }
+{}
+
+/// Each event keeps the state sound.
+pub fn a_step_keeps_sound()
+    ensures { (old new : Core) (act : Act) → Step old act new → IsSound old → IsSound new }
+{}
