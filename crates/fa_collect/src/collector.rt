@@ -1,0 +1,68 @@
+//! The victim of a die, and the steps on it.
+ghost use Rattle.std.specs.Prelude.{◌≡◌, ◌<◌, option_map};
+ghost use Rattle.fa_machine.specs.Collecting.{victim as rule_victim, next_step as rule_step, step_on as rule_step_on};
+ghost use Rattle.fa_machine.specs.Looks.{wants_window as rule_window};
+
+use crate::candidate::{Candidate, better, may_be_emptied};
+use fa_machine::{Block, CollectorStep};
+use fa_map::{Map, SlotState};
+use fa_types::{Die, Slot};
+
+/// The block that the collector of a die empties: of the blocks with a stale slot, no reserved slot and no more current slots
+/// than there are erased slots outside of it, the one with most stale slots, the lowest on ties. It looks at the counts of
+/// each block once.
+pub fn victim<M: Map>(map: &M, die: Die) -> Option<Block>
+    requires { die.0 < (M.view map.now).geometry.dies }
+    ensures { option_map (λ block. block.0) result ≡ rule_victim (M.view map.now) die.0 }
+{
+    let free = map.free(die);
+    let mut best: Option<Candidate> = None;
+    for block in 0..map.geometry().blocks {
+        let counts = map.counts(die, Block(block));
+        let candidate = Candidate {
+            block,
+            stale: counts.stale,
+        };
+        best = better(best, candidate, may_be_emptied(counts, free));
+    }
+    match best {
+        Some(candidate) => Some(Block(candidate.block)),
+        None => None,
+    }
+}
+
+/// The next step of a die's collector: to move the lowest current slot of its victim, and where none is left to erase it.
+/// Nothing where it has no victim.
+pub fn next_step<M: Map>(map: &M, die: Die) -> CollectorStep
+    requires { die.0 < (M.view map.now).geometry.dies }
+    ensures { result ≡ rule_step (M.view map.now) die.0 }
+{
+    match victim(map, die) {
+        Some(block) => step_on(map, die, block),
+        None => CollectorStep::Nothing,
+    }
+}
+
+/// The next step on a block: to move its lowest current slot, and where none is left to erase it.
+fn step_on<M: Map>(map: &M, die: Die, block: Block) -> CollectorStep
+    requires die { die.0 < (M.view map.now).geometry.dies }
+    requires block { block.0 < (M.view map.now).geometry.blocks }
+    ensures { result ≡ rule_step_on (M.view map.now) die.0 block.0 }
+{
+    let slots = map.geometry().slots;
+    let first = block.0 * slots;
+    for slot in first..first + slots {
+        if let SlotState::Current = map.state(die, Slot(slot)) {
+            return CollectorStep::MoveSlot(Slot(slot));
+        }
+    }
+    CollectorStep::EraseBlock(block)
+}
+
+/// Whether a die wants a window: it is live, has less room than a block, and has a victim.
+pub fn wants_window<M: Map>(map: &M, die: Die) -> bool
+    requires { die.0 < (M.view map.now).geometry.dies }
+    ensures { result ≡ rule_window (M.view map.now) die.0 }
+{
+    map.is_live(die) && map.room(die) < map.geometry().slots && victim(map, die).is_some()
+}
