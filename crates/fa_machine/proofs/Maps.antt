@@ -97,7 +97,8 @@ module _ {K X : Type 0} {R : K → K → Ordering} (o : IsTotalOrder R) (same : 
       ∙ found_kept test q (entries m) (entries_sorted m)
       ∙ sym (ap (passed (test q)) (get-entries m q))
 
-  found_changed : (f : K → X → X) (q : K) (es : List (K × X))
+  -- what is found in entries whose values were changed
+  pub found_changed : {Y : Type 0} (f : K → X → Y) (q : K) (es : List (K × X))
       → find_entry R q (map (λ e. (e.0, f e.0 e.1)) es) ≡ option_map (f q) (find_entry R q es)
   found_changed f q [] = refl
   found_changed f q (e ∷ es) =
