@@ -1,0 +1,3 @@
+mod Booked
+mod Closed
+mod Windows

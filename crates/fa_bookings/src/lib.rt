@@ -1,0 +1,7 @@
+//! The calendar's part of an array's state: the current round, which read each booked round is for, and the windows.
+#![tactic(auto)]
+
+mod bookings;
+mod tree;
+
+pub use bookings::Bookings;

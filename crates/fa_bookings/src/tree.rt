@@ -1,0 +1,63 @@
+//! Changes of a tree of bookings.
+ghost use Rattle.std.specs.Prelude.{◌≡◌, ℕ, ◌≤◌, ◌==◌, ◌&&◌, not, nat_lt, if◌then◌else◌, true, is_some, None, Some};
+ghost use Rattle.fa_bookings.specs.Booked.{booking_at};
+
+use fa_machine::Booking;
+use std::alloc::Allocator;
+use std::collections::BTreeMap;
+
+/// The round of the die, which is booked, is booked for this.
+pub fn overwrite<A: Allocator + Clone>(
+    booked: &mut BTreeMap<(u8, u64), Booking, A>,
+    die: u8,
+    round: u64,
+    booking: Booking,
+)
+    requires { is_some (booking_at booked.old.entries die round) ≡ true }
+    ensures { (d r : ℕ) → booking_at booked.new.entries d r
+        ≡ (if die == d && round == r then Some booking else booking_at booked.old.entries d r) }
+{
+    match booked.insert((die, round), booking) {
+        Ok(_) => {}
+        Err(_) => {}
+    }
+}
+
+/// The round of the die is not booked any more.
+pub fn take_out<A: Allocator + Clone>(
+    booked: &mut BTreeMap<(u8, u64), Booking, A>,
+    die: u8,
+    round: u64,
+)
+    ensures { (d r : ℕ) → booking_at booked.new.entries d r
+        ≡ (if die == d && round == r then None else booking_at booked.old.entries d r) }
+{
+    booked.remove(&(die, round));
+}
+
+/// The bookings of a die go.
+pub fn forget_die<A: Allocator + Clone>(booked: &mut BTreeMap<(u8, u64), Booking, A>, die: u8)
+    ensures { (d r : ℕ) → booking_at booked.new.entries d r ≡ (if d == die then None else booking_at booked.old.entries d r) }
+{
+    booked.retain(
+        |place: &(u8, u64), booking: &mut Booking| -> bool
+            ensures kept { result ≡ not (place.now.0 == die) }
+            ensures same { booking.new ≡ booking.old }
+        { place.0 != die },
+    );
+}
+
+/// The bookings of a round go, which are of these dies.
+pub fn forget_round<A: Allocator + Clone>(
+    booked: &mut BTreeMap<(u8, u64), Booking, A>,
+    round: u64,
+    dies: u32,
+)
+    requires { dies ≤ 256 }
+    ensures { (d r : ℕ) → booking_at booked.new.entries d r
+        ≡ (if r == round && nat_lt d dies then None else booking_at booked.old.entries d r) }
+{
+    for die in 0..dies {
+        take_out(booked, die as u8, round);
+    }
+}
