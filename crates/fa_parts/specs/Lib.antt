@@ -1,0 +1,5 @@
+pub mod Codes
+pub mod Counted
+pub mod Dies
+pub mod Logs
+pub mod Tabled
