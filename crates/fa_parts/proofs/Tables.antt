@@ -11,6 +11,11 @@ use Rattle.std.specs.Ordering.{eq_by_cmp, nat_cmp}
 use Rattle.std.specs.Prelude.{filter_map, is_some, option_map, replicate}
 use Rattle.fa_parts.specs.Tabled.{table_of, value_at}
 
+-- what is no value is none
+pub only_none : {X : Type 0} (R : Option X → Type 0) → ((x : X) → R (Some x) → ⊥) → (y : Option X) → R y → y ≡ None
+only_none R off None h = refl
+only_none R off (Some x) h = absurd (off x h)
+
 tied : (q k : ℕ) → q ≡ k → eq_by_cmp nat_cmp q k ≡ true
 tied q k same = unsigned_tied q k ∙ eq-eqb q k same
 

@@ -1,16 +1,33 @@
-use Rattle.std.proofs.Common.{◌≡◌, ◌<◌, Some, None, false, true, ap, sym, ◌∙◌, arith, length}
-use Rattle.std.specs.Prelude.{is_some, slice_index_or}
-use Rattle.fa_parts.specs.Tabled.{value_at}
+use Rattle.std.proofs.Common.{◌≡◌, ◌+◌, None, not, false, true, ap, length, refl, sym, ◌∙◌, arith}
+use Rattle.std.specs.Prelude.{is_some}
+use Rattle.std.proofs.lemmas.List.{get_or_read_under}
 use Rattle.fa_parts.proofs.Tables.{table_insert, table_len_insert, table_room}
 use Rattle.fa_parts.proofs.by_die.ByDie.insert.Goals.{then-is_none, else-is_none}
 use Rattle.fa_parts.proofs.by_die.ByDie.insert.Goals as goal
 
 pub overflow_add-self : goal.overflow_add-self
-overflow_add-self g c = let h = c.index.ensures in let k = c.if-is_none.true in let n = c.is_none.ensures in ?
+overflow_add-self g c =
+    let s = c.args.self.now in
+    let items = s.values.items in
+    let read = get_or_read_under items c.args.die.0 (length items) c.index.result.now None c.index.ensures c.requires refl in
+    let room = table_room items c.args.die.0 c.args.value c.requires (ap is_some (sym read) ∙ c.is_none.ensures ∙ ap not c.if-is_none.true) in
+    omega (arith, room, s.counted, s.values.ok.0)
 
 pub invariant_of-self : goal.invariant_of-self
-invariant_of-self g c = 
-     elim c.if-is_none.branch [ then-is_none w ↦ let h = w.if-is_none in let k = w.self-is in ? | else-is_none w ↦ ? ]
+invariant_of-self g c =
+    let s = c.args.self.now in
+    let items = s.values.items in
+    let read = get_or_read_under items c.args.die.0 (length items) c.index.result.now None c.index.ensures c.requires refl in
+    record {
+      counted = elim c.if-is_none.branch [
+        | then-is_none w ↦
+            ap (λ v. v.1.1.0) w.self-is ∙ ap (λ n. n + 1) s.counted
+            ∙ sym (table_len_insert items c.args.die.0 c.args.value false c.requires (ap is_some (sym read) ∙ c.is_none.ensures ∙ ap not w.if-is_none.true))
+        | else-is_none w ↦
+            ap (λ v. v.1.1.0) w.self-is ∙ s.counted
+            ∙ sym (table_len_insert items c.args.die.0 c.args.value true c.requires (ap is_some (sym read) ∙ c.is_none.ensures ∙ ap not w.if-is_none.false))
+      ];
+    }
 
 pub returns-clause-inserted : goal.returns-clause-inserted
 returns-clause-inserted g c = table_insert c.args.self.now.values.items c.args.die.0 c.args.value c.requires

@@ -2,12 +2,8 @@ use Rattle.std.proofs.Common.{◌≡◌, None, Some, Option, ap, refl, sym, ◌�
 use Rattle.std.specs.FinMap.{len, len-empty}
 use Rattle.std.specs.Ordering.{nat_cmp}
 use Rattle.fa_parts.specs.Tabled.{table_of}
-use Rattle.fa_parts.proofs.Tables.{table_none}
+use Rattle.fa_parts.proofs.Tables.{only_none, table_none}
 use Rattle.fa_parts.proofs.by_die.ByDie.new.Goals as goal
-
-only_none : {X : Type 0} (R : Option X → Type 0) → ((x : X) → R (Some x) → ⊥) → (y : Option X) → R y → y ≡ None
-only_none R off None h = refl
-only_none R off (Some x) h = absurd (off x h)
 
 pub invariant_of-result : goal.invariant_of-result
 invariant_of-result g c =
