@@ -2,4 +2,6 @@ pub mod Codes
 pub mod Counted
 pub mod Dies
 pub mod Logs
+pub mod Queues
 pub mod Tabled
+pub mod Waits

@@ -4,7 +4,11 @@
 
 mod by_die;
 mod log;
+mod queued;
 mod shown;
+mod waiting;
 
 pub use by_die::ByDie;
 pub use log::{Log, MAX_ENTRIES};
+pub use queued::QueuedProgram;
+pub use waiting::Waiting;
