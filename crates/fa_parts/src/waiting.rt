@@ -103,7 +103,7 @@ impl<A: Allocator> Waiting<A> {
         let index = die.0 as usize;
         self.programs.note(&(die, slot));
         if index < self.queues.len() {
-            self.queues[index].retain(|program| program.slot.0 != slot.0);
+            self.queues[index].retain(|program| slot.0 != program.slot.0);
         }
     }
 }

@@ -1,4 +1,4 @@
-use Rattle.std.proofs.Common.{◌≡◌, ◌+◌, None, not, false, true, ap, length, refl, sym, ◌∙◌, arith}
+use Rattle.std.proofs.Common.{◌+◌, None, not, false, true, ap, length, refl, sym, ◌∙◌, arith}
 use Rattle.std.specs.Prelude.{is_some}
 use Rattle.std.proofs.lemmas.List.{get_or_read_under}
 use Rattle.fa_parts.proofs.Tables.{table_insert, table_len_insert, table_room}
