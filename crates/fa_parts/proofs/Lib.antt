@@ -1,0 +1,3 @@
+pub mod Filters
+pub mod Queues
+pub mod Tables
