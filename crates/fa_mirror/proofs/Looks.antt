@@ -1,0 +1,142 @@
+-- What is looked at in turn: the dies that were passed so far, those of them that pass a test, and the first that does.
+use Rattle.fa_machine.specs.Maps.{below, is_one_of}
+use Rattle.fa_mirror.specs.Order.{looks}
+use Rattle.std.proofs.Common.{Bool, List, None, Option, Some, [], ap, arith, cond, drop, false, length, map, min, not, refl, sym, take, true, ℕ, ◌++◌, ◌+◌, ◌-◌, ◌<◌, ◌∙◌, ◌∷◌, ◌≡◌, ◌≤◌, get_or}
+use Rattle.std.proofs.lemmas.List.{append-nil, append_assoc, drop_more, get_or-append_right, get_or-map, get_or-reverse, get_or_append_left, length-append, length-map, length-reverse, length-take, take-append-drop, take-append-le, take_all, take_more}
+use Rattle.std.proofs.lemmas.List.Elements.{filter-append, filter_map-append}
+use Rattle.std.proofs.lemmas.List.Folds.{find-append}
+use Rattle.std.proofs.lemmas.List.FromFn.{get_or-range_with_len, length-range_with_len}
+use Rattle.std.specs.List.{filter, filter_map, find}
+use Rattle.std.specs.Prelude.{if◌then◌else◌, option_or, reverse}
+
+-- what was looked at, without the looks that gave nothing
+abbrev pub seen : List (Option ℕ) → List ℕ
+seen all = filter_map (λ (look : Option ℕ). look) all
+
+seen_all : (xs : List ℕ) → seen (map Some xs) ≡ xs
+seen_all [] = refl
+seen_all (x ∷ xs) = ap (λ rest. x ∷ rest) (seen_all xs)
+
+seen_some : (test : ℕ → Bool) (xs : List ℕ) → seen (map (λ x. if test x then None else Some x) xs) ≡ filter (λ x. not (test x)) xs
+seen_some test [] = refl
+seen_some test (x ∷ xs) = go (test x)
+  where
+    rest : seen (map (λ y. if test y then None else Some y) xs) ≡ filter (λ y. not (test y)) xs
+    rest = seen_some test xs
+
+    go : (b : Bool) → seen ((if b then None else Some x) ∷ map (λ y. if test y then None else Some y) xs)
+        ≡ cond (not b) (x ∷ filter (λ y. not (test y)) xs) (filter (λ y. not (test y)) xs)
+    go true = rest
+    go false = ap (λ ys. x ∷ ys) rest
+
+-- all looks together give the order
+pub order_seen : (first : List ℕ) (dies : ℕ) → seen (looks first dies) ≡ first ++ filter (λ die. not (is_one_of first die)) (reverse (below dies))
+order_seen first dies =
+    filter_map-append (λ (look : Option ℕ). look) (map Some first) (map (λ die. if is_one_of first die then None else Some die) (reverse (below dies)))
+    ∙ (λ i. seen_all first i ++ seen_some (is_one_of first) (reverse (below dies)) i)
+
+pub length-looks : (first : List ℕ) (dies : ℕ) → length (looks first dies) ≡ length first + dies
+length-looks first dies =
+    let a = length-append (map Some first) (map (λ die. if is_one_of first die then None else Some die) (reverse (below dies))) in
+    let b = length-map first Some in
+    let c = length-map (reverse (below dies)) (λ die. if is_one_of first die then None else Some die) in
+    let d = length-reverse (below dies) in
+    let e = length-range_with_len 0 dies in
+    omega (arith, a, b, c, d, e)
+
+pub look_home : (first : List ℕ) (dies look : ℕ) → look < length first → get_or (looks first dies) look None ≡ Some (get_or first look 0)
+look_home first dies look low =
+    let within : look < length (map Some first) = let same = length-map first Some in omega (arith, low, same) in
+    get_or_append_left (map Some first) (map (λ die. if is_one_of first die then None else Some die) (reverse (below dies))) None look within
+    ∙ get_or-map Some first look 0 None low
+
+pub look_other : (first : List ℕ) (dies look : ℕ) → length first ≤ look → look < length first + dies
+    → get_or (looks first dies) look None ≡ (if is_one_of first (dies - 1 - (look - length first)) then None else Some (dies - 1 - (look - length first)))
+look_other first dies look past low =
+    let f : ℕ → Option ℕ = λ die. if is_one_of first die then None else Some die in
+    let k : ℕ = look - length first in
+    let all : length (below dies) ≡ dies = length-range_with_len 0 dies in
+    let turned : length (reverse (below dies)) ≡ dies = length-reverse (below dies) ∙ all in
+    let within : k < length (below dies) = omega (arith, all, past, low) in
+    let at : get_or (reverse (below dies)) k 0 ≡ dies - 1 - k =
+    get_or-reverse (below dies) k 0 within ∙ ap (λ n. get_or (below dies) (n - 1 - k) 0) all
+    ∙ get_or-range_with_len 0 dies (dies - 1 - k) 0 (omega (arith, past, low)) ∙ omega arith in
+    get_or-append_right (map Some first) (map f (reverse (below dies))) (length first) look None (length-map first Some) past
+    ∙ get_or-map f (reverse (below dies)) k 0 None (omega (arith, turned, past, low)) ∙ ap f at
+
+module _ (all : List (Option ℕ)) where
+  abbrev front : ℕ → List ℕ
+  front n = seen (take n all)
+
+  front_more : (n : ℕ) → n < length all → front (n + 1) ≡ front n ++ seen (get_or all n None ∷ [])
+  front_more n low =
+      ap seen (take_more all n None low) ∙ filter_map-append (λ (look : Option ℕ). look) (take n all) (get_or all n None ∷ [])
+
+  front_all : (n : ℕ) → seen all ≡ front n ++ seen (drop n all)
+  front_all n =
+      ap seen (sym (take-append-drop n all)) ∙ filter_map-append (λ (look : Option ℕ). look) (take n all) (drop n all)
+
+  module _ (test : ℕ → Bool) where
+    -- what passes of the first n looks, at most as many as are asked
+    abbrev pub chosen : ℕ → ℕ → List ℕ
+    chosen asked n = take asked (filter test (front n))
+
+    abbrev passing : ℕ → List ℕ
+    passing n = filter test (front n)
+
+    passing_more : (n : ℕ) → n < length all → passing (n + 1) ≡ passing n ++ filter test (seen (get_or all n None ∷ []))
+    passing_more n low = ap (filter test) (front_more n low) ∙ filter-append test (front n) (seen (get_or all n None ∷ []))
+
+    module _ (asked n : ℕ) (xs : List ℕ) (is : xs ≡ chosen asked n) where
+      pub chosen_same : n < length all → filter test (seen (get_or all n None ∷ [])) ≡ [] → xs ≡ chosen asked (n + 1)
+      chosen_same low none =
+          is ∙ ap (take asked) (sym (append-nil (passing n)) ∙ ap (λ ys. passing n ++ ys) (sym none) ∙ sym (passing_more n low))
+
+      pub chosen_none : n < length all → get_or all n None ≡ None → xs ≡ chosen asked (n + 1)
+      chosen_none low none = chosen_same low (ap (λ look. filter test (seen (look ∷ []))) none)
+
+      pub chosen_fails : (d : ℕ) → n < length all → get_or all n None ≡ Some d → test d ≡ false → xs ≡ chosen asked (n + 1)
+      chosen_fails d low at fails =
+          chosen_same low (ap (λ look. filter test (seen (look ∷ []))) at ∙ ap (λ b. cond b (d ∷ []) []) fails)
+
+      pub chosen_more : (d : ℕ) → n < length all → get_or all n None ≡ Some d → test d ≡ true → length xs < asked → xs ++ d ∷ [] ≡ chosen asked (n + 1)
+      chosen_more d low at passes few =
+          let long : length xs ≡ min asked (length (passing n)) = ap length is ∙ length-take asked (passing n) in
+          let short : length (passing n) < asked = omega (arith, long, few) in
+          let one : filter test (seen (get_or all n None ∷ [])) ≡ d ∷ [] =
+          ap (λ look. filter test (seen (look ∷ []))) at ∙ ap (λ b. cond b (d ∷ []) []) passes in
+          let more : passing (n + 1) ≡ passing n ++ d ∷ [] = passing_more n low ∙ ap (λ ys. passing n ++ ys) one in
+          let fits : length (passing n ++ d ∷ []) ≤ asked = let sum = length-append (passing n) (d ∷ []) in omega (arith, sum, short) in
+          ap (λ ys. ys ++ d ∷ []) (is ∙ take_all asked (passing n) (omega (arith, short)))
+          ∙ sym (ap (take asked) more ∙ take_all asked (passing n ++ d ∷ []) fits)
+
+      pub chosen_full : length xs ≡ asked → xs ≡ take asked (filter test (seen all))
+      chosen_full full =
+          let long : length xs ≡ min asked (length (passing n)) = ap length is ∙ length-take asked (passing n) in
+          let whole : filter test (seen all) ≡ passing n ++ filter test (seen (drop n all)) =
+          ap (filter test) (front_all n) ∙ filter-append test (front n) (seen (drop n all)) in
+          is ∙ sym (take-append-le asked (passing n) (filter test (seen (drop n all))) (omega (arith, long, full))) ∙ ap (take asked) (sym whole)
+
+      pub chosen_all : length all ≤ n → xs ≡ take asked (filter test (seen all))
+      chosen_all past = is ∙ ap (λ ys. take asked (filter test (seen ys))) (take_all n all past)
+
+    module _ (n : ℕ) (none : find test (front n) ≡ None) where
+      past_front : (ys : List ℕ) → find test (front n ++ ys) ≡ find test ys
+      past_front ys = find-append test (front n) ys ∙ ap (λ o. option_or o (find test ys)) none
+
+      pub found_none : n < length all → get_or all n None ≡ None → find test (front (n + 1)) ≡ None
+      found_none low at = ap (find test) (front_more n low) ∙ past_front (seen (get_or all n None ∷ [])) ∙ ap (λ look. find test (seen (look ∷ []))) at
+
+      pub found_fails : (d : ℕ) → n < length all → get_or all n None ≡ Some d → test d ≡ false → find test (front (n + 1)) ≡ None
+      found_fails d low at fails =
+          ap (find test) (front_more n low) ∙ past_front (seen (get_or all n None ∷ [])) ∙ ap (λ look. find test (seen (look ∷ []))) at
+          ∙ ap (λ b. cond b (Some d) None) fails
+
+      pub found_here : (d : ℕ) → n < length all → get_or all n None ≡ Some d → test d ≡ true → find test (seen all) ≡ Some d
+      found_here d low at passes =
+          ap (find test) (front_all n) ∙ past_front (seen (drop n all)) ∙ ap (λ ys. find test (seen ys)) (drop_more all n None low)
+          ∙ ap (λ look. find test (seen (look ∷ drop (n + 1) all))) at
+          ∙ ap (λ b. cond b (Some d) (find test (seen (drop (n + 1) all)))) passes
+
+      pub found_all : length all ≤ n → find test (seen all) ≡ None
+      found_all past = ap (λ ys. find test (seen ys)) (sym (take_all n all past)) ∙ none
