@@ -1,2 +1,3 @@
+pub mod Chosen
 pub mod Looks
-pub mod Targets
+pub mod Past

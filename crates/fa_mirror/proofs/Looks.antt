@@ -1,13 +1,17 @@
 -- What is looked at in turn: the dies that were passed so far, those of them that pass a test, and the first that does.
 use Rattle.fa_machine.specs.Maps.{below, is_one_of}
-use Rattle.fa_mirror.specs.Order.{looks}
+use Rattle.fa_machine.specs.Placement.{homes, order_of}
+use Rattle.fa_machine.specs.State.{MapState}
+use Rattle.fa_mirror.specs.Order.{first_of, looks, numbers_of}
+use Rattle.fa_types.specs.declared.numbers.Die.{Die}
 use Rattle.std.proofs.Common.{Bool, List, None, Option, Some, [], ap, arith, cond, drop, false, length, map, min, not, refl, sym, take, true, ℕ, ◌++◌, ◌+◌, ◌-◌, ◌<◌, ◌∙◌, ◌∷◌, ◌≡◌, ◌≤◌, get_or}
-use Rattle.std.proofs.lemmas.List.{append-nil, append_assoc, drop_more, get_or-append_right, get_or-map, get_or-reverse, get_or_append_left, length-append, length-map, length-reverse, length-take, take-append-drop, take-append-le, take_all, take_more}
+use Rattle.std.proofs.lemmas.List.{append-nil, append_assoc, drop_more, get_or-append_right, get_or-map, get_or-reverse, get_or_append_left, length-append, length-map, length-reverse, length-take, length-take-le, take-append-drop, take-append-le, take-map, take_all, take_more}
 use Rattle.std.proofs.lemmas.List.Elements.{filter-append, filter_map-append}
 use Rattle.std.proofs.lemmas.List.Folds.{find-append}
 use Rattle.std.proofs.lemmas.List.FromFn.{get_or-range_with_len, length-range_with_len}
-use Rattle.std.specs.List.{filter, filter_map, find}
-use Rattle.std.specs.Prelude.{if◌then◌else◌, option_or, reverse}
+use Rattle.std.specs.List.{filter, filter_map, find, list_any}
+use Rattle.std.specs.Option.{option_or}
+use Rattle.std.specs.Prelude.{if◌then◌else◌, reverse, ◌==◌, ◌||◌}
 
 -- what was looked at, without the looks that gave nothing
 abbrev pub seen : List (Option ℕ) → List ℕ
@@ -17,17 +21,15 @@ seen_all : (xs : List ℕ) → seen (map Some xs) ≡ xs
 seen_all [] = refl
 seen_all (x ∷ xs) = ap (λ rest. x ∷ rest) (seen_all xs)
 
+seen_if : (x : ℕ) (b : Bool) (looked : List (Option ℕ)) (kept : List ℕ) → seen looked ≡ kept
+    → seen ((if b then None else Some x) ∷ looked) ≡ cond (not b) (x ∷ kept) kept
+seen_if x true looked kept rest = rest
+seen_if x false looked kept rest = ap (λ ys. x ∷ ys) rest
+
 seen_some : (test : ℕ → Bool) (xs : List ℕ) → seen (map (λ x. if test x then None else Some x) xs) ≡ filter (λ x. not (test x)) xs
 seen_some test [] = refl
-seen_some test (x ∷ xs) = go (test x)
-  where
-    rest : seen (map (λ y. if test y then None else Some y) xs) ≡ filter (λ y. not (test y)) xs
-    rest = seen_some test xs
-
-    go : (b : Bool) → seen ((if b then None else Some x) ∷ map (λ y. if test y then None else Some y) xs)
-        ≡ cond (not b) (x ∷ filter (λ y. not (test y)) xs) (filter (λ y. not (test y)) xs)
-    go true = rest
-    go false = ap (λ ys. x ∷ ys) rest
+seen_some test (x ∷ xs) =
+    seen_if x (test x) (map (λ y. if test y then None else Some y) xs) (filter (λ y. not (test y)) xs) (seen_some test xs)
 
 -- all looks together give the order
 pub order_seen : (first : List ℕ) (dies : ℕ) → seen (looks first dies) ≡ first ++ filter (λ die. not (is_one_of first die)) (reverse (below dies))
@@ -64,8 +66,38 @@ look_other first dies look past low =
     get_or-append_right (map Some first) (map f (reverse (below dies))) (length first) look None (length-map first Some) past
     ∙ get_or-map f (reverse (below dies)) k 0 None (omega (arith, turned, past, low)) ∙ ap f at
 
+first_length : (copies : ℕ) (homes : List Die) → copies ≤ length homes → length (first_of copies homes) ≡ copies
+first_length copies homes enough = let same = length-map homes (λ (die : Die). die.0) in length-take-le copies (numbers_of homes) (omega (arith, enough, same))
+
+-- the looks behind the homes
+pub look_behind : (copies : ℕ) (homes : List Die) (dies look : ℕ) → copies ≤ length homes → copies ≤ look → look < copies + dies
+    → get_or (looks (first_of copies homes) dies) look None
+    ≡ (if is_one_of (first_of copies homes) (dies - 1 - (look - copies)) then None else Some (dies - 1 - (look - copies)))
+look_behind copies homes dies look enough past low =
+    let long = first_length copies homes enough in
+    look_other (first_of copies homes) dies look (omega (arith, long, past)) (omega (arith, long, low))
+    ∙ ap (λ n. if is_one_of (first_of copies homes) (dies - 1 - (look - n)) then None else Some (dies - 1 - (look - n))) long
+
+pub looks_in_all : (copies : ℕ) (homes : List Die) (dies : ℕ) → copies ≤ length homes → length (looks (first_of copies homes) dies) ≡ copies + dies
+looks_in_all copies homes dies enough =
+    length-looks (first_of copies homes) dies ∙ ap (λ n. n + dies) (first_length copies homes enough)
+
+-- a die is one of the numbers where it is one of the dies
+pub one_of_numbers : (n : ℕ) (homes : List Die) → list_any (λ (home : Die). home.0 == n) homes ≡ is_one_of (numbers_of homes) n
+one_of_numbers n [] = refl
+one_of_numbers n (home ∷ homes) = ap (λ b. home.0 == n || b) (one_of_numbers n homes)
+
+pub is_home_is : (n copies : ℕ) (homes : List Die) → list_any (λ (home : Die). home.0 == n) (take copies homes) ≡ is_one_of (first_of copies homes) n
+is_home_is n copies homes = one_of_numbers n (take copies homes) ∙ ap (λ xs. is_one_of xs n) (sym (take-map (λ (die : Die). die.0) copies homes))
+
+-- the looks of a page give its order
+pub order_looked : (copies : ℕ) (m : MapState) (page : ℕ) (first : List ℕ) (dies : ℕ)
+    → first ≡ homes copies (m.geometry.dies - m.geometry.spares) page → dies ≡ m.geometry.dies → seen (looks first dies) ≡ order_of copies m page
+order_looked copies m page first dies same as_many =
+    (λ i. seen (looks (same i) (as_many i))) ∙ order_seen (homes copies (m.geometry.dies - m.geometry.spares) page) m.geometry.dies
+
 module _ (all : List (Option ℕ)) where
-  abbrev front : ℕ → List ℕ
+  abbrev pub front : ℕ → List ℕ
   front n = seen (take n all)
 
   front_more : (n : ℕ) → n < length all → front (n + 1) ≡ front n ++ seen (get_or all n None ∷ [])

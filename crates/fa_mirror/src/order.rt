@@ -1,7 +1,6 @@
 //! The order in which the dies of a page are looked at.
-ghost use Rattle.std.specs.Prelude.{◌≡◌, ◌+◌, ◌-◌, ◌<◌, ◌≤◌, None, option_map, slice_index_or};
+ghost use Rattle.std.specs.Prelude.{◌≡◌, ◌+◌, ◌-◌, ◌<◌, ◌≤◌, ◌==◌, None, option_map, slice_index_or, take};
 ghost use Rattle.std.specs.List.{list_any};
-ghost use Rattle.fa_machine.specs.Maps.{is_one_of};
 ghost use Rattle.fa_machine.specs.Placement.{homes as rule_homes};
 ghost use Rattle.fa_mirror.specs.Order.{first_of, looks};
 
@@ -21,7 +20,7 @@ pub struct Order {
 
 /// The order of a page.
 pub fn order_of<M: Map>(map: &M, copies: Copies, page: Page) -> Order
-    ensures first { first_of result ≡ rule_homes copies.number ((M.view map.now).geometry.dies - (M.view map.now).geometry.spares) page.0 }
+    ensures first { first_of result.copies result.homes ≡ rule_homes copies.number ((M.view map.now).geometry.dies - (M.view map.now).geometry.spares) page.0 }
     ensures copies { result.copies ≡ copies.number }
     ensures dies { result.dies ≡ (M.view map.now).geometry.dies }
 {
@@ -44,7 +43,7 @@ impl Order {
     /// The die that is looked at so many dies after the first, and none where it is a home that was looked at before.
     pub fn die_at(self, look: u32) -> Option<Die>
         requires { look < self.copies + self.dies }
-        ensures { option_map (λ die. die.0) result ≡ slice_index_or (looks (first_of self) self.dies) look None }
+        ensures { option_map (λ die. die.0) result ≡ slice_index_or (looks (first_of self.copies self.homes) self.dies) look None }
     {
         if look < self.copies {
             return Some(self.homes[look as usize]);
@@ -55,7 +54,7 @@ impl Order {
 
     /// Whether the die is one of the homes.
     fn is_home(self, die: Die) -> bool
-        ensures { result ≡ is_one_of (first_of self) die.0 }
+        ensures { result ≡ list_any (λ home. home.0 == die.0) (take self.copies self.homes) }
     {
         self.homes[..self.copies as usize].iter().any(|home| home.0 == die.0)
     }

@@ -1,8 +1,11 @@
 //! Where copies of a page go.
-ghost use Rattle.std.specs.Prelude.{◌≡◌, ◌<◌, ◌&&◌, not, map, option_map};
+ghost use Rattle.std.specs.Prelude.{◌≡◌, ◌-◌, ◌<◌, ◌≤◌, ◌&&◌, not, option_map};
+ghost use Rattle.std.specs.List.{All};
 ghost use Rattle.fa_machine.specs.Copies.{holds_page};
 ghost use Rattle.fa_machine.specs.Placement.{copies_asked as rule_asked, copy_place as rule_place, has_room as rule_room};
 ghost use Rattle.fa_machine.specs.Placement.{is_thin as rule_thin, targets as rule_targets};
+ghost use Rattle.fa_mirror.specs.Chosen.{AreApart, TakesWrites};
+ghost use Rattle.fa_mirror.specs.Order.{numbers_of};
 
 use crate::order::order_of;
 use crate::placing::Placing;
@@ -13,7 +16,9 @@ use fa_types::{Copies, Die, Page};
 /// copies, or as there are live dies. Fewer where fewer have room.
 pub fn targets<M: Map>(map: &M, copies: Copies, page: Page) -> Placing
     requires { page.0 < (M.view map.now).geometry.pages }
-    ensures { map (λ die. die.0) result ≡ rule_targets copies.number (M.view map.now) page.0 }
+    ensures dies { numbers_of result ≡ rule_targets copies.number (M.view map.now) page.0 }
+    ensures each { All (λ die. TakesWrites (M.view map.now) die.0) result }
+    ensures apart { copies.number ≤ (M.view map.now).geometry.dies - (M.view map.now).geometry.spares → AreApart (numbers_of result) }
 {
     let asked = copies_asked(map, copies) as usize;
     let order = order_of(map, copies, page);
@@ -75,6 +80,5 @@ fn has_room<M: Map>(map: &M, die: Die) -> bool
 fn takes_copy<M: Map>(map: &M, page: Page, die: Die) -> bool
     ensures { result ≡ (rule_room (M.view map.now) die.0 && not (holds_page (M.view map.now) page.0 die.0)) }
 {
-    let written = page.0 < map.geometry().pages;
-    has_room(map, die) && !(written && map.copy_on(page, die).is_some())
+    has_room(map, die) && (page.0 >= map.geometry().pages || map.copy_on(page, die).is_none())
 }

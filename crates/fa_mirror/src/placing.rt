@@ -46,7 +46,7 @@ impl Placing {
         ensures number { result ≡ length self.now }
         ensures few { result ≤ 3 }
     {
-        self.number
+        self.as_slice().len()
     }
 
     /// The die is the last.
