@@ -120,6 +120,9 @@ module _ (all : List (Option ℕ)) where
     passing_more n low = ap (filter test) (front_more n low) ∙ filter-append test (front n) (seen (get_or all n None ∷ []))
 
     module _ (asked n : ℕ) (xs : List ℕ) (is : xs ≡ chosen asked n) where
+      pub chosen_few : length xs ≤ asked
+      chosen_few = let long : length xs ≡ min asked (length (passing n)) = ap length is ∙ length-take asked (passing n) in omega (arith, long)
+
       pub chosen_same : n < length all → filter test (seen (get_or all n None ∷ [])) ≡ [] → xs ≡ chosen asked (n + 1)
       chosen_same low none =
           is ∙ ap (take asked) (sym (append-nil (passing n)) ∙ ap (λ ys. passing n ++ ys) (sym none) ∙ sym (passing_more n low))
