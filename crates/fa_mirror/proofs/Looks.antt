@@ -1,11 +1,11 @@
 -- What is looked at in turn: the dies that were passed so far, those of them that pass a test, and the first that does.
 use Rattle.fa_machine.specs.Maps.{below, is_one_of}
-use Rattle.fa_machine.specs.Placement.{homes, order_of}
+use Rattle.fa_machine.specs.Placement.{copies_asked, has_room, homes, order_of, targets}
 use Rattle.fa_machine.specs.State.{MapState}
 use Rattle.fa_mirror.specs.Order.{first_of, looks, numbers_of}
 use Rattle.fa_types.specs.declared.numbers.Die.{Die}
 use Rattle.std.proofs.Common.{Bool, List, None, Option, Some, [], ap, arith, cond, drop, false, length, map, min, not, refl, sym, take, true, ℕ, ◌++◌, ◌+◌, ◌-◌, ◌<◌, ◌∙◌, ◌∷◌, ◌≡◌, ◌≤◌, get_or}
-use Rattle.std.proofs.lemmas.List.{append-nil, append_assoc, drop_more, get_or-append_right, get_or-map, get_or-reverse, get_or_append_left, length-append, length-map, length-reverse, length-take, length-take-le, take-append-drop, take-append-le, take-map, take_all, take_more}
+use Rattle.std.proofs.lemmas.List.{append-nil, drop_more, get_or-append_right, get_or-map, get_or-reverse, get_or_append_left, length-append, length-map, length-reverse, length-take, length-take-le, take-append-drop, take-append-le, take-map, take_all, take_more}
 use Rattle.std.proofs.lemmas.List.Elements.{filter-append, filter_map-append}
 use Rattle.std.proofs.lemmas.List.Folds.{find-append}
 use Rattle.std.proofs.lemmas.List.FromFn.{get_or-range_with_len, length-range_with_len}
@@ -95,6 +95,13 @@ pub order_looked : (copies : ℕ) (m : MapState) (page : ℕ) (first : List ℕ)
     → first ≡ homes copies (m.geometry.dies - m.geometry.spares) page → dies ≡ m.geometry.dies → seen (looks first dies) ≡ order_of copies m page
 order_looked copies m page first dies same as_many =
     (λ i. seen (looks (same i) (as_many i))) ∙ order_seen (homes copies (m.geometry.dies - m.geometry.spares) page) m.geometry.dies
+
+-- what was chosen of all looks is the targets of the page
+pub targets_looked : (copies : ℕ) (m : MapState) (page : ℕ) (first : List ℕ) (dies asked : ℕ) (xs : List ℕ)
+    → first ≡ homes copies (m.geometry.dies - m.geometry.spares) page → dies ≡ m.geometry.dies → asked ≡ copies_asked copies m
+    → xs ≡ take asked (filter (has_room m) (seen (looks first dies))) → xs ≡ targets copies m page
+targets_looked copies m page first dies asked xs same as_many wanted is =
+    is ∙ (λ i. take (wanted i) (filter (has_room m) (order_looked copies m page first dies same as_many i)))
 
 module _ (all : List (Option ℕ)) where
   abbrev pub front : ℕ → List ℕ

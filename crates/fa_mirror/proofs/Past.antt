@@ -1,5 +1,5 @@
 -- A number that is none of a page's has no copy.
-use Rattle.fa_machine.specs.Copies.{copy_on, holders, holds_last, holds_page, is_current}
+use Rattle.fa_machine.specs.Copies.{holders, holds_last, holds_page, is_current}
 use Rattle.fa_machine.specs.Placement.{copies_asked, is_thin}
 use Rattle.fa_machine.specs.State.{MapState, is_live, used_at}
 use Rattle.fa_machine.specs.declared.places.Version.{Version}

@@ -1,13 +1,13 @@
-use Rattle.fa_machine.specs.Placement.{copies_asked, has_room, targets}
+use Rattle.fa_machine.specs.Placement.{has_room, targets}
 use Rattle.fa_mirror.proofs.Chosen.{all_apart, each_takes}
-use Rattle.fa_mirror.proofs.Looks.{chosen_all, chosen_few, chosen_fails, chosen_full, chosen_more, chosen_none, looks_in_all, order_looked, seen}
+use Rattle.fa_mirror.proofs.Looks.{chosen_all, chosen_few, chosen_fails, chosen_full, chosen_more, chosen_none, looks_in_all, targets_looked}
 use Rattle.fa_mirror.proofs.placement.targets.Goals as goal
 use Rattle.fa_mirror.proofs.placement.targets.Goals.{in-Some+else-has_room, in-Some+then-has_room, in_default}
 use Rattle.fa_mirror.specs.Order.{first_of, looks, numbers_of}
 use Rattle.fa_types.specs.declared.numbers.Die.{Die}
-use Rattle.std.proofs.Common.{None, Some, [], ap, arith, get_or, length, map, subst, sym, take, ◌++◌, ◌+◌, ◌-◌, ◌<◌, ◌∙◌, ◌∷◌, ◌≡◌, ◌≤◌}
+use Rattle.std.proofs.Common.{None, Some, [], ap, arith, get_or, length, sym, ◌+◌, ◌<◌, ◌∙◌, ◌∷◌, ◌≡◌, ◌≤◌}
 use Rattle.std.proofs.lemmas.List.{length-map, map-append}
-use Rattle.std.specs.Prelude.{filter, option_map}
+use Rattle.std.specs.Prelude.{option_map}
 
 pub loop-look-preserved : goal.loop-look-preserved
 loop-look-preserved g c =
@@ -52,10 +52,9 @@ returns-after-loop-look g c =
     let end = c.looks-look-end.ensures in
     let past : length all ≤ c.loop-look.look = omega (arith, long, test, end) in
     let is : numbers_of c.loop-look.placing ≡ targets c.args.copies.number m c.args.page.0 =
-    chosen_all all (has_room m) asked c.loop-look.look (numbers_of c.loop-look.placing) c.loop-look.invariant past
-    ∙ ap (λ n. take n (filter (has_room m) (seen all))) c.copies_asked-asked.ensures
-    ∙ ap (λ xs. take (copies_asked c.args.copies.number m) (filter (has_room m) xs))
-    (order_looked c.args.copies.number m c.args.page.0 (first_of order.copies order.homes) order.dies c.order_of-order.ensures.first c.order_of-order.ensures.dies) in
+    targets_looked c.args.copies.number m c.args.page.0 (first_of order.copies order.homes) order.dies asked (numbers_of c.loop-look.placing)
+    c.order_of-order.ensures.first c.order_of-order.ensures.dies c.copies_asked-asked.ensures
+    (chosen_all all (has_room m) asked c.loop-look.look (numbers_of c.loop-look.placing) c.loop-look.invariant past) in
     record {
       dies = is;
       each = each_takes c.args.copies.number m c.args.page.0 c.loop-look.placing is (g.met.M.Map.whole c.args.map.now);
@@ -71,10 +70,9 @@ returns-then-len-asked g c =
     let full : length (numbers_of c.loop-look.placing) ≡ asked =
     length-map c.loop-look.placing (λ (die : Die). die.0) ∙ sym c.len.ensures.number ∙ c.if-len-asked.true in
     let is : numbers_of c.loop-look.placing ≡ targets c.args.copies.number m c.args.page.0 =
-    chosen_full all (has_room m) asked c.loop-look.look (numbers_of c.loop-look.placing) c.loop-look.invariant full
-    ∙ ap (λ n. take n (filter (has_room m) (seen all))) c.copies_asked-asked.ensures
-    ∙ ap (λ xs. take (copies_asked c.args.copies.number m) (filter (has_room m) xs))
-    (order_looked c.args.copies.number m c.args.page.0 (first_of order.copies order.homes) order.dies c.order_of-order.ensures.first c.order_of-order.ensures.dies) in
+    targets_looked c.args.copies.number m c.args.page.0 (first_of order.copies order.homes) order.dies asked (numbers_of c.loop-look.placing)
+    c.order_of-order.ensures.first c.order_of-order.ensures.dies c.copies_asked-asked.ensures
+    (chosen_full all (has_room m) asked c.loop-look.look (numbers_of c.loop-look.placing) c.loop-look.invariant full) in
     record {
       dies = is;
       each = each_takes c.args.copies.number m c.args.page.0 c.loop-look.placing is (g.met.M.Map.whole c.args.map.now);

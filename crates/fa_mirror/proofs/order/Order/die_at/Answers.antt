@@ -1,6 +1,6 @@
 use Rattle.fa_mirror.proofs.Looks.{is_home_is, look_behind}
 use Rattle.fa_mirror.proofs.order.Order.die_at.Goals as goal
-use Rattle.std.proofs.Common.{None, Some, ap, arith, sym, ◌+◌, ◌-◌, ◌∙◌}
+use Rattle.std.proofs.Common.{None, Some, ap, arith, sym, ◌-◌, ◌∙◌}
 use Rattle.std.specs.Prelude.{if◌then◌else◌}
 
 pub returns-then-is_home : goal.returns-then-is_home
