@@ -74,24 +74,22 @@ fn pairs_of_three_dies(rt: HostRuntime) -> Result<(), Fail> {
     for die in 0..3u8 {
         bring_in(&mut map, die)?;
     }
-    let pairs = [
-        (0u8, 1u8),
-        (1, 2),
-        (2, 0),
-        (0, 2),
-        (1, 0),
-        (2, 1),
-        (0, 1),
-        (1, 2),
+    let rows = [
+        (0u64, [Die(0), Die(1)]),
+        (1, [Die(1), Die(2)]),
+        (2, [Die(2), Die(0)]),
+        (3, [Die(0), Die(2)]),
+        (4, [Die(1), Die(0)]),
+        (5, [Die(2), Die(1)]),
+        (6, [Die(0), Die(1)]),
+        (7, [Die(1), Die(2)]),
     ];
-    let mut page = 0u64;
-    for (first, second) in pairs {
+    for (page, dies) in rows {
         let home = homes(Page(page), 3);
-        if home[0] != Die(first) || home[1] != Die(second) {
+        if home[..2] != dies[..] {
             return Err("the page has other homes")?;
         }
-        expect(&map, copies, page, &[Die(first), Die(second)])?;
-        page += 1;
+        expect(&map, copies, page, &dies)?;
     }
     Ok(())
 }
