@@ -22,7 +22,8 @@ module _ (m : MapState) (whole : IsPageMap m) (page : ℕ) (past : m.geometry.pa
       (ap (λ version. holds_last page version (used_at m die slot)) (none_if (get m.versions page) refl))
 
   pub not_held : (die : ℕ) → holds_page m page die ≡ false
-  not_held die = ap is_some (find_none (is_current m page die) 0 (m.geometry.blocks * m.geometry.slots) (λ slot low high. not_current die slot))
+  not_held die =
+      ap is_some (find_none (is_current m page die) 0 (m.geometry.blocks * m.geometry.slots) (λ slot low high. not_current die slot))
 
   no_holders : length (holders m page) ≡ 0
   no_holders = holders_counted m page ∙ count_same (holds_page m page) false 0 m.geometry.dies not_held
@@ -30,4 +31,5 @@ module _ (m : MapState) (whole : IsPageMap m) (page : ℕ) (past : m.geometry.pa
   pub not_thin : (copies : ℕ) → is_thin copies m page ≡ false
   not_thin copies =
       let none = no_holders in
-      and_left (nat_lt 0 (length (holders m page))) (nat_lt (length (holders m page)) (copies_asked copies m)) (le-ltb 0 (length (holders m page)) (omega (arith, none)))
+      let held : ℕ = length (holders m page) in
+      and_left (nat_lt 0 held) (nat_lt held (copies_asked copies m)) (le-ltb 0 held (omega (arith, none)))

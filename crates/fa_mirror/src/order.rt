@@ -1,8 +1,7 @@
 //! The order in which the dies of a page are looked at.
-ghost use Rattle.std.specs.Prelude.{◌≡◌, ◌+◌, ◌-◌, ◌<◌, ◌≤◌, ◌==◌, None, option_map, slice_index_or, take};
+ghost use Rattle.std.specs.Prelude.{◌≡◌, ◌+◌, ◌<◌, ◌≤◌, ◌==◌, None, option_map, slice_index_or, take};
 ghost use Rattle.std.specs.List.{list_any};
-ghost use Rattle.fa_machine.specs.Placement.{homes as rule_homes};
-ghost use Rattle.fa_mirror.specs.Order.{first_of, looks};
+ghost use Rattle.fa_mirror.specs.Order.{first_of, homes_in_use, looks};
 
 use crate::home::homes;
 use fa_map::Map;
@@ -20,7 +19,7 @@ pub struct Order {
 
 /// The order of a page.
 pub fn order_of<M: Map>(map: &M, copies: Copies, page: Page) -> Order
-    ensures first { first_of result.copies result.homes ≡ rule_homes copies.number ((M.view map.now).geometry.dies - (M.view map.now).geometry.spares) page.0 }
+    ensures first { first_of result.copies result.homes ≡ homes_in_use copies.number (M.view map.now) page.0 }
     ensures copies { result.copies ≡ copies.number }
     ensures dies { result.dies ≡ (M.view map.now).geometry.dies }
 {
@@ -43,7 +42,7 @@ impl Order {
     /// The die that is looked at so many dies after the first, and none where it is a home that was looked at before.
     pub fn die_at(self, look: u32) -> Option<Die>
         requires { look < self.copies + self.dies }
-        ensures { option_map (λ die. die.0) result ≡ slice_index_or (looks (first_of self.copies self.homes) self.dies) look None }
+        ensures { option_map (λ die. die.0) result ≡ slice_index_or (looks self.copies self.homes self.dies) look None }
     {
         if look < self.copies {
             return Some(self.homes[look as usize]);
@@ -56,6 +55,8 @@ impl Order {
     fn is_home(self, die: Die) -> bool
         ensures { result ≡ list_any (λ home. home.0 == die.0) (take self.copies self.homes) }
     {
-        self.homes[..self.copies as usize].iter().any(|home| home.0 == die.0)
+        self.homes[..self.copies as usize]
+            .iter()
+            .any(|home| home.0 == die.0)
     }
 }

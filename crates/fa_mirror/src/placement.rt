@@ -1,11 +1,10 @@
 //! Where copies of a page go.
-ghost use Rattle.std.specs.Prelude.{◌≡◌, ◌-◌, ◌<◌, ◌≤◌, ◌&&◌, not, option_map};
+ghost use Rattle.std.specs.Prelude.{◌≡◌, ◌-◌, ◌<◌, ◌≤◌, option_map};
 ghost use Rattle.std.specs.List.{All};
-ghost use Rattle.fa_machine.specs.Copies.{holds_page};
 ghost use Rattle.fa_machine.specs.Placement.{copies_asked as rule_asked, copy_place as rule_place, has_room as rule_room};
 ghost use Rattle.fa_machine.specs.Placement.{is_thin as rule_thin, targets as rule_targets};
 ghost use Rattle.fa_mirror.specs.Chosen.{AreApart, TakesWrites};
-ghost use Rattle.fa_mirror.specs.Order.{numbers_of};
+ghost use Rattle.fa_mirror.specs.Order.{numbers_of, takes_copy as rule_takes};
 
 use crate::order::order_of;
 use crate::placing::Placing;
@@ -78,7 +77,7 @@ fn has_room<M: Map>(map: &M, die: Die) -> bool
 
 /// Whether a die is live and has room, and does not hold the page.
 fn takes_copy<M: Map>(map: &M, page: Page, die: Die) -> bool
-    ensures { result ≡ (rule_room (M.view map.now) die.0 && not (holds_page (M.view map.now) page.0 die.0)) }
+    ensures { result ≡ rule_takes (M.view map.now) page.0 die.0 }
 {
     has_room(map, die) && (page.0 >= map.geometry().pages || map.copy_on(page, die).is_none())
 }
