@@ -5,10 +5,9 @@ use fa_map::{Map, PageMap};
 use fa_types::{Die, Geometry, Kind, Page, Seq, Slot};
 use std::test::Fail;
 
-/// A slot of die 0 comes to hold a page as its only write, where the map allows it.
-fn hold<M: Map>(map: &mut M, page: u64, slot: u32) -> Result<(), Fail> {
+/// A slot of a die comes to hold a page as its only write, where the map allows it.
+pub fn hold<M: Map>(map: &mut M, page: u64, die: Die, slot: u32) -> Result<(), Fail> {
     let g = map.geometry();
-    let die = Die(0);
     if page >= g.pages || slot >= g.blocks * g.slots || !map.is_live(die) {
         return Err("no such page or slot")?;
     }
@@ -34,7 +33,7 @@ fn waste<M: Map>(map: &mut M, slot: u32) -> Result<(), Fail> {
 }
 
 /// Makes one more copy of the page's last write current, where the die has none and the slot holds none.
-fn copy_more<M: Map>(map: &mut M, page: Page, die: Die, slot: Slot) {
+pub fn copy_more<M: Map>(map: &mut M, page: Page, die: Die, slot: Slot) {
     let g = map.geometry();
     if page.0 >= g.pages || die.0 as u32 >= g.dies || slot.0 >= g.blocks * g.slots {
         return;
@@ -113,12 +112,12 @@ fn two_blocks_are_collected(rt: HostRuntime) -> Result<(), Fail> {
         return Err("a new map has a live die")?;
     }
     map.bring_in(Die(0));
-    hold(&mut map, 0, 0)?;
+    hold(&mut map, 0, Die(0), 0)?;
     for slot in 1..8u32 {
         waste(&mut map, slot)?;
     }
     for page in 1..5u64 {
-        hold(&mut map, page, 7 + page as u32)?;
+        hold(&mut map, page, Die(0), 7 + page as u32)?;
     }
     expect(&map, 0, Some(1), CollectorStep::EraseBlock(Block(1)), true)?;
     erase(&mut map, 1)?;
