@@ -1,7 +1,8 @@
 -- The claims that the entries of a tree stand for.
 use Rattle.fa_claims.specs.Claims.{claim_of, claims_in, reservation_of}
 use Rattle.fa_claims.specs.declared.targets.Reservation.{Reservation}
-use Rattle.fa_machine.proofs.Maps.{found_changed, get-change, has_some, nat_same}
+use Rattle.fa_claims.proofs.Trees.{get_tree, same_tree, there}
+use Rattle.fa_machine.proofs.Maps.{get-change, has_some, nat_same}
 use Rattle.fa_machine.proofs.Values.{any_value, some_value}
 use Rattle.fa_machine.specs.Maps.{change}
 use Rattle.fa_machine.specs.State.{OpenClaim, Reservation as ReservedWrite}
@@ -28,55 +29,15 @@ Entries = List (ℕ × Option Reservation)
 abbrev pub at : Entries → ℕ → Option (Option Reservation)
 at es q = lookup (is_at (nat_cmp q)) es
 
-found_is : {X : Type 0} (q : ℕ) (es : List (ℕ × X)) → find nat_cmp q es ≡ lookup (is_at (nat_cmp q)) es
-found_is q [] = refl
-found_is q (e ∷ es) = ap (cond (is_at (nat_cmp q) e.0) (Some e.1)) (found_is q es)
-
 pub get_claims : (es : Entries) (q : ℕ) → get (claims_in es) q ≡ option_map (claim_of q) (at es q)
-get_claims es q =
-    get-from_entries nat_cmp_total (map (λ e. (e.0, claim_of e.0 e.1)) es) q
-    ∙ found_changed nat_cmp_total nat_same claim_of q es
-    ∙ ap (option_map (claim_of q)) (found_is q es)
+get_claims = get_tree claim_of
 
 same_claims : (m n : FinMap nat_cmp OpenClaim) → ((q : ℕ) → get m q ≡ get n q) → m ≡ n
-same_claims = same_map nat_cmp_total nat_cmp-IsAntisymmetric
-
--- two trees that differ at one number
-module _ (old new : Entries) (k : ℕ) (w : Option (Option Reservation))
-    (updated : (q : ℕ) → at new q ≡ cond (is_at (nat_cmp k) q) w (at old q)) where
-  get_updated : (q : ℕ) → get (claims_in new) q ≡ cond (eq_by_cmp nat_cmp q k) (option_map (claim_of k) w) (get (claims_in old) q)
-  get_updated q =
-      get_claims new q ∙ ap (option_map (claim_of q)) (updated q)
-      ∙ elim (cases_eq q k) [
-        | inl same ↦
-            ap (λ b. option_map (claim_of q) (cond b w (at old q))) (unsigned_tied k q ∙ eq-eqb k q (sym same))
-            ∙ ap (λ n. option_map (claim_of n) w) same
-            ∙ sym (ap (λ b. cond b (option_map (claim_of k) w) (get (claims_in old) q)) (unsigned_tied q k ∙ eq-eqb q k same))
-        | inr apart ↦
-            ap (λ b. option_map (claim_of q) (cond b w (at old q))) (unsigned_tied k q ∙ ne_eqb k q (λ e. apart (sym e)))
-            ∙ sym (get_claims old q)
-            ∙ sym (ap (λ b. cond b (option_map (claim_of k) w) (get (claims_in old) q)) (unsigned_tied q k ∙ ne_eqb q k apart))
-      ]
-
-  pub inserted : (r : Option Reservation) → w ≡ Some r → claims_in new ≡ insert (claims_in old) k (claim_of k r)
-  inserted r is =
-      same_claims _ _ (λ q. get_updated q
-      ∙ ap (λ o. cond (eq_by_cmp nat_cmp q k) (option_map (claim_of k) o) (get (claims_in old) q)) is
-      ∙ sym (get-insert nat_cmp_total (claims_in old) k (claim_of k r) q))
-
-  pub removed : w ≡ None → claims_in new ≡ remove (claims_in old) k
-  removed is =
-      same_claims _ _ (λ q. get_updated q
-      ∙ ap (λ o. cond (eq_by_cmp nat_cmp q k) (option_map (claim_of k) o) (get (claims_in old) q)) is
-      ∙ sym (get-remove nat_cmp_total (claims_in old) k q))
+same_claims = same_tree claim_of
 
 module _ (es : Entries) where
-  open_is : (o : Option (Option Reservation)) (q : ℕ) → is_some (option_map (claim_of q) o) ≡ is_some o
-  open_is None q = refl
-  open_is (Some r) q = refl
-
   pub open_at : (q : ℕ) → is_some (at es q) ≡ contains_key (claims_in es) q
-  open_at q = sym (ap is_some (get_claims es q) ∙ open_is (at es q) q)
+  open_at = there claim_of es
 
   own_page : (o : Option (Option Reservation)) (q : ℕ) (c : OpenClaim) → option_map (claim_of q) o ≡ Some c → c.page ≡ q
   own_page None q c e = absurd (none-some c e)
@@ -188,14 +149,3 @@ module _ (m : FinMap nat_cmp OpenClaim) (own : (q : ℕ) (c : OpenClaim) → get
         | inr apart ↦ sym (other_claim q apart (get m q) refl)
       ]
       ∙ sym (get-change nat_cmp_total nat_same marked_claim m q))
-
-pub no_claims : (es : Entries) → length es ≡ 0 → len (claims_in es) ≡ 0
-no_claims [] none = len-empty nat_cmp OpenClaim
-no_claims (e ∷ es) none = absurd (omega (arith, none))
-
-pub no_entries : (es : Entries) → len (claims_in es) ≡ 0 → length es ≡ 0
-no_entries [] none = refl
-no_entries (e ∷ es) none =
-    let nothing = empty_of_len (claims_in (e ∷ es)) none in
-    absurd (false≢true (sym (ap (λ m. contains_key m e.0) nothing ∙ ap is_some (get-empty nat_cmp e.0)) ∙ sym (open_at (e ∷ es) e.0)
-    ∙ ap (λ b. is_some (cond b (Some e.1) (at es e.0))) (ap is_eq (tied_itself nat_cmp_total e.0))))

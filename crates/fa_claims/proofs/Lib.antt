@@ -1,2 +1,3 @@
 mod Entries
 mod Three
+pub mod Trees

@@ -1,6 +1,8 @@
+use Rattle.fa_claims.proofs.Trees.{removed}
+use Rattle.fa_claims.specs.Claims.{claim_of}
 use Rattle.std.proofs.Common.{refl, None}
-use Rattle.fa_claims.proofs.Entries.{removed}
 use Rattle.fa_claims.proofs.claims.Claims.release.Goals as goal
 
 pub returns : goal.returns
-returns g c = removed c.args.self.now.reservations.entries c.remove.new.self.entries c.args.claim.0 None c.remove.ensures.updates.0 refl
+returns g c = removed claim_of c.args.self.now.reservations.entries c.remove.new.self.entries c.args.claim.0 None
+    c.remove.ensures.updates.0 refl
