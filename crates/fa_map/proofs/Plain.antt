@@ -244,34 +244,6 @@ module _ (m : MapState) (g : Geometry) (on : List Bool) (count : ℕ) (versions 
       cut false None = refl
       cut false (Some u) = refl
 
-  -- what is found and counted in the table is found and counted in the state
-  pub plain_found : (test : ℕ → Option Used → Bool) (die start n : ℕ) (t : List (Option Used)) → start ≡ die * die_slots g → n ≡ die_slots g → t ≡ table
-      → find (λ slot. test slot (slot_at t (start + slot))) (below n) ≡ find (λ slot. test slot (used_at m die slot)) (slots_of m)
-  plain_found test die start n t a b c =
-      (λ i. find (λ slot. test slot (slot_at (c i) (a i + slot))) (below (b i)))
-      ∙ find_agree (λ slot. test slot (slot_at table (die * die_slots g + slot))) (λ slot. test slot (used_at m die slot)) 0 (die_slots g)
-      (λ k low high. ap (test k) (sym (plain.used die k (omega arith))))
-      ∙ ap (λ k. find (λ slot. test slot (used_at m die slot)) (below k)) (sym slots_are)
-
-  pub plain_count : (test : Option Used → Bool) (die start n : ℕ) (t : List (Option Used)) → start ≡ die * die_slots g → n ≡ die_slots g → t ≡ table
-      → count_by (λ slot. test (slot_at t (start + slot))) (below n) ≡ count_by (λ slot. test (used_at m die slot)) (slots_of m)
-  plain_count test die start n t a b c =
-      (λ i. count_by (λ slot. test (slot_at (c i) (a i + slot))) (below (b i)))
-      ∙ count_agree (λ slot. test (slot_at table (die * die_slots g + slot))) (λ slot. test (used_at m die slot)) 0 (die_slots g)
-      (λ k low high. ap test (sym (plain.used die k (omega arith))))
-      ∙ ap (λ k. count_by (λ slot. test (used_at m die slot)) (below k)) (sym slots_are)
-
-  pub plain_count_in : (test : Option Used → Bool) (die block start : ℕ) (t : List (Option Used)) → block < g.blocks
-      → start ≡ die * die_slots g + block * g.slots → t ≡ table
-      → count_by (λ slot. test (slot_at t (start + slot))) (below g.slots) ≡ count_in m die block test
-  plain_count_in test die block start t fits a c =
-      let room = die_fits block g.blocks g.slots fits in
-      (λ i. count_by (λ slot. test (slot_at (c i) (a i + slot))) (below g.slots))
-      ∙ count_shift (λ slot. test (slot_at table (die * die_slots g + block * g.slots + slot))) (λ slot. test (used_at m die slot)) 0 (block * g.slots) g.slots
-      (λ k high.
-      ap test (ap (slot_at table) (omega arith) ∙ sym (plain.used die (block * g.slots + k) (omega arith))))
-      ∙ ap (λ (k : Geometry). count_by (λ slot. test (used_at m die slot)) (range_with_len (block * k.slots) k.slots)) (sym plain.geometry)
-
   -- another list in which each slot is the same
   pub plain_alike : (t : List (Option Used)) → length t ≡ length table
       → ((d s : ℕ) → s < die_slots g → slot_at t (d * die_slots g + s) ≡ slot_at table (d * die_slots g + s)) → IsPlain m g on count versions t

@@ -4,7 +4,6 @@ pub mod Chains
 pub mod Codes
 pub mod Entries
 pub mod PageView
-pub mod PlainView
 pub mod Shown
 pub mod Slots
 pub mod Plain
