@@ -361,18 +361,18 @@ impl<A: Allocator> Tables<A> {
         }
     }
 
-    /// No slot holds a copy of the page: those that did are stale. It takes a step for each die.
-    fn retire(&mut self, page: u32)
+    /// No slot holds a copy of the page: those that did are stale. It takes a step for each of them.
+    pub fn retire(&mut self, page: u32)
         requires { page < self.old.geometry.pages }
         ensures geometry { self.new.geometry ≡ self.old.geometry }
-        ensures entries { (die slot : ℕ) → die < self.old.geometry.dies → slot < die_slots self.old.geometry
+        ensures entries { (die slot : ℕ) → slot < die_slots self.old.geometry
             → entry_of self.new.entries.items (die_slots self.old.geometry) die slot
             ≡ retired page (entry_of self.old.entries.items (die_slots self.old.geometry) die slot) }
     {
-        for die in 0..self.geometry.dies {
-            if let Some(slot) = self.copy_on(page, die as u8) {
-                self.remove_copy(page, Die(die as u8), Slot(slot), Entry::Stale);
-            }
+        let mut next = self.first(page);
+        while let Some(die) = next.die {
+            self.remove_copy(page, Die(die), Slot(next.slot), Entry::Stale);
+            next = self.first(page);
         }
     }
 
