@@ -21,7 +21,7 @@ use Rattle.fa_map.specs.Changes.{new_map, with_used, made_current, outdated, ren
 use Rattle.fa_map.specs.Plain.{IsPlain, die_slots, slot_at}
 use Rattle.fa_map.specs.Slots.{IsPageMap}
 use Rattle.fa_map.proofs.Changed.{place_cases, used-new, used-same, used-other, used-outdated, used-current, used-renewed, used-dropped, used-erased}
-use Rattle.fa_map.proofs.Indices.{die_fits, index_apart, index_fits}
+use Rattle.fa_map.proofs.Indices.{index_apart, index_fits}
 use Rattle.fa_map.proofs.Written.{repeated}
 use Rattle.fa_map.proofs.Kept.{whole-new, whole-used, whole-current, whole-renewed, whole-kept, whole-in, whole-dropped, whole-erased}
 
@@ -165,6 +165,7 @@ module _ (m : MapState) (g : Geometry) (on : List Bool) (count : ℕ) (versions 
           ∙ sym (table_other t die slot d s (die_slots g) (Held page version) (subst (λ k. slot < k) slots_are may.slot_fits) below apart ∙ each d s below)
     ];
   }
+
   -- a die's place in the list of dies
   die_at : (die : ℕ) → die < g.dies → die < length on
   die_at die fits = subst (λ k. die < k) (sym plain.dies) fits

@@ -4,7 +4,7 @@ ghost use Rattle.fa_map.specs.Plain.{IsPlain, die_slots};
 
 use crate::plain_slots::{
     count_erased, count_states, erase_all, erase_unreserved, find_copy, find_erased,
-    find_erased_outside, outdate,
+    find_erased_outside, outdate, retire,
 };
 use fa_ghost::History;
 use fa_machine::{Block, Used, Version};
@@ -134,6 +134,16 @@ fn first_slot(geometry: Geometry, die: Die) -> usize
     die.0 as usize * slots_of_die(geometry) as usize
 }
 
+/// The slot of this number.
+fn as_slot(number: Option<u32>) -> Option<Slot>
+    ensures { option_map (λ slot. slot.0) result ≡ number }
+{
+    match number {
+        Some(slot) => Some(Slot(slot)),
+        None => None,
+    }
+}
+
 impl<A: Allocator> Map for PlainMap<A> {
     ghost use Rattle.fa_plain_map.specs.PlainView.{plain_view};
 
@@ -222,6 +232,19 @@ impl<A: Allocator> Map for PlainMap<A> {
         self.free(die).saturating_sub(self.geometry.slots)
     }
 
+    fn writers_slot(&self, die: Die) -> Option<Slot> {
+        as_slot(self.slot_for_writers(die))
+    }
+
+    fn slot_for_move(&self, die: Die, block: Block) -> Option<Slot> {
+        as_slot(self.slot_outside(die, block))
+    }
+
+    fn reserve_slot(&mut self, die: Die, slot: Slot) {
+        self.used[first_slot(self.geometry, die) + slot.0 as usize] = Some(Used::Reserved);
+        note(&mut self.history, Change::Take { die, slot });
+    }
+
     fn take_slot(&mut self, die: Die) -> Option<Slot> {
         let slot = self.slot_for_writers(die);
         self.reserve(die, slot)
@@ -242,6 +265,28 @@ impl<A: Allocator> Map for PlainMap<A> {
         note(
             &mut self.history,
             Change::MakeCurrent {
+                page,
+                version,
+                die,
+                slot,
+            },
+        );
+    }
+
+    fn renew(&mut self, page: Page, version: Version) {
+        retire(&mut self.used, page);
+        self.versions[page.0 as usize] = Some(version);
+        note(&mut self.history, Change::Renew { page, version });
+    }
+
+    fn hold(&mut self, page: Page, version: Version, die: Die, slot: Slot) {
+        self.used[first_slot(self.geometry, die) + slot.0 as usize] = Some(Used::Held {
+            page,
+            version,
+        });
+        note(
+            &mut self.history,
+            Change::Hold {
                 page,
                 version,
                 die,

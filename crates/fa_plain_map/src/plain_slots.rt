@@ -3,6 +3,7 @@ ghost use Rattle.std.specs.Prelude.{◌≡◌, ℕ, ◌+◌, ◌*◌, ◌/◌, �
 ghost use Rattle.std.specs.List.{range_with_len};
 ghost use Rattle.fa_machine.specs.Copies.{is_held_slot, is_reserved_slot, is_stale_slot};
 ghost use Rattle.fa_machine.specs.Maps.{below};
+ghost use Rattle.fa_machine.specs.Writing.{without_page};
 ghost use Rattle.fa_map.specs.Changes.{outdated};
 ghost use Rattle.fa_map.specs.Plain.{holds, slot_at};
 
@@ -32,6 +33,22 @@ fn outdate_slot(used: Option<Used>, page: Page, version: Version) -> Option<Used
             },
         ) => {
             if held.0 == page.0 && old.seq.0 != version.seq.0 {
+                Some(Used::Stale)
+            } else {
+                used
+            }
+        }
+        _ => used,
+    }
+}
+
+/// The state of a slot once no copy of the page is current.
+fn retire_slot(used: Option<Used>, page: Page) -> Option<Used>
+    ensures { result ≡ option_map (without_page page.0) used }
+{
+    match used {
+        Some(Used::Held { page: held, .. }) => {
+            if held.0 == page.0 {
                 Some(Used::Stale)
             } else {
                 used
@@ -136,6 +153,15 @@ pub fn outdate(used: &mut [Option<Used>], page: Page, version: Version)
 {
     for index in 0..used.len() {
         used[index] = outdate_slot(used[index], page, version);
+    }
+}
+
+/// A slot that holds the page is stale.
+pub fn retire(used: &mut [Option<Used>], page: Page)
+    ensures { (k : ℕ) → slot_at used.new k ≡ option_map (without_page page.0) (slot_at used.old k) }
+{
+    for index in 0..used.len() {
+        used[index] = retire_slot(used[index], page);
     }
 }
 
