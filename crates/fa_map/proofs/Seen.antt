@@ -19,7 +19,7 @@ use Rattle.fa_machine.specs.State.{MapState, is_live, slots_of, used_at}
 use Rattle.fa_machine.specs.Writing.{without_page}
 use Rattle.fa_map.specs.Chains.{IsNext, entry_at, entry_of, is_before}
 use Rattle.fa_map.specs.Changes.{MayHold, MayKeep, dropped, made_current, new_map, outdated, renewed, with_used, without_block}
-use Rattle.fa_map.specs.Entries.{die_holds, entries_in, erased_entry, is_copy_of, is_current_entry, is_erased_entry, is_same_state, may_take, retired, state_of_entry}
+use Rattle.fa_map.specs.Entries.{copies_in, die_holds, entries_in, erased_entry, is_copy_of, is_current_entry, is_erased_entry, is_same_state, may_take, retired, state_of_entry}
 use Rattle.fa_map.specs.Shown.{IsShown, held, is_number, used_of, version_at}
 use Rattle.fa_map.specs.Plain.{IsPlain, die_slots, holds, slot_at}
 use Rattle.fa_map.specs.Slots.{first_holder}
@@ -355,6 +355,15 @@ module _ (m : MapState) (g : Geometry) (on : List Bool) (count : ℕ) (versions 
           copies_alike versions page (entry_of entries n die k) (λ p is. shown.known die k p inside is) ∙ ap (holds page) (sym (seen die k inside)))
           ∙ ap (λ k. find (λ s. holds page (used_at m die s)) (below k)) (sym size)
           ∙ sym (copy_found m shown.plain.whole page die))
+
+  -- the lowest page from one on that so many dies hold
+  pub shown_with : (tables : Geometry) → tables ≡ g → (held from : ℕ)
+      → find (λ page. copies_in entries tables page == held) (range_with_len from (tables.pages - from))
+      ≡ find (λ page. length (holders m page) == held) (range_with_len from (m.geometry.pages - from))
+  shown_with tables same held from =
+      find_agree (λ page. copies_in entries tables page == held) (λ page. length (holders m page) == held) from (tables.pages - from)
+      (λ k low high. ap (λ (j : ℕ). j == held) (ap (λ (j : Geometry). copies_in entries j k) same ∙ shown_holders k))
+      ∙ ap (λ (k : Geometry). find (λ page. length (holders m page) == held) (range_with_len from (k.pages - from))) (same ∙ sym shown.plain.geometry)
 
   -- ## The next copy of a page
 

@@ -3,6 +3,7 @@ pub mod Changes
 pub mod Chains
 pub mod Codes
 pub mod Entries
+pub mod Few
 pub mod PageView
 pub mod Shown
 pub mod Slots

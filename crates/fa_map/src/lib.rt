@@ -4,6 +4,7 @@
 
 mod change;
 mod entries;
+mod few_copies;
 mod map;
 mod page_map;
 mod slots;

@@ -1,5 +1,6 @@
 //! The trait of a page map.
-ghost use Rattle.std.specs.Prelude.{◌≡◌, ℕ, ◌+◌, ◌*◌, ◌<◌, Bool, true, false, length, option_map, IfSome, Some};
+ghost use Rattle.std.specs.Prelude.{◌≡◌, ℕ, ◌+◌, ◌-◌, ◌*◌, ◌<◌, ◌≤◌, ◌==◌, Bool, true, false, length, find, option_map, IfSome, Some};
+ghost use Rattle.std.specs.List.{range_with_len};
 ghost use Rattle.std.specs.FinMap.{get, len};
 ghost use Rattle.fa_machine.specs.Collecting.{move_place};
 ghost use Rattle.fa_machine.specs.Copies.{copy_on, holders};
@@ -63,6 +64,12 @@ pub trait Map {
         requires copy { copy_on (view self.now) page.0 die.0 ≡ Some slot.0 }
         ensures die { option_map (λ copy. copy.0.0) result ≡ first_holder (view self.now) page.0 (die.0 + 1) }
         ensures slot { IfSome result (λ copy. copy_on (view self.now) page.0 copy.0.0 ≡ Some copy.1.0) };
+
+    /// The lowest page from one on that exactly this many live dies hold, 1 or 2.
+    fn next_with(&self, count: u32, from: Page) -> Option<Page>
+        requires { (1 ≤ count) × (count ≤ 2) }
+        ensures { option_map (λ page. page.0) result ≡ find (λ page. length (holders (view self.now) page) == count)
+            (range_with_len from.0 ((view self.now).geometry.pages - from.0)) };
 
     /// The state of the slot.
     fn state(&self, die: Die, slot: Slot) -> SlotState

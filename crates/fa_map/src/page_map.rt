@@ -209,6 +209,13 @@ impl<A: Allocator> Map for PageMap<A> {
         copy_at(self.tables.next(die, slot))
     }
 
+    fn next_with(&self, count: u32, from: Page) -> Option<Page> {
+        match self.tables.next_with(count, from.0 as usize) {
+            Some(page) => Some(Page(page as u64)),
+            None => None,
+        }
+    }
+
     fn state(&self, die: Die, slot: Slot) -> SlotState {
         state_of(self.tables.entry(die, slot))
     }

@@ -201,6 +201,15 @@ impl<A: Allocator> Map for PlainMap<A> {
         self.copy_from(page, die.0 as u32 + 1)
     }
 
+    fn next_with(&self, count: u32, from: Page) -> Option<Page> {
+        for number in from.0..self.geometry.pages {
+            if self.copies_of(Page(number)) == count {
+                return Some(Page(number));
+            }
+        }
+        None
+    }
+
     fn state(&self, die: Die, slot: Slot) -> SlotState {
         match self.used[first_slot(self.geometry, die) + slot.0 as usize] {
             None => SlotState::Erased,

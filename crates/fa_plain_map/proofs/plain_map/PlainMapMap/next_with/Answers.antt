@@ -1,0 +1,25 @@
+use Rattle.std.proofs.Common.{◌-◌, ◌==◌, length, sym, ap, ◌∙◌, arith, eq-eqb, inl, inr}
+use Rattle.std.proofs.lemmas.Bool.{cases_eq, ne_eqb}
+use Rattle.std.specs.List.{find, range_with_len}
+use Rattle.fa_types.specs.declared.geometry.Geometry.{Geometry}
+use Rattle.fa_machine.specs.Copies.{holders}
+use Rattle.fa_map.proofs.Ranges.{find_none, find_some}
+use Rattle.fa_plain_map.proofs.plain_map.PlainMapMap.next_with.Goals as goal
+
+pub returns-then-copies_of-count : goal.returns-then-copies_of-count
+returns-then-copies_of-count g c =
+    let s = c.args.self.now in
+    let from = c.args.from.0 in
+    let number = c.loop-number.number in
+    let test = λ page. length (holders s.history.shown page) == c.args.count in
+    sym (find_some test from (s.geometry.pages - from) number (omega arith) (omega arith)
+    (eq-eqb (length (holders s.history.shown number)) c.args.count (sym c.copies_of.ensures ∙ c.if-copies_of-count.true)) c.loop-number.invariant)
+    ∙ ap (λ (k : Geometry). find test (range_with_len from (k.pages - from))) (sym s.sound.geometry)
+
+pub returns : goal.returns
+returns g c =
+    let s = c.args.self.now in
+    let from = c.args.from.0 in
+    let test = λ page. length (holders s.history.shown page) == c.args.count in
+    sym (find_none test from (s.geometry.pages - from) (λ k low high. c.loop-number.invariant k low (omega (arith, low, high))))
+    ∙ ap (λ (k : Geometry). find test (range_with_len from (k.pages - from))) (sym s.sound.geometry)
