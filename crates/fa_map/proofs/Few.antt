@@ -2,14 +2,14 @@
 use Rattle.std.proofs.Common.{◌≡◌, ◌⊎◌, ℕ, ◌+◌, ◌*◌, ◌-◌, ◌<◌, ◌≤◌, ◌==◌, min, if◌then◌else◌, Bool, true, false, List, length, set, ap, cond, inl, inr, refl, sym, ◌∙◌, arith}
 use Rattle.std.proofs.lemmas.Bool.{cases_eq, cases_lt, eq-eqb, ne_eqb}
 use Rattle.std.specs.FinMap.{contains_key, insert, remove}
+use Rattle.std.specs.List.{find, range_with_len}
 use Rattle.std.specs.Prelude.{is_some}
+use Rattle.fa_machine.specs.Maps.{Numbers}
 use Rattle.fa_machine.proofs.Maps.{get-insert_same, get-insert_other, get-remove_same, get-remove_other}
-use Rattle.fa_set.specs.Members.{Numbers, bound_of, is_in}
-use Rattle.fa_set.specs.declared.number_set.NumberSet.{NumberSet}
 use Rattle.fa_types.specs.declared.geometry.Geometry.{Geometry}
 use Rattle.fa_map.specs.Chains.{entry_at, entry_of}
 use Rattle.fa_map.specs.Entries.{copies_in, die_holds, is_copy_of, is_current_entry}
-use Rattle.fa_map.specs.Few.{AreFew, IsCounted}
+use Rattle.fa_map.specs.Few.{AreFew, Few, IsCounted, IsPut, with_member}
 use Rattle.fa_map.specs.Plain.{die_slots}
 use Rattle.fa_map.specs.declared.entries.Entry.{Entry}
 use Rattle.fa_map.specs.declared.entries.Entry.TheVariants.{Erased, Current}
@@ -20,9 +20,9 @@ use Rattle.fa_map.proofs.Ranges.{bit, count_agree, count_changed, count_same, co
 use Rattle.fa_map.proofs.Tabled.{bare_entry}
 use Rattle.fa_map.proofs.Tallied.{entry_same, entry_other}
 
--- what is in a set after a number came in, and after one went
-pub member_in : (m : Numbers) (n k : ℕ) → contains_key (insert m n tt) k ≡ (if k == n then true else contains_key m k)
-member_in m n k =
+-- what is in a set after a number came in, or went
+pub member_put : (m : Numbers) (n k : ℕ) (wanted : Bool) → contains_key (with_member n wanted m) k ≡ (if k == n then wanted else contains_key m k)
+member_put m n k true =
     elim (cases_eq k n) [
       | inl same ↦
           ap (contains_key (insert m n tt)) same ∙ ap is_some (get-insert_same m n tt)
@@ -30,9 +30,7 @@ member_in m n k =
       | inr apart ↦
           ap is_some (get-insert_other m n tt k apart) ∙ sym (ap (λ (b : Bool). cond b true (contains_key m k)) (ne_eqb k n apart))
     ]
-
-pub member_out : (m : Numbers) (n k : ℕ) → contains_key (remove m n) k ≡ (if k == n then false else contains_key m k)
-member_out m n k =
+member_put m n k false =
     elim (cases_eq k n) [
       | inl same ↦
           ap (contains_key (remove m n)) same ∙ ap is_some (get-remove_same m n)
@@ -41,33 +39,47 @@ member_out m n k =
           ap is_some (get-remove_other m n k apart) ∙ sym (ap (λ (b : Bool). cond b false (contains_key m k)) (ne_eqb k n apart))
     ]
 
-module _ {A : Type 0} (pages : ℕ) (copies more : ℕ → ℕ) (one two : NumberSet A) (few : AreFew pages copies one two) where
+module _ (pages : ℕ) (copies more : ℕ → ℕ) (few : Few) (are : AreFew pages copies few) where
   -- as many copies of each page
-  pub few_alike : ((page : ℕ) → more page ≡ copies page) → AreFew pages more one two
+  pub few_alike : ((page : ℕ) → more page ≡ copies page) → AreFew pages more few
   few_alike same = record {
-    one_bound = few.one_bound;
-    two_bound = few.two_bound;
-    ones = λ page fits. few.ones page fits ∙ ap (λ k. k == 1) (sym (same page));
-    twos = λ page fits. few.twos page fits ∙ ap (λ k. k == 2) (sym (same page));
+    bound = are.bound;
+    ones = λ page fits. are.ones page fits ∙ ap (λ k. k == 1) (sym (same page));
+    twos = λ page fits. are.twos page fits ∙ ap (λ k. k == 2) (sym (same page));
   }
 
   -- one page has another number of copies
-  pub few_put : (page n : ℕ) (one' two' : NumberSet A) → bound_of one' ≡ bound_of one → bound_of two' ≡ bound_of two
-      → ((k : ℕ) → is_in one' k ≡ (if k == page then n == 1 else is_in one k)) → ((k : ℕ) → is_in two' k ≡ (if k == page then n == 2 else is_in two k))
-      → ((k : ℕ) → (k ≡ page → ⊥) → more k ≡ copies k) → (n == 1) ≡ (more page == 1) → (n == 2) ≡ (more page == 2) → AreFew pages more one' two'
-  few_put page n one' two' bound_one bound_two ones twos same is_one is_two = record {
-    one_bound = bound_one ∙ few.one_bound;
-    two_bound = bound_two ∙ few.two_bound;
-    ones = λ k fits. ones k ∙ put 1 k (is_in one k) is_one (few.ones k fits);
-    twos = λ k fits. twos k ∙ put 2 k (is_in two k) is_two (few.twos k fits);
+  pub few_put : (page n : ℕ) (new : Few) → IsPut few page n new → ((k : ℕ) → (k ≡ page → ⊥) → more k ≡ copies k)
+      → (n == 1) ≡ (more page == 1) → (n == 2) ≡ (more page == 2) → AreFew pages more new
+  few_put page n new put same is_one is_two = record {
+    bound = put.bound ∙ are.bound;
+    ones = λ k fits. ap (λ (m : Numbers). contains_key m k) put.one ∙ member_put few.one page k (n == 1) ∙ at 1 k (contains_key few.one k) is_one (are.ones k fits);
+    twos = λ k fits. ap (λ (m : Numbers). contains_key m k) put.two ∙ member_put few.two page k (n == 2) ∙ at 2 k (contains_key few.two k) is_two (are.twos k fits);
   }
     where
-      put : (count k : ℕ) (b : Bool) → (n == count) ≡ (more page == count) → b ≡ (copies k == count) → (if k == page then n == count else b) ≡ (more k == count)
-      put count k b here was =
+      at : (count k : ℕ) (b : Bool) → (n == count) ≡ (more page == count) → b ≡ (copies k == count) → (if k == page then n == count else b) ≡ (more k == count)
+      at count k b here was =
           elim (cases_eq k page) [
-            | inl at ↦ ap (λ (c : Bool). cond c (n == count) b) (eq-eqb k page at) ∙ here ∙ ap (λ j. more j == count) (sym at)
+            | inl is ↦ ap (λ (c : Bool). cond c (n == count) b) (eq-eqb k page is) ∙ here ∙ ap (λ j. more j == count) (sym is)
             | inr apart ↦ ap (λ (c : Bool). cond c (n == count) b) (ne_eqb k page apart) ∙ was ∙ ap (λ j. j == count) (sym (same k apart))
           ]
+
+  -- the lowest page with one copy, or with two
+  pub few_found : (count from : ℕ) → 1 ≤ count → count ≤ 2
+      → find (contains_key (if count == 1 then few.one else few.two)) (range_with_len from (few.bound - from))
+      ≡ find (λ page. copies page == count) (range_with_len from (pages - from))
+  few_found count from some small =
+      ap (λ k. find (contains_key (if count == 1 then few.one else few.two)) (range_with_len from (k - from))) are.bound
+      ∙ find_agree (contains_key (if count == 1 then few.one else few.two)) (λ page. copies page == count) from (pages - from)
+      (λ k low high. elim (cases_eq count 1) [
+        | inl is ↦
+            ap (λ (b : Bool). contains_key (if b then few.one else few.two) k) (eq-eqb count 1 is)
+            ∙ are.ones k (omega (arith, low, high)) ∙ ap (λ j. copies k == j) (sym is)
+        | inr apart ↦
+            let two : 2 ≡ count = omega (arith, some, small, apart) in
+            ap (λ (b : Bool). contains_key (if b then few.one else few.two) k) (ne_eqb count 1 apart)
+            ∙ are.twos k (omega (arith, low, high)) ∙ ap (λ j. copies k == j) two
+      ])
 
 -- two numbers of copies that are one, or more than two
 same_few : (count n k : ℕ) → count ≤ 2 → (n ≡ k) ⊎ ((2 < n) × (2 < k)) → (n == count) ≡ (k == count)
@@ -144,52 +156,49 @@ module _ (g : Geometry) (entries : List Entry) (die slot : ℕ) (low : die < g.d
         let some = count_some (die_holds entries n page) 0 g.dies die (omega arith) (omega (arith, low)) (holds entries n page die slot within is) in
         omega (arith, some)
 
-  module _ {A : Type 0} (one two : NumberSet A) (few : IsCounted g entries one two) where
+  module _ (few : Few) (are : IsCounted g entries few) where
     -- a slot that held no copy, and holds none
-    pub few_plain : is_current_entry (entry_of entries n die slot) ≡ false → is_current_entry e ≡ false → IsCounted g after one two
+    pub few_plain : is_current_entry (entry_of entries n die slot) ≡ false → is_current_entry e ≡ false → IsCounted g after few
     unfolding IsCounted
-    few_plain was is = few_alike g.pages (copies_in entries g) (copies_in after g) one two few
+    few_plain was is = few_alike g.pages (copies_in entries g) (copies_in after g) few are
         (λ page. as_many page (bare_entry (entry_of entries n die slot) page was) (bare_entry e page is))
 
-    module _ (page counted : ℕ) (is_counted : counted ≡ min 4 (copies_in entries g page)) (one' two' : NumberSet A)
-        (bound_one : bound_of one' ≡ bound_of one) (bound_two : bound_of two' ≡ bound_of two) where
+    module _ (page counted : ℕ) (is_counted : counted ≡ min 4 (copies_in entries g page)) (new : Few) where
       pub few_removed : entry_of entries n die slot ≡ Current page → is_current_entry e ≡ false
           → ((s : ℕ) → s < n → entry_of entries n die s ≡ Current page → s ≡ slot)
-          → ((k : ℕ) → is_in one' k ≡ (if k == page then counted - 1 == 1 else is_in one k))
-          → ((k : ℕ) → is_in two' k ≡ (if k == page then counted - 1 == 2 else is_in two k)) → IsCounted g after one' two'
+          → IsPut few page (counted - 1) new → IsCounted g after new
       unfolding IsCounted
-      few_removed was plain once ones twos =
+      few_removed was plain once put =
           let less = one_less page was (bare_entry e page plain) once in
           let off = one_off (copies_in entries g page) counted (copies_in after g page) is_counted less in
-          few_put g.pages (copies_in entries g) (copies_in after g) one two few page (counted - 1) one' two' bound_one bound_two ones twos
+          few_put g.pages (copies_in entries g) (copies_in after g) few are page (counted - 1) new put
           (λ q apart. as_many q (λ k. apart (same_page q page (sym k ∙ was))) (bare_entry e q plain))
           (same_few 1 (counted - 1) (copies_in after g page) (omega arith) off) (same_few 2 (counted - 1) (copies_in after g page) (omega arith) off)
 
       pub few_added : is_current_entry (entry_of entries n die slot) ≡ false → e ≡ Current page
           → ((s : ℕ) → s < n → entry_of entries n die s ≡ Current page → ⊥)
-          → ((k : ℕ) → is_in one' k ≡ (if k == page then counted + 1 == 1 else is_in one k))
-          → ((k : ℕ) → is_in two' k ≡ (if k == page then counted + 1 == 2 else is_in two k)) → IsCounted g after one' two'
+          → IsPut few page (counted + 1) new → IsCounted g after new
       unfolding IsCounted
-      few_added free is none ones twos =
+      few_added free is none put =
           let more = one_more page is none in
           let off = one_on (copies_in entries g page) counted (copies_in after g page) is_counted more in
-          few_put g.pages (copies_in entries g) (copies_in after g) one two few page (counted + 1) one' two' bound_one bound_two ones twos
+          few_put g.pages (copies_in entries g) (copies_in after g) few are page (counted + 1) new put
           (λ q apart. as_many q (bare_entry (entry_of entries n die slot) q free) (λ k. apart (same_page q page (sym k ∙ is))))
           (same_few 1 (counted + 1) (copies_in after g page) (omega arith) off) (same_few 2 (counted + 1) (copies_in after g page) (omega arith) off)
 
-module _ {A : Type 0} (g : Geometry) (entries : List Entry) (one two : NumberSet A) where
+module _ (g : Geometry) (entries : List Entry) (few : Few) where
   -- in new tables no page has a copy
-  pub few_new : ((k : ℕ) → entry_at entries k ≡ Erased) → AreFew g.pages (λ page. 0) one two → IsCounted g entries one two
+  pub few_new : ((k : ℕ) → entry_at entries k ≡ Erased) → AreFew g.pages (λ page. 0) few → IsCounted g entries few
   unfolding IsCounted
-  few_new erased few =
-      few_alike g.pages (λ page. 0) (copies_in entries g) one two few
+  few_new erased are =
+      few_alike g.pages (λ page. 0) (copies_in entries g) few are
       (λ page. count_same (die_holds entries (die_slots g) page) false 0 g.dies
       (λ d. bare entries (die_slots g) page d (λ s inside is. bare_entry Erased page refl (sym (erased (d * die_slots g + s)) ∙ is))))
 
-  pub few_bounds : IsCounted g entries one two → (bound_of one ≡ g.pages) × (bound_of two ≡ g.pages)
+  pub few_bound : IsCounted g entries few → few.bound ≡ g.pages
   unfolding IsCounted
-  few_bounds few = (few.one_bound, few.two_bound)
+  few_bound are = are.bound
 
-  pub few_copies : IsCounted g entries one two → AreFew g.pages (copies_in entries g) one two
+  pub few_copies : IsCounted g entries few → AreFew g.pages (copies_in entries g) few
   unfolding IsCounted
-  few_copies few = few
+  few_copies are = are

@@ -31,7 +31,7 @@ pub struct Tables<A: Allocator = Global> {
     /// The pages with one copy and those with two.
     few: FewCopies<A>,
     ghost sound: { AreTables geometry entries.items links.items heads.items counts.items erased.items },
-    ghost counted: { IsCounted geometry entries.items few.one few.two } by { IsCounted-prop geometry entries.items few.one few.two },
+    ghost counted: { IsCounted geometry entries.items few } by { IsCounted-prop geometry entries.items few },
 }
 
 /// Where a die's copy of a page belongs in the page's chain.

@@ -5,7 +5,7 @@ use Rattle.fa_map.specs.Plain.{die_slots}
 use Rattle.fa_map.specs.declared.entries.Entry.TheVariants.{Current}
 use Rattle.fa_map.specs.declared.entries.Link.{Link}
 use Rattle.fa_map.specs.Few.{IsCounted}
-use Rattle.fa_map.proofs.Few.{few_added, few_bounds}
+use Rattle.fa_map.proofs.Few.{few_added, few_bound}
 use Rattle.fa_map.proofs.Indices.{index_fits}
 use Rattle.fa_map.proofs.Tabled.{copy_added, tables_told}
 use Rattle.fa_map.proofs.Written.{whole_part}
@@ -18,17 +18,11 @@ write_link-requires-clause-last g c = λ d slot e.
     let fits = index_fits d slot s.geometry.dies (die_slots s.geometry) old.1 old.2 in
     omega (arith, fits, c.deref_mut-2.ensures.len, s.sound.linked, s.links.ok.0)
 
-pub put-requires-clause-one : goal.put-requires-clause-one
-put-requires-clause-one g c =
+pub put-requires : goal.put-requires
+put-requires g c =
     let s = c.args.self.now in
-    let bounds = few_bounds s.geometry s.entries.items s.few.one s.few.two s.counted in
-    omega (arith, bounds.0, c.requires.page)
-
-pub put-requires-clause-two : goal.put-requires-clause-two
-put-requires-clause-two g c =
-    let s = c.args.self.now in
-    let bounds = few_bounds s.geometry s.entries.items s.few.one s.few.two s.counted in
-    omega (arith, bounds.1, c.requires.page)
+    let bound = few_bound s.geometry s.entries.items s.few s.counted in
+    omega (arith, bound, c.requires.page)
 
 pub invariant_of-self : goal.invariant_of-self
 invariant_of-self g c =
@@ -60,8 +54,8 @@ invariant_of-self g c =
           (whole_part s.counts.len c.write_entry.new.counts s.counts.items many) (whole_part s.erased.len c.write_entry.new.erased s.erased.items few)
           (copy_added s.geometry s.entries.items s.links.items s.heads.items s.counts.items s.erased.items s.sound c.args.die.0 c.args.slot.0 c.requires.die c.requires.slot c.write_entry.new.counts c.write_entry.new.erased c.args.page last (target follow) follow link c.requires.page c.requires.free c.requires.once c.seam-seam.ensures refl refl tallied);
       counted =
-          subst (λ l. IsCounted s.geometry l c.put.new.self.one c.put.new.self.two) (sym (whole_part s.entries.len c.write_entry.new.entries s.entries.items long ∙ entries))
-          (few_added s.geometry s.entries.items c.args.die.0 c.args.slot.0 c.requires.die c.requires.slot inside (Current c.args.page) s.few.one s.few.two s.counted
-          c.args.page c.copies_up_to-copies.result c.copies_up_to-copies.ensures c.put.new.self.one c.put.new.self.two c.put.ensures.bound_one c.put.ensures.bound_two
-          c.requires.free refl c.requires.once c.put.ensures.one c.put.ensures.two);
+          subst (λ l. IsCounted s.geometry l c.put.new.self) (sym (whole_part s.entries.len c.write_entry.new.entries s.entries.items long ∙ entries))
+          (few_added s.geometry s.entries.items c.args.die.0 c.args.slot.0 c.requires.die c.requires.slot inside (Current c.args.page) s.few s.counted
+          c.args.page c.copies_up_to-copies.result c.copies_up_to-copies.ensures c.put.new.self
+          c.requires.free refl c.requires.once c.put.ensures);
     }

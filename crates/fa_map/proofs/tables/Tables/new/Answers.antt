@@ -17,6 +17,6 @@ invariant_of-result g c =
     let erased = c.in_ok-erased.ensures.items_if_clones_equal (λ y same. same) in
     record {
       sound = tables_told c.args.geometry _ _ _ _ _ _ _ _ _ _ entries links heads counts erased (new_tables c.args.geometry);
-      counted = few_new c.args.geometry c.in_ok-entries.entries.items c.in_ok-few.few.one c.in_ok-few.few.two
+      counted = few_new c.args.geometry c.in_ok-entries.entries.items c.in_ok-few.few
           (λ k. ap (λ (l : List Entry). entry_at l k) entries ∙ repeated (c.args.geometry.dies * die_slots c.args.geometry) k Erased) c.in_ok-few.ensures;
     }

@@ -4,7 +4,7 @@ use Rattle.fa_map.specs.Chains.{no_link, target}
 use Rattle.fa_map.specs.Entries.{AreTallied, with_head, with_link}
 use Rattle.fa_map.specs.Plain.{die_slots}
 use Rattle.fa_map.specs.Few.{IsCounted}
-use Rattle.fa_map.proofs.Few.{few_bounds, few_removed, some_copies}
+use Rattle.fa_map.proofs.Few.{few_bound, few_removed, some_copies}
 use Rattle.fa_map.proofs.Indices.{index_fits}
 use Rattle.fa_map.proofs.Tabled.{copy_removed, tables_told}
 use Rattle.fa_map.proofs.Written.{whole_part}
@@ -24,17 +24,11 @@ overflow_sub-copies g c =
     let some = some_copies s.geometry s.entries.items c.args.die.0 c.args.slot.0 c.requires.die c.requires.slot (subst (λ k. c.args.die.0 * die_slots s.geometry + c.args.slot.0 < k) (sym s.sound.tallied.slots) fits) c.args.entry c.args.page c.requires.old in
     omega (arith, some, c.copies_up_to-copies.ensures)
 
-pub put-requires-clause-one : goal.put-requires-clause-one
-put-requires-clause-one g c =
+pub put-requires : goal.put-requires
+put-requires g c =
     let s = c.args.self.now in
-    let bounds = few_bounds s.geometry s.entries.items s.few.one s.few.two s.counted in
-    omega (arith, bounds.0, (s.sound.chained.fits c.args.die.0 c.args.slot.0 c.args.page c.requires.slot c.requires.old).1)
-
-pub put-requires-clause-two : goal.put-requires-clause-two
-put-requires-clause-two g c =
-    let s = c.args.self.now in
-    let bounds = few_bounds s.geometry s.entries.items s.few.one s.few.two s.counted in
-    omega (arith, bounds.1, (s.sound.chained.fits c.args.die.0 c.args.slot.0 c.args.page c.requires.slot c.requires.old).1)
+    let bound = few_bound s.geometry s.entries.items s.few s.counted in
+    omega (arith, bound, (s.sound.chained.fits c.args.die.0 c.args.slot.0 c.args.page c.requires.slot c.requires.old).1)
 
 pub invariant_of-self : goal.invariant_of-self
 invariant_of-self g c =
@@ -65,9 +59,9 @@ invariant_of-self g c =
           (whole_part s.counts.len c.write_entry.new.counts s.counts.items many) (whole_part s.erased.len c.write_entry.new.erased s.erased.items few)
           (copy_removed s.geometry s.entries.items s.links.items s.heads.items s.counts.items s.erased.items s.sound c.args.die.0 c.args.slot.0 c.requires.die c.requires.slot c.write_entry.new.counts c.write_entry.new.erased c.args.entry c.args.page last (target c.seam.result.next) link c.requires.old c.requires.new c.seam.ensures (ap target at) tallied);
       counted =
-          subst (λ l. IsCounted s.geometry l c.put.new.self.one c.put.new.self.two) (sym (whole_part s.entries.len c.write_entry.new.entries s.entries.items long ∙ entries))
-          (few_removed s.geometry s.entries.items c.args.die.0 c.args.slot.0 c.requires.die c.requires.slot inside c.args.entry s.few.one s.few.two s.counted
-          c.args.page c.copies_up_to-copies.result c.copies_up_to-copies.ensures c.put.new.self.one c.put.new.self.two c.put.ensures.bound_one c.put.ensures.bound_two
+          subst (λ l. IsCounted s.geometry l c.put.new.self) (sym (whole_part s.entries.len c.write_entry.new.entries s.entries.items long ∙ entries))
+          (few_removed s.geometry s.entries.items c.args.die.0 c.args.slot.0 c.requires.die c.requires.slot inside c.args.entry s.few s.counted
+          c.args.page c.copies_up_to-copies.result c.copies_up_to-copies.ensures c.put.new.self
           c.requires.old c.requires.new (λ k within is. s.sound.chained.once c.args.die.0 k c.args.slot.0 c.args.page within c.requires.slot is c.requires.old)
-          c.put.ensures.one c.put.ensures.two);
+          c.put.ensures);
     }

@@ -25,6 +25,6 @@ invariant_of-self g c =
           (whole_part s.counts.len c.write_entry.new.counts s.counts.items many) (whole_part s.erased.len c.write_entry.new.erased s.erased.items few)
           (plain_set s.geometry s.entries.items s.links.items s.heads.items s.counts.items s.erased.items s.sound c.args.die.0 c.args.slot.0 c.requires.die c.requires.slot c.write_entry.new.counts c.write_entry.new.erased c.args.entry c.requires.old c.requires.new tallied);
       counted =
-          subst (λ l. IsCounted s.geometry l s.few.one s.few.two) (sym (whole_part s.entries.len c.write_entry.new.entries s.entries.items long ∙ entries))
-          (few_plain s.geometry s.entries.items c.args.die.0 c.args.slot.0 c.requires.die c.requires.slot fits c.args.entry s.few.one s.few.two s.counted c.requires.old c.requires.new);
+          subst (λ l. IsCounted s.geometry l s.few) (sym (whole_part s.entries.len c.write_entry.new.entries s.entries.items long ∙ entries))
+          (few_plain s.geometry s.entries.items c.args.die.0 c.args.slot.0 c.requires.die c.requires.slot fits c.args.entry s.few s.counted c.requires.old c.requires.new);
     }
