@@ -39,31 +39,7 @@ member_put m n k false =
           ap is_some (get-remove_other m n k apart) ∙ sym (ap (λ (b : Bool). cond b false (contains_key m k)) (ne_eqb k n apart))
     ]
 
-module _ (pages : ℕ) (copies more : ℕ → ℕ) (few : Few) (are : AreFew pages copies few) where
-  -- as many copies of each page
-  pub few_alike : ((page : ℕ) → more page ≡ copies page) → AreFew pages more few
-  few_alike same = record {
-    bound = are.bound;
-    ones = λ page fits. are.ones page fits ∙ ap (λ k. k == 1) (sym (same page));
-    twos = λ page fits. are.twos page fits ∙ ap (λ k. k == 2) (sym (same page));
-  }
-
-  -- one page has another number of copies
-  pub few_put : (page n : ℕ) (new : Few) → IsPut few page n new → ((k : ℕ) → (k ≡ page → ⊥) → more k ≡ copies k)
-      → (n == 1) ≡ (more page == 1) → (n == 2) ≡ (more page == 2) → AreFew pages more new
-  few_put page n new put same is_one is_two = record {
-    bound = put.bound ∙ are.bound;
-    ones = λ k fits. ap (λ (m : Numbers). contains_key m k) put.one ∙ member_put few.one page k (n == 1) ∙ at 1 k (contains_key few.one k) is_one (are.ones k fits);
-    twos = λ k fits. ap (λ (m : Numbers). contains_key m k) put.two ∙ member_put few.two page k (n == 2) ∙ at 2 k (contains_key few.two k) is_two (are.twos k fits);
-  }
-    where
-      at : (count k : ℕ) (b : Bool) → (n == count) ≡ (more page == count) → b ≡ (copies k == count) → (if k == page then n == count else b) ≡ (more k == count)
-      at count k b here was =
-          elim (cases_eq k page) [
-            | inl is ↦ ap (λ (c : Bool). cond c (n == count) b) (eq-eqb k page is) ∙ here ∙ ap (λ j. more j == count) (sym is)
-            | inr apart ↦ ap (λ (c : Bool). cond c (n == count) b) (ne_eqb k page apart) ∙ was ∙ ap (λ j. j == count) (sym (same k apart))
-          ]
-
+module _ (pages : ℕ) (copies : ℕ → ℕ) (few : Few) (are : AreFew pages copies few) where
   -- the lowest page with one copy, or with two
   pub few_found : (count from : ℕ) → 1 ≤ count → count ≤ 2
       → find (contains_key (if count == 1 then few.one else few.two)) (range_with_len from (few.bound - from))
@@ -80,6 +56,31 @@ module _ (pages : ℕ) (copies more : ℕ → ℕ) (few : Few) (are : AreFew pag
             ap (λ (b : Bool). contains_key (if b then few.one else few.two) k) (ne_eqb count 1 apart)
             ∙ are.twos k (omega (arith, low, high)) ∙ ap (λ j. copies k == j) two
       ])
+
+  module _ (more : ℕ → ℕ) where
+    -- as many copies of each page
+    pub few_alike : ((page : ℕ) → more page ≡ copies page) → AreFew pages more few
+    few_alike same = record {
+      bound = are.bound;
+      ones = λ page fits. are.ones page fits ∙ ap (λ k. k == 1) (sym (same page));
+      twos = λ page fits. are.twos page fits ∙ ap (λ k. k == 2) (sym (same page));
+    }
+
+    -- one page has another number of copies
+    pub few_put : (page n : ℕ) (new : Few) → IsPut few page n new → ((k : ℕ) → (k ≡ page → ⊥) → more k ≡ copies k)
+        → (n == 1) ≡ (more page == 1) → (n == 2) ≡ (more page == 2) → AreFew pages more new
+    few_put page n new put same is_one is_two = record {
+      bound = put.bound ∙ are.bound;
+      ones = λ k fits. ap (λ (m : Numbers). contains_key m k) put.one ∙ member_put few.one page k (n == 1) ∙ at 1 k (contains_key few.one k) is_one (are.ones k fits);
+      twos = λ k fits. ap (λ (m : Numbers). contains_key m k) put.two ∙ member_put few.two page k (n == 2) ∙ at 2 k (contains_key few.two k) is_two (are.twos k fits);
+    }
+      where
+        at : (count k : ℕ) (b : Bool) → (n == count) ≡ (more page == count) → b ≡ (copies k == count) → (if k == page then n == count else b) ≡ (more k == count)
+        at count k b here was =
+            elim (cases_eq k page) [
+              | inl is ↦ ap (λ (c : Bool). cond c (n == count) b) (eq-eqb k page is) ∙ here ∙ ap (λ j. more j == count) (sym is)
+              | inr apart ↦ ap (λ (c : Bool). cond c (n == count) b) (ne_eqb k page apart) ∙ was ∙ ap (λ j. j == count) (sym (same k apart))
+            ]
 
 -- two numbers of copies that are one, or more than two
 same_few : (count n k : ℕ) → count ≤ 2 → (n ≡ k) ⊎ ((2 < n) × (2 < k)) → (n == count) ≡ (k == count)
@@ -160,7 +161,7 @@ module _ (g : Geometry) (entries : List Entry) (die slot : ℕ) (low : die < g.d
     -- a slot that held no copy, and holds none
     pub few_plain : is_current_entry (entry_of entries n die slot) ≡ false → is_current_entry e ≡ false → IsCounted g after few
     unfolding IsCounted
-    few_plain was is = few_alike g.pages (copies_in entries g) (copies_in after g) few are
+    few_plain was is = few_alike g.pages (copies_in entries g) few are (copies_in after g)
         (λ page. as_many page (bare_entry (entry_of entries n die slot) page was) (bare_entry e page is))
 
     module _ (page counted : ℕ) (is_counted : counted ≡ min 4 (copies_in entries g page)) (new : Few) where
@@ -171,7 +172,7 @@ module _ (g : Geometry) (entries : List Entry) (die slot : ℕ) (low : die < g.d
       few_removed was plain once put =
           let less = one_less page was (bare_entry e page plain) once in
           let off = one_off (copies_in entries g page) counted (copies_in after g page) is_counted less in
-          few_put g.pages (copies_in entries g) (copies_in after g) few are page (counted - 1) new put
+          few_put g.pages (copies_in entries g) few are (copies_in after g) page (counted - 1) new put
           (λ q apart. as_many q (λ k. apart (same_page q page (sym k ∙ was))) (bare_entry e q plain))
           (same_few 1 (counted - 1) (copies_in after g page) (omega arith) off) (same_few 2 (counted - 1) (copies_in after g page) (omega arith) off)
 
@@ -182,7 +183,7 @@ module _ (g : Geometry) (entries : List Entry) (die slot : ℕ) (low : die < g.d
       few_added free is none put =
           let more = one_more page is none in
           let off = one_on (copies_in entries g page) counted (copies_in after g page) is_counted more in
-          few_put g.pages (copies_in entries g) (copies_in after g) few are page (counted + 1) new put
+          few_put g.pages (copies_in entries g) few are (copies_in after g) page (counted + 1) new put
           (λ q apart. as_many q (bare_entry (entry_of entries n die slot) q free) (λ k. apart (same_page q page (sym k ∙ is))))
           (same_few 1 (counted + 1) (copies_in after g page) (omega arith) off) (same_few 2 (counted + 1) (copies_in after g page) (omega arith) off)
 
@@ -191,7 +192,7 @@ module _ (g : Geometry) (entries : List Entry) (few : Few) where
   pub few_new : ((k : ℕ) → entry_at entries k ≡ Erased) → AreFew g.pages (λ page. 0) few → IsCounted g entries few
   unfolding IsCounted
   few_new erased are =
-      few_alike g.pages (λ page. 0) (copies_in entries g) few are
+      few_alike g.pages (λ page. 0) few are (copies_in entries g)
       (λ page. count_same (die_holds entries (die_slots g) page) false 0 g.dies
       (λ d. bare entries (die_slots g) page d (λ s inside is. bare_entry Erased page refl (sym (erased (d * die_slots g + s)) ∙ is))))
 

@@ -1,7 +1,4 @@
-use Rattle.std.proofs.Common.{◌-◌, ◌==◌, length, sym, ap, ◌∙◌}
-use Rattle.std.specs.List.{find, range_with_len}
-use Rattle.fa_types.specs.declared.geometry.Geometry.{Geometry}
-use Rattle.fa_machine.specs.Copies.{holders}
+use Rattle.std.proofs.Common.{◌∙◌}
 use Rattle.fa_map.proofs.Seen.{shown_with}
 use Rattle.fa_map.proofs.page_map.PageMapMap.next_with.Goals as goal
 

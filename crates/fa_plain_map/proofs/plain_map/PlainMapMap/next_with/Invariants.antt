@@ -4,4 +4,4 @@ use Rattle.fa_plain_map.proofs.plain_map.PlainMapMap.next_with.Given as goal
 
 -- the pages that were asked have another number of copies
 abbrev pub invariant-loop-number : goal.invariant-loop-number
-invariant-loop-number g l = (k : ℕ) → l.from.0 ≤ k → k < l.number → (length (holders l.self.history.shown k) == l.count) ≡ false
+invariant-loop-number g l = (k : ℕ) → l.fn.from.0 ≤ k → k < l.number → (length (holders l.self.history.shown k) == l.count) ≡ false
