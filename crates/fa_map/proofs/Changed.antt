@@ -14,7 +14,8 @@ use Rattle.fa_machine.specs.Copies.{is_reserved_slot}
 use Rattle.fa_machine.specs.Maps.{place_cmp}
 use Rattle.fa_machine.specs.State.{MapState, used_at}
 use Rattle.fa_machine.proofs.Maps.{place_cmp_total, place_same, passed, get-keep, get-change, get-place_same, get-place_other}
-use Rattle.fa_map.specs.Changes.{new_map, with_used, made_current, outdated, dropped, without_block}
+use Rattle.fa_machine.specs.Writing.{without_page}
+use Rattle.fa_map.specs.Changes.{new_map, with_used, made_current, outdated, renewed, dropped, without_block}
 
 -- two places are one, or not
 pub place_cases : (d s die slot : ℕ) → ((d ≡ die) × (s ≡ slot)) ⊎ (d ≡ die → s ≡ slot → ⊥)
@@ -62,6 +63,11 @@ used-outdated m page version die slot d s apart =
 pub used-current : (m : MapState) (page : Page) (version : Version) (die slot : ℕ)
     → used_at (made_current page version die slot m) die slot ≡ Some (Held page version)
 used-current m page version die slot = get-place_same _ die slot (Held page version)
+
+-- a slot after each copy of a page became stale
+pub used-renewed : (m : MapState) (page : ℕ) (version : Version) (d s : ℕ)
+    → used_at (renewed page version m) d s ≡ option_map (without_page page) (used_at m d s)
+used-renewed m page version d s = get-change place_cmp_total place_same (λ place used. without_page page used) m.used (d, s)
 
 pub used-dropped : (m : MapState) (die d s : ℕ)
     → used_at (dropped die m) d s ≡ passed (λ used. not (d == die)) (used_at m d s)

@@ -10,7 +10,7 @@ use Rattle.fa_map.specs.declared.entries.Entry.TheVariants.{Erased, Reserved, Cu
 use Rattle.fa_map.proofs.Chained.{before_none, before_some, place_or_none}
 use Rattle.fa_map.proofs.Ranges.{bit, count_cons, count_past, find_none, found_some}
 
-no_copy : (page : ℕ) (e : Entry) → (e ≡ Current page → ⊥) → is_copy_of page e ≡ false
+pub no_copy : (page : ℕ) (e : Entry) → (e ≡ Current page → ⊥) → is_copy_of page e ≡ false
 no_copy page Erased off = refl
 no_copy page Reserved off = refl
 no_copy page Stale off = refl
@@ -42,7 +42,7 @@ fewer entries n dies page die next follows low =
     ]
 
 module _ (entries : List Entry) (n page : ℕ) where
-  bare : (die : ℕ) → ((slot : ℕ) → slot < n → entry_of entries n die slot ≡ Current page → ⊥) → die_holds entries n page die ≡ false
+  pub bare : (die : ℕ) → ((slot : ℕ) → slot < n → entry_of entries n die slot ≡ Current page → ⊥) → die_holds entries n page die ≡ false
   bare die off =
       ap is_some (find_none (λ slot. is_copy_of page (entry_of entries n die slot)) 0 n
       (λ slot low high. no_copy page (entry_of entries n die slot) (off slot (omega (arith, high)))))

@@ -1,7 +1,7 @@
 -- Each change of a page map leaves one.
 use Rattle.std.proofs.Common.{◌≡◌, ℕ, ◌<◌, ◌*◌, Bool, true, false, not, ◌==◌, ◌&&◌, Some, ap, cond, inl, inr, sym, subst, ◌∙◌}
-use Rattle.std.proofs.Common.{eq-eqb}
-use Rattle.std.proofs.lemmas.Bool.{and_from, cases_Bool, cases_eq, false≢true}
+use Rattle.std.proofs.Common.{arith, eq-eqb}
+use Rattle.std.proofs.lemmas.Bool.{and_from, cases_Bool, cases_eq, false≢true, ne_eqb}
 use Rattle.std.proofs.lemmas.Option.{none-some, same_Some}
 use Rattle.std.specs.FinMap.{get, get-empty, insert}
 use Rattle.std.specs.Ordering.{nat_cmp}
@@ -14,9 +14,13 @@ use Rattle.fa_machine.specs.declared.places.Version.{Version}
 use Rattle.fa_machine.specs.Copies.{is_held_slot}
 use Rattle.fa_machine.specs.State.{MapState, is_live, used_at}
 use Rattle.fa_machine.proofs.Maps.{has_some, get-insert_same, get-insert_other, get-remove_same, get-remove_other}
-use Rattle.fa_map.specs.Changes.{new_map, with_used, made_current, outdated, brought_in, dropped, without_block, MayHold}
+use Rattle.fa_machine.specs.Writing.{without_page}
+use Rattle.fa_map.specs.Changes.{new_map, with_used, made_current, outdated, renewed, brought_in, dropped, without_block, MayHold, MayKeep}
+use Rattle.fa_map.specs.Plain.{holds}
 use Rattle.fa_map.specs.Slots.{IsPageMap}
-use Rattle.fa_map.proofs.Changed.{place_cases, passed_some, mapped_some, used-new, used-same, used-other, used-outdated, used-current, used-dropped, used-erased}
+use Rattle.fa_map.proofs.Holders.{copy_found}
+use Rattle.fa_map.proofs.Ranges.{found_some}
+use Rattle.fa_map.proofs.Changed.{place_cases, passed_some, mapped_some, used-new, used-same, used-other, used-outdated, used-current, used-renewed, used-dropped, used-erased}
 
 pub whole-new : (g : Geometry) → IsPageMap (new_map g)
 whole-new g = record {
@@ -141,6 +145,91 @@ whole-current m page version die slot whole may = record {
     twice d p v e is other h =
         let was : used_at m die other ≡ Some (Held page v) = sym (ap (λ k. used_at m k other) is) ∙ h ∙ ap (λ (q : Page). Some (Held q v)) (sym (ap page_of e)) in
         false≢true (sym (may.once other v was) ∙ eq-eqb v.seq.0 version.seq.0 (ap (λ (w : Version). w.seq.0) (sym (ap version_of e))))
+
+-- a copy that is left is one of another page
+other_page : (page : ℕ) (u : Used) (p : Page) (v : Version) → without_page page u ≡ Held p v → (u ≡ Held p v) × (p.0 ≡ page → ⊥)
+other_page page Reserved p v e = absurd (false≢true (ap (λ (x : Used). is_held_slot (Some x)) e))
+other_page page Stale p v e = absurd (false≢true (ap (λ (x : Used). is_held_slot (Some x)) e))
+other_page page (Held q w) p v e =
+    elim (cases_eq q.0 page) [
+      | inl same ↦ absurd (false≢true (ap (λ (x : Used). is_held_slot (Some x)) (sym (ap (λ (b : Bool). cond b Stale (Held q w)) (eq-eqb q.0 page same)) ∙ e)))
+      | inr apart ↦
+          let is : Held q w ≡ Held p v = sym (ap (λ (b : Bool). cond b Stale (Held q w)) (ne_eqb q.0 page apart)) ∙ e in
+          let pages : q ≡ p = cc in
+          (is, λ same. apart (ap (λ (k : Page). k.0) pages ∙ same))
+    ]
+
+pub whole-renewed : (m : MapState) (page : ℕ) (version : Version) → IsPageMap m → page < m.geometry.pages → IsPageMap (renewed page version m)
+whole-renewed m page version whole fits = record {
+  live = whole.live;
+  written = λ q h. elim (cases_eq q page) [
+    | inl is ↦ subst (λ k. k < m.geometry.pages) (sym is) fits
+    | inr apart ↦ whole.written q (sym (ap is_some (get-insert_other m.versions page version q apart)) ∙ h)
+  ];
+  used = λ d s h.
+      let found = has_some _ (sym (ap is_some (used-renewed m page version d s)) ∙ h) in
+      let was = mapped_some (without_page page) (used_at m d s) found.0 found.1 in
+      whole.used d s (ap is_some was.1);
+  last = λ d s p v h.
+      let old = there d s p v h in
+      get-insert_other m.versions page version p.0 old.1 ∙ whole.last d s p v old.0;
+  once = λ d s other p v h k. whole.once d s other p v (there d s p v h).0 (there d other p v k).0;
+}
+  where
+    there : (d s : ℕ) (p : Page) (v : Version) → used_at (renewed page version m) d s ≡ Some (Held p v)
+        → (used_at m d s ≡ Some (Held p v)) × (p.0 ≡ page → ⊥)
+    there d s p v h =
+        let was = mapped_some (without_page page) (used_at m d s) (Held p v) (sym (used-renewed m page version d s) ∙ h) in
+        let left = other_page page was.0 p v was.2 in
+        (was.1 ∙ ap Some left.0, left.1)
+
+-- a slot that comes to hold the last write of a page
+pub whole-kept : (m : MapState) (page : Page) (version : Version) (die slot : ℕ) → IsPageMap m → MayKeep m page version die slot
+    → IsPageMap (with_used die slot (Held page version) m)
+whole-kept m page version die slot whole may = record {
+  live = whole.live;
+  written = whole.written;
+  used = λ d s h. elim (place_cases d s die slot) [
+    | inl at ↦ (ap (is_live m) at.0 ∙ may.live, subst (λ k. k < m.geometry.blocks * m.geometry.slots) (sym at.1) may.slot_fits)
+    | inr apart ↦ whole.used d s (sym (ap is_some (used-other m die slot (Held page version) d s apart)) ∙ h)
+  ];
+  last = λ d s p v h. elim (place_cases d s die slot) [
+    | inl at ↦ last_here p v (same_Some _ _ (sym (here d s at.0 at.1) ∙ h))
+    | inr apart ↦ whole.last d s p v (there d s apart p v h)
+  ];
+  once = λ d s other p v h k. elim (place_cases d s die slot) [
+    | inl at ↦ elim (place_cases d other die slot) [
+      | inl also ↦ at.1 ∙ sym also.1
+      | inr apart ↦ absurd (twice d p v (same_Some _ _ (sym (here d s at.0 at.1) ∙ h)) at.0 other (there d other apart p v k))
+    ]
+    | inr apart ↦ elim (place_cases d other die slot) [
+      | inl at ↦ absurd (twice d p v (same_Some _ _ (sym (here d other at.0 at.1) ∙ k)) at.0 s (there d s apart p v h))
+      | inr also ↦ whole.once d s other p v (there d s apart p v h) (there d other also p v k)
+    ]
+  ];
+}
+  where
+    here : (d s : ℕ) → d ≡ die → s ≡ slot → used_at (with_used die slot (Held page version) m) d s ≡ Some (Held page version)
+    here d s a b = (λ i. used_at (with_used die slot (Held page version) m) (a i) (b i)) ∙ used-same m die slot (Held page version)
+
+    there : (d s : ℕ) → (d ≡ die → s ≡ slot → ⊥) → (p : Page) (v : Version) → used_at (with_used die slot (Held page version) m) d s ≡ Some (Held p v)
+        → used_at m d s ≡ Some (Held p v)
+    there d s apart p v h = sym (used-other m die slot (Held page version) d s apart) ∙ h
+
+    last_here : (p : Page) (v : Version) → Held page version ≡ Held p v → get m.versions p.0 ≡ Some v
+    last_here p v e =
+        let pages : p ≡ page = cc in
+        let versions : version ≡ v = cc in
+        ap (λ (q : Page). get m.versions q.0) pages ∙ may.last ∙ ap Some versions
+
+    twice : (d : ℕ) (p : Page) (v : Version) → Held page version ≡ Held p v → d ≡ die → (other : ℕ) → used_at m d other ≡ Some (Held p v) → ⊥
+    twice d p v e is other h =
+        let pages : p ≡ page = cc in
+        let was : used_at m die other ≡ Some (Held p v) = sym (ap (λ k. used_at m k other) is) ∙ h in
+        let inside = (whole.used die other (ap is_some was)).1 in
+        let passes = ap (holds page.0) was ∙ eq-eqb p.0 page.0 (ap (λ (q : Page). q.0) pages) in
+        let found = found_some (λ s. holds page.0 (used_at m die s)) 0 (m.geometry.blocks * m.geometry.slots) other (omega arith) (omega arith) passes in
+        false≢true (sym may.once ∙ ap is_some (copy_found m whole page.0 die) ∙ found)
 
 pub whole-in : (m : MapState) (die : ℕ) → IsPageMap m → die < m.geometry.dies → IsPageMap (brought_in die m)
 whole-in m die whole fits = record {

@@ -1,6 +1,7 @@
 pub mod Chained
 pub mod Changed
 pub mod Counted
+pub mod Few
 pub mod Firsts
 pub mod Holders
 pub mod Indices

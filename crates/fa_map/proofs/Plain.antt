@@ -7,25 +7,23 @@ use Rattle.std.proofs.lemmas.List.Sums.{count_by-le-length, get_or-le-sum_by, su
 use Rattle.std.specs.Cmp.{nat_cmp_total}
 use Rattle.std.specs.FinMap.{get, get-empty, insert, len, len-empty, len-insert, len-remove, remove}
 use Rattle.std.specs.Ordering.{nat_cmp}
-use Rattle.std.specs.List.{find, range_with_len}
 use Rattle.std.specs.Prelude.{count_by, is_some, option_map}
-use Rattle.fa_machine.specs.Collecting.{count_in}
-use Rattle.fa_machine.specs.Maps.{below}
-use Rattle.fa_map.proofs.Ranges.{count_agree, count_shift, find_agree}
 use Rattle.fa_types.specs.declared.geometry.Geometry.{Geometry}
 use Rattle.fa_types.specs.declared.numbers.Page.{Page}
 use Rattle.fa_machine.specs.declared.places.Used.{Used}
 use Rattle.fa_machine.specs.declared.places.Used.TheVariants.{Reserved, Held, Stale}
 use Rattle.fa_machine.specs.declared.places.Version.{Version}
 use Rattle.fa_machine.specs.Copies.{is_held_slot, is_reserved_slot}
-use Rattle.fa_machine.specs.State.{MapState, is_live, slots_of, used_at}
+use Rattle.fa_machine.specs.State.{MapState, is_live, used_at}
+use Rattle.fa_machine.specs.Writing.{without_page}
 use Rattle.fa_machine.proofs.Maps.{passed, get-insert_same, get-insert_other, get-remove_same, get-remove_other}
-use Rattle.fa_map.specs.Changes.{new_map, with_used, made_current, outdated, brought_in, dropped, without_block, MayHold}
+use Rattle.fa_map.specs.Changes.{new_map, with_used, made_current, outdated, renewed, brought_in, dropped, without_block, MayHold, MayKeep}
 use Rattle.fa_map.specs.Plain.{IsPlain, die_slots, slot_at}
-use Rattle.fa_map.proofs.Changed.{place_cases, used-new, used-same, used-other, used-outdated, used-current, used-dropped, used-erased}
-use Rattle.fa_map.proofs.Indices.{die_fits, index_apart, index_fits}
+use Rattle.fa_map.specs.Slots.{IsPageMap}
+use Rattle.fa_map.proofs.Changed.{place_cases, used-new, used-same, used-other, used-outdated, used-current, used-renewed, used-dropped, used-erased}
+use Rattle.fa_map.proofs.Indices.{index_apart, index_fits}
 use Rattle.fa_map.proofs.Written.{repeated}
-use Rattle.fa_map.proofs.Kept.{whole-new, whole-used, whole-current, whole-in, whole-dropped, whole-erased}
+use Rattle.fa_map.proofs.Kept.{whole-new, whole-used, whole-current, whole-renewed, whole-kept, whole-in, whole-dropped, whole-erased}
 
 -- a slot that was written, and the others
 table_same : (table : List (Option Used)) (die slot d s n : ℕ) (u : Used) → die * n + slot < length table → d ≡ die → s ≡ slot
@@ -83,10 +81,10 @@ module _ (m : MapState) (g : Geometry) (on : List Bool) (count : ℕ) (versions 
       let inside = index_fits die slot g.dies (die_slots g) (live_fits die h) (subst (λ k. slot < k) slots_are fits) in
       subst (λ k. die * die_slots g + slot < k) (sym plain.slots) inside
 
-  pub plain_used : (die slot : ℕ) (u : Used) → is_live m die ≡ true → slot < m.geometry.blocks * m.geometry.slots → is_held_slot (Some u) ≡ false
+  plain_set : (die slot : ℕ) (u : Used) → is_live m die ≡ true → slot < m.geometry.blocks * m.geometry.slots → IsPageMap (with_used die slot u m)
       → IsPlain (with_used die slot u m) g on count versions (set table (die * die_slots g + slot) (Some u))
-  plain_used die slot u h fits bare = record {
-    whole = whole-used m die slot u plain.whole h fits bare;
+  plain_set die slot u h fits whole = record {
+    whole = whole;
     geometry = plain.geometry;
     dies = plain.dies;
     live = plain.live;
@@ -105,6 +103,46 @@ module _ (m : MapState) (g : Geometry) (on : List Bool) (count : ℕ) (versions 
     ];
   }
 
+  pub plain_used : (die slot : ℕ) (u : Used) → is_live m die ≡ true → slot < m.geometry.blocks * m.geometry.slots → is_held_slot (Some u) ≡ false
+      → IsPlain (with_used die slot u m) g on count versions (set table (die * die_slots g + slot) (Some u))
+  plain_used die slot u h fits bare = plain_set die slot u h fits (whole-used m die slot u plain.whole h fits bare)
+
+  pub plain_kept : (page : Page) (version : Version) (die slot : ℕ) → MayKeep m page version die slot
+      → IsPlain (with_used die slot (Held page version) m) g on count versions (set table (die * die_slots g + slot) (Some (Held page version)))
+  plain_kept page version die slot may =
+      plain_set die slot (Held page version) may.live may.slot_fits (whole-kept m page version die slot plain.whole may)
+
+  -- a page's place in the list of pages
+  page_at : (page : ℕ) → page < m.geometry.pages → page < length versions
+  page_at page fits = subst (λ k. page < k) (sym plain.pages) (subst (λ (k : Geometry). page < k.pages) plain.geometry fits)
+
+  numbers_set : (page : ℕ) (version : Version) → page < m.geometry.pages
+      → (q : ℕ) → get (insert m.versions page version) q ≡ get_or (set versions page (Some version)) q None
+  numbers_set page version fits q = elim (cases_eq q page) [
+    | inl is ↦
+        ap (get (insert m.versions page version)) is ∙ get-insert_same m.versions page version
+        ∙ sym (ap (λ k. get_or (set versions page (Some version)) k None) is ∙ get_or-set_same versions page (Some version) None (page_at page fits))
+    | inr apart ↦
+        get-insert_other m.versions page version q apart ∙ plain.numbers q
+        ∙ sym (get_or-set_other versions page q (Some version) None apart)
+  ]
+
+  pub plain_renewed : (page : ℕ) (version : Version) (t : List (Option Used)) → page < m.geometry.pages → length t ≡ length table
+      → ((d s : ℕ) → s < die_slots g → slot_at t (d * die_slots g + s) ≡ option_map (without_page page) (slot_at table (d * die_slots g + s)))
+      → IsPlain (renewed page version m) g on count (set versions page (Some version)) t
+  plain_renewed page version t fits long each = record {
+    whole = whole-renewed m page version plain.whole fits;
+    geometry = plain.geometry;
+    dies = plain.dies;
+    live = plain.live;
+    live_dies = plain.live_dies;
+    counted = plain.counted;
+    pages = length-set versions page (Some version) ∙ plain.pages;
+    numbers = numbers_set page version fits;
+    slots = long ∙ plain.slots;
+    used = λ d s below. used-renewed m page version d s ∙ ap (option_map (without_page page)) (plain.used d s below) ∙ sym (each d s below);
+  }
+
   pub plain_current : (page : Page) (version : Version) (die slot : ℕ) (t : List (Option Used)) → MayHold m page version die slot
       → length t ≡ length table → ((d s : ℕ) → s < die_slots g → slot_at t (d * die_slots g + s) ≡ option_map (outdated page.0 version) (slot_at table (d * die_slots g + s)))
       → IsPlain (made_current page version die slot m) g on count (set versions page.0 (Some version)) (set t (die * die_slots g + slot) (Some (Held page version)))
@@ -116,14 +154,7 @@ module _ (m : MapState) (g : Geometry) (on : List Bool) (count : ℕ) (versions 
     live_dies = plain.live_dies;
     counted = plain.counted;
     pages = length-set versions page.0 (Some version) ∙ plain.pages;
-    numbers = λ q. elim (cases_eq q page.0) [
-      | inl is ↦
-          ap (get (insert m.versions page.0 version)) is ∙ get-insert_same m.versions page.0 version
-          ∙ sym (ap (λ k. get_or (set versions page.0 (Some version)) k None) is ∙ get_or-set_same versions page.0 (Some version) None page_fits)
-      | inr apart ↦
-          get-insert_other m.versions page.0 version q apart ∙ plain.numbers q
-          ∙ sym (get_or-set_other versions page.0 q (Some version) None apart)
-    ];
+    numbers = numbers_set page.0 version may.page_fits;
     slots = length-set t (die * die_slots g + slot) (Some (Held page version)) ∙ long ∙ plain.slots;
     used = λ d s below. elim (place_cases d s die slot) [
       | inl at ↦
@@ -134,9 +165,6 @@ module _ (m : MapState) (g : Geometry) (on : List Bool) (count : ℕ) (versions 
           ∙ sym (table_other t die slot d s (die_slots g) (Held page version) (subst (λ k. slot < k) slots_are may.slot_fits) below apart ∙ each d s below)
     ];
   }
-    where
-      page_fits : page.0 < length versions
-      page_fits = subst (λ k. page.0 < k) (sym plain.pages) (subst (λ (k : Geometry). page.0 < k.pages) plain.geometry may.page_fits)
 
   -- a die's place in the list of dies
   die_at : (die : ℕ) → die < g.dies → die < length on
@@ -243,34 +271,6 @@ module _ (m : MapState) (g : Geometry) (on : List Bool) (count : ℕ) (versions 
       cut true (Some Stale) = refl
       cut false None = refl
       cut false (Some u) = refl
-
-  -- what is found and counted in the table is found and counted in the state
-  pub plain_found : (test : ℕ → Option Used → Bool) (die start n : ℕ) (t : List (Option Used)) → start ≡ die * die_slots g → n ≡ die_slots g → t ≡ table
-      → find (λ slot. test slot (slot_at t (start + slot))) (below n) ≡ find (λ slot. test slot (used_at m die slot)) (slots_of m)
-  plain_found test die start n t a b c =
-      (λ i. find (λ slot. test slot (slot_at (c i) (a i + slot))) (below (b i)))
-      ∙ find_agree (λ slot. test slot (slot_at table (die * die_slots g + slot))) (λ slot. test slot (used_at m die slot)) 0 (die_slots g)
-      (λ k low high. ap (test k) (sym (plain.used die k (omega arith))))
-      ∙ ap (λ k. find (λ slot. test slot (used_at m die slot)) (below k)) (sym slots_are)
-
-  pub plain_count : (test : Option Used → Bool) (die start n : ℕ) (t : List (Option Used)) → start ≡ die * die_slots g → n ≡ die_slots g → t ≡ table
-      → count_by (λ slot. test (slot_at t (start + slot))) (below n) ≡ count_by (λ slot. test (used_at m die slot)) (slots_of m)
-  plain_count test die start n t a b c =
-      (λ i. count_by (λ slot. test (slot_at (c i) (a i + slot))) (below (b i)))
-      ∙ count_agree (λ slot. test (slot_at table (die * die_slots g + slot))) (λ slot. test (used_at m die slot)) 0 (die_slots g)
-      (λ k low high. ap test (sym (plain.used die k (omega arith))))
-      ∙ ap (λ k. count_by (λ slot. test (used_at m die slot)) (below k)) (sym slots_are)
-
-  pub plain_count_in : (test : Option Used → Bool) (die block start : ℕ) (t : List (Option Used)) → block < g.blocks
-      → start ≡ die * die_slots g + block * g.slots → t ≡ table
-      → count_by (λ slot. test (slot_at t (start + slot))) (below g.slots) ≡ count_in m die block test
-  plain_count_in test die block start t fits a c =
-      let room = die_fits block g.blocks g.slots fits in
-      (λ i. count_by (λ slot. test (slot_at (c i) (a i + slot))) (below g.slots))
-      ∙ count_shift (λ slot. test (slot_at table (die * die_slots g + block * g.slots + slot))) (λ slot. test (used_at m die slot)) 0 (block * g.slots) g.slots
-      (λ k high.
-      ap test (ap (slot_at table) (omega arith) ∙ sym (plain.used die (block * g.slots + k) (omega arith))))
-      ∙ ap (λ (k : Geometry). count_by (λ slot. test (used_at m die slot)) (range_with_len (block * k.slots) k.slots)) (sym plain.geometry)
 
   -- another list in which each slot is the same
   pub plain_alike : (t : List (Option Used)) → length t ≡ length table

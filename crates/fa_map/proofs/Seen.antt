@@ -16,11 +16,12 @@ use Rattle.fa_machine.specs.Copies.{copy_on, holders, holds_page, is_held_slot, 
 use Rattle.fa_machine.specs.Maps.{below}
 use Rattle.fa_machine.specs.Placement.{free, is_erased_slot, lowest_erased}
 use Rattle.fa_machine.specs.State.{MapState, is_live, slots_of, used_at}
+use Rattle.fa_machine.specs.Writing.{without_page}
 use Rattle.fa_map.specs.Chains.{IsNext, entry_at, entry_of, is_before}
-use Rattle.fa_map.specs.Changes.{MayHold, dropped, made_current, new_map, outdated, with_used, without_block}
-use Rattle.fa_map.specs.Entries.{die_holds, entries_in, erased_entry, is_copy_of, is_current_entry, is_erased_entry, is_same_state, may_take, retired, state_of_entry}
+use Rattle.fa_map.specs.Changes.{MayHold, MayKeep, dropped, made_current, new_map, outdated, renewed, with_used, without_block}
+use Rattle.fa_map.specs.Entries.{copies_in, die_holds, entries_in, erased_entry, is_copy_of, is_current_entry, is_erased_entry, is_same_state, may_take, retired, state_of_entry}
 use Rattle.fa_map.specs.Shown.{IsShown, held, is_number, used_of, version_at}
-use Rattle.fa_map.specs.Plain.{die_slots, holds, slot_at}
+use Rattle.fa_map.specs.Plain.{IsPlain, die_slots, holds, slot_at}
 use Rattle.fa_map.specs.Slots.{first_holder}
 use Rattle.fa_map.specs.declared.entries.Entry.{Entry}
 use Rattle.fa_map.specs.declared.entries.Entry.TheVariants.{Erased, Reserved, Current, Stale}
@@ -32,8 +33,8 @@ use Rattle.fa_map.proofs.Changed.{place_cases}
 use Rattle.fa_map.proofs.Firsts.{IsFirstCopy, found_passes, held_some}
 use Rattle.fa_map.proofs.Holders.{copy_found, holders_counted}
 use Rattle.fa_map.proofs.Indices.{die_fits, index_fits}
-use Rattle.fa_map.proofs.Plain.{live_fits, plain_alike, plain_current, plain_dropped, plain_erased, plain_new, plain_used, told}
-use Rattle.fa_map.proofs.Ranges.{count_agree, find_agree, find_none, find_some}
+use Rattle.fa_map.proofs.Plain.{live_fits, plain_alike, plain_current, plain_dropped, plain_erased, plain_kept, plain_new, plain_renewed, plain_used, told}
+use Rattle.fa_map.proofs.Ranges.{count_agree, find_agree, find_none, find_some, found_some}
 use Rattle.fa_map.proofs.Swept.{retired_one, retired_other, with_true}
 use Rattle.fa_map.proofs.Tabled.{bare_entry}
 use Rattle.fa_map.proofs.Written.{repeated}
@@ -147,6 +148,30 @@ retired_current page q (Current p) h =
           (is, λ k. apart (same_page p q is ∙ k))
     ]
 
+gone_copy : (page p : ℕ) (o : Option Version) → p ≡ page → is_some o ≡ true → Some StaleSlot ≡ option_map (without_page page) (held p o)
+gone_copy page p None same h = absurd (false≢true h)
+gone_copy page p (Some v) same h = ap (λ (b : Bool). Some (cond b StaleSlot (Held (record { 0 = p }) v))) (sym (eq-eqb p page same))
+
+left_copy : (page p : ℕ) (o : Option Version) → (p ≡ page → ⊥) → held p o ≡ option_map (without_page page) (held p o)
+left_copy page p None apart = refl
+left_copy page p (Some v) apart = ap (λ (b : Bool). Some (cond b StaleSlot (Held (record { 0 = p }) v))) (sym (ne_eqb p page apart))
+
+-- what is shown of an entry after each copy of a page became stale
+pub retired_seen : (versions : List (Option Version)) (page : ℕ) (version : Version) (e : Entry) → IsKnown versions e
+    → used_of (set versions page (Some version)) (retired page e) ≡ option_map (without_page page) (used_of versions e)
+retired_seen versions page version Erased known = refl
+retired_seen versions page version Reserved known = refl
+retired_seen versions page version Stale known = refl
+retired_seen versions page version (Current p) known =
+    elim (cases_eq p page) [
+      | inl same ↦
+          ap (λ (b : Bool). used_of (set versions page (Some version)) (cond b Stale (Current p))) (eq-eqb p page same)
+          ∙ gone_copy page p (version_at versions p) same (known p refl)
+      | inr apart ↦
+          ap (used_of (set versions page (Some version))) (retired_other page (Current p) (λ k. apart (same_page p page k)))
+          ∙ ap (held p) (get_or-set_other versions page p (Some version) None apart) ∙ left_copy page p (version_at versions p) apart
+    ]
+
 -- an entry before a page was renewed
 pub renewed_current : (last : Bool) (page q : ℕ) (e : Entry) → (if last then e else retired page e) ≡ Current q → e ≡ Current q
 renewed_current true page q e h = h
@@ -223,16 +248,15 @@ module _ (m : MapState) (g : Geometry) (on : List Bool) (count : ℕ) (versions 
   size : m.geometry.blocks * m.geometry.slots ≡ n
   size = ap die_slots shown.plain.geometry
 
-  -- a slot that comes to hold no copy
-  pub shown_used : (die slot : ℕ) (u : Used) (e : Entry) → is_live m die ≡ true → slot < m.geometry.blocks * m.geometry.slots → is_held_slot (Some u) ≡ false
-      → used_of versions e ≡ Some u → is_current_entry e ≡ false → length entries ≡ g.dies * n
+  shown_set : (die slot : ℕ) (u : Used) (e : Entry) → is_live m die ≡ true → slot < m.geometry.blocks * m.geometry.slots
+      → IsPlain (with_used die slot u m) g on count versions (set (map (used_of versions) entries) (die * n + slot) (Some u))
+      → used_of versions e ≡ Some u → IsKnown versions e → length entries ≡ g.dies * n
       → IsShown (with_used die slot u m) g on count versions (set entries (die * n + slot) e)
-  shown_used die slot u e live fits bare is plain long = record {
+  shown_set die slot u e live fits plain is known long = record {
     plain = told g on versions (with_used die slot u m) (with_used die slot u m) count count _ (map (used_of versions) (set entries (die * n + slot) e)) refl refl
-        (map-set (used_of versions) entries (die * n + slot) e ∙ ap (set (map (used_of versions) entries) (die * n + slot)) is)
-        (plain_used m g on count versions (map (used_of versions) entries) shown.plain die slot u live fits bare);
+        (map-set (used_of versions) entries (die * n + slot) e ∙ ap (set (map (used_of versions) entries) (die * n + slot)) is) plain;
     known = λ d s page within k. elim (place_cases d s die slot) [
-      | inl at ↦ absurd (bare_entry e page plain (sym (entry_same entries n die slot d s e inside at.0 at.1) ∙ k))
+      | inl at ↦ known page (sym (entry_same entries n die slot d s e inside at.0 at.1) ∙ k)
       | inr apart ↦ shown.known d s page within (sym (entry_other entries n die slot d s e low within apart) ∙ k)
     ];
   }
@@ -242,6 +266,23 @@ module _ (m : MapState) (g : Geometry) (on : List Bool) (count : ℕ) (versions 
 
       inside : die * n + slot < length entries
       inside = subst (λ k. die * n + slot < k) (sym long) (index_fits die slot g.dies n (live_fits m g on count versions (map (used_of versions) entries) shown.plain die live) low)
+
+  -- a slot that comes to hold no copy
+  pub shown_used : (die slot : ℕ) (u : Used) (e : Entry) → is_live m die ≡ true → slot < m.geometry.blocks * m.geometry.slots → is_held_slot (Some u) ≡ false
+      → used_of versions e ≡ Some u → is_current_entry e ≡ false → length entries ≡ g.dies * n
+      → IsShown (with_used die slot u m) g on count versions (set entries (die * n + slot) e)
+  shown_used die slot u e live fits bare is plain long =
+      shown_set die slot u e live fits (plain_used m g on count versions (map (used_of versions) entries) shown.plain die slot u live fits bare) is
+      (λ page k. absurd (bare_entry e page plain k)) long
+
+  -- a slot that comes to hold the last write of a page
+  pub shown_kept : (page : Page) (version : Version) (die slot : ℕ) → MayKeep m page version die slot → length entries ≡ g.dies * n
+      → IsShown (with_used die slot (Held page version) m) g on count versions (set entries (die * n + slot) (Current page.0))
+  shown_kept page version die slot may long =
+      let last : version_at versions page.0 ≡ Some version = sym (shown.plain.numbers page.0) ∙ may.last in
+      shown_set die slot (Held page version) (Current page.0) may.live may.slot_fits
+      (plain_kept m g on count versions (map (used_of versions) entries) shown.plain page version die slot may) (ap (held page.0) last)
+      (λ q k. ap is_some (ap (version_at versions) (same_page q page.0 (sym k)) ∙ last)) long
 
   pub tests : (state : SlotState) (die slot : ℕ) → slot < n → is_same_state (state_of_entry (entry_of entries n die slot)) state ≡ test_of state (used_at m die slot)
   tests state die slot within =
@@ -315,6 +356,15 @@ module _ (m : MapState) (g : Geometry) (on : List Bool) (count : ℕ) (versions 
           ∙ ap (λ k. find (λ s. holds page (used_at m die s)) (below k)) (sym size)
           ∙ sym (copy_found m shown.plain.whole page die))
 
+  -- the lowest page from one on that so many dies hold
+  pub shown_with : (tables : Geometry) → tables ≡ g → (held from : ℕ)
+      → find (λ page. copies_in entries tables page == held) (range_with_len from (tables.pages - from))
+      ≡ find (λ page. length (holders m page) == held) (range_with_len from (m.geometry.pages - from))
+  shown_with tables same held from =
+      find_agree (λ page. copies_in entries tables page == held) (λ page. length (holders m page) == held) from (tables.pages - from)
+      (λ k low high. ap (λ (j : ℕ). j == held) (ap (λ (j : Geometry). copies_in entries j k) same ∙ shown_holders k))
+      ∙ ap (λ (k : Geometry). find (λ page. length (holders m page) == held) (range_with_len from (k.pages - from))) (same ∙ sym shown.plain.geometry)
+
   -- ## The next copy of a page
 
   -- the slot of a current copy holds the page
@@ -352,6 +402,40 @@ module _ (m : MapState) (g : Geometry) (on : List Bool) (count : ℕ) (versions 
               ∙ holders_from,
           sym copy,
         )
+
+  -- the entries after each copy of a page became stale
+  pub shown_renewed : (page : ℕ) (version : Version) (new : List Entry) → page < m.geometry.pages → length new ≡ length entries
+      → ((d s : ℕ) → s < n → entry_of new n d s ≡ retired page (entry_of entries n d s))
+      → IsShown (renewed page version m) g on count (set versions page (Some version)) new
+  shown_renewed page version new fits long each = record {
+    plain = plain_renewed m g on count versions (map (used_of versions) entries) shown.plain page version (map (used_of (set versions page (Some version))) new) fits
+        (length-map new (used_of (set versions page (Some version))) ∙ long ∙ sym (length-map entries (used_of versions)))
+        (λ d s within.
+        slot_mapped (set versions page (Some version)) new (d * n + s) ∙ ap (used_of (set versions page (Some version))) (each d s within)
+        ∙ retired_seen versions page version (entry_of entries n d s) (λ p is. shown.known d s p within is)
+        ∙ ap (option_map (without_page page)) (sym (slot_mapped versions entries (d * n + s))));
+    known = λ d s q within is.
+        let old = retired_current page q (entry_of entries n d s) (sym (each d s within) ∙ is) in
+        ap is_some (get_or-set_other versions page q (Some version) None old.1) ∙ shown.known d s q within old.0;
+  }
+
+  -- what a slot holds no copy in, and a die that does not hold the page, are in the entries
+  pub kept_free : (page : Page) (version : Version) (die slot : ℕ) → MayKeep m page version die slot → is_current_entry (entry_of entries n die slot) ≡ false
+  kept_free page version die slot may =
+      current_test (entry_of entries n die slot) ∙ tests states.Current die slot (subst (λ k. slot < k) size may.slot_fits) ∙ may.free
+    where
+      current_test : (e : Entry) → is_current_entry e ≡ is_same_state (state_of_entry e) states.Current
+      current_test Erased = refl
+      current_test Reserved = refl
+      current_test Stale = refl
+      current_test (Current p) = refl
+
+  pub kept_once : (page : Page) (version : Version) (die slot : ℕ) → MayKeep m page version die slot
+      → (other : ℕ) → other < n → entry_of entries n die other ≡ Current page.0 → ⊥
+  kept_once page version die slot may other within is =
+      let passes = ap (holds page.0) (seen die other within ∙ ap (used_of versions) is) ∙ held_self page.0 (version_at versions page.0) (shown.known die other page.0 within is) in
+      let found = found_some (λ s. holds page.0 (used_at m die s)) 0 n other (omega arith) (omega (arith, within)) passes in
+      false≢true (sym may.once ∙ ap is_some (copy_found m shown.plain.whole page.0 die ∙ ap (λ k. find (λ s. holds page.0 (used_at m die s)) (below k)) size) ∙ found)
 
   pub shown_dropped : (die : ℕ) (new : List Entry) → die < g.dies → length new ≡ length entries
       → ((d s : ℕ) → s < n → entry_of new n d s ≡ (if d == die then Erased else entry_of entries n d s))

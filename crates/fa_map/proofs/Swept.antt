@@ -1,11 +1,14 @@
 -- Entries that are changed one after the other.
-use Rattle.std.proofs.Common.{◌≡◌, ℕ, ◌+◌, ◌*◌, ◌<◌, ◌≤◌, ◌==◌, ◌&&◌, nat_le, nat_lt, if◌then◌else◌, Bool, true, false, List, length, set, ap, cond, inl, inr, refl, sym, ◌∙◌, arith}
-use Rattle.std.proofs.lemmas.Bool.{and_from, and_left, and_right, cases_eq, cases_lt, cond-true, eq-eqb, le-leb, le-ltb, lt-ltb, ne_eqb}
-use Rattle.fa_map.specs.Chains.{entry_of}
+use Rattle.std.proofs.Common.{◌≡◌, ℕ, ◌+◌, ◌*◌, ◌-◌, ◌<◌, ◌≤◌, ◌==◌, ◌&&◌, nat_le, nat_lt, if◌then◌else◌, Bool, true, false, List, Option, Some, length, set, ap, cond, inl, inr, refl, sym, subst, ◌∙◌, arith}
+use Rattle.std.proofs.lemmas.Bool.{and_from, and_left, and_right, cases_eq, cases_lt, cases_order, cond-true, eq-eqb, le-leb, le-ltb, lt-ltb, ne_eqb}
+use Rattle.fa_map.specs.Chains.{IsNext, entry_of}
 use Rattle.fa_map.specs.Entries.{retired, swept}
 use Rattle.fa_map.specs.declared.entries.Entry.{Entry}
 use Rattle.fa_map.specs.declared.entries.Entry.TheVariants.{Erased, Reserved, Current, Stale}
+use Rattle.fa_map.proofs.Chained.{place_or_none}
 use Rattle.fa_map.proofs.Changed.{place_cases}
+use Rattle.fa_map.proofs.Counted.{dies_from}
+use Rattle.fa_map.proofs.Tabled.{bare_entry}
 use Rattle.fa_map.proofs.Tallied.{entry_same, entry_other}
 
 pub with_true : (b : Bool) → (b && true) ≡ b
@@ -55,41 +58,45 @@ module _ (e0 e1 : List Entry) (n : ℕ) where
                 ])
           ]
 
-  module _ (page die : ℕ) (done : (d s : ℕ) → d < die → s < n → entry_of e1 n d s ≡ retired page (entry_of e0 n d s))
-      (rest : (d s : ℕ) → die ≤ d → s < n → entry_of e1 n d s ≡ entry_of e0 n d s) where
-    -- a die that does not hold the page
-    pub retire_skip : ((s : ℕ) → s < n → entry_of e1 n die s ≡ Current page → ⊥)
-        → (d s : ℕ) → d < die + 1 → s < n → entry_of e1 n d s ≡ retired page (entry_of e0 n d s)
-    retire_skip bare d s low within =
-        elim (cases_eq d die) [
-          | inr off ↦ done d s (omega (arith, low, off)) within
-          | inl on ↦
-              let same = rest d s (omega (arith, on)) within in
-              same ∙ sym (retired_other page (entry_of e0 n d s) (λ is. bare s within ((λ i. entry_of e1 n (sym on i) s) ∙ same ∙ is)))
-        ]
+-- a copy of a page that is made stale
+module _ (entries : List Entry) (n dies page die slot : ℕ) (fits : die * n + slot < length entries) (within : slot < n)
+    (held : entry_of entries n die slot ≡ Current page) where
+  abbrev left : List Entry
+  left = set entries (die * n + slot) Stale
 
-    -- a die whose copy is made stale
-    pub retire_step : (slot : ℕ) → slot < n → die * n + slot < length e1 → entry_of e1 n die slot ≡ Current page
-        → ((s : ℕ) → s < n → entry_of e1 n die s ≡ Current page → s ≡ slot)
-        → (e2 : List Entry) → e2 ≡ set e1 (die * n + slot) Stale
-        → (d s : ℕ) → d < die + 1 → s < n → entry_of e2 n d s ≡ retired page (entry_of e0 n d s)
-    retire_step slot inside fits held once e2 is d s low within =
-        ap (λ l. entry_of l n d s) is
-        ∙ elim (place_cases d s die slot) [
-          | inl at ↦
-              entry_same e1 n die slot d s Stale fits at.0 at.1 ∙ sym (retired_one page)
-              ∙ ap (retired page) (sym held ∙ rest die slot (omega arith) inside) ∙ (λ i. retired page (entry_of e0 n (sym at.0 i) (sym at.1 i)))
-          | inr apart ↦
-              entry_other e1 n die slot d s Stale inside within apart
-              ∙ elim (cases_eq d die) [
-                | inr off ↦ done d s (omega (arith, low, off)) within
-                | inl on ↦
-                    let same = rest d s (omega (arith, on)) within in
-                    same ∙ sym (retired_other page (entry_of e0 n d s) (λ k. apart on (once s within ((λ i. entry_of e1 n (sym on i) s) ∙ same ∙ k))))
-              ]
-        ]
+  pub retired_alike : (d s : ℕ) → s < n → retired page (entry_of left n d s) ≡ retired page (entry_of entries n d s)
+  retired_alike d s inside =
+      elim (place_cases d s die slot) [
+        | inl at ↦
+            ap (retired page) (entry_same entries n die slot d s Stale fits at.0 at.1)
+            ∙ sym (retired_one page) ∙ ap (retired page) (sym held) ∙ (λ i. retired page (entry_of entries n (sym at.0 i) (sym at.1 i)))
+        | inr apart ↦ ap (retired page) (entry_other entries n die slot d s Stale within inside apart)
+      ]
 
-    pub retire_rest : (slot : ℕ) → slot < n → (e2 : List Entry) → e2 ≡ set e1 (die * n + slot) Stale
-        → (d s : ℕ) → die + 1 ≤ d → s < n → entry_of e2 n d s ≡ entry_of e0 n d s
-    retire_rest slot inside e2 is d s high within =
-        ap (λ l. entry_of l n d s) is ∙ entry_other e1 n die slot d s Stale inside within (λ a b. omega (arith, a, high)) ∙ rest d s (omega arith) within
+  -- fewer dies are left from the page's first copy on
+  pub fewer_left : (first : Option (ℕ × ℕ)) → IsNext (entry_of entries n) n dies page 0 (Some (die, slot)) → IsNext (entry_of left n) n dies page 0 first
+      → ((other : ℕ) → other < n → entry_of entries n die other ≡ Current page → other ≡ slot) → dies_from dies first < dies - die
+  fewer_left first was is once =
+      let here = was.found die slot refl in
+      elim (place_or_none first) [
+        | inl none ↦ subst (λ k. k < dies - die) (sym (ap (dies_from dies) none)) (omega (arith, here.1))
+        | inr some ↦
+            let next = is.found some.0 some.1 some.2 in
+            let later = behind some.0 some.1 next.2 next.3 in
+            subst (λ k. k < dies - die) (sym (ap (dies_from dies) some.2)) (omega (arith, next.1, later))
+      ]
+    where
+      behind : (d s : ℕ) → s < n → entry_of left n d s ≡ Current page → die < d
+      behind d s inside now =
+          elim (place_cases d s die slot) [
+            | inl at ↦ absurd (bare_entry Stale page refl (sym (entry_same entries n die slot d s Stale fits at.0 at.1) ∙ now))
+            | inr apart ↦
+                let old = sym (entry_other entries n die slot d s Stale within inside apart) ∙ now in
+                elim (cases_order d die) [
+                  | inl same ↦ absurd (apart same (once s inside ((λ i. entry_of entries n (sym same i) s) ∙ old)))
+                  | inr other ↦ elim other [
+                    | inl less ↦ absurd (was.between d s (omega arith) inside (lt-ltb d die less) old)
+                    | inr more ↦ more
+                  ]
+                ]
+          ]

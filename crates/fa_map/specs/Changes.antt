@@ -7,10 +7,11 @@ use Rattle.fa_machine.specs.declared.places.Used.{Used}
 use Rattle.fa_machine.specs.declared.places.Used.TheVariants.{Reserved, Held, Stale}
 use Rattle.fa_machine.specs.declared.places.Version.{Version}
 use Rattle.fa_machine.specs.Collecting.{is_in_block}
-use Rattle.fa_machine.specs.Copies.{is_held_slot, is_reserved_slot}
+use Rattle.fa_machine.specs.Copies.{holds_page, is_held_slot, is_reserved_slot}
 use Rattle.fa_machine.specs.Maps.{change, keep}
 use Rattle.fa_machine.specs.Placement.{lowest_erased, room}
 use Rattle.fa_machine.specs.State.{MapState, is_live, used_at}
+use Rattle.fa_machine.specs.Writing.{without_page}
 
 -- a map of dies none of which is live, and of pages none of which was written
 abbrev pub new_map : Geometry → MapState
@@ -41,6 +42,10 @@ made_current page version die slot m = with_used die slot (Held page version) (r
   used = change (λ place used. outdated page.0 version used) m.used;
 })
 
+-- the page's last write is this one, and each copy that it had is stale
+abbrev pub renewed : ℕ → Version → MapState → MapState
+renewed page version m = record m { versions = insert m.versions page version; used = change (λ place used. without_page page used) m.used }
+
 -- a die is live, and none of its slots is used
 abbrev pub brought_in : ℕ → MapState → MapState
 brought_in die m = record m { live = insert m.live die tt }
@@ -64,3 +69,13 @@ pub record MayHold (m : MapState) (page : Page) (version : Version) (die slot : 
   pub free : is_held_slot (used_at m die slot) ≡ false
   pub once : (other : ℕ) (v : Version) → used_at m die other ≡ Some (Held page v) → (v.seq.0 == version.seq.0) ≡ false
   pub one_kind : (v : Version) → get m.versions page.0 ≡ Some v → (v.seq.0 == version.seq.0) ≡ true → v ≡ version
+
+-- A slot may come to hold the page's last write: the die is live, the slot holds no copy so far, and no other slot of the die
+-- holds the page.
+pub record MayKeep (m : MapState) (page : Page) (version : Version) (die slot : ℕ) : Type 0 where
+  pub page_fits : page.0 < m.geometry.pages
+  pub slot_fits : slot < m.geometry.blocks * m.geometry.slots
+  pub live : is_live m die ≡ true
+  pub last : get m.versions page.0 ≡ Some version
+  pub free : is_held_slot (used_at m die slot) ≡ false
+  pub once : holds_page m page.0 die ≡ false

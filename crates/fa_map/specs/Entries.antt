@@ -56,6 +56,10 @@ is_copy_of page entry = false
 abbrev pub die_holds : List Entry → ℕ → ℕ → ℕ → Bool
 die_holds entries n page die = is_some (find (λ slot. is_copy_of page (entry_of entries n die slot)) (below n))
 
+-- how many dies hold the page
+abbrev pub copies_in : List Entry → Geometry → ℕ → ℕ
+copies_in entries g page = count_by (die_holds entries (die_slots g) page) (below g.dies)
+
 -- The counts of each block, and how many slots of each die are erased, are those of the entries.
 pub record AreTallied (g : Geometry) (entries : List Entry) (counts : List BlockCounts) (erased : List ℕ) : Type 0 where
   pub slots : length entries ≡ g.dies * die_slots g

@@ -3,8 +3,8 @@ pub mod Changes
 pub mod Chains
 pub mod Codes
 pub mod Entries
+pub mod Few
 pub mod PageView
-pub mod PlainView
 pub mod Shown
 pub mod Slots
 pub mod Plain

@@ -22,6 +22,18 @@ pub enum Change {
         die: Die,
         slot: Slot,
     },
+    /// A page has a last write of which there is no copy yet.
+    Renew {
+        page: Page,
+        version: Version,
+    },
+    /// A slot came to hold the page's last write.
+    Hold {
+        page: Page,
+        version: Version,
+        die: Die,
+        slot: Slot,
+    },
     /// A slot became stale.
     MakeStale {
         die: Die,

@@ -4,15 +4,15 @@
 
 mod change;
 mod entries;
+mod few_copies;
 mod map;
 mod page_map;
-mod plain_map;
-mod plain_slots;
 mod slots;
 mod tables;
 mod tallies;
 
+pub use change::{Change, MapShown, note};
 pub use map::Map;
 pub use page_map::PageMap;
-pub use plain_map::PlainMap;
 pub use slots::{BlockCounts, SlotState};
+pub use tallies::less_one;

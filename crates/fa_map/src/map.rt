@@ -1,11 +1,12 @@
 //! The trait of a page map.
-ghost use Rattle.std.specs.Prelude.{◌≡◌, ℕ, ◌+◌, ◌*◌, ◌<◌, Bool, true, false, length, option_map, IfSome, Some};
+ghost use Rattle.std.specs.Prelude.{◌≡◌, ℕ, ◌+◌, ◌-◌, ◌*◌, ◌<◌, ◌≤◌, ◌==◌, Bool, true, false, length, find, option_map, IfSome, Some};
+ghost use Rattle.std.specs.List.{range_with_len};
 ghost use Rattle.std.specs.FinMap.{get, len};
 ghost use Rattle.fa_machine.specs.Collecting.{move_place};
 ghost use Rattle.fa_machine.specs.Copies.{copy_on, holders};
 ghost use Rattle.fa_machine.specs.Placement.{free, room};
 ghost use Rattle.fa_machine.specs.State.{MapState, is_live, used_at};
-ghost use Rattle.fa_map.specs.Changes.{with_used, writers_slot, taken, made_current, brought_in, dropped, without_block, MayHold};
+ghost use Rattle.fa_map.specs.Changes.{with_used, writers_slot, taken, made_current, renewed, brought_in, dropped, without_block, MayHold, MayKeep};
 ghost use Rattle.fa_map.specs.Slots.{IsPageMap, AreCounts, state_of, copy_in, first_holder};
 
 use crate::slots::{BlockCounts, SlotState};
@@ -64,6 +65,12 @@ pub trait Map {
         ensures die { option_map (λ copy. copy.0.0) result ≡ first_holder (view self.now) page.0 (die.0 + 1) }
         ensures slot { IfSome result (λ copy. copy_on (view self.now) page.0 copy.0.0 ≡ Some copy.1.0) };
 
+    /// The lowest page from one on that exactly this many live dies hold, 1 or 2.
+    fn next_with(&self, count: u32, from: Page) -> Option<Page>
+        requires { (1 ≤ count) × (count ≤ 2) }
+        ensures { option_map (λ page. page.0) result ≡ find (λ page. length (holders (view self.now) page) == count)
+            (range_with_len from.0 ((view self.now).geometry.pages - from.0)) };
+
     /// The state of the slot.
     fn state(&self, die: Die, slot: Slot) -> SlotState
         requires die { die.0 < (view self.now).geometry.dies }
@@ -92,6 +99,24 @@ pub trait Map {
         requires { die.0 < (view self.now).geometry.dies }
         ensures { result ≡ room (view self.now) die.0 };
 
+    /// The slot that a writer takes on the die: the lowest that is erased. None where the die has no room.
+    fn writers_slot(&self, die: Die) -> Option<Slot>
+        requires { die.0 < (view self.now).geometry.dies }
+        ensures { option_map (λ slot. slot.0) result ≡ writers_slot (view self.now) die.0 };
+
+    /// The lowest erased slot of the die outside the block, to which the collector moves one of the block.
+    /// None where no slot outside the block is erased.
+    fn slot_for_move(&self, die: Die, block: Block) -> Option<Slot>
+        requires die { die.0 < (view self.now).geometry.dies }
+        requires block { block.0 < (view self.now).geometry.blocks }
+        ensures { option_map (λ slot. slot.0) result ≡ move_place (view self.now) die.0 block.0 };
+
+    /// The slot of the live die is reserved, whatever its state was.
+    fn reserve_slot(&mut self, die: Die, slot: Slot)
+        requires die { is_live (view self.old) die.0 ≡ true }
+        requires slot { slot.0 < (view self.old).geometry.blocks * (view self.old).geometry.slots }
+        ensures { view self.new ≡ with_used die.0 slot.0 Used.Reserved (view self.old) };
+
     /// The lowest erased slot of the live die for a writer, which is reserved now. None where the die
     /// has no room.
     fn take_slot(&mut self, die: Die) -> Option<Slot>
@@ -112,6 +137,16 @@ pub trait Map {
     fn make_current(&mut self, page: Page, version: Version, die: Die, slot: Slot)
         requires { MayHold (view self.old) page version die.0 slot.0 }
         ensures { view self.new ≡ made_current page version die.0 slot.0 (view self.old) };
+
+    /// This write is the page's last now, and each copy that the page had is stale.
+    fn renew(&mut self, page: Page, version: Version)
+        requires { page.0 < (view self.old).geometry.pages }
+        ensures { view self.new ≡ renewed page.0 version (view self.old) };
+
+    /// The slot holds a current copy of the page's last write, which is this one.
+    fn hold(&mut self, page: Page, version: Version, die: Die, slot: Slot)
+        requires { MayKeep (view self.old) page version die.0 slot.0 }
+        ensures { view self.new ≡ with_used die.0 slot.0 (Used.Held page version) (view self.old) };
 
     /// The slot of the live die is stale, whatever its state was.
     fn make_stale(&mut self, die: Die, slot: Slot)

@@ -7,7 +7,7 @@ use crate::change::{Change, MapShown, note};
 use crate::entries::{Entry, Link};
 use crate::map::Map;
 use crate::slots::{BlockCounts, SlotState};
-use crate::tables::Tables;
+use crate::tables::{Found, Tables};
 use crate::tallies::{less_one, state_of};
 use fa_ghost::History;
 use fa_machine::{Block, Version};
@@ -64,8 +64,9 @@ impl<A: Allocator + Copy> PageMap<A> {
 }
 
 impl<A: Allocator> PageMap<A> {
+    ghost use Rattle.fa_machine.specs.Collecting.{move_place};
     ghost use Rattle.fa_machine.specs.State.{is_live};
-    ghost use Rattle.fa_map.specs.Changes.{taken};
+    ghost use Rattle.fa_map.specs.Changes.{taken, writers_slot};
     ghost use Rattle.std.specs.FinMap.{get};
     ghost use Rattle.fa_map.specs.PageView.{page_view, looks_of};
     ghost use Rattle.fa_map.specs.Shown.{is_number};
@@ -98,6 +99,34 @@ impl<A: Allocator> PageMap<A> {
         }
     }
 
+    /// The slot that a writer takes on the die, and how many entries and counts were read.
+    fn found_for_writers(&self, die: Die) -> Found
+        requires { die.0 < (page_view self.now).geometry.dies }
+        ensures slot { result.slot ≡ writers_slot (page_view self.now) die.0 }
+        ensures looks { result.looks ≤ (page_view self.now).geometry.blocks + (page_view self.now).geometry.slots + 1 }
+    {
+        if self.room(die) == 0 {
+            return Found {
+                slot: None,
+                looks: 1,
+            };
+        }
+        let found = self.tables.lowest_erased(die, None);
+        Found {
+            slot: found.slot,
+            looks: found.looks + 1,
+        }
+    }
+
+    /// The lowest erased slot of the die outside the block, and how many entries and counts were read.
+    fn found_outside(&self, die: Die, block: Block) -> Found
+        requires { die.0 < (page_view self.now).geometry.dies }
+        ensures slot { result.slot ≡ move_place (page_view self.now) die.0 block.0 }
+        ensures looks { result.looks ≤ (page_view self.now).geometry.blocks + (page_view self.now).geometry.slots + 1 }
+    {
+        self.tables.lowest_erased(die, Some(block.0))
+    }
+
     /// Whether this write is the page's last.
     fn is_last(&self, page: Page, version: Version) -> bool
         requires { page.0 < (page_view self.now).geometry.pages }
@@ -116,6 +145,16 @@ fn copy_at(link: Link) -> Option<(Die, Slot)>
 {
     match link.die {
         Some(die) => Some((Die(die), Slot(link.slot))),
+        None => None,
+    }
+}
+
+/// The slot that was found.
+fn slot_of(found: Found) -> Option<Slot>
+    ensures { option_map (λ slot. slot.0) result ≡ found.slot }
+{
+    match found.slot {
+        Some(slot) => Some(Slot(slot)),
         None => None,
     }
 }
@@ -170,6 +209,13 @@ impl<A: Allocator> Map for PageMap<A> {
         copy_at(self.tables.next(die, slot))
     }
 
+    fn next_with(&self, count: u32, from: Page) -> Option<Page> {
+        match self.tables.next_with(count, from.0 as usize) {
+            Some(page) => Some(Page(page as u64)),
+            None => None,
+        }
+    }
+
     fn state(&self, die: Die, slot: Slot) -> SlotState {
         state_of(self.tables.entry(die, slot))
     }
@@ -196,16 +242,26 @@ impl<A: Allocator> Map for PageMap<A> {
         self.free(die).saturating_sub(self.geometry.slots)
     }
 
+    fn writers_slot(&self, die: Die) -> Option<Slot> {
+        slot_of(self.found_for_writers(die))
+    }
+
+    fn slot_for_move(&self, die: Die, block: Block) -> Option<Slot> {
+        slot_of(self.found_outside(die, block))
+    }
+
+    fn reserve_slot(&mut self, die: Die, slot: Slot) {
+        self.tables.put(die, slot, Entry::Reserved);
+        note(&mut self.history, Change::Take { die, slot });
+    }
+
     fn take_slot(&mut self, die: Die) -> Option<Slot> {
-        if self.room(die) == 0 {
-            return self.reserve(die, None, 1);
-        }
-        let found = self.tables.lowest_erased(die, None);
-        self.reserve(die, found.slot, found.looks + 1)
+        let found = self.found_for_writers(die);
+        self.reserve(die, found.slot, found.looks)
     }
 
     fn take_slot_outside(&mut self, die: Die, block: Block) -> Option<Slot> {
-        let found = self.tables.lowest_erased(die, Some(block.0));
+        let found = self.found_outside(die, block);
         self.reserve(die, found.slot, found.looks)
     }
 
@@ -218,6 +274,25 @@ impl<A: Allocator> Map for PageMap<A> {
         note(
             &mut self.history,
             Change::MakeCurrent {
+                page,
+                version,
+                die,
+                slot,
+            },
+        );
+    }
+
+    fn renew(&mut self, page: Page, version: Version) {
+        self.tables.retire(page.0 as u32);
+        self.versions[page.0 as usize] = Some(version);
+        note(&mut self.history, Change::Renew { page, version });
+    }
+
+    fn hold(&mut self, page: Page, version: Version, die: Die, slot: Slot) {
+        self.tables.add_copy(page.0 as u32, die, slot);
+        note(
+            &mut self.history,
+            Change::Hold {
                 page,
                 version,
                 die,

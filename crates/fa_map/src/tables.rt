@@ -1,11 +1,14 @@
 //! The tables of a page map: the entry of each slot, the counts of each block, and the chains of copies.
-ghost use Rattle.std.specs.Prelude.{◌≡◌, ℕ, ◌+◌, ◌*◌, ◌/◌, ◌-◌, ◌^◌, ◌<◌, ◌≤◌, ◌==◌, ◌&&◌, true, false, not, nat_le, nat_lt, if◌then◌else◌, length, slice_index_or, slice_set, find, count_by, is_some, option_map, IfOk, None, Some};
+ghost use Rattle.std.specs.Prelude.{◌≡◌, ℕ, ◌+◌, ◌*◌, ◌/◌, ◌-◌, ◌^◌, ◌<◌, ◌≤◌, ◌==◌, ◌&&◌, true, false, not, nat_le, nat_lt, if◌then◌else◌, length, slice_index_or, slice_set, find, is_some, min, option_map, IfOk, None, Some};
 ghost use Rattle.fa_map.specs.Chains.{IsSeam, IsNext, behind, entry_at, entry_of, link_at, link_from, target};
-ghost use Rattle.fa_map.specs.Entries.{AreTables, AreTallied, count_of, die_holds, erased_entry, is_current_entry, is_erased_entry, is_left_out, may_take, no_counts, one_if, retired, with_head, with_link};
+ghost use Rattle.fa_map.specs.Entries.{AreTables, AreTallied, copies_in, count_of, erased_entry, is_current_entry, is_erased_entry, is_left_out, may_take, no_counts, one_if, retired, with_head, with_link};
+ghost use Rattle.fa_map.specs.Few.{IsCounted, IsCounted-prop};
 ghost use Rattle.fa_map.specs.Plain.{die_slots};
+ghost use Rattle.std.specs.List.{range_with_len};
 ghost use Rattle.fa_machine.specs.Maps.{below};
 
 use crate::entries::{Entry, Link};
+use crate::few_copies::FewCopies;
 use crate::slots::BlockCounts;
 use crate::tallies::{is_erased, moved, state_of};
 use fa_types::{Die, Geometry, Slot};
@@ -25,7 +28,10 @@ pub struct Tables<A: Allocator = Global> {
     counts: Vec<BlockCounts, A>,
     /// How many slots of each die are erased.
     erased: Vec<u32, A>,
+    /// The pages with one copy and those with two.
+    few: FewCopies<A>,
     ghost sound: { AreTables geometry entries.items links.items heads.items counts.items erased.items },
+    ghost counted: { IsCounted geometry entries.items few } by { IsCounted-prop geometry entries.items few },
 }
 
 /// Where a die's copy of a page belongs in the page's chain.
@@ -45,6 +51,9 @@ pub struct Found {
     /// How many entries and counts were read.
     pub looks: u32,
 }
+
+/// One copy more or less leaves a page with more than two, where it has this many.
+const MANY: u32 = 4;
 
 const NO_LINK: Link = Link { die: None, slot: 0 };
 
@@ -146,6 +155,7 @@ impl<A: Allocator + Copy> Tables<A> {
             stale: 0
         }; blocks]?;
         let erased = vec![in alloc; geometry.blocks * geometry.slots; dies]?;
+        let few = FewCopies::new(alloc, geometry.pages as usize)?;
         Ok(Tables {
             geometry,
             entries,
@@ -153,6 +163,7 @@ impl<A: Allocator + Copy> Tables<A> {
             heads,
             counts,
             erased,
+            few,
         })
     }
 }
@@ -228,12 +239,23 @@ impl<A: Allocator> Tables<A> {
     /// How many dies hold the page. It takes a step for each of them.
     pub fn copies_of(&self, page: u32) -> u32
         requires { page < self.now.geometry.pages }
-        ensures { result ≡ count_by (die_holds self.now.entries.items (die_slots self.now.geometry) page) (below self.now.geometry.dies) }
+        ensures { result ≡ copies_in self.now.entries.items self.now.geometry page }
+    {
+        self.copies_up_to(page, self.geometry.dies)
+    }
+
+    /// How many dies hold the page, or the limit where that is less. It takes a step for each that is counted.
+    fn copies_up_to(&self, page: u32, limit: u32) -> u32
+        requires { page < self.now.geometry.pages }
+        ensures { result ≡ min limit (copies_in self.now.entries.items self.now.geometry page) }
     {
         let size = (self.geometry.blocks * self.geometry.slots) as usize;
         let mut copies = 0;
         let mut next = self.heads[page as usize];
         while let Some(die) = next.die {
+            if copies == limit {
+                return copies;
+            }
             copies += 1;
             next = self.links[die as usize * size + next.slot as usize];
         }
@@ -247,6 +269,15 @@ impl<A: Allocator> Tables<A> {
             self.now.geometry.dies page 0 (target result) }
     {
         self.heads[page as usize]
+    }
+
+    /// The lowest page from one on that this many dies hold, 1 or 2. It takes two looks at a set at most.
+    pub fn next_with(&self, count: u32, from: usize) -> Option<usize>
+        requires { (1 ≤ count) × (count ≤ 2) }
+        ensures { result ≡ find (λ page. copies_in self.now.entries.items self.now.geometry page == count)
+            (range_with_len from (self.now.geometry.pages - from)) }
+    {
+        self.few.lowest_from(count, from)
     }
 
     /// The copy that comes next in the chain of the page that the slot holds.
@@ -291,6 +322,7 @@ impl<A: Allocator> Tables<A> {
         ensures entries { self.new.entries.items
             ≡ slice_set self.old.entries.items (die.0 * die_slots self.old.geometry + slot.0) entry }
     {
+        let copies = self.copies_up_to(page, MANY);
         let last = self.seam(page, die.0).last;
         let next = self.links[index_of(self.geometry, die, slot)];
         let size = (self.geometry.blocks * self.geometry.slots) as usize;
@@ -304,6 +336,7 @@ impl<A: Allocator> Tables<A> {
             slot,
             entry,
         );
+        self.few.put(page, copies - 1);
     }
 
     /// The slot, which holds no copy, holds one of the page. No other slot of the die holds the page.
@@ -318,6 +351,7 @@ impl<A: Allocator> Tables<A> {
         ensures entries { self.new.entries.items
             ≡ slice_set self.old.entries.items (die.0 * die_slots self.old.geometry + slot.0) (Current page) }
     {
+        let copies = self.copies_up_to(page, MANY);
         let seam = self.seam(page, die.0);
         let size = (self.geometry.blocks * self.geometry.slots) as usize;
         let index = index_of(self.geometry, die, slot);
@@ -343,6 +377,7 @@ impl<A: Allocator> Tables<A> {
             slot,
             Entry::Current { page },
         );
+        self.few.put(page, copies + 1);
     }
 
     /// The slot has this entry, which holds no copy.
@@ -361,18 +396,18 @@ impl<A: Allocator> Tables<A> {
         }
     }
 
-    /// No slot holds a copy of the page: those that did are stale. It takes a step for each die.
-    fn retire(&mut self, page: u32)
+    /// No slot holds a copy of the page: those that did are stale. It takes a step for each of them.
+    pub fn retire(&mut self, page: u32)
         requires { page < self.old.geometry.pages }
         ensures geometry { self.new.geometry ≡ self.old.geometry }
-        ensures entries { (die slot : ℕ) → die < self.old.geometry.dies → slot < die_slots self.old.geometry
+        ensures entries { (die slot : ℕ) → slot < die_slots self.old.geometry
             → entry_of self.new.entries.items (die_slots self.old.geometry) die slot
             ≡ retired page (entry_of self.old.entries.items (die_slots self.old.geometry) die slot) }
     {
-        for die in 0..self.geometry.dies {
-            if let Some(slot) = self.copy_on(page, die as u8) {
-                self.remove_copy(page, Die(die as u8), Slot(slot), Entry::Stale);
-            }
+        let mut next = self.first(page);
+        while let Some(die) = next.die {
+            self.remove_copy(page, Die(die), Slot(next.slot), Entry::Stale);
+            next = self.first(page);
         }
     }
 

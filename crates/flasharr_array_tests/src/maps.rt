@@ -3,7 +3,8 @@
 ghost use Rattle.std.specs.Prelude.{◌≡◌, ◌<◌};
 
 use fa_machine::{Block, Version};
-use fa_map::{BlockCounts, Map, PageMap, PlainMap, SlotState};
+use fa_map::{BlockCounts, Map, PageMap, SlotState};
+use fa_plain_map::PlainMap;
 use fa_types::{Die, Geometry, Kind, Page, Seq, Slot};
 use flasharr_tests::ensure;
 use linked_list_allocator::LocalHeap;

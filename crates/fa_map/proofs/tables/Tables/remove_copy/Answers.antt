@@ -1,8 +1,10 @@
-use Rattle.std.proofs.Common.{◌≡◌, ◌+◌, ◌*◌, length, get_or, ap, subst, ◌∙◌, arith, set}
+use Rattle.std.proofs.Common.{◌≡◌, ◌+◌, ◌*◌, ◌<◌, length, get_or, sym, ap, subst, ◌∙◌, arith, set}
 use Rattle.std.proofs.lemmas.List.{get_or_default}
 use Rattle.fa_map.specs.Chains.{no_link, target}
 use Rattle.fa_map.specs.Entries.{AreTallied, with_head, with_link}
 use Rattle.fa_map.specs.Plain.{die_slots}
+use Rattle.fa_map.specs.Few.{IsCounted}
+use Rattle.fa_map.proofs.Few.{few_bound, few_removed, some_copies}
 use Rattle.fa_map.proofs.Indices.{index_fits}
 use Rattle.fa_map.proofs.Tabled.{copy_removed, tables_told}
 use Rattle.fa_map.proofs.Written.{whole_part}
@@ -14,6 +16,19 @@ write_link-requires-clause-last g c = λ d slot e.
     let old = c.seam.ensures.found d slot e in
     let fits = index_fits d slot s.geometry.dies (die_slots s.geometry) old.1 old.2 in
     omega (arith, fits, c.deref_mut-2.ensures.len, s.sound.linked, s.links.ok.0)
+
+pub overflow_sub-copies : goal.overflow_sub-copies
+overflow_sub-copies g c =
+    let s = c.args.self.now in
+    let fits = index_fits c.args.die.0 c.args.slot.0 s.geometry.dies (die_slots s.geometry) c.requires.die c.requires.slot in
+    let some = some_copies s.geometry s.entries.items c.args.die.0 c.args.slot.0 c.requires.die c.requires.slot (subst (λ k. c.args.die.0 * die_slots s.geometry + c.args.slot.0 < k) (sym s.sound.tallied.slots) fits) c.args.entry c.args.page c.requires.old in
+    omega (arith, some, c.copies_up_to-copies.ensures)
+
+pub put-requires : goal.put-requires
+put-requires g c =
+    let s = c.args.self.now in
+    let bound = few_bound s.geometry s.entries.items s.few s.counted in
+    omega (arith, bound, (s.sound.chained.fits c.args.die.0 c.args.slot.0 c.args.page c.requires.slot c.requires.old).1)
 
 pub invariant_of-self : goal.invariant_of-self
 invariant_of-self g c =
@@ -27,6 +42,7 @@ invariant_of-self g c =
     let last = target c.seam.result.last in
     let link = c.index-next.result.now in
     let fits = index_fits c.args.die.0 c.args.slot.0 s.geometry.dies (die_slots s.geometry) c.requires.die c.requires.slot in
+    let inside : index < length s.entries.items = subst (λ k. index < k) (sym s.sound.tallied.slots) fits in
     let at : link ≡ get_or s.links.items index no_link =
     c.index-next.ensures ∙ ap (λ k. get_or s.links.items k link) c.index_of.ensures.index
     ∙ get_or_default s.links.items index link no_link (omega (arith, fits, s.sound.linked)) in
@@ -42,4 +58,10 @@ invariant_of-self g c =
           (whole_part s.heads.len c.write_link.new.heads s.heads.items headed ∙ heads)
           (whole_part s.counts.len c.write_entry.new.counts s.counts.items many) (whole_part s.erased.len c.write_entry.new.erased s.erased.items few)
           (copy_removed s.geometry s.entries.items s.links.items s.heads.items s.counts.items s.erased.items s.sound c.args.die.0 c.args.slot.0 c.requires.die c.requires.slot c.write_entry.new.counts c.write_entry.new.erased c.args.entry c.args.page last (target c.seam.result.next) link c.requires.old c.requires.new c.seam.ensures (ap target at) tallied);
+      counted =
+          subst (λ l. IsCounted s.geometry l c.put.new.self) (sym (whole_part s.entries.len c.write_entry.new.entries s.entries.items long ∙ entries))
+          (few_removed s.geometry s.entries.items c.args.die.0 c.args.slot.0 c.requires.die c.requires.slot inside c.args.entry s.few s.counted
+          c.args.page c.copies_up_to-copies.result c.copies_up_to-copies.ensures c.put.new.self
+          c.requires.old c.requires.new (λ k within is. s.sound.chained.once c.args.die.0 k c.args.slot.0 c.args.page within c.requires.slot is c.requires.old)
+          c.put.ensures);
     }

@@ -1,47 +1,78 @@
-use Rattle.std.proofs.Common.{◌≡◌, ◌+◌, ◌*◌, ◌<◌, refl, sym, ap, subst, ◌∙◌, arith, set}
-use Rattle.fa_map.specs.Chains.{entry_of}
+use Rattle.std.proofs.Common.{◌≡◌, ℕ, ◌+◌, ◌*◌, ◌<◌, None, Option, Some, length, sym, ap, subst, ◌∙◌, arith, set}
+use Rattle.fa_types.specs.declared.geometry.Geometry.{Geometry}
+use Rattle.fa_map.specs.Chains.{IsNext, entry_of, place_of, target}
+use Rattle.fa_map.specs.Entries.{retired}
 use Rattle.fa_map.specs.Plain.{die_slots}
 use Rattle.fa_map.specs.declared.entries.Entry.TheVariants.{Current, Stale}
-use Rattle.fa_types.specs.declared.geometry.Geometry.{Geometry}
-use Rattle.fa_map.specs.declared.tables.Tables.{Tables}
+use Rattle.fa_map.specs.declared.entries.Link.{Link}
+use Rattle.fa_map.proofs.Chained.{before_none, some_place}
+use Rattle.fa_map.proofs.Counted.{dies_from}
 use Rattle.fa_map.proofs.Indices.{index_fits}
-use Rattle.fa_map.proofs.Swept.{retire_rest, retire_skip, retire_step}
-use Rattle.fa_map.proofs.tables.Tables.retire.Goals.{in-Some, in_default}
+use Rattle.fa_map.proofs.Swept.{fewer_left, retired_alike, retired_other}
 use Rattle.fa_map.proofs.tables.Tables.retire.Goals as goal
 
-pub remove_copy-requires-clause-slot : goal.remove_copy-requires-clause-slot
-remove_copy-requires-clause-slot g c = (c.in-Some.ensures.some c.in-Some.slot refl).0
+-- the place that the loop has come to
+there : (next : Link) (die : ℕ) → next.die ≡ Some die → target next ≡ some_place die next.slot
+there next die e = ap (λ (o : Option ℕ). place_of o next.slot) e
 
-pub loop-die-preserved : goal.loop-die-preserved
-loop-die-preserved g c =
-    let s = c.args.self.now in
-    let n = die_slots s.geometry in
-    let now = c.loop-die.self in
-    let same = ap die_slots c.loop-die.invariant.geometry in
-    let dies = ap (λ (k : Geometry). k.dies) c.loop-die.invariant.geometry in
-    elim c.match-copy_on.branch [
-      | in-Some w ↦
-          let old = w.in-Some.ensures.some w.in-Some.slot refl in
-          let within : w.in-Some.slot < n = subst (λ k. w.in-Some.slot < k) same old.0 in
-          let held : entry_of now.entries.items n c.loop-die.die w.in-Some.slot ≡ Current c.args.page = subst (λ k. entry_of now.entries.items k c.loop-die.die w.in-Some.slot ≡ Current c.args.page) same old.1 in
-          let fits = index_fits c.loop-die.die w.in-Some.slot s.geometry.dies n c.loop-die-test.true within in
-          let set_to = ap (λ (t : Tables g.row.A.Denot). t.entries.items) w.self-is ∙ w.remove_copy.ensures.entries ∙ ap (λ k. set now.entries.items (c.loop-die.die * k + w.in-Some.slot) Stale) same in
-          record {
-            geometry = ap (λ (t : Tables g.row.A.Denot). t.geometry) w.self-is ∙ w.remove_copy.ensures.geometry ∙ c.loop-die.invariant.geometry;
-            done = retire_step s.entries.items now.entries.items n c.args.page c.loop-die.die c.loop-die.invariant.done c.loop-die.invariant.rest w.in-Some.slot within
-                (subst (λ k. c.loop-die.die * n + w.in-Some.slot < k) (sym (now.sound.tallied.slots ∙ (λ i. dies i * same i))) fits) held
-                (λ k inside is. now.sound.chained.once c.loop-die.die k w.in-Some.slot c.args.page (subst (λ m. k < m) (sym same) inside) old.0 (subst (λ m. entry_of now.entries.items m c.loop-die.die k ≡ Current c.args.page) (sym same) is) old.1)
-                c.match-copy_on.self.entries.items set_to;
-            rest = retire_rest s.entries.items now.entries.items n c.args.page c.loop-die.die c.loop-die.invariant.done c.loop-die.invariant.rest w.in-Some.slot within c.match-copy_on.self.entries.items set_to;
-          }
-      | in_default w ↦
-          let kept = ap (λ (t : Tables g.row.A.Denot). t.entries.items) w.self-is in
-          record {
-            geometry = ap (λ (t : Tables g.row.A.Denot). t.geometry) w.self-is ∙ c.loop-die.invariant.geometry;
-            done = λ d k low inside.
-                ap (λ l. entry_of l n d k) kept
-                ∙ retire_skip s.entries.items now.entries.items n c.args.page c.loop-die.die c.loop-die.invariant.done c.loop-die.invariant.rest
-                (λ j within is. w.in_default.ensures.none refl j (subst (λ m. j < m) (sym same) within) (subst (λ m. entry_of now.entries.items m c.loop-die.die j ≡ Current c.args.page) (sym same) is)) d k low inside;
-            rest = λ d k high inside. ap (λ l. entry_of l n d k) kept ∙ c.loop-die.invariant.rest d k (omega arith) inside;
-          }
-    ]
+pub remove_copy-requires-clause-die : goal.remove_copy-requires-clause-die
+remove_copy-requires-clause-die g c =
+    (c.loop-next.invariant.first.found c.in-Some.die c.loop-next.next.slot (there c.loop-next.next c.in-Some.die c.in-Some.is)).1
+
+pub remove_copy-requires-clause-slot : goal.remove_copy-requires-clause-slot
+remove_copy-requires-clause-slot g c =
+    (c.loop-next.invariant.first.found c.in-Some.die c.loop-next.next.slot (there c.loop-next.next c.in-Some.die c.in-Some.is)).2
+
+pub loop-next-smaller : goal.loop-next-smaller
+loop-next-smaller g c =
+    let t = c.loop-next.self in
+    let n = die_slots t.geometry in
+    let slot = c.loop-next.next.slot in
+    let first = target c.first-next-in-Some.result in
+    let is = there c.loop-next.next c.in-Some.die c.in-Some.is in
+    let old = c.loop-next.invariant.first.found c.in-Some.die slot is in
+    let fits : c.in-Some.die * n + slot < length t.entries.items =
+    subst (λ k. c.in-Some.die * n + slot < k) (sym t.sound.tallied.slots) (index_fits c.in-Some.die slot t.geometry.dies n old.1 old.2) in
+    let was = subst (IsNext (entry_of t.entries.items n) n t.geometry.dies c.args.page 0) is c.loop-next.invariant.first in
+    let next = subst (λ l. IsNext (entry_of l n) n t.geometry.dies c.args.page 0 first) c.remove_copy.ensures.entries
+    (subst (λ (k : Geometry). IsNext (entry_of c.remove_copy.new.self.entries.items (die_slots k)) (die_slots k) k.dies c.args.page 0 first) c.remove_copy.ensures.geometry
+    c.first-next-in-Some.ensures) in
+    let less = fewer_left t.entries.items n t.geometry.dies c.args.page c.in-Some.die slot fits old.2 old.3 first was next
+    (λ other inside also. t.sound.chained.once c.in-Some.die other slot c.args.page inside old.2 also old.3) in
+    let now = ap (dies_from t.geometry.dies) is in
+    let dies = ap (λ (k : Geometry). dies_from k.dies first) c.remove_copy.ensures.geometry in
+    omega (arith, less, now, dies)
+
+pub loop-next-preserved : goal.loop-next-preserved
+loop-next-preserved g c =
+    let t = c.loop-next.self in
+    let slot = c.loop-next.next.slot in
+    let same = c.loop-next.invariant.geometry in
+    let n = die_slots c.args.self.now.geometry in
+    let old = c.loop-next.invariant.first.found c.in-Some.die slot (there c.loop-next.next c.in-Some.die c.in-Some.is) in
+    let within : slot < n = subst (λ (k : Geometry). slot < die_slots k) same old.2 in
+    let held : entry_of t.entries.items n c.in-Some.die slot ≡ Current c.args.page =
+    subst (λ (k : Geometry). entry_of t.entries.items (die_slots k) c.in-Some.die slot ≡ Current c.args.page) same old.3 in
+    let fits : c.in-Some.die * n + slot < length t.entries.items =
+    subst (λ (k : Geometry). c.in-Some.die * die_slots k + slot < length t.entries.items) same
+    (subst (λ k. c.in-Some.die * die_slots t.geometry + slot < k) (sym t.sound.tallied.slots) (index_fits c.in-Some.die slot t.geometry.dies (die_slots t.geometry) old.1 old.2)) in
+    let written = c.remove_copy.ensures.entries ∙ ap (λ (k : Geometry). set t.entries.items (c.in-Some.die * die_slots k + slot) Stale) same in
+    record {
+      geometry = c.remove_copy.ensures.geometry ∙ same;
+      first = c.first-next-in-Some.ensures;
+      same = λ d s inside.
+          ap (λ l. retired c.args.page (entry_of l n d s)) written
+          ∙ retired_alike t.entries.items n t.geometry.dies c.args.page c.in-Some.die slot fits within held d s inside
+          ∙ c.loop-next.invariant.same d s inside;
+    }
+
+pub returns-clause-entries : goal.returns-clause-entries
+returns-clause-entries g c = λ die slot within.
+    let t = c.loop-next.self in
+    let n = die_slots c.args.self.now.geometry in
+    let same = c.loop-next.invariant.geometry in
+    let none : target c.loop-next.next ≡ None = ap (λ (o : Option ℕ). place_of o c.loop-next.next.slot) c.in_default.is in
+    let bare : entry_of t.entries.items n die slot ≡ Current c.args.page → ⊥ =
+    λ is. c.loop-next.invariant.first.between die slot (omega arith) (subst (λ (k : Geometry). slot < die_slots k) (sym same) within) (before_none die (target c.loop-next.next) none)
+    (subst (λ (k : Geometry). entry_of t.entries.items (die_slots k) die slot ≡ Current c.args.page) (sym same) is) in
+    sym (retired_other c.args.page (entry_of t.entries.items n die slot) bare) ∙ c.loop-next.invariant.same die slot within

@@ -1,6 +1,9 @@
-use Rattle.std.proofs.Common.{◌≡◌, ◌+◌, ◌*◌, length, refl, ap, subst, ◌∙◌, arith, set}
+use Rattle.std.proofs.Common.{◌≡◌, ◌+◌, ◌*◌, ◌<◌, length, refl, sym, ap, subst, ◌∙◌, arith, set}
 use Rattle.fa_map.specs.Entries.{AreTallied}
 use Rattle.fa_map.specs.Plain.{die_slots}
+use Rattle.fa_map.specs.Few.{IsCounted}
+use Rattle.fa_map.proofs.Few.{few_plain}
+use Rattle.fa_map.proofs.Indices.{index_fits}
 use Rattle.fa_map.proofs.Tabled.{plain_set, tables_told}
 use Rattle.fa_map.proofs.Written.{whole_part}
 use Rattle.fa_map.proofs.tables.Tables.set_plain.Goals as goal
@@ -11,6 +14,8 @@ invariant_of-self g c =
     let index = c.args.die.0 * die_slots s.geometry + c.args.slot.0 in
     let entries : c.write_entry.new.entries ≡ set s.entries.items index c.args.entry = c.write_entry.ensures.entries ∙ ap (λ l. set l index c.args.entry) c.deref_mut.ensures.value in
     let tallied = subst (λ k. AreTallied s.geometry k c.write_entry.new.counts c.write_entry.new.erased) entries c.write_entry.ensures.tallied in
+    let fits : index < length s.entries.items =
+    subst (λ k. index < k) (sym s.sound.tallied.slots) (index_fits c.args.die.0 c.args.slot.0 s.geometry.dies (die_slots s.geometry) c.requires.die c.requires.slot) in
     let long : length c.write_entry.new.entries ≡ s.entries.len = omega (arith, s.entries.ok.0) in
     let many : length c.write_entry.new.counts ≡ s.counts.len = omega (arith, s.counts.ok.0) in
     let few : length c.write_entry.new.erased ≡ s.erased.len = omega (arith, s.erased.ok.0) in
@@ -19,4 +24,7 @@ invariant_of-self g c =
           (whole_part s.entries.len c.write_entry.new.entries s.entries.items long ∙ entries) refl refl
           (whole_part s.counts.len c.write_entry.new.counts s.counts.items many) (whole_part s.erased.len c.write_entry.new.erased s.erased.items few)
           (plain_set s.geometry s.entries.items s.links.items s.heads.items s.counts.items s.erased.items s.sound c.args.die.0 c.args.slot.0 c.requires.die c.requires.slot c.write_entry.new.counts c.write_entry.new.erased c.args.entry c.requires.old c.requires.new tallied);
+      counted =
+          subst (λ l. IsCounted s.geometry l s.few) (sym (whole_part s.entries.len c.write_entry.new.entries s.entries.items long ∙ entries))
+          (few_plain s.geometry s.entries.items c.args.die.0 c.args.slot.0 c.requires.die c.requires.slot fits c.args.entry s.few s.counted c.requires.old c.requires.new);
     }

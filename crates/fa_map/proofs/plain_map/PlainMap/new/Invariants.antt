@@ -1,5 +1,0 @@
-use Rattle.fa_map.specs.Changes.{new_map}
-use Rattle.fa_map.proofs.plain_map.PlainMap.new.Given as goal
-
-abbrev pub ghost-begin : goal.ghost-begin
-ghost-begin g a = new_map

@@ -1,0 +1,17 @@
+use Rattle.std.proofs.Common.{ℕ, ◌+◌, Some, refl, ap, arith, set}
+use Rattle.fa_machine.specs.declared.places.Used.TheVariants.{Reserved}
+use Rattle.fa_map.proofs.Plain.{plain_used, slot_fits, told}
+use Rattle.fa_plain_map.proofs.plain_map.PlainMapMap.reserve_slot.Goals as goal
+
+pub index_mut-requires : goal.index_mut-requires
+index_mut-requires g c =
+    let s = c.args.self.now in
+    let fits = slot_fits s.history.shown s.geometry s.live.items s.live_dies s.versions.items s.used.items s.sound c.args.die.0 c.args.slot.0 c.requires.die c.requires.slot in
+    omega (arith, fits, c.first_slot.ensures, s.used.ok.0)
+
+pub invariant_of-self : goal.invariant_of-self
+invariant_of-self g c =
+    let s = c.args.self.now in
+    let after = plain_used s.history.shown s.geometry s.live.items s.live_dies s.versions.items s.used.items s.sound c.args.die.0 c.args.slot.0 Reserved c.requires.die c.requires.slot refl in
+    let at = ap (λ (k : ℕ). set s.used.items (k + c.args.slot.0) (Some Reserved)) c.first_slot.ensures in
+    record { sound = told s.geometry s.live.items s.versions.items _ c.note.new.history.shown _ s.live_dies _ _ c.note.ensures refl at after }

@@ -1,0 +1,5 @@
+use Rattle.fa_map.proofs.Taking.{outside_fits}
+use Rattle.fa_plain_map.proofs.plain_map.PlainMapMap.take_slot_outside.Goals as goal
+
+pub reserve-requires-clause-slot : goal.reserve-requires-clause-slot
+reserve-requires-clause-slot g c = outside_fits c.args.self.now.history.shown c.args.die.0 c.args.block.0 c.slot_outside-slot.result c.slot_outside-slot.ensures
