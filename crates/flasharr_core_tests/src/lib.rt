@@ -3,3 +3,5 @@
 
 #[cfg(test)]
 mod collector;
+#[cfg(test)]
+mod parts;
