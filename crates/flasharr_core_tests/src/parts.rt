@@ -27,15 +27,30 @@ fn a_die_has_one_value(rt: HostRuntime) -> Result<(), Fail> {
     flights.insert(Die(63), erase);
     flights.insert(Die(0), erase);
     flights.insert(Die(63), sync);
-    expect(flights.get(Die(63)) == Some(sync), "the later value is kept")?;
-    expect(flights.get(Die(0)) == Some(erase), "another die has its own")?;
-    expect(flights.get(Die(200)) == None, "a die past the bound has none")?;
+    expect(
+        flights.get(Die(63)) == Some(sync),
+        "the later value is kept",
+    )?;
+    expect(
+        flights.get(Die(0)) == Some(erase),
+        "another die has its own",
+    )?;
+    expect(
+        flights.get(Die(200)) == None,
+        "a die past the bound has none",
+    )?;
     expect(flights.len() == 2, "two dies have a value")?;
     flights.remove(Die(0));
     flights.remove(Die(200));
-    expect(flights.get(Die(0)) == None && flights.len() == 1, "one is removed")?;
+    expect(
+        flights.get(Die(0)) == None && flights.len() == 1,
+        "one is removed",
+    )?;
     flights.clear();
-    expect(flights.get(Die(63)) == None && flights.len() == 0, "all are removed")
+    expect(
+        flights.get(Die(63)) == None && flights.len() == 0,
+        "all are removed",
+    )
 }
 
 // The heap grows by little from run to run, so that each allocation is the first that doesn't fit in some run.
@@ -67,13 +82,19 @@ fn a_history_is_full_at_its_limit(rt: HostRuntime) -> Result<(), Fail> {
         }
     }
     expect(log.is_full(), "the history is full")?;
-    expect(log.counts() == (1, 65_535), "one Commit and the rest Starts")?;
+    expect(
+        log.counts() == (1, 65_535),
+        "one Commit and the rest Starts",
+    )?;
     let written = HistoryEntry::Commit {
         seat: 1,
         page: Page(9),
         seq: Seq(77),
     };
-    expect(log.history().get(5) == Some(&written), "the Commit is the sixth")?;
+    expect(
+        log.history().get(5) == Some(&written),
+        "the Commit is the sixth",
+    )?;
     expect(log.history().len() == 65_536, "all entries are there")?;
     log.fold();
     expect(!log.is_full() && log.history().is_empty(), "none is left")?;
@@ -137,17 +158,26 @@ fn the_oldest_program_of_a_die_comes_first(rt: HostRuntime) -> Result<(), Fail> 
     put(&mut waiting, 1, 6, shared.clone()?)?;
     put(&mut waiting, 0, 4, shared.clone()?)?;
     put(&mut waiting, 0, 3, shared.clone()?)?;
-    expect(taken(&mut waiting, 0) == Some((5, Some(7))), "the oldest of die 0")?;
+    expect(
+        taken(&mut waiting, 0) == Some((5, Some(7))),
+        "the oldest of die 0",
+    )?;
     waiting.drop_place(Die(0), Slot(4));
     waiting.drop_place(Die(1), Slot(4));
-    expect(taken(&mut waiting, 0) == Some((3, Some(7))), "the slot is passed over")?;
+    expect(
+        taken(&mut waiting, 0) == Some((3, Some(7))),
+        "the slot is passed over",
+    )?;
     expect(taken(&mut waiting, 0) == None, "none waits for die 0")?;
     put(&mut waiting, 0, 2, shared)?;
     waiting.drop_die(Die(0));
     waiting.drop_die(Die(9));
     expect(taken(&mut waiting, 0) == None, "the die was dropped")?;
     expect(taken(&mut waiting, 9) == None, "a die past the bound")?;
-    expect(taken(&mut waiting, 1) == Some((6, Some(7))), "the other die keeps its own")
+    expect(
+        taken(&mut waiting, 1) == Some((6, Some(7))),
+        "the other die keeps its own",
+    )
 }
 
 #[test]
@@ -176,7 +206,16 @@ fn programs_stay_where_room_is_refused(rt: HostRuntime) -> Result<(), Fail> {
     let payload = ArcSlice::from_slice(&heap, &[9u8])?;
     put(&mut waiting, 0, 1, payload.clone()?)?;
     put(&mut waiting, 0, 2, payload)?;
-    expect(waiting.make_room(Die(0), 10_000).is_err(), "there is no such room")?;
-    expect(taken(&mut waiting, 0) == Some((1, Some(9))), "the first stays")?;
-    expect(taken(&mut waiting, 0) == Some((2, Some(9))), "and the second")
+    expect(
+        waiting.make_room(Die(0), 10_000).is_err(),
+        "there is no such room",
+    )?;
+    expect(
+        taken(&mut waiting, 0) == Some((1, Some(9))),
+        "the first stays",
+    )?;
+    expect(
+        taken(&mut waiting, 0) == Some((2, Some(9))),
+        "and the second",
+    )
 }
