@@ -1,12 +1,15 @@
 //! The containers of the array's core: worked values, the history at its limit, and memory that is refused.
-ghost use Rattle.std.specs.Prelude.{◌≡◌, ◌<◌};
+ghost use Rattle.std.specs.Prelude.{◌≡◌, ◌<◌, map, IfOk};
+ghost use Rattle.std.specs.FinMap.{entries, from_entries};
+ghost use Rattle.fa_parts.specs.Logs.{base_of};
 ghost use Rattle.fa_parts.specs.Waits.{dies_of};
 
 use fa_machine::{Block, Flight, HistoryEntry, Version};
+use fa_map::{Map, PageMap};
 use fa_parts::{ByDie, Log, MAX_ENTRIES, QueuedProgram, Waiting};
-use fa_types::{Die, Kind, Page, Seq, Slot};
+use fa_types::{Die, Geometry, Kind, Page, Seq, Slot};
 use linked_list_allocator::LocalHeap;
-use std::alloc::Allocator;
+use std::alloc::{AllocError, Allocator};
 use std::sync::ArcSlice;
 use std::test::Fail;
 
@@ -68,9 +71,18 @@ fn values_without_memory_are_refused(rt: HostRuntime) -> Result<(), Fail> {
     expect(refused && made, "some are refused and some are made")
 }
 
+/// An empty history over what a page map holds: the base has the last number of each page.
+fn begun<M: Map, A: Allocator>(alloc: A, pages: &M) -> Result<Log<A>, AllocError>
+    ensures { IfOk result (λ log. (base_of log).numbers
+        ≡ from_entries (map (λ e. (e.0, e.1.seq.0)) (entries (M.view pages.now).versions))) }
+{
+    Log::new(alloc, pages)
+}
+
 #[test]
 fn a_history_is_full_at_its_limit(rt: HostRuntime) -> Result<(), Fail> {
-    let mut log = Log::new(rt.alloc(), &rt.alloc())?;
+    let pages = PageMap::new(rt.alloc(), Geometry::new(2, 0, 4, 4, 512, 8)?)?;
+    let mut log = begun(rt.alloc(), &pages)?;
     for number in 0..MAX_ENTRIES {
         if log.is_full() {
             return Err("the history is full too early")?;
