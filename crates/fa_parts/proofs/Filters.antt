@@ -1,5 +1,6 @@
 -- Lists that are filtered twice, and the first element that passes a test.
-use Rattle.std.proofs.Common.{◌≡◌, ℕ, ◌<◌, zero, suc, Bool, true, false, List, [], ◌∷◌, ◌++◌, Option, Some, None, ap, cond, inl, inr, length, map, refl, sym, ◌∙◌, arith}
+use Rattle.std.proofs.Common.{◌≡◌, ℕ, ◌<◌, zero, suc, Bool, true, false, List, [], ◌∷◌, ◌++◌, Option, Some, None, ap, cond, inl}
+use Rattle.std.proofs.Common.{inr, length, map, refl, sym, ◌∙◌, arith}
 use Rattle.std.proofs.lemmas.Bool.{cases_Bool, false≢true}
 use Rattle.std.specs.Prelude.{IsSome, filter, find, if◌then◌else◌, option_map, option_to_list}
 use Rattle.fa_machine.proofs.Lists.{without_first}
@@ -58,7 +59,8 @@ filter_mapped f test p same (x ∷ xs) =
     mapped (test x) ∙ ap (λ b. cond b (f x ∷ map f (filter test xs)) (map f (filter test xs))) (same x)
     ∙ ap (λ ys. cond (p (f x)) (f x ∷ ys) ys) (filter_mapped f test p same xs)
   where
-    mapped : (b : Bool) → map f (cond b (x ∷ filter test xs) (filter test xs)) ≡ cond b (f x ∷ map f (filter test xs)) (map f (filter test xs))
+    mapped : (b : Bool) → map f (cond b (x ∷ filter test xs) (filter test xs))
+        ≡ cond b (f x ∷ map f (filter test xs)) (map f (filter test xs))
     mapped true = refl
     mapped false = refl
 

@@ -1,5 +1,6 @@
 -- The queues of dies as the programs that wait change.
-use Rattle.std.proofs.Common.{◌≡◌, ℕ, ◌+◌, ◌<◌, ◌≤◌, ◌==◌, ◌&&◌, not, zero, suc, Bool, true, false, List, [], ◌∷◌, ◌++◌, ap, cond, inl, inr, length, map, refl, set, get_or, sym, ◌∙◌, arith}
+use Rattle.std.proofs.Common.{◌≡◌, ℕ, ◌+◌, ◌<◌, ◌≤◌, ◌==◌, ◌&&◌, not, zero, suc, Bool, true, false, List, [], ◌∷◌, ◌++◌, ap, cond}
+use Rattle.std.proofs.Common.{inl, inr, length, map, refl, set, get_or, sym, ◌∙◌, arith}
 use Rattle.std.proofs.lemmas.Bool.{cases_eq, cases_lt, eq-eqb, eqb-true, ne_eqb}
 use Rattle.std.proofs.lemmas.List.{append-nil, get_or-map, get_or_past, get_or-set_other, get_or-set_same, length-map, map-set}
 use Rattle.std.proofs.lemmas.List.Elements.{filter-append}
@@ -86,7 +87,8 @@ all_empty_push [] queue e empty (suc d) = refl
 all_empty_push (q ∷ queues) queue e empty zero = empty zero
 all_empty_push (q ∷ queues) queue e empty (suc d) = all_empty_push queues queue e (λ k. empty (suc k)) d
 
-module _ {A : Type 0} (waiting : List WaitingProgram) (queues : List (VecDeque (QueuedProgram A) A)) (are : AreQueues waiting (queues_in queues)) where
+module _ {A : Type 0} (waiting : List WaitingProgram) (queues : List (VecDeque (QueuedProgram A) A))
+    (are : AreQueues waiting (queues_in queues)) where
   -- the queue of a die, which has programs of its own alone
   pub queue_read : (die : ℕ) (queue : VecDeque (QueuedProgram A) A) → queue ≡ get_or queues die queue → die < length queues
       → programs_in queue ≡ filter (is_for die) waiting
@@ -100,8 +102,8 @@ module _ {A : Type 0} (waiting : List WaitingProgram) (queues : List (VecDeque (
       ∙ get_or_past (queues_in queues) die [] (let long = length-map queues programs_in in omega (arith, long, past))
 
   -- one queue is written
-  pub queues_set : (shown left : List WaitingProgram) → shown ≡ left → (die : ℕ) (queue : VecDeque (QueuedProgram A) A) → die < length queues
-      → programs_in queue ≡ filter (is_for die) left
+  pub queues_set : (shown left : List WaitingProgram) → shown ≡ left → (die : ℕ) (queue : VecDeque (QueuedProgram A) A)
+      → die < length queues → programs_in queue ≡ filter (is_for die) left
       → ((d : ℕ) → (d ≡ die → ⊥) → filter (is_for d) left ≡ filter (is_for d) waiting)
       → AreQueues shown (queues_in (set queues die queue))
   queues_set shown left are_left die queue fits here others = record {
@@ -110,7 +112,8 @@ module _ {A : Type 0} (waiting : List WaitingProgram) (queues : List (VecDeque (
         ∙ elim (cases_eq d die) [
           | inl same ↦
               ap (λ k. get_or (set (queues_in queues) die (programs_in queue)) k []) same
-              ∙ get_or-set_same (queues_in queues) die (programs_in queue) [] (let long = length-map queues programs_in in omega (arith, long, fits))
+              ∙ get_or-set_same (queues_in queues) die (programs_in queue) []
+              (let long = length-map queues programs_in in omega (arith, long, fits))
               ∙ here ∙ ap (λ k. filter (is_for k) left) (sym same)
           | inr off ↦ get_or-set_other (queues_in queues) die d (programs_in queue) [] off ∙ are.each d ∙ sym (others d off)
         ]
@@ -149,7 +152,8 @@ module _ {A : Type 0} (queues : List (VecDeque (QueuedProgram A) A)) where
             absurd (omega (arith, some, none))
       ]
 
-  pub room_here : (die : ℕ) (queue : VecDeque (QueuedProgram A) A) → die < length queues → room_at (set queues die queue) die ≡ room_in queue
+  pub room_here : (die : ℕ) (queue : VecDeque (QueuedProgram A) A) → die < length queues
+      → room_at (set queues die queue) die ≡ room_in queue
   room_here die queue fits =
       ap (λ rooms. get_or rooms die 0) (map-set room_in queues die queue)
       ∙ get_or-set_same (map room_in queues) die (room_in queue) 0 (let long = length-map queues room_in in omega (arith, long, fits))

@@ -1,11 +1,14 @@
 -- A list with a place for each die, as a finite map: what is found in it, and how it grows and shrinks.
-use Rattle.std.proofs.Common.{◌≡◌, ℕ, ◌+◌, ◌-◌, ◌<◌, ◌≤◌, zero, suc, Bool, true, false, List, [], ◌∷◌, Option, Some, None, ap, cond, inl, inr, length, refl, set, sym, ◌∙◌, arith}
+use Rattle.std.proofs.Common.{◌≡◌, ℕ, ◌+◌, ◌-◌, ◌<◌, ◌≤◌, zero, suc, Bool, true, false, List, [], ◌∷◌, Option, Some, None, ap, cond}
+use Rattle.std.proofs.Common.{inl, inr, length, refl, set, sym, ◌∙◌, arith}
 use Rattle.std.proofs.lemmas.Bool.{cases_eq, cases_lt, eq-eqb, ne_eqb}
 use Rattle.std.proofs.lemmas.List.{get_or_past, get_or-replicate, get_or-set_other, get_or-set_same, length-replicate, length-set}
 use Rattle.std.proofs.lemmas.List.FromFn.{length-range_with_len}
 use Rattle.std.proofs.lemmas.Option.{none-some}
 use Rattle.std.specs.Cmp.{nat_cmp_total, unsigned_tied}
-use Rattle.std.specs.FinMap.{contains_key, empty, empty_of_len, from_entries, get, get-empty, get-from_entries, get-insert, get-remove, insert, len, len-empty, len-insert, len-remove, nat_cmp-IsAntisymmetric, remove, same_map, find as find_entry}
+use Rattle.std.specs.FinMap.{contains_key, empty, empty_of_len, from_entries, get, get-empty, get-from_entries, get-insert}
+use Rattle.std.specs.FinMap.{get-remove, insert, len, len-empty, len-insert, len-remove, nat_cmp-IsAntisymmetric, remove, same_map}
+use Rattle.std.specs.FinMap.{find as find_entry}
 use Rattle.std.specs.List.{cons_option, range_with_len}
 use Rattle.std.specs.Ordering.{eq_by_cmp, nat_cmp}
 use Rattle.std.specs.Prelude.{filter_map, is_some, option_map, replicate}
@@ -126,7 +129,9 @@ module _ {X : Type 0} where
   none_at n q =
       elim (cases_lt q n) [
         | inl less ↦ get_or-replicate n q nothing nothing less
-        | inr past ↦ get_or_past (replicate n nothing) q None (let long = length-replicate {A = Option X} n nothing in omega (arith, long, past))
+        | inr past ↦
+            get_or_past (replicate n nothing) q None
+            (let long = length-replicate {A = Option X} n nothing in omega (arith, long, past))
       ]
 
   pub table_none : (n : ℕ) → table_of (replicate n nothing) ≡ empty

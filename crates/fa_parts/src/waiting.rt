@@ -1,5 +1,6 @@
 //! Programs that wait for their dies.
-ghost use Rattle.std.specs.Prelude.{◌≡◌, ℕ, ◌+◌, ◌<◌, ◌≤◌, ◌==◌, ◌&&◌, not, if◌then◌else◌, [], ◌∷◌, ◌++◌, filter, find, option_map, IfOk, OnOk};
+ghost use Rattle.std.specs.Prelude.{◌≡◌, ℕ, ◌+◌, ◌<◌, ◌≤◌, ◌==◌, ◌&&◌, not, if◌then◌else◌, [], ◌∷◌, ◌++◌, filter, find, option_map};
+ghost use Rattle.std.specs.Prelude.{IfOk, OnOk};
 ghost use Rattle.std.specs.List.{after_first, before_first};
 ghost use Rattle.fa_machine.specs.Taking.{is_for};
 ghost use Rattle.fa_parts.specs.Queues.{AreQueues, program_of, queues_in};
@@ -69,7 +70,8 @@ impl<A: Allocator> Waiting<A> {
     pub fn next(&mut self, die: Die) -> Option<QueuedProgram<A>>
         ensures dies { dies_of self.new ≡ dies_of self.old }
         ensures oldest { option_map program_of result ≡ find (is_for die.0) (waiting_of self.old) }
-        ensures waiting { waiting_of self.new ≡ before_first (is_for die.0) (waiting_of self.old) ++ after_first (is_for die.0) (waiting_of self.old) }
+        ensures waiting { waiting_of self.new
+            ≡ before_first (is_for die.0) (waiting_of self.old) ++ after_first (is_for die.0) (waiting_of self.old) }
         ensures kept { (d : ℕ) → room_of self.old d ≤ room_of self.new d }
     {
         let index = die.0 as usize;

@@ -8,7 +8,8 @@ use Rattle.fa_parts.proofs.by_die.ByDie.clear.Goals as goal
 pub invariant_of-self : goal.invariant_of-self
 invariant_of-self g c =
     let items = c.fill.ensures.items (only_none _ (λ x h. h)) in
-    record { counted = sym (ap (λ l. len (table_of l)) items ∙ ap len (table_none c.args.self.now.values.len) ∙ len-empty nat_cmp g.row.T.Denot) }
+    let none = ap len (table_none c.args.self.now.values.len) ∙ len-empty nat_cmp g.row.T.Denot in
+    record { counted = sym (ap (λ l. len (table_of l)) items ∙ none) }
 
 pub returns-clause-empty : goal.returns-clause-empty
 returns-clause-empty g c =

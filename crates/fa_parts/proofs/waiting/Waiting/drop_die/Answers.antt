@@ -10,7 +10,8 @@ invariant_of-self g c =
     let w = s.programs.shown in
     let fits : c.args.die.0 < length s.queues.items = omega (arith, s.queues.ok.0) in
     record {
-      sorted = queues_set w s.queues.items s.sorted c.note.new.self.shown (filter (λ p. not (p.die == c.args.die.0)) w) c.note.ensures c.args.die.0 c.clear.new.self fits
+      sorted = queues_set w s.queues.items s.sorted c.note.new.self.shown
+          (filter (λ p. not (p.die == c.args.die.0)) w) c.note.ensures c.args.die.0 c.clear.new.self fits
           (ap (map program_of) c.clear.ensures.items ∙ sym (dropped_here w c.args.die.0))
           (dropped_other w c.args.die.0);
     }
@@ -22,7 +23,8 @@ invariant_of-self-else-index-len g c =
     let past : length s.queues.items ≤ c.args.die.0 = omega (arith, s.queues.ok.0) in
     let none = queue_past w s.queues.items s.sorted c.args.die.0 past in
     record {
-      sorted = queues_kept w s.queues.items s.sorted c.note.new.self.shown (filter (λ p. not (p.die == c.args.die.0)) w) c.note.ensures c.args.die.0
+      sorted = queues_kept w s.queues.items s.sorted c.note.new.self.shown
+          (filter (λ p. not (p.die == c.args.die.0)) w) c.note.ensures c.args.die.0
           (dropped_here w c.args.die.0 ∙ sym none) (dropped_other w c.args.die.0);
     }
 

@@ -14,11 +14,13 @@ invariant_of-self g c =
     let q = c.index_mut.result.now in
     let fits : c.args.die.0 < length s.queues.items = omega (arith, s.queues.ok.0) in
     let same = queue_read w s.queues.items s.sorted c.args.die.0 q c.index_mut.ensures.value fits in
-    let kept = filter_same _ (λ (e : QueuedProgram g.row.A.Denot). not (c.args.slot.0 == e.slot.0)) _ (λ x b f h. search rules) q.items c.retain.new.self.items c.retain.ensures.filtered in
+    let test = λ (e : QueuedProgram g.row.A.Denot). not (c.args.slot.0 == e.slot.0) in
+    let kept = filter_same _ test _ (λ x b f h. search rules) q.items c.retain.new.self.items c.retain.ensures.filtered in
     record {
-      sorted = queues_set w s.queues.items s.sorted c.note.new.self.shown (filter (λ p. not (c.args.die.0 == p.die && c.args.slot.0 == p.slot)) w) c.note.ensures c.args.die.0 c.retain.new.self fits
+      sorted = queues_set w s.queues.items s.sorted c.note.new.self.shown
+          (filter (λ p. not (c.args.die.0 == p.die && c.args.slot.0 == p.slot)) w) c.note.ensures c.args.die.0 c.retain.new.self fits
           (ap (map program_of) kept
-          ∙ filter_mapped program_of (λ (e : QueuedProgram g.row.A.Denot). not (c.args.slot.0 == e.slot.0)) (λ p. not (c.args.slot.0 == p.slot)) (λ e. refl) q.items
+          ∙ filter_mapped program_of test (λ p. not (c.args.slot.0 == p.slot)) (λ e. refl) q.items
           ∙ ap (filter (λ p. not (c.args.slot.0 == p.slot))) same ∙ sym (cleared_here w c.args.die.0 c.args.slot.0))
           (cleared_other w c.args.die.0 c.args.slot.0);
     }
@@ -30,7 +32,8 @@ invariant_of-self-else-index-len g c =
     let past : length s.queues.items ≤ c.args.die.0 = omega (arith, s.queues.ok.0) in
     let none = queue_past w s.queues.items s.sorted c.args.die.0 past in
     record {
-      sorted = queues_kept w s.queues.items s.sorted c.note.new.self.shown (filter (λ p. not (c.args.die.0 == p.die && c.args.slot.0 == p.slot)) w) c.note.ensures c.args.die.0
+      sorted = queues_kept w s.queues.items s.sorted c.note.new.self.shown
+          (filter (λ p. not (c.args.die.0 == p.die && c.args.slot.0 == p.slot)) w) c.note.ensures c.args.die.0
           (cleared_here w c.args.die.0 c.args.slot.0 ∙ ap (filter (λ p. not (c.args.slot.0 == p.slot))) none ∙ sym none)
           (cleared_other w c.args.die.0 c.args.slot.0);
     }

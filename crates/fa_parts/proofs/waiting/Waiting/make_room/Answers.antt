@@ -7,9 +7,11 @@ use Rattle.fa_parts.proofs.waiting.Waiting.make_room.Goals as goal
 pub invariant_of-self : goal.invariant_of-self
 invariant_of-self g c =
     let s = c.args.self.now in
-    let same = queue_read s.programs.shown s.queues.items s.sorted c.args.die.0 c.index_mut.result.now c.index_mut.ensures.value c.requires in
+    let same = queue_read s.programs.shown s.queues.items s.sorted c.args.die.0 c.index_mut.result.now
+    c.index_mut.ensures.value c.requires in
     record {
-      sorted = queues_set s.programs.shown s.queues.items s.sorted s.programs.shown s.programs.shown refl c.args.die.0 c.reserve.new.self c.requires
+      sorted = queues_set s.programs.shown s.queues.items s.sorted s.programs.shown
+          s.programs.shown refl c.args.die.0 c.reserve.new.self c.requires
           (ap (map program_of) c.reserve.ensures.items ∙ same) (λ d off. refl);
     }
 

@@ -15,7 +15,8 @@ invariant_of-self g c =
     let parts = popped program_of c.pop_front.result q.items c.pop_front.new.self.items q.len c.pop_front.ensures.items q.ok.0
     c.pop_front.ensures.variant.1 in
     record {
-      sorted = queues_set w s.queues.items s.sorted c.note.new.self.shown (without_oldest c.args.die.0 w) c.note.ensures c.args.die.0 c.pop_front.new.self fits
+      sorted = queues_set w s.queues.items s.sorted c.note.new.self.shown
+          (without_oldest c.args.die.0 w) c.note.ensures c.args.die.0 c.pop_front.new.self fits
           (parts.1 ∙ ap tail_of same ∙ sym (taken_here w c.args.die.0))
           (taken_other w c.args.die.0);
     }
@@ -27,7 +28,8 @@ invariant_of-self-else-index-len g c =
     let past : length s.queues.items ≤ c.args.die.0 = omega (arith, s.queues.ok.0) in
     let none = queue_past w s.queues.items s.sorted c.args.die.0 past in
     record {
-      sorted = queues_kept w s.queues.items s.sorted c.note.new.self.shown (without_oldest c.args.die.0 w) c.note.ensures c.args.die.0
+      sorted = queues_kept w s.queues.items s.sorted c.note.new.self.shown
+          (without_oldest c.args.die.0 w) c.note.ensures c.args.die.0
           (taken_here w c.args.die.0 ∙ ap tail_of none ∙ sym none) (taken_other w c.args.die.0);
     }
 
