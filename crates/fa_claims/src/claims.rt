@@ -47,7 +47,8 @@ impl<A: Allocator + Clone> Claims<A> {
 
     /// Whether the page is claimed.
     pub fn is_claimed(&self, page: Page) -> bool
-        ensures { result ≡ list_any (λ c. c.page == page.0) (values (claims_of self.now)) }
+        ensures claimed { result ≡ list_any (λ c. c.page == page.0) (values (claims_of self.now)) }
+        ensures number { result ≡ contains_key (claims_of self.now) page.0 }
     {
         self.reservations.contains_key(&page.0)
     }

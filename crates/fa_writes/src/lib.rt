@@ -1,0 +1,7 @@
+//! The events of writers, over the array's state: a page is claimed, slots are reserved for a write of it, the write is
+//! committed or given up, and the page is released.
+#![tactic(auto)]
+
+mod claiming;
+
+pub use claiming::{claim, release};
