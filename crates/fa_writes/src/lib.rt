@@ -3,5 +3,7 @@
 #![tactic(auto)]
 
 mod claiming;
+mod placing;
 
 pub use claiming::{claim, release};
+pub use placing::{reserve_slots, slots_for};
