@@ -1,2 +1,3 @@
 pub mod Booked
 pub mod Bookings
+pub mod Places
