@@ -34,7 +34,7 @@ eqb_swap a b =
       | inr apart ↦ ne_eqb a b apart ∙ sym (ne_eqb b a (λ e. apart (sym e)))
     ]
 
-here_tied : (die round d r : ℕ) → (die == d && round == r) ≡ eq_by_cmp place_cmp (d, r) (die, round)
+pub here_tied : (die round d r : ℕ) → (die == d && round == r) ≡ eq_by_cmp place_cmp (d, r) (die, round)
 here_tied die round d r = (λ i. eqb_swap die d i && eqb_swap round r i) ∙ sym (place_tied (d, r) (die, round))
 
 -- two trees that differ at one place

@@ -1,0 +1,1 @@
+-- The calendar's part of the state where places are given up and others booked.
