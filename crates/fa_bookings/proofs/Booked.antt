@@ -1,5 +1,6 @@
 -- Trees of bookings as finite maps.
 use Rattle.fa_bookings.specs.Booked.{Entries}
+use Rattle.fa_bookings.specs.Found.{get_booked}
 use Rattle.fa_machine.proofs.Maps.{get-keep, if_equal, passed, place_cmp_total, place_same, place_tied}
 use Rattle.fa_machine.specs.Maps.{keep, place_cmp}
 use Rattle.fa_machine.specs.declared.places.Booking.{Booking}
@@ -16,13 +17,6 @@ use Rattle.std.specs.Prelude.{filter, if◌then◌else◌, is_some, nat_lt, not,
 
 abbrev pub at : Entries → ℕ × ℕ → Option Booking
 at es q = lookup (is_at (place_cmp q)) es
-
-found_is : (q : ℕ × ℕ) (es : Entries) → find place_cmp q es ≡ lookup (is_at (place_cmp q)) es
-found_is q [] = refl
-found_is q (e ∷ es) = ap (cond (is_at (place_cmp q) e.0) (Some e.1)) (found_is q es)
-
-pub get_booked : (es : Entries) (q : ℕ × ℕ) → get (from_entries {R = place_cmp} es) q ≡ at es q
-get_booked es q = get-from_entries place_cmp_total es q ∙ found_is q es
 
 pub same_bookings : (m n : FinMap place_cmp Booking) → ((die round : ℕ) → get m (die, round) ≡ get n (die, round)) → m ≡ n
 same_bookings m n alike = same_map place_cmp_total place_same m n (λ q. alike q.0 q.1)
