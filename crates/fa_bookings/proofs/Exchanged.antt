@@ -52,11 +52,11 @@ swap_last false false true = refl
 swap_last false false false = refl
 
 module _ {A : Type 0} (b : Bookings A) (old : List Place) where
-  abbrev es : Entries
+  abbrev pub es : Entries
   es = b.booked.entries
 
   -- what is left of what is found
-  abbrev rest : ℕ → ℕ → Option Booking
+  abbrev pub rest : ℕ → ℕ → Option Booking
   rest d r = if not (is_at old d r) then at es (d, r) else None
 
   pub all_booked : AllByRecursion (λ x. contains_key (calendar_of b).bookings (x.die.0, x.round.0) ≡ true) old

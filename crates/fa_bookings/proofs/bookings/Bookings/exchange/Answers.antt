@@ -1,4 +1,3 @@
-use Rattle.fa_bookings.proofs.Booked.{at}
 use Rattle.fa_bookings.proofs.Exchanged.{all_booked, all_open, bookings_stay, exchanged, exchanged_agree, full_with, refused_is}
 use Rattle.fa_bookings.proofs.Exchanged.{taken_with, there_still}
 use Rattle.fa_bookings.proofs.Windows.{windows_stay}
@@ -7,30 +6,15 @@ use Rattle.fa_bookings.specs.Found.{past}
 use Rattle.fa_calendar.specs.Calendar.{is_booked, window_of}
 use Rattle.fa_types.specs.Open.{FewClosed}
 use Rattle.std.proofs.Common.{Bool, refl, subst, sym, ℕ, ◌≡◌, ◌∙◌}
-use Rattle.fa_bookings.proofs.bookings.Bookings.exchange.Given.{Over}
 use Rattle.fa_bookings.proofs.bookings.Bookings.exchange.Goals as goal
-
--- there was no memory for an entry
-unmade : (g : Over) (c : goal.After-take_out_open g) → (d r : ℕ)
-    → at c.take_out_open.new.booked.entries (d, r) ≡ at c.args.self.now.booked.entries (d, r)
-unmade g c =
-    refused_is c.args.self.now c.args.new.now c.make_room.new.booked.entries c.take_out_open.new.booked.entries (is_booked c.args.self.now.calendar)
-    (λ d r. refl) c.make_room.ensures.kept c.make_room.ensures.others c.take_out_open.ensures
-
--- the calendar refused
-refused : (g : Over) (c : goal.After-take_out_open-in-Err-exchange g) → (d r : ℕ)
-    → at c.take_out_open-in-Err-exchange.new.booked.entries (d, r) ≡ at c.args.self.now.booked.entries (d, r)
-refused g c =
-    refused_is c.args.self.now c.args.new.now c.make_room.new.booked.entries c.take_out_open-in-Err-exchange.new.booked.entries
-    (is_booked c.exchange.new.self) c.in-Err-exchange.ensures.err.booked c.make_room.ensures.kept c.make_room.ensures.others
-    c.take_out_open-in-Err-exchange.ensures
 
 pub returns-in-Err-clause-err : goal.returns-in-Err-clause-err
 returns-in-Err-clause-err g c =
-    let here = (goal.at.returns-in-Err-clause-err g c).After-take_out_open in
     λ i. record {
       round = c.args.self.now.calendar.current;
-      bookings = bookings_stay c.args.self.now.booked.entries c.take_out_open.new.booked.entries (unmade g here) i;
+      bookings = bookings_stay c.args.self.now.booked.entries c.take_out_open.new.booked.entries
+          (refused_is c.args.self.now c.args.new.now c.make_room.new.booked.entries c.take_out_open.new.booked.entries
+          (is_booked c.args.self.now.calendar) (λ d r. refl) c.make_room.ensures.kept c.make_room.ensures.others c.take_out_open.ensures) i;
       windows = windows_in (window_of c.args.self.now.calendar);
     }
 
@@ -45,10 +29,12 @@ returns-in-Err-exchange-clause-full g c is = full_with c.args.self.now c.args.ol
 
 pub returns-in-Err-exchange-clause-err : goal.returns-in-Err-exchange-clause-err
 returns-in-Err-exchange-clause-err g c =
-    let here = (goal.at.returns-in-Err-exchange-clause-err g c).After-take_out_open-in-Err-exchange in
     λ i. record {
       round = c.in-Err-exchange.ensures.err.current i;
-      bookings = bookings_stay c.args.self.now.booked.entries c.take_out_open-in-Err-exchange.new.booked.entries (refused g here) i;
+      bookings = bookings_stay c.args.self.now.booked.entries c.take_out_open-in-Err-exchange.new.booked.entries
+          (refused_is c.args.self.now c.args.new.now c.make_room.new.booked.entries c.take_out_open-in-Err-exchange.new.booked.entries
+          (is_booked c.exchange.new.self) c.in-Err-exchange.ensures.err.booked c.make_room.ensures.kept c.make_room.ensures.others
+          c.take_out_open-in-Err-exchange.ensures) i;
       windows = windows_stay _ _ (past c.args.self.now.calendar) (past c.exchange.new.self) c.in-Err-exchange.ensures.err.windows i;
     }
 
