@@ -9,7 +9,7 @@ use Rattle.std.proofs.Common.{ℕ, ◌∙◌, ◌∷◌, ◌≡◌}
 use Rattle.std.proofs.lemmas.Bool.{and_parts, cases_Bool, cases_eq, false_from_ne_true, false≢true, lt-ltb, ltb-true, ne_eqb}
 use Rattle.std.proofs.lemmas.Cmp.{tied_itself}
 use Rattle.std.specs.BTreeMap.{is_at}
-use Rattle.std.specs.FinMap.{FinMap, contains_key, empty_of_len, find, from_entries, get, get-empty, get-from_entries, get-insert}
+use Rattle.std.specs.FinMap.{FinMap, contains_key, empty_of_len, from_entries, get, get-empty, get-insert}
 use Rattle.std.specs.FinMap.{get-remove, insert, len, len-empty, remove, same_map}
 use Rattle.std.specs.Map.{lookup}
 use Rattle.std.specs.Ordering.{eq_by_cmp, is_eq}

@@ -4,15 +4,13 @@ use Rattle.fa_bookings.specs.Found.{get_booked}
 use Rattle.fa_bookings.specs.Booked.{Entries, booking_at}
 use Rattle.fa_bookings.specs.Bookings.{calendar_of}
 use Rattle.fa_bookings.specs.declared.bookings.Bookings.{Bookings}
-use Rattle.fa_calendar.specs.Calendar.{is_booked, is_closed, window_of}
-use Rattle.fa_machine.specs.Rounds.{is_taken}
-use Rattle.fa_types.specs.Open.{FewClosed}
+use Rattle.fa_calendar.specs.Calendar.{is_booked, window_of}
 use Rattle.fa_types.specs.Windows.{is_in_window}
 use Rattle.fa_calendar.specs.declared.calendar.Calendar.{Calendar}
 use Rattle.std.proofs.lemmas.Bool.{cases_lt, false≢true}
-use Rattle.std.proofs.Common.{None, ap, inl, inr, subst, sym, true, ℕ, ◌≤◌, ◌∙◌, ◌≡◌}
-use Rattle.std.specs.FinMap.{contains_key, get}
-use Rattle.std.specs.Prelude.{if◌then◌else◌, is_some, nat_lt, not, ◌&&◌, ◌||◌, ◌==◌, ◌<◌}
+use Rattle.std.proofs.Common.{None, ap, inl, inr, sym, true, ℕ, ◌≤◌, ◌∙◌, ◌≡◌}
+use Rattle.std.specs.FinMap.{contains_key}
+use Rattle.std.specs.Prelude.{if◌then◌else◌, is_some, nat_lt, not, ◌&&◌, ◌==◌, ◌<◌}
 
 -- nothing is booked in a round that has passed
 pub late : {A : Type 0} (calendar : Calendar A) (die round : ℕ) → is_booked calendar die round ≡ true → calendar.current ≤ round

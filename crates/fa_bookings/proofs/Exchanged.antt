@@ -16,10 +16,9 @@ use Rattle.fa_machine.specs.Reading.{booked}
 use Rattle.fa_machine.specs.Rounds.{is_taken, is_taken_with}
 use Rattle.fa_machine.specs.declared.ids.BatchId.{BatchId}
 use Rattle.fa_machine.specs.declared.places.Booking.{Booking}
-use Rattle.fa_types.specs.Open.{FewClosed, IsOpen}
+use Rattle.fa_types.specs.Open.{IsOpen}
 use Rattle.fa_types.specs.Windows.{IsFull, is_in_window}
-use Rattle.std.proofs.Common.{Bool, List, None, Option, Some, ap, false, inl, inr, refl, subst, sym, true, ℕ, ◌∙◌, ◌≡◌}
-use Rattle.std.proofs.lemmas.Bool.{cases_Bool}
+use Rattle.std.proofs.Common.{Bool, List, None, Option, Some, ap, false, refl, subst, sym, true, ℕ, ◌∙◌, ◌≡◌}
 use Rattle.std.specs.FinMap.{contains_key, from_entries, get}
 use Rattle.std.specs.List.{AllByRecursion}
 use Rattle.std.specs.Prelude.{if◌then◌else◌, is_some, not, ◌&&◌, ◌||◌}
@@ -144,7 +143,7 @@ module _ {A : Type 0} (b : Bookings A) (old : List Place) where
       elsewhere d r none =
           out d r
           ∙ (λ i. if is_at old d r && not ((is d r ∙ ap (λ t. (is_booked b.calendar d r && not (is_at old d r)) || t) none) i) then None
-            else others d r none i)
+          else others d r none i)
           ∙ go (is_booked b.calendar d r) (is_at old d r) (at es (d, r))
         where
           go : (k o : Bool) (e : Option Booking) → (if o && not ((k && not o) || false) then None else e) ≡ (if not o then e else None)

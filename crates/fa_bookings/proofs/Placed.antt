@@ -9,11 +9,11 @@ use Rattle.fa_machine.proofs.Maps.{place_cmp_total}
 use Rattle.fa_machine.specs.Maps.{place_cmp}
 use Rattle.fa_machine.specs.declared.ids.BatchId.{BatchId}
 use Rattle.fa_machine.specs.declared.places.Booking.{Booking}
-use Rattle.std.proofs.Common.{Bool, List, None, Option, Some, [], ap, arith, cond, eqb-true, false, get_or, inl, inr, length, refl, sym, take}
+use Rattle.std.proofs.Common.{Bool, List, Option, Some, [], ap, cond, eqb-true, false, get_or, inl, inr, length, refl, sym, take}
 use Rattle.std.proofs.Common.{true, ℕ, ◌+◌, ◌<◌, ◌∙◌, ◌∷◌, ◌≡◌}
 use Rattle.std.proofs.lemmas.Bool.{and_parts, cases_Bool, false_from_ne_true, false≢true, or_from, or_left, or_right}
 use Rattle.std.specs.FinMap.{FinMap, get, get-insert, insert}
-use Rattle.std.specs.Prelude.{fold, if◌then◌else◌, is_some, ◌&&◌, ◌==◌, ◌||◌}
+use Rattle.std.specs.Prelude.{fold, if◌then◌else◌, is_some, ◌==◌, ◌||◌}
 
 pub or_parts : (a b : Bool) → (a || b) ≡ false → (a ≡ false) × (b ≡ false)
 or_parts a b none =
@@ -93,3 +93,13 @@ module _ (batch : BatchId) where
       ∙ ap (booked_over batch places d r)
       (get-insert place_cmp_total m (x.die.0, x.round.0) (booking_of batch x) (d, r)
       ∙ ap (λ t. cond t (Some (booking_of batch x)) (get m (d, r))) (sym (here_tied x.die.0 x.round.0 d r)))
+
+  -- The next of places that have entries has one, when those before it are booked.
+  pub next_there : (old new : Entries) (places : List Place) (i : ℕ) (x : Place) → i < length places
+      → ((d r : ℕ) → at new (d, r) ≡ booked_over batch (take i places) d r (at old (d, r)))
+      → ((d r : ℕ) → is_at places d r ≡ true → is_some (at old (d, r)) ≡ true)
+      → is_some (at new ((get_or places i x).die.0, (get_or places i x).round.0)) ≡ true
+  next_there old new places i x within over there =
+      let p : Place = get_or places i x in
+      ap is_some (over p.die.0 p.round.0)
+      ∙ over_keeps (take i places) p.die.0 p.round.0 (at old (p.die.0, p.round.0)) (there p.die.0 p.round.0 (among places i x within))

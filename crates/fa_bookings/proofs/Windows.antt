@@ -1,22 +1,16 @@
 -- The windows of dies as a finite map.
 use Rattle.fa_bookings.specs.Found.{get_windows}
 use Rattle.fa_bookings.specs.Booked.{windows_in}
-use Rattle.fa_calendar.specs.Calendar.{window_of}
-use Rattle.fa_calendar.specs.DieState.{DieState}
-use Rattle.fa_calendar.specs.Dies.{no_rounds}
 use Rattle.fa_calendar.specs.Windows.{left_window}
-use Rattle.fa_calendar.specs.declared.calendar.Calendar.{Calendar}
 use Rattle.fa_machine.proofs.Maps.{get-insert_other, get-insert_same, get-keep, get-remove_other, get-remove_same, nat_same, passed}
 use Rattle.fa_machine.specs.Maps.{keep}
 use Rattle.fa_types.specs.declared.window.Window.{Window}
-use Rattle.std.proofs.Common.{None, Option, Some, ap, arith, cond, eq-eqb, inl, inr, refl, suc, sym, zero, ℕ, ◌+◌, ◌<◌, ◌≤◌, ◌∙◌, ◌≡◌}
-use Rattle.std.proofs.lemmas.Bool.{cases_eq, cases_lt, ne_eqb}
-use Rattle.std.proofs.lemmas.List.{get_or_past}
-use Rattle.std.specs.Cmp.{nat_cmp_total, unsigned_tied}
-use Rattle.std.specs.FinMap.{FinMap, empty, find, get, get-empty, get-from_entries, insert, nat_cmp-IsAntisymmetric, remove, same_map}
-use Rattle.std.specs.List.{cons_option, filter_map, range_with_len}
+use Rattle.std.proofs.Common.{None, Option, Some, ap, eq-eqb, inl, inr, refl, sym, ℕ, ◌≤◌, ◌∙◌, ◌≡◌}
+use Rattle.std.proofs.lemmas.Bool.{cases_eq, ne_eqb}
+use Rattle.std.specs.Cmp.{nat_cmp_total}
+use Rattle.std.specs.FinMap.{FinMap, empty, get, get-empty, insert, nat_cmp-IsAntisymmetric, remove, same_map}
 use Rattle.std.specs.Ordering.{nat_cmp}
-use Rattle.std.specs.Prelude.{if◌then◌else◌, nat_lt, option_map, ◌==◌}
+use Rattle.std.specs.Prelude.{if◌then◌else◌, nat_lt, ◌==◌}
 
 pub same_windows : (m n : FinMap nat_cmp Window) → ((die : ℕ) → get m die ≡ get n die) → m ≡ n
 same_windows = same_map nat_cmp_total nat_cmp-IsAntisymmetric

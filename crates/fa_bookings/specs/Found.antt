@@ -9,7 +9,6 @@ use Rattle.fa_calendar.specs.declared.calendar.Calendar.{Calendar}
 use Rattle.fa_machine.proofs.Maps.{place_cmp_total}
 use Rattle.fa_machine.specs.Maps.{place_cmp}
 use Rattle.fa_machine.specs.Rounds.{is_taken}
-use Rattle.fa_machine.specs.declared.places.Booking.{Booking}
 use Rattle.fa_types.specs.Open.{FewClosed}
 use Rattle.fa_types.specs.Windows.{is_in_window}
 use Rattle.fa_types.specs.declared.window.Window.{Window}

@@ -101,7 +101,12 @@ impl<A: Allocator + Clone> Bookings<A> {
 
     /// Opens the booked places `old` and books `new` for the batch, which are open once `old` is, no two the same.
     /// Refused, nothing has changed.
-    pub fn exchange(&mut self, batch: BatchId, old: &[Place], new: &[Place]) -> Result<(), CalendarRefused>
+    pub fn exchange(
+        &mut self,
+        batch: BatchId,
+        old: &[Place],
+        new: &[Place],
+    ) -> Result<(), CalendarRefused>
         requires booked { AllByRecursion (λ x. contains_key (calendar_of self.old).bookings (x.die.0, x.round.0) ≡ true) old.now }
         requires opens { AllByRecursion (λ x. IsOpen (calendar_of self.old).round (is_taken (without_places old.now (calendar_of self.old)))
             x.die.0 x.round.0) new.now }

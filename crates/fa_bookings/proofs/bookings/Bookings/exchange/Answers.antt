@@ -5,7 +5,7 @@ use Rattle.fa_bookings.specs.Booked.{windows_in}
 use Rattle.fa_bookings.specs.Found.{past}
 use Rattle.fa_calendar.specs.Calendar.{is_booked, window_of}
 use Rattle.fa_types.specs.Open.{FewClosed}
-use Rattle.std.proofs.Common.{Bool, refl, subst, sym, ℕ, ◌≡◌, ◌∙◌}
+use Rattle.std.proofs.Common.{Bool, refl, subst, ℕ}
 use Rattle.fa_bookings.proofs.bookings.Bookings.exchange.Goals as goal
 
 pub returns-in-Err-clause-err : goal.returns-in-Err-clause-err
@@ -62,6 +62,8 @@ returns-clause-ok g c = λ i. record {
 
 pub returns-clause-fits : goal.returns-clause-fits
 returns-clause-fits g c =
-    subst (λ (p : ℕ × (ℕ → ℕ → Bool)). FewClosed p.0 p.1) (λ i. (c.exchange.ensures.current i,
-    taken_with c.args.self.now c.args.old.now c.args.new.now (is_booked c.exchange.new.self) c.in_default-exchange.ensures.ok
-    c.exchange.new.self (λ d r. refl) c.exchange.ensures.windows i)) c.exchange.new.self.sound.few
+    subst (λ (p : ℕ × (ℕ → ℕ → Bool)). FewClosed p.0 p.1) (λ i. (
+      c.exchange.ensures.current i,
+      taken_with c.args.self.now c.args.old.now c.args.new.now (is_booked c.exchange.new.self) c.in_default-exchange.ensures.ok
+          c.exchange.new.self (λ d r. refl) c.exchange.ensures.windows i,
+    )) c.exchange.new.self.sound.few
