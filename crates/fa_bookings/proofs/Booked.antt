@@ -1,5 +1,6 @@
 -- Trees of bookings as finite maps.
 use Rattle.fa_bookings.specs.Booked.{Entries}
+use Rattle.fa_bookings.specs.Found.{get_booked}
 use Rattle.fa_machine.proofs.Maps.{get-keep, if_equal, passed, place_cmp_total, place_same, place_tied}
 use Rattle.fa_machine.specs.Maps.{keep, place_cmp}
 use Rattle.fa_machine.specs.declared.places.Booking.{Booking}
@@ -8,7 +9,7 @@ use Rattle.std.proofs.Common.{ℕ, ◌∙◌, ◌∷◌, ◌≡◌}
 use Rattle.std.proofs.lemmas.Bool.{and_parts, cases_Bool, cases_eq, false_from_ne_true, false≢true, lt-ltb, ltb-true, ne_eqb}
 use Rattle.std.proofs.lemmas.Cmp.{tied_itself}
 use Rattle.std.specs.BTreeMap.{is_at}
-use Rattle.std.specs.FinMap.{FinMap, contains_key, empty_of_len, find, from_entries, get, get-empty, get-from_entries, get-insert}
+use Rattle.std.specs.FinMap.{FinMap, contains_key, empty_of_len, from_entries, get, get-empty, get-insert}
 use Rattle.std.specs.FinMap.{get-remove, insert, len, len-empty, remove, same_map}
 use Rattle.std.specs.Map.{lookup}
 use Rattle.std.specs.Ordering.{eq_by_cmp, is_eq}
@@ -16,13 +17,6 @@ use Rattle.std.specs.Prelude.{filter, if◌then◌else◌, is_some, nat_lt, not,
 
 abbrev pub at : Entries → ℕ × ℕ → Option Booking
 at es q = lookup (is_at (place_cmp q)) es
-
-found_is : (q : ℕ × ℕ) (es : Entries) → find place_cmp q es ≡ lookup (is_at (place_cmp q)) es
-found_is q [] = refl
-found_is q (e ∷ es) = ap (cond (is_at (place_cmp q) e.0) (Some e.1)) (found_is q es)
-
-pub get_booked : (es : Entries) (q : ℕ × ℕ) → get (from_entries {R = place_cmp} es) q ≡ at es q
-get_booked es q = get-from_entries place_cmp_total es q ∙ found_is q es
 
 pub same_bookings : (m n : FinMap place_cmp Booking) → ((die round : ℕ) → get m (die, round) ≡ get n (die, round)) → m ≡ n
 same_bookings m n alike = same_map place_cmp_total place_same m n (λ q. alike q.0 q.1)
@@ -34,7 +28,7 @@ eqb_swap a b =
       | inr apart ↦ ne_eqb a b apart ∙ sym (ne_eqb b a (λ e. apart (sym e)))
     ]
 
-here_tied : (die round d r : ℕ) → (die == d && round == r) ≡ eq_by_cmp place_cmp (d, r) (die, round)
+pub here_tied : (die round d r : ℕ) → (die == d && round == r) ≡ eq_by_cmp place_cmp (d, r) (die, round)
 here_tied die round d r = (λ i. eqb_swap die d i && eqb_swap round r i) ∙ sym (place_tied (d, r) (die, round))
 
 -- two trees that differ at one place

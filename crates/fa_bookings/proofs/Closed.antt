@@ -1,27 +1,16 @@
 -- The closed rounds of the calendar are those that are taken in the array's state.
-use Rattle.fa_bookings.proofs.Booked.{advanced, at, get_booked}
-use Rattle.fa_bookings.proofs.Windows.{get_windows, past}
+use Rattle.fa_bookings.proofs.Booked.{advanced, at}
+use Rattle.fa_bookings.specs.Found.{get_booked}
 use Rattle.fa_bookings.specs.Booked.{Entries, booking_at}
 use Rattle.fa_bookings.specs.Bookings.{calendar_of}
 use Rattle.fa_bookings.specs.declared.bookings.Bookings.{Bookings}
-use Rattle.fa_calendar.specs.Calendar.{is_booked, is_closed, window_of}
-use Rattle.fa_machine.specs.Rounds.{is_taken}
+use Rattle.fa_calendar.specs.Calendar.{is_booked, window_of}
 use Rattle.fa_types.specs.Windows.{is_in_window}
 use Rattle.fa_calendar.specs.declared.calendar.Calendar.{Calendar}
 use Rattle.std.proofs.lemmas.Bool.{cases_lt, false≢true}
 use Rattle.std.proofs.Common.{None, ap, inl, inr, sym, true, ℕ, ◌≤◌, ◌∙◌, ◌≡◌}
-use Rattle.std.specs.FinMap.{contains_key, get}
-use Rattle.std.specs.Prelude.{if◌then◌else◌, is_some, nat_lt, not, ◌&&◌, ◌||◌, ◌==◌, ◌<◌}
-
-module _ {A : Type 0} (b : Bookings A) where
-  pub booked_is : (die round : ℕ) → is_booked b.calendar die round ≡ contains_key (calendar_of b).bookings (die, round)
-  booked_is die round = b.agree die round ∙ sym (ap is_some (get_booked b.booked.entries (die, round)))
-
-  pub window_is : (die : ℕ) → window_of b.calendar die ≡ get (calendar_of b).windows die
-  window_is die = sym (get_windows (window_of b.calendar) (past b.calendar) die)
-
-  pub taken_is : (die : ℕ) → is_closed b.calendar die ≡ is_taken (calendar_of b) die
-  taken_is die i round = booked_is die round i || is_in_window (window_is die i) round
+use Rattle.std.specs.FinMap.{contains_key}
+use Rattle.std.specs.Prelude.{if◌then◌else◌, is_some, nat_lt, not, ◌&&◌, ◌==◌, ◌<◌}
 
 -- nothing is booked in a round that has passed
 pub late : {A : Type 0} (calendar : Calendar A) (die round : ℕ) → is_booked calendar die round ≡ true → calendar.current ≤ round

@@ -1,3 +1,5 @@
 mod Booked
 mod Closed
+mod Exchanged
+mod Placed
 mod Windows

@@ -1,2 +1,4 @@
 pub mod Booked
 pub mod Bookings
+pub mod Found
+pub mod Places

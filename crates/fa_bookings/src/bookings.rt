@@ -1,14 +1,21 @@
 //! The booked rounds, over a calendar of closed rounds.
 ghost use Rattle.std.specs.Prelude.{◌≡◌, ℕ, ◌+◌, ◌-◌, ◌^◌, ◌<◌, ◌≤◌, ◌==◌, ◌&&◌, ◌||◌, ◌↔◌, not, nat_lt, true, false, is_some};
-ghost use Rattle.std.specs.Prelude.{IfOk, IsOk, IsTrue, OnErr, IsErrOf, None};
+ghost use Rattle.std.specs.Prelude.{IfOk, IsOk, IsTrue, OnErr, OnOk, IsErrOf, None};
 ghost use Rattle.std.specs.FinMap.{contains_key, empty, get, insert, remove, len};
+ghost use Rattle.std.specs.List.{AllByRecursion};
+ghost use Rattle.fa_batch.specs.Plan.{AreApart};
 ghost use Rattle.fa_bookings.specs.Booked.{AreBooked};
+ghost use Rattle.fa_bookings.specs.Places.{without_places};
 ghost use Rattle.fa_calendar.specs.Calendar.{is_booked};
 ghost use Rattle.fa_machine.specs.Maps.{keep};
-ghost use Rattle.fa_machine.specs.Rounds.{is_taken, HasRoomFor};
+ghost use Rattle.fa_machine.specs.Reading.{booked};
+ghost use Rattle.fa_machine.specs.Rounds.{is_taken, is_taken_with, HasRoomFor};
+ghost use Rattle.fa_types.specs.Open.{FewClosed, IsOpen};
 ghost use Rattle.fa_types.specs.Windows.{IsFirstWindow, IsFull};
 
+use crate::places::{make_room, overwrite_all, take_out_open};
 use crate::tree::{forget_die, forget_round, overwrite, take_out};
+use fa_batch::{Closed, Place};
 use fa_calendar::{Calendar, CalendarRefused};
 use fa_machine::{BatchId, Booking};
 use fa_types::{Die, Page, Round, Rounds, Window};
@@ -92,6 +99,47 @@ impl<A: Allocator + Clone> Bookings<A> {
         take_out(&mut self.booked, die.0, round.0);
     }
 
+    /// Opens the booked places `old` and books `new` for the batch, which are open once `old` is, no two the same.
+    /// Refused, nothing has changed.
+    pub fn exchange(
+        &mut self,
+        batch: BatchId,
+        old: &[Place],
+        new: &[Place],
+    ) -> Result<(), CalendarRefused>
+        requires booked { AllByRecursion (λ x. contains_key (calendar_of self.old).bookings (x.die.0, x.round.0) ≡ true) old.now }
+        requires opens { AllByRecursion (λ x. IsOpen (calendar_of self.old).round (is_taken (without_places old.now (calendar_of self.old)))
+            x.die.0 x.round.0) new.now }
+        requires apart { AreApart new.now }
+        ensures ok { OnOk result (calendar_of self.new ≡ booked batch new.now (without_places old.now (calendar_of self.old))) }
+        ensures fits { OnOk result (FewClosed (calendar_of self.old).round
+            (is_taken_with (without_places old.now (calendar_of self.old)) new.now)) }
+        ensures full { IsErrOf result CalendarRefused.Full → (die : ℕ)
+            × IsFull (calendar_of self.old).round (is_taken_with (without_places old.now (calendar_of self.old)) new.now die) 0 }
+        ensures err { OnErr result (calendar_of self.new ≡ calendar_of self.old) }
+    {
+        if let Err(_) = make_room(&mut self.booked, batch, new) {
+            take_out_open(&mut self.booked, &self.calendar, new);
+            return Err(CalendarRefused::NoMemory);
+        }
+        if let Err(refused) = self.calendar.exchange(old, new) {
+            take_out_open(&mut self.booked, &self.calendar, new);
+            return Err(refused);
+        }
+        take_out_open(&mut self.booked, &self.calendar, old);
+        overwrite_all(&mut self.booked, batch, new);
+        Ok(())
+    }
+
+    /// Opens these booked places. It takes no memory.
+    pub fn release_all(&mut self, places: &[Place])
+        requires { AllByRecursion (λ x. contains_key (calendar_of self.old).bookings (x.die.0, x.round.0) ≡ true) places.now }
+        ensures { calendar_of self.new ≡ without_places places.now (calendar_of self.old) }
+    {
+        self.calendar.release_all(places);
+        take_out_open(&mut self.booked, &self.calendar, places);
+    }
+
     /// A die's window, if it has one that has not passed.
     pub fn window(&self, die: Die) -> Option<Window>
         ensures { result ≡ get (calendar_of self.now).windows die.0 }
@@ -149,5 +197,50 @@ impl<A: Allocator + Clone> Bookings<A> {
         let now = self.calendar.now().0;
         self.calendar.advance();
         forget_round(&mut self.booked, now, dies);
+    }
+}
+
+impl<A: Allocator + Copy> Bookings<A> {
+    ghost use Rattle.fa_batch.specs.Closed as spans;
+    ghost use Rattle.fa_bookings.specs.Bookings.{calendar_of};
+
+    /// The closed rounds of all dies, these booked places left out. The error is out of memory.
+    pub fn closed(&self, alloc: A, without: &[Place]) -> Result<Closed<A>, AllocError>
+        requires { AllByRecursion (λ x. contains_key (calendar_of self.now).bookings (x.die.0, x.round.0) ≡ true) without.now }
+        ensures current { IfOk result (λ closed. spans.current_of closed ≡ (calendar_of self.now).round) }
+        ensures closed { IfOk result (λ closed. (die round : ℕ) → (calendar_of self.now).round ≤ round
+            → spans.is_closed closed die round ≡ is_taken (without_places without.now (calendar_of self.now)) die round) }
+    {
+        self.calendar.closed(alloc, without)
+    }
+}
+
+impl<A: Allocator + Clone> Rounds for Bookings<A> {
+    ghost use Rattle.fa_bookings.specs.Bookings.{calendar_of};
+    ghost use Rattle.fa_bookings.specs.Found.{few_of};
+
+    ghost current = { λ bookings. (calendar_of bookings).round };
+
+    ghost closed = { λ bookings. is_taken (calendar_of bookings) };
+
+    ghost few_closed = { few_of };
+
+    fn now(&self) -> Round {
+        self.calendar.now()
+    }
+
+    /// It takes as many steps as the logarithm of the number of the die's runs of closed rounds.
+    fn is_open(&self, die: Die, round: Round) -> bool {
+        self.calendar.is_open(die, round)
+    }
+
+    /// It takes a look at each run of closed rounds of the die.
+    fn open_count(&self, die: Die, rounds: u64) -> u64 {
+        self.calendar.open_count(die, rounds)
+    }
+
+    /// It takes a look at each run of closed rounds of the die before the answer.
+    fn nth_open(&self, die: Die, n: u64) -> Round {
+        self.calendar.nth_open(die, n)
     }
 }

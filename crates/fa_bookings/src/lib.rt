@@ -2,6 +2,7 @@
 #![tactic(auto)]
 
 mod bookings;
+mod places;
 mod tree;
 
 pub use bookings::Bookings;

@@ -1,7 +1,8 @@
 use Rattle.std.proofs.Common.{ap, sym, ◌∙◌}
+use Rattle.fa_bookings.specs.Found.{past}
 use Rattle.fa_bookings.proofs.Booked.{at, left, some_left}
 use Rattle.fa_bookings.proofs.Closed.{remains}
-use Rattle.fa_bookings.proofs.Windows.{past, windows_pass}
+use Rattle.fa_bookings.proofs.Windows.{windows_pass}
 use Rattle.std.specs.Prelude.{is_some, nat_lt, ◌&&◌}
 use Rattle.fa_bookings.proofs.bookings.Bookings.advance.Goals as goal
 

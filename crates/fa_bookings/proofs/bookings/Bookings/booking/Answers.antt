@@ -1,5 +1,5 @@
 use Rattle.std.proofs.Common.{sym, ◌∙◌}
-use Rattle.fa_bookings.proofs.Booked.{get_booked}
+use Rattle.fa_bookings.specs.Found.{get_booked}
 use Rattle.fa_bookings.proofs.bookings.Bookings.booking.Goals as goal
 
 pub returns-in-Some : goal.returns-in-Some

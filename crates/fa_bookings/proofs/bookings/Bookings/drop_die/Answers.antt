@@ -1,6 +1,7 @@
 use Rattle.std.proofs.Common.{ap, sym, ◌∙◌}
+use Rattle.fa_bookings.specs.Found.{past}
 use Rattle.fa_bookings.proofs.Booked.{at, eqb_swap, flipped, left, some_flipped}
-use Rattle.fa_bookings.proofs.Windows.{past, window_goes}
+use Rattle.fa_bookings.proofs.Windows.{window_goes}
 use Rattle.std.specs.Prelude.{is_some, not, ◌&&◌, ◌==◌}
 use Rattle.fa_bookings.proofs.bookings.Bookings.drop_die.Goals as goal
 

@@ -1,6 +1,7 @@
 use Rattle.std.proofs.Common.{ap, refl, sym, ◌∙◌}
-use Rattle.fa_bookings.proofs.Booked.{get_booked, others_there, removed}
-use Rattle.fa_bookings.proofs.Windows.{past, windows_stay}
+use Rattle.fa_bookings.specs.Found.{get_booked, past}
+use Rattle.fa_bookings.proofs.Booked.{others_there, removed}
+use Rattle.fa_bookings.proofs.Windows.{windows_stay}
 use Rattle.std.specs.Prelude.{is_some, not, ◌&&◌, ◌==◌}
 use Rattle.fa_bookings.proofs.bookings.Bookings.release.Goals as goal
 

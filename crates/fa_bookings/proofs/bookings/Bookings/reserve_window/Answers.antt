@@ -1,6 +1,6 @@
 use Rattle.std.proofs.Common.{sym, subst, ◌∙◌, ◌≤◌}
-use Rattle.fa_bookings.proofs.Closed.{taken_is}
-use Rattle.fa_bookings.proofs.Windows.{get_windows, past, window_comes, windows_stay}
+use Rattle.fa_bookings.specs.Found.{get_windows, past, taken_is}
+use Rattle.fa_bookings.proofs.Windows.{window_comes, windows_stay}
 use Rattle.fa_calendar.specs.Calendar.{window_of}
 use Rattle.fa_types.specs.Open.{max_closed, rounds_that}
 use Rattle.fa_types.specs.Windows.{IsFirstWindow, IsFull}

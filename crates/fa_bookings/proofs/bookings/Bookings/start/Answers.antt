@@ -1,5 +1,6 @@
 use Rattle.std.proofs.Common.{ap, refl, sym, ◌∙◌}
-use Rattle.fa_bookings.proofs.Booked.{get_booked, inserted, still_there}
+use Rattle.fa_bookings.specs.Found.{get_booked}
+use Rattle.fa_bookings.proofs.Booked.{inserted, still_there}
 use Rattle.fa_bookings.specs.Booked.{windows_in}
 use Rattle.fa_calendar.specs.Calendar.{window_of}
 use Rattle.std.specs.Prelude.{is_some}

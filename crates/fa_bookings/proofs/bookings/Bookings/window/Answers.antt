@@ -1,5 +1,5 @@
 use Rattle.std.proofs.Common.{sym, ◌∙◌}
-use Rattle.fa_bookings.proofs.Windows.{get_windows, past}
+use Rattle.fa_bookings.specs.Found.{get_windows, past}
 use Rattle.fa_calendar.specs.Calendar.{window_of}
 use Rattle.fa_bookings.proofs.bookings.Bookings.window.Goals as goal
 
