@@ -6,7 +6,8 @@ ghost use Rattle.fa_machine.specs.Collecting.{move_place};
 ghost use Rattle.fa_machine.specs.Copies.{copy_on, holders};
 ghost use Rattle.fa_machine.specs.Placement.{free, room};
 ghost use Rattle.fa_machine.specs.State.{MapState, is_live, used_at};
-ghost use Rattle.fa_map.specs.Changes.{with_used, writers_slot, taken, made_current, renewed, brought_in, dropped, without_block, MayHold, MayKeep};
+ghost use Rattle.fa_map.specs.Changes.{with_used, writers_slot, taken, made_current, renewed, brought_in, dropped, without_block};
+ghost use Rattle.fa_map.specs.Changes.{MayHold, MayKeep};
 ghost use Rattle.fa_map.specs.Slots.{IsPageMap, AreCounts, state_of, copy_in, first_holder};
 
 use crate::slots::{BlockCounts, SlotState};

@@ -14,11 +14,12 @@ use fa_machine::{Block, Version};
 use fa_types::{Die, Geometry, Page, Seq, Slot};
 use std::alloc::{AllocError, Allocator, Global};
 
-/// The page map of an array. A slot takes 16 bytes and a page 32. No call but [`PageMap::new`] takes
-/// memory. `drop_die` takes time for each slot of the die, and `block_erased` for each of the block. A slot
-/// is taken in at most as many looks as a die has blocks and a block has slots and one more. `copies_of`
-/// takes a step for each copy of the page, `first_copy` and `next_copy` one step. The other calls take at
-/// most a step for each die and, of each, for each copy of the page on a die below it.
+/// The page map of an array. A slot takes 16 bytes, and a page 32 and little more than two bits. No call but
+/// [`PageMap::new`] takes memory. `drop_die` takes time for each slot of the die, and `block_erased` for each
+/// of the block. A slot is found in at most as many looks as a die has blocks and a block has slots and one
+/// more. `copies_of` and `renew` take a step for each copy of the page, `first_copy` and `next_copy` one step,
+/// and `next_with` a look or two at a set. The other calls take at most a step for each die and, of each, for
+/// each copy of the page on a die below it.
 #[derive(Drop)]
 pub struct PageMap<A: Allocator = Global> {
     geometry: Geometry,

@@ -43,7 +43,7 @@ struct Call {
 
 fn drawn(draws: &mut Draws, seq: u64) -> Call {
     Call {
-        kind: draws.below(100),
+        kind: draws.below(130),
         die: draws.below(4) as u8,
         slot: draws.below(48) as u32,
         block: draws.below(12) as u32,
@@ -52,8 +52,17 @@ fn drawn(draws: &mut Draws, seq: u64) -> Call {
     }
 }
 
-/// Makes one more copy of the page's last write current, where the die has none and the slot holds none.
-fn copy_more<M: Map>(map: &mut M, page: Page, die: Die, slot: Slot) {
+/// A write of this number.
+fn write(seq: u64) -> Version {
+    Version {
+        seq: Seq(seq),
+        kind: Kind::Data,
+    }
+}
+
+/// Makes one more copy of the page's last write current, where the die has none and the slot holds none. It is
+/// made by `hold`, or else by `make_current`.
+fn copy_more<M: Map>(map: &mut M, page: Page, die: Die, slot: Slot, by_hold: bool) {
     let g = map.geometry();
     if page.0 >= g.pages || die.0 as u32 >= g.dies || slot.0 >= g.blocks * g.slots {
         return;
@@ -63,7 +72,9 @@ fn copy_more<M: Map>(map: &mut M, page: Page, die: Die, slot: Slot) {
     }
     let held = map.copy_on(page, die).is_some();
     if let Some(last) = map.version(page) {
-        if !held {
+        if !held && by_hold {
+            map.hold(page, last, die, slot);
+        } else if !held {
             map.make_current(page, last, die, slot);
         }
     }
@@ -84,6 +95,28 @@ fn copy_new<M: Map>(map: &mut M, page: Page, version: Version, die: Die, slot: S
     };
     if !same {
         map.make_current(page, version, die, slot);
+    }
+}
+
+/// A die is live from now on.
+fn bring_in<M: Map>(map: &mut M, die: Die) {
+    if (die.0 as u32) < map.geometry().dies && !map.is_live(die) {
+        map.bring_in(die);
+    }
+}
+
+/// A slot is stale from now on, if its die is live.
+fn waste<M: Map>(map: &mut M, die: Die, slot: Slot) {
+    let g = map.geometry();
+    if slot.0 < g.blocks * g.slots && map.is_live(die) {
+        map.make_stale(die, slot);
+    }
+}
+
+/// Makes a write the page's last, with no copy so far.
+fn renew<M: Map>(map: &mut M, page: Page, version: Version) {
+    if page.0 < map.geometry().pages {
+        map.renew(page, version);
     }
 }
 
@@ -110,13 +143,15 @@ fn make<M: Map>(map: &mut M, call: Call) -> Option<Slot> {
     } else if call.kind < 50 {
         map.block_erased(die, Block(call.block));
     } else if call.kind < 75 {
-        copy_more(map, Page(call.page), die, slot);
+        copy_more(map, Page(call.page), die, slot, false);
+    } else if call.kind < 100 {
+        copy_new(map, Page(call.page), write(call.seq), die, slot);
+    } else if call.kind < 103 {
+        map.reserve_slot(die, slot);
+    } else if call.kind < 110 {
+        renew(map, Page(call.page), write(call.seq));
     } else {
-        let version = Version {
-            seq: Seq(call.seq),
-            kind: Kind::Data,
-        };
-        copy_new(map, Page(call.page), version, die, slot);
+        copy_more(map, Page(call.page), die, slot, true);
     }
     None
 }
@@ -142,6 +177,11 @@ fn first_copies<M: Map>(map: &M, page: u64) -> Option<(Option<(Die, Slot)>, Opti
         None => None,
     };
     Some((first, second))
+}
+
+/// The pages from one on that have one copy, and those that have two: the lowest of each.
+fn few_from<M: Map>(map: &M, page: u64) -> (Option<Page>, Option<Page>) {
+    (map.next_with(1, Page(page)), map.next_with(2, Page(page)))
 }
 
 /// What a map answers of a page's copy on a die.
@@ -178,6 +218,18 @@ fn block_of<M: Map>(map: &M, die: u8, block: u32) -> Option<(BlockCounts, bool, 
     ))
 }
 
+/// The slots that a map offers on a die: to a writer, and for a move from one of its blocks.
+fn offers_of<M: Map>(map: &M, die: u8, block: u32) -> Option<(Option<Slot>, Option<Slot>)> {
+    let g = map.geometry();
+    if die as u32 >= g.dies || block >= g.blocks {
+        return None;
+    }
+    Some((
+        map.writers_slot(Die(die)),
+        map.slot_for_move(Die(die), Block(block)),
+    ))
+}
+
 /// Whether both maps answer, and alike.
 fn are_same<T: PartialEq + Drop>(a: Option<T>, b: Option<T>) -> bool {
     a.is_some() && a == b
@@ -189,7 +241,9 @@ fn are_alike<A: Map, B: Map>(a: &A, b: &B) -> bool {
     for page in 0..64u64 {
         alike = alike && are_same(page_of(a, page), page_of(b, page));
         alike = alike && are_same(first_copies(a, page), first_copies(b, page));
+        alike = alike && few_from(a, page) == few_from(b, page);
     }
+    alike = alike && few_from(a, 64) == (None, None) && few_from(b, u64::MAX) == (None, None);
     for die in 0..4u8 {
         for page in 0..64u64 {
             alike = alike && are_same(copy_of(a, page, die), copy_of(b, page, die));
@@ -199,6 +253,7 @@ fn are_alike<A: Map, B: Map>(a: &A, b: &B) -> bool {
         }
         for block in 0..12u32 {
             alike = alike && are_same(block_of(a, die, block), block_of(b, die, block));
+            alike = alike && are_same(offers_of(a, die, block), offers_of(b, die, block));
         }
     }
     alike
@@ -210,12 +265,47 @@ fn ten_thousand_calls(rt: HostRuntime) -> Result<(), Fail> {
     let mut tables = PageMap::new(rt.alloc(), geometry)?;
     let mut plain = PlainMap::new(rt.alloc(), geometry)?;
     let mut draws = Draws { state: 7 };
+    let mut one = false;
+    let mut two = false;
     for number in 0..10_000u64 {
         let call = drawn(&mut draws, number + 1);
         let slot = make(&mut tables, call);
         ensure!(make(&mut plain, call) == slot, at number);
         ensure!(number % 50 != 0 || are_alike(&tables, &plain), at number);
+        let few = few_from(&tables, 0);
+        one = one || few.0.is_some();
+        two = two || few.1.is_some();
     }
+    ensure!(one && two);
+    Ok(())
+}
+
+// A page is found with one copy, with two, with neither when it has a third, and again as its copies go.
+#[test]
+fn pages_with_few_copies(rt: HostRuntime) -> Result<(), Fail> {
+    let mut map = PageMap::new(rt.alloc(), Geometry::new(4, 0, 12, 4, 512, 64)?)?;
+    let page = Page(40);
+    for die in 0..4u8 {
+        bring_in(&mut map, Die(die));
+    }
+    renew(&mut map, page, write(1));
+    ensure!(few_from(&map, 0) == (None, None));
+    copy_more(&mut map, page, Die(2), Slot(5), true);
+    ensure!(few_from(&map, 40) == (Some(page), None) && few_from(&map, 41) == (None, None));
+    copy_more(&mut map, page, Die(0), Slot(5), true);
+    ensure!(few_from(&map, 0) == (None, Some(page)) && few_from(&map, 41) == (None, None));
+    copy_more(&mut map, page, Die(1), Slot(0), true);
+    ensure!(few_from(&map, 0) == (None, None));
+    copy_more(&mut map, page, Die(3), Slot(15), true);
+    ensure!(few_from(&map, 0) == (None, None));
+    waste(&mut map, Die(1), Slot(0));
+    ensure!(few_from(&map, 0) == (None, None));
+    waste(&mut map, Die(0), Slot(5));
+    ensure!(few_from(&map, 0) == (None, Some(page)));
+    waste(&mut map, Die(3), Slot(15));
+    ensure!(few_from(&map, 0) == (Some(page), None));
+    renew(&mut map, page, write(2));
+    ensure!(few_from(&map, 0) == (None, None) && map.live_dies() == 4);
     Ok(())
 }
 
