@@ -6,7 +6,7 @@ use Rattle.fa_mirror.specs.Order.{first_of, homes_in_use, looks, looks_from, num
 use Rattle.fa_types.specs.declared.numbers.Die.{Die}
 use Rattle.std.proofs.Common.{Bool, List, None, Option, Some, [], ap, arith, cond, drop, false, get_or, length, map, min, not, refl}
 use Rattle.std.proofs.Common.{sym, take, true, ℕ, ◌++◌, ◌+◌, ◌-◌, ◌<◌, ◌∙◌, ◌∷◌, ◌≡◌, ◌≤◌}
-use Rattle.std.proofs.lemmas.List.{append-nil, drop_more, get_or-append_right, get_or-map, get_or-reverse, get_or_append_left}
+use Rattle.std.proofs.lemmas.List.{append-nil, drop_more, get_or-append_right, get_or-map, get_or-reverse}
 use Rattle.std.proofs.lemmas.List.{length-append, length-map, length-reverse, length-take, length-take-le, take-append-drop}
 use Rattle.std.proofs.lemmas.List.{take-append-le, take-map, take_all, take_more}
 use Rattle.std.proofs.lemmas.List.Elements.{filter-append, filter_map-append}

@@ -151,6 +151,21 @@ fn other_dies_fall(rt: HostRuntime) -> Result<(), Fail> {
     expect(&map, copies, 0, &[])
 }
 
+// Die 0 alone of three live dies has room. It is a home of page 0 and none of page 1, and is a target once.
+#[test]
+fn one_die_has_room(rt: HostRuntime) -> Result<(), Fail> {
+    let geometry = Geometry::new(3, 0, 4, 4, 512, 8)?;
+    let copies = Copies::new(2, geometry)?;
+    let mut map = PageMap::new(rt.alloc(), geometry)?;
+    for die in 0..3u8 {
+        bring_in(&mut map, die)?;
+    }
+    fill(&mut map, 1)?;
+    fill(&mut map, 2)?;
+    expect(&map, copies, 0, &[Die(0)])?;
+    expect(&map, copies, 1, &[Die(0)])
+}
+
 // A live spare is no home of any page, and the first of the others where it is the highest.
 #[test]
 fn spares_stand_in(rt: HostRuntime) -> Result<(), Fail> {

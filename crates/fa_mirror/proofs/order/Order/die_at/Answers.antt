@@ -2,7 +2,7 @@ use Rattle.fa_machine.specs.Maps.{is_one_of}
 use Rattle.fa_mirror.proofs.Looks.{is_home_is, look_behind}
 use Rattle.fa_mirror.proofs.order.Order.die_at.Goals as goal
 use Rattle.fa_mirror.specs.Order.{first_of}
-use Rattle.std.proofs.Common.{None, Some, ap, arith, sym, true, false, ◌+◌, ◌-◌, ◌∙◌, ◌≡◌}
+use Rattle.std.proofs.Common.{None, Some, ap, arith, sym, true, false, ◌-◌, ◌∙◌, ◌≡◌}
 use Rattle.std.specs.Prelude.{if◌then◌else◌}
 
 pub returns-then-is_home : goal.returns-then-is_home
