@@ -56,7 +56,8 @@ impl<A: Allocator + Clone> Claims<A> {
     /// The page of an open claim.
     pub fn page_of(&self, claim: ClaimId) -> Page
         requires { contains_key (claims_of self.now) claim.0 ≡ true }
-        ensures { result.0 ≡ unwrap_or (option_map (λ c. c.page) (get (claims_of self.now) claim.0)) 0 }
+        ensures page { result.0 ≡ unwrap_or (option_map (λ c. c.page) (get (claims_of self.now) claim.0)) 0 }
+        ensures number { result.0 ≡ claim.0 }
     {
         Page(claim.0)
     }

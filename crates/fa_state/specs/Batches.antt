@@ -19,7 +19,11 @@ module _ {A : Type 0} where
   answer_of p = answer_in p.state p.page.0 p.buffer.items
 
   abbrev pub batch_of : Batch A → OpenBatch
-  batch_of b = record { pages = map (λ (p : BatchPage A). p.page.0) b.pages.items; answers = from_entries (filter_map answer_of b.pages.items) }
+  batch_of b = record {
+    pages = map (λ (p : BatchPage A). p.page.0) b.pages.items;
+    answers = from_entries
+        (filter_map answer_of b.pages.items);
+  }
 
   -- the batches by their numbers
   abbrev pub batches_of : Batches A → FinMap nat_cmp OpenBatch

@@ -1,2 +1,3 @@
 pub mod Batches
 pub mod Core
+pub mod Fitted

@@ -1,22 +1,23 @@
 -- Slots that are looked up, and reserved one after the other.
 use Rattle.fa_map.proofs.Ranges.{find_below}
-use Rattle.fa_machine.specs.Maps.{below, insert_all}
+use Rattle.fa_machine.specs.Maps.{insert_all}
 use Rattle.fa_machine.specs.Placement.{has_room, is_erased_slot, lowest_erased, room}
 use Rattle.fa_machine.specs.State.{MapState, is_live}
-use Rattle.fa_machine.specs.Writing.{target_on, with_targets}
+use Rattle.fa_machine.specs.Writing.{with_targets}
 use Rattle.fa_machine.specs.declared.places.Target.{Target}
 use Rattle.fa_machine.specs.declared.places.Used.{Used}
 use Rattle.fa_map.specs.Changes.{with_used, writers_slot}
 use Rattle.fa_mirror.specs.Order.{numbers_of}
 use Rattle.fa_types.specs.declared.numbers.Die.{Die}
-use Rattle.std.proofs.Common.{Bool, List, None, Option, Some, [], ap, arith, cond, false, get_or, inl, inr, length, map, refl, suc, subst, sym, take, true, ℕ, ◌*◌, ◌+◌, ◌<◌}
+use Rattle.std.proofs.Common.{List, None, Some, [], ap, arith, cond, get_or, length, map, refl, suc, subst}
+use Rattle.std.proofs.Common.{sym, take, true, ℕ, ◌*◌, ◌+◌, ◌<◌}
 use Rattle.std.proofs.Common.{◌++◌, ◌∙◌, ◌∷◌, ◌≡◌}
 use Rattle.std.proofs.lemmas.Bool.{and_parts}
 use Rattle.std.proofs.Math.Seq.{take-suc}
 use Rattle.std.proofs.lemmas.List.{length-append, map-append}
 use Rattle.std.proofs.lemmas.List.Sums.{fold-append}
 use Rattle.std.specs.FinMap.{insert}
-use Rattle.std.specs.Prelude.{nat_lt, option_map, unwrap_or}
+use Rattle.std.specs.Prelude.{nat_lt}
 
 -- one slot more is reserved
 pub reserved_next : (used : Used) (ts : List Target) (t : Target) (m : MapState)
@@ -43,7 +44,8 @@ take_more xs n d low = ap (λ k. take k xs) (suc_is n) ∙ take-suc xs n d low
     suc_is : (n : ℕ) → n + 1 ≡ suc n
     suc_is n = omega arith
 
-pub map_more : {X Y : Type 0} (f : X → Y) (xs : List X) (n : ℕ) (d : X) → n < length xs → map f (take (n + 1) xs) ≡ map f (take n xs) ++ f (get_or xs n d) ∷ []
+pub map_more : {X Y : Type 0} (f : X → Y) (xs : List X) (n : ℕ) (d : X) → n < length xs
+    → map f (take (n + 1) xs) ≡ map f (take n xs) ++ f (get_or xs n d) ∷ []
 map_more f xs n d low = ap (map f) (take_more xs n d low) ∙ map-append f (take n xs) (get_or xs n d ∷ [])
 
 -- what is made of each die's number

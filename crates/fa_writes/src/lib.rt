@@ -4,6 +4,8 @@
 
 mod claiming;
 mod placing;
+mod queueing;
+mod reserving;
 
 pub use claiming::{claim, release};
-pub use placing::{reserve_slots, slots_for};
+pub use reserving::reserve;

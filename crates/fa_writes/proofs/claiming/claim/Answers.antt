@@ -1,6 +1,5 @@
-use Rattle.std.proofs.Common.{◌≡◌, ap, sym, ◌∙◌, None, false}
+use Rattle.std.proofs.Common.{ap, sym, ◌∙◌, None}
 use Rattle.fa_claims.specs.Claims.{claims_of}
-use Rattle.fa_machine.specs.State.{OpenClaim}
 use Rattle.fa_state.specs.Core.{core_of}
 use Rattle.std.specs.FinMap.{contains_key, insert}
 use Rattle.fa_writes.proofs.claiming.claim.Goals as goal

@@ -1,4 +1,4 @@
-use Rattle.std.proofs.Common.{◌≡◌, ap, subst, sym, ◌∙◌, ◌<◌, ◌*◌, get_or, take}
+use Rattle.std.proofs.Common.{ap, ◌∙◌, get_or, take}
 use Rattle.fa_machine.specs.State.{MapState, is_live}
 use Rattle.fa_machine.specs.declared.places.Used.TheVariants.{Reserved}
 use Rattle.fa_writes.proofs.Placed.{still_fits}

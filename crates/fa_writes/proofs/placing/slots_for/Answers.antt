@@ -1,4 +1,4 @@
-use Rattle.std.proofs.Common.{◌≡◌, ap, length, map, subst, sym, ◌∙◌, ◌++◌, ◌∷◌, [], ◌+◌}
+use Rattle.std.proofs.Common.{ap, length, map, subst, sym, ◌∙◌, ◌++◌, ◌∷◌, [], ◌+◌}
 use Rattle.fa_machine.specs.Writing.{target_on}
 use Rattle.fa_types.specs.declared.numbers.Die.{Die}
 use Rattle.fa_writes.proofs.Placed.{map_more, of_numbers, one_longer}
@@ -13,7 +13,7 @@ loop-index-preserved g c =
     let m = g.M.Map.view c.args.page_map.now in
     let dies = c.as_slice-dies.result.now in (
       c.push.ensures ∙ (λ i. c.loop-index.invariant.0 i ++ c.slot_on.ensures.slot i ∷ [])
-      ∙ sym (map_more (λ (die : Die). target_on m die.0) dies c.loop-index.index _ c.loop-index-test.true),
+          ∙ sym (map_more (λ (die : Die). target_on m die.0) dies c.loop-index.index _ c.loop-index-test.true),
       ap length c.push.ensures ∙ one_longer _ _ ∙ ap (λ n. n + 1) c.loop-index.invariant.1,
       subst (All (MayReserve m)) (sym c.push.ensures) (All-push (MayReserve m) _ _ c.loop-index.invariant.2 c.slot_on.ensures.free),
     )
