@@ -18,3 +18,19 @@ make_current-requires g c =
     (subst (λ (k : Geometry). c.args.page.0 < k.pages) c.geometry-g.ensures c.if-page-g.false)
     (subst (λ (k : Geometry). c.args.slot.0 < k.blocks * k.slots) c.geometry-g.ensures c.if-slot-g.false)
     live free none (sym c.in-Some.ensures)
+
+pub hold-requires : goal.hold-requires
+hold-requires g c =
+    let m = g.M.Map.view c.args.map.now in
+    let live : is_live m c.args.die.0 ≡ true = grind (arith, common_steps) in
+    let free : is_held_slot (used_at m c.args.die.0 c.args.slot.0) ≡ false = sym (held_copy (used_at m c.args.die.0 c.args.slot.0)) ∙ sym (ap is_some c.copy_in.ensures) ∙ sym c.is_some.ensures ∙ c.if-is_some.false in
+    let bare : is_some c.copy_on.result ≡ false = grind (arith, common_steps) in
+    let none : copy_on m c.args.page.0 c.args.die.0 ≡ None = sym c.copy_on.ensures ∙ none_mapped (λ slot. slot.0) c.copy_on.result bare in
+    record {
+      page_fits = subst (λ (k : Geometry). c.args.page.0 < k.pages) c.geometry-g.ensures c.if-page-g.false;
+      slot_fits = subst (λ (k : Geometry). c.args.slot.0 < k.blocks * k.slots) c.geometry-g.ensures c.if-slot-g.false;
+      live = live;
+      last = sym c.in-Some.ensures;
+      free = free;
+      once = ap is_some none;
+    }
