@@ -132,7 +132,7 @@ module _ {A : Type 0} (b : Bookings A) (old : List Place) where
       there_still there d r met =
           ap is_some (out d r) ∙ ap (λ t. is_some (if is_at old d r && not t then None else at roomed (d, r))) (is d r)
           ∙ ap (λ t. is_some (if is_at old d r && not ((is_booked b.calendar d r && not (is_at old d r)) || t) then None else at roomed
-              (d, r))) met
+          (d, r))) met
           ∙ go (is_booked b.calendar d r) (is_at old d r) (at roomed (d, r)) ∙ there d r met
         where
           go : (k o : Bool) (e : Option Booking) → is_some (if o && not ((k && not o) || true) then None else e) ≡ is_some e
