@@ -356,7 +356,7 @@ module _ (m : MapState) (g : Geometry) (on : List Bool) (count : ℕ) (versions 
           ∙ ap (λ k. find (λ s. holds page (used_at m die s)) (below k)) (sym size)
           ∙ sym (copy_found m shown.plain.whole page die))
 
-  -- the lowest page from one on that so many dies hold
+  -- the lowest page from one on that this many dies hold
   pub shown_with : (tables : Geometry) → tables ≡ g → (held from : ℕ)
       → find (λ page. copies_in entries tables page == held) (range_with_len from (tables.pages - from))
       ≡ find (λ page. length (holders m page) == held) (range_with_len from (m.geometry.pages - from))
