@@ -16,8 +16,10 @@ use Rattle.std.specs.FinMap.{FinMap, get, get-insert, insert}
 use Rattle.std.specs.Prelude.{fold, if◌then◌else◌, is_some, ◌==◌, ◌||◌}
 
 pub or_parts : (a b : Bool) → (a || b) ≡ false → (a ≡ false) × (b ≡ false)
-or_parts a b none =
-    (false_from_ne_true a (λ met. false≢true (sym none ∙ or_left a b met)), false_from_ne_true b (λ met. false≢true (sym none ∙ or_right a b met)))
+or_parts a b none = (
+  false_from_ne_true a (λ met. false≢true (sym none ∙ or_left a b met)),
+  false_from_ne_true b (λ met. false≢true (sym none ∙ or_right a b met)),
+)
 
 -- two numbers that are those of a place
 pub here_is : (x : Place) (d r : ℕ) → is_one x d r ≡ true → (x.die.0 ≡ d) × (x.round.0 ≡ r)
@@ -47,7 +49,8 @@ pub among : (places : List Place) (i : ℕ) (x : Place) → i < length places
 among places i x within =
     let p : Place = get_or places i x in
     at_part places (i + 1) p.die.0 p.round.0
-    (at_more places i x within p.die.0 p.round.0 ∙ or_right (is_at (take i places) p.die.0 p.round.0) (is_one p p.die.0 p.round.0) (one_is p))
+    (at_more places i x within p.die.0 p.round.0
+    ∙ or_right (is_at (take i places) p.die.0 p.round.0) (is_one p p.die.0 p.round.0) (one_is p))
 
 -- where none of the places is, neither the next one is nor one before it
 pub none_of : (places : List Place) (i : ℕ) (x : Place) → i < length places → (d r : ℕ) → is_at places d r ≡ false
