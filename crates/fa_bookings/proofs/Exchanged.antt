@@ -75,8 +75,8 @@ module _ {A : Type 0} (b : Bookings A) (old : List Place) where
   without_is i d r = without_at d r i
 
   pub all_open : (new : List Place)
-      → AllByRecursion (λ x. IsOpen (calendar_of b).round (is_taken (without_places old (calendar_of b))) x.die.0
-      x.round.0) new → AllByRecursion (λ x. IsOpen b.calendar.current (is_closed_without b.calendar old) x.die.0 x.round.0) new
+      → AllByRecursion (λ x. IsOpen (calendar_of b).round (is_taken (without_places old (calendar_of b))) x.die.0 x.round.0) new
+      → AllByRecursion (λ x. IsOpen b.calendar.current (is_closed_without b.calendar old) x.die.0 x.round.0) new
   all_open new = subst (λ (f : ℕ → ℕ → Bool). AllByRecursion (λ x. IsOpen b.calendar.current f x.die.0 x.round.0) new) (sym without_is)
 
   pub full_with : (new : List Place)
@@ -131,8 +131,8 @@ module _ {A : Type 0} (b : Bookings A) (old : List Place) where
           → (d r : ℕ) → is_at new d r ≡ true → is_some (at swept (d, r)) ≡ true
       there_still there d r met =
           ap is_some (out d r) ∙ ap (λ t. is_some (if is_at old d r && not t then None else at roomed (d, r))) (is d r)
-          ∙ ap (λ t. is_some (if is_at old d r && not ((is_booked b.calendar d r && not (is_at old d r)) || t) then None else at roomed
-          (d, r))) met
+          ∙ ap (λ t. is_some (if is_at old d r && not ((is_booked b.calendar d r && not (is_at old d r)) || t) then None
+          else at roomed (d, r))) met
           ∙ go (is_booked b.calendar d r) (is_at old d r) (at roomed (d, r)) ∙ there d r met
         where
           go : (k o : Bool) (e : Option Booking) → is_some (if o && not ((k && not o) || true) then None else e) ≡ is_some e

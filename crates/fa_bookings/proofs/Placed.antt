@@ -18,8 +18,7 @@ use Rattle.std.specs.Prelude.{fold, if◌then◌else◌, is_some, ◌==◌, ◌|
 pub or_parts : (a b : Bool) → (a || b) ≡ false → (a ≡ false) × (b ≡ false)
 or_parts a b none = (
   false_from_ne_true a (λ met. false≢true (sym none ∙ or_left a b met)),
-  false_from_ne_true b (λ met. false≢true (sym none
-      ∙ or_right a b met)),
+  false_from_ne_true b (λ met. false≢true (sym none ∙ or_right a b met)),
 )
 
 -- two numbers that are those of a place

@@ -13,8 +13,7 @@ pub invariant_of-self : goal.invariant_of-self
 invariant_of-self g c = record {
   agree = λ die round. c.args.self.now.agree die round
       ∙ sym (still_there c.args.self.now.booked.entries c.overwrite.new.booked.entries c.args.die.0 c.args.round.0 _ c.overwrite.ensures
-      refl
-      (sym (ap is_some (get_booked c.args.self.now.booked.entries (c.args.die.0, c.args.round.0))) ∙ c.requires) die round);
+      refl (sym (ap is_some (get_booked c.args.self.now.booked.entries (c.args.die.0, c.args.round.0))) ∙ c.requires) die round);
 }
 
 pub returns : goal.returns
