@@ -1,0 +1,8 @@
+//! The events of flushes and of the history, and what may be asked of the array, over the array's state.
+#![tactic(auto)]
+
+mod history;
+mod looks;
+
+pub use history::{counts, fold, history_full};
+pub use looks::{batch_open, claim_open, copy_open, is_busy, is_reserved, job_kind};
