@@ -4,17 +4,17 @@ use Rattle.fa_machine.proofs.Maps.{get-insert_other, get-insert_same}
 use Rattle.fa_machine.specs.Maps.{below, insert_all}
 use Rattle.fa_machine.specs.State.{MapState, is_live}
 use Rattle.fa_map.specs.Slots.{IsPageMap}
-use Rattle.std.proofs.Common.{◌≡◌, ℕ, ◌+◌, ◌<◌, ◌≤◌, zero, suc, Bool, true, false, List, [], ◌∷◌, Option, Some, None, ap, cond}
+use Rattle.std.proofs.Common.{◌≡◌, ℕ, ◌+◌, ◌<◌, ◌≤◌, zero, suc, Bool, true, false, List, [], ◌∷◌, Option, Some, ap, cond}
 use Rattle.std.proofs.Common.{inl, inr, length, refl, sym, map, get_or, ◌∙◌, arith, below_more}
 use Rattle.std.proofs.lemmas.Bool.{cases_Bool, cases_lt}
-use Rattle.std.proofs.lemmas.List.{ext_get_or, get_or_past, get_or-replicate, length-replicate}
+use Rattle.std.proofs.lemmas.List.{ext_get_or}
 use Rattle.std.proofs.lemmas.List.Folds.{list_all_at}
 use Rattle.std.proofs.lemmas.List.FromFn.{get_or-map-range_with_len, get_or-range_with_len, length-map-range_with_len, length-range_with_len}
 use Rattle.std.specs.Cmp.{nat_cmp_total}
 use Rattle.std.specs.FinMap.{FinMap, contains_key-keys, get, get-insert, insert, keys, nat_cmp-IsAntisymmetric, same_map}
 use Rattle.std.specs.List.{list_all, list_any, range_with_len}
 use Rattle.std.specs.Ordering.{eq_by_cmp, nat_cmp}
-use Rattle.std.specs.Prelude.{◌&&◌, ◌||◌, replicate}
+use Rattle.std.specs.Prelude.{◌&&◌, ◌||◌}
 
 either : {Y : Type 0} (a b : Bool) (y z : Y) → cond b y (cond a y z) ≡ cond (a || b) y z
 either true true y z = refl
@@ -60,14 +60,6 @@ module _ (test : ℕ → Bool) (n : ℕ) where
       let here : get_or (below n) k 0 ≡ k = get_or-range_with_len 0 n k 0 low ∙ omega arith in
       list_all_at test (below n) k 0 (omega (arith, long, low)) (ap test here ∙ fails)
 
--- no mark is set
-pub no_marks : (n k : ℕ) → get_or (replicate n false) k false ≡ false
-no_marks n k =
-    elim (cases_lt k n) [
-      | inl less ↦ get_or-replicate n k false false less
-      | inr past ↦ let long = length-replicate n false in get_or_past (replicate n false) k false (omega (arith, long, past))
-    ]
-
 -- one die more has a value, or has none
 module _ (live : ℕ → Bool) (before after : FinMap nat_cmp ℕ) (x n : ℕ) where
   abbrev value : ℕ → Option ℕ
@@ -79,18 +71,23 @@ module _ (live : ℕ → Bool) (before after : FinMap nat_cmp ℕ) (x n : ℕ) w
   abbrev Kept : FinMap nat_cmp ℕ → ℕ → Type 0
   Kept found end = (die : ℕ) → end ≤ die → get found die ≡ get before die
 
-  pub inserted_more : live n ≡ true → Inserted after n → Kept after n → Inserted (insert after n x) (n + 1) × Kept (insert after n x) (n + 1)
-  inserted_more is inserted kept = (
-      below_more _ _ (λ die low. get-insert_other after n x die (λ same. omega (arith, low, same)) ∙ inserted die low)
-      (get-insert_same after n x ∙ sym (ap (λ b. cond b (Some x) (get before n)) is)),
-      λ die past. get-insert_other after n x die (λ same. omega (arith, past, same)) ∙ kept die (omega (arith, past)),
-    )
+  pub inserted_more : live n ≡ true → Inserted after n → Kept after n → (found : FinMap nat_cmp ℕ) → found ≡ insert after n x
+      → Inserted found (n + 1) × Kept found (n + 1)
+  inserted_more live_now inserted kept found is =
+      let at = λ (die : ℕ). ap (λ (m : FinMap nat_cmp ℕ). get m die) is in (
+        below_more _ _ (λ die low. at die ∙ get-insert_other after n x die (λ same. omega (arith, low, same)) ∙ inserted die low)
+        (at n ∙ get-insert_same after n x ∙ sym (ap (λ b. cond b (Some x) (get before n)) live_now)),
+        λ die past. at die ∙ get-insert_other after n x die (λ same. omega (arith, past, same)) ∙ kept die (omega (arith, past)),
+      )
 
-  pub kept_more : live n ≡ false → Inserted after n → Kept after n → Inserted after (n + 1) × Kept after (n + 1)
-  kept_more is inserted kept = (
-      below_more _ _ inserted (kept n (omega arith) ∙ sym (ap (λ b. cond b (Some x) (get before n)) is)),
-      λ die past. kept die (omega (arith, past)),
-    )
+  pub kept_more : live n ≡ false → Inserted after n → Kept after n → (found : FinMap nat_cmp ℕ) → found ≡ after
+      → Inserted found (n + 1) × Kept found (n + 1)
+  kept_more out inserted kept found is =
+      let at = λ (die : ℕ). ap (λ (m : FinMap nat_cmp ℕ). get m die) is in (
+        below_more _ _ (λ die low. at die ∙ inserted die low)
+        (at n ∙ kept n (omega arith) ∙ sym (ap (λ b. cond b (Some x) (get before n)) out)),
+        λ die past. at die ∙ kept die (omega (arith, past)),
+      )
 
 module _ (m : MapState) (whole : IsPageMap m) where
   not_live : (die : ℕ) → m.geometry.dies ≤ die → is_live m die ≡ false

@@ -5,33 +5,24 @@ use Rattle.fa_machine.specs.State.{is_live}
 use Rattle.fa_parts.specs.Dies.{bound_of, by_die}
 use Rattle.fa_types.specs.declared.geometry.Geometry.{Geometry}
 use Rattle.std.proofs.Common.{◌≡◌, ◌∙◌, ap, arith, sym}
-use Rattle.std.specs.FinMap.{get}
 
 pub loop-die-preserved : goal.loop-die-preserved
 loop-die-preserved g c =
     let m = g.M.Map.view c.args.page_map.now in
     let die = c.loop-die.die in
     let before = by_die c.args.asked.now in
+    let after = by_die c.loop-die.asked in
+    let number = c.args.number in
     let so_far = c.loop-die.invariant in
     elim c.if-is_live.branch [
       | then-is_live w ↦
-          let more = inserted_more (is_live m) before (by_die c.loop-die.asked) c.args.number die (sym c.is_live.ensures ∙ w.if-is_live.true)
-          so_far.asked so_far.kept in
-          let is = ap by_die w.asked-is ∙ w.insert.ensures.inserted in
-          record {
-            bound = ap bound_of w.asked-is ∙ w.insert.ensures.bound ∙ so_far.bound;
-            asked = λ k low. ap (λ found. get found k) is ∙ more.0 k low;
-            kept = λ k past. ap (λ found. get found k) is ∙ more.1 k past;
-          }
+          let more = inserted_more (is_live m) before after number die (sym c.is_live.ensures ∙ w.if-is_live.true)
+          so_far.asked so_far.kept (by_die c.if-is_live.asked) (ap by_die w.asked-is ∙ w.insert.ensures.inserted) in
+          record { bound = ap bound_of w.asked-is ∙ w.insert.ensures.bound ∙ so_far.bound; asked = more.0; kept = more.1 }
       | else-is_live w ↦
-          let more = kept_more (is_live m) before (by_die c.loop-die.asked) c.args.number die (sym c.is_live.ensures ∙ w.if-is_live.false)
-          so_far.asked so_far.kept in
-          let is = ap by_die w.asked-is in
-          record {
-            bound = ap bound_of w.asked-is ∙ so_far.bound;
-            asked = λ k low. ap (λ found. get found k) is ∙ more.0 k low;
-            kept = λ k past. ap (λ found. get found k) is ∙ more.1 k past;
-          }
+          let more = kept_more (is_live m) before after number die (sym c.is_live.ensures ∙ w.if-is_live.false)
+          so_far.asked so_far.kept (by_die c.if-is_live.asked) (ap by_die w.asked-is) in
+          record { bound = ap bound_of w.asked-is ∙ so_far.bound; asked = more.0; kept = more.1 }
     ]
 
 pub returns-clause-asked : goal.returns-clause-asked

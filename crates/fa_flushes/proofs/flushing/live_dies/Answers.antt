@@ -1,10 +1,11 @@
-use Rattle.fa_flushes.proofs.Dies.{marked_all, no_marks}
+use Rattle.fa_batch.proofs.Counting.{get_or-replicate_default}
+use Rattle.fa_flushes.proofs.Dies.{marked_all}
 use Rattle.fa_flushes.proofs.flushing.live_dies.Goals as goal
 use Rattle.fa_types.specs.declared.geometry.Geometry.{Geometry}
-use Rattle.std.proofs.Common.{◌≡◌, ◌∙◌, ap, arith, refl}
+use Rattle.std.proofs.Common.{◌≡◌, ◌∙◌, ap, arith, false, refl}
 
 pub loop-die-init : goal.loop-die-init
-loop-die-init g c = record { long = refl; marked = λ k low. absurd (omega (arith, low)); unmarked = λ k low. no_marks 64 k }
+loop-die-init g c = record { long = refl; marked = λ k low. absurd (omega (arith, low)); unmarked = λ k low. get_or-replicate_default 64 k false }
 
 pub returns : goal.returns
 returns g c =

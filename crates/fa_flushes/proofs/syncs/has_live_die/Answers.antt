@@ -2,7 +2,7 @@ use Rattle.fa_flushes.proofs.Dies.{any_fails, any_passes}
 use Rattle.fa_flushes.proofs.syncs.has_live_die.Goals as goal
 use Rattle.fa_machine.specs.State.{is_live}
 use Rattle.fa_types.specs.declared.geometry.Geometry.{Geometry}
-use Rattle.std.proofs.Common.{◌≡◌, ◌<◌, ◌∙◌, ◌&&◌, ap, arith, false, subst, sym, slice_index_or, ℕ}
+use Rattle.std.proofs.Common.{◌≡◌, ◌<◌, ◌∙◌, ◌&&◌, ap, arith, false, subst, sym, slice_index_or}
 use Rattle.std.proofs.lemmas.Bool.{and_from}
 
 pub returns-then-is_live : goal.returns-then-is_live

@@ -3,7 +3,7 @@ use Rattle.fa_flushes.proofs.syncs.have_synced.Goals as goal
 use Rattle.fa_machine.specs.Flushing.{has_synced}
 use Rattle.fa_state.specs.Core.{core_of}
 use Rattle.fa_types.specs.declared.geometry.Geometry.{Geometry}
-use Rattle.std.proofs.Common.{◌≡◌, ◌<◌, ◌∙◌, ap, arith, below_more, subst, sym, ℕ}
+use Rattle.std.proofs.Common.{◌≡◌, ◌<◌, ◌∙◌, ap, arith, below_more, subst, sym}
 
 pub returns-then-not-has_synced : goal.returns-then-not-has_synced
 returns-then-not-has_synced g c =
