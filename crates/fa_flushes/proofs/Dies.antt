@@ -9,7 +9,8 @@ use Rattle.std.proofs.Common.{inl, inr, length, refl, sym, map, get_or, ◌∙�
 use Rattle.std.proofs.lemmas.Bool.{cases_Bool, cases_lt}
 use Rattle.std.proofs.lemmas.List.{ext_get_or}
 use Rattle.std.proofs.lemmas.List.Folds.{list_all_at}
-use Rattle.std.proofs.lemmas.List.FromFn.{get_or-map-range_with_len, get_or-range_with_len, length-map-range_with_len, length-range_with_len}
+use Rattle.std.proofs.lemmas.List.FromFn.{get_or-map-range_with_len, get_or-range_with_len}
+use Rattle.std.proofs.lemmas.List.FromFn.{length-map-range_with_len, length-range_with_len}
 use Rattle.std.specs.Cmp.{nat_cmp_total}
 use Rattle.std.specs.FinMap.{FinMap, contains_key-keys, get, get-insert, insert, keys, nat_cmp-IsAntisymmetric, same_map}
 use Rattle.std.specs.List.{list_all, list_any, range_with_len}
@@ -76,7 +77,7 @@ module _ (live : ℕ → Bool) (before after : FinMap nat_cmp ℕ) (x n : ℕ) w
   inserted_more live_now inserted kept found is =
       let at = λ (die : ℕ). ap (λ (m : FinMap nat_cmp ℕ). get m die) is in (
         below_more _ _ (λ die low. at die ∙ get-insert_other after n x die (λ same. omega (arith, low, same)) ∙ inserted die low)
-        (at n ∙ get-insert_same after n x ∙ sym (ap (λ b. cond b (Some x) (get before n)) live_now)),
+            (at n ∙ get-insert_same after n x ∙ sym (ap (λ b. cond b (Some x) (get before n)) live_now)),
         λ die past. at die ∙ get-insert_other after n x die (λ same. omega (arith, past, same)) ∙ kept die (omega (arith, past)),
       )
 
@@ -85,7 +86,7 @@ module _ (live : ℕ → Bool) (before after : FinMap nat_cmp ℕ) (x n : ℕ) w
   kept_more out inserted kept found is =
       let at = λ (die : ℕ). ap (λ (m : FinMap nat_cmp ℕ). get m die) is in (
         below_more _ _ (λ die low. at die ∙ inserted die low)
-        (at n ∙ kept n (omega arith) ∙ sym (ap (λ b. cond b (Some x) (get before n)) out)),
+            (at n ∙ kept n (omega arith) ∙ sym (ap (λ b. cond b (Some x) (get before n)) out)),
         λ die past. at die ∙ kept die (omega (arith, past)),
       )
 
@@ -104,11 +105,11 @@ module _ (m : MapState) (whole : IsPageMap m) where
   marked_all marks n long marked unmarked =
       ext_get_or false marks (map (is_live m) (below n)) (long ∙ sym (length-map-range_with_len (is_live m) 0 n))
       (λ die low.
-          let there = sym (get_or-map-range_with_len (is_live m) 0 n die die false (omega (arith, low, long)) (omega arith)) in
-          elim (cases_lt die m.geometry.dies) [
-            | inl less ↦ marked die less ∙ there
-            | inr past ↦ unmarked die past ∙ sym (not_live die past) ∙ there
-          ])
+      let there = sym (get_or-map-range_with_len (is_live m) 0 n die die false (omega (arith, low, long)) (omega arith)) in
+      elim (cases_lt die m.geometry.dies) [
+        | inl less ↦ marked die less ∙ there
+        | inr past ↦ unmarked die past ∙ sym (not_live die past) ∙ there
+      ])
 
   -- a value for each live die
   pub inserted_all : (before after : FinMap nat_cmp ℕ) (x : ℕ)
@@ -117,9 +118,9 @@ module _ (m : MapState) (whole : IsPageMap m) where
   inserted_all before after x inserted kept =
       same_map nat_cmp_total nat_cmp-IsAntisymmetric after (insert_all (keys m.live) x before)
       (λ die.
-          let value = λ (b : Bool). cond b (Some x) (get before die) in
-          let there = sym (get_inserted (keys m.live) x before die ∙ ap value (sym (contains_key-keys m.live die))) in
-          elim (cases_lt die m.geometry.dies) [
-            | inl less ↦ inserted die less ∙ there
-            | inr past ↦ kept die past ∙ sym (ap value (not_live die past)) ∙ there
-          ])
+      let value = λ (b : Bool). cond b (Some x) (get before die) in
+      let there = sym (get_inserted (keys m.live) x before die ∙ ap value (sym (contains_key-keys m.live die))) in
+      elim (cases_lt die m.geometry.dies) [
+        | inl less ↦ inserted die less ∙ there
+        | inr past ↦ kept die past ∙ sym (ap value (not_live die past)) ∙ there
+      ])

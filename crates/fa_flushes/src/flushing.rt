@@ -17,8 +17,10 @@ use std::alloc::Allocator;
 /// How many flushes may be begun.
 const MAX_FLUSHES: u64 = 1 << 62;
 
-/// Each live die is asked for a sync.
-pub fn flush_begin<M: Map, A: Allocator + Clone>(state: &mut State<M, A>) -> Result<Flush, FlushRefused>
+/// Each live die is asked for a sync. The error is that 2^62 flushes were begun, and changes nothing.
+pub fn flush_begin<M: Map, A: Allocator + Clone>(
+    state: &mut State<M, A>,
+) -> Result<Flush, FlushRefused>
     requires dies { bound_of state.old.asked ≡ (M.view state.old.page_map).geometry.dies }
     requires flushes { state.old.flushes ≤ 2 ^ 62 }
     ensures begun { BeginsFlush (core_of M.view state.old) result (core_of M.view state.new) }

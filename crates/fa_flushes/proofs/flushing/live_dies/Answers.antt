@@ -5,7 +5,11 @@ use Rattle.fa_types.specs.declared.geometry.Geometry.{Geometry}
 use Rattle.std.proofs.Common.{◌≡◌, ◌∙◌, ap, arith, false, refl}
 
 pub loop-die-init : goal.loop-die-init
-loop-die-init g c = record { long = refl; marked = λ k low. absurd (omega (arith, low)); unmarked = λ k low. get_or-replicate_default 64 k false }
+loop-die-init g c = record {
+  long = refl;
+  marked = λ k low. absurd (omega (arith, low));
+  unmarked = λ k past. get_or-replicate_default 64 k false;
+}
 
 pub returns : goal.returns
 returns g c =
