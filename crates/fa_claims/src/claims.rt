@@ -96,8 +96,9 @@ impl<A: Allocator + Clone> Claims<A> {
     /// This is reserved under the open claim from now on.
     pub fn set_reserved(&mut self, claim: ClaimId, reserved: Option<Reservation>)
         requires { contains_key (claims_of self.old) claim.0 ≡ true }
-        ensures { claims_of self.new
+        ensures reserved { claims_of self.new
             ≡ insert (claims_of self.old) claim.0 (record { page = claim.0; reserved = option_map reservation_of reserved }) }
+        ensures page { unwrap_or (option_map (λ c. c.page) (get (claims_of self.old) claim.0)) 0 ≡ claim.0 }
     {
         match self.reservations.insert(claim.0, reserved) {
             Ok(_) => {}

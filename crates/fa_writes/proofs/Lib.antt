@@ -1,1 +1,3 @@
+mod Abandoned
+mod Kept
 mod Placed

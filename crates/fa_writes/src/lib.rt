@@ -2,10 +2,12 @@
 //! committed or given up, and the page is released.
 #![tactic(auto)]
 
+mod abandoning;
 mod claiming;
 mod placing;
 mod queueing;
 mod reserving;
 
+pub use abandoning::abandon;
 pub use claiming::{claim, release};
 pub use reserving::reserve;

@@ -6,7 +6,7 @@ use Rattle.fa_claims.proofs.claims.Claims.mark.Goals as goal
 
 pub returns-in-Some : goal.returns-in-Some
 returns-in-Some g c =
-    c.set_reserved.ensures
+    c.set_reserved.ensures.reserved
     ∙ marked (claims_of c.args.self.now) (page_is c.args.self.now.reservations.entries) c.args.page.0 c.args.die.0 c.args.slot.0
     (reservation_of c.in-Some.reserved) _ (sym c.reserved.ensures ∙ ap (option_map reservation_of) c.in-Some.is)
     (λ i. record { version = c.in-Some.reserved.version; targets = c.mark.ensures i })
