@@ -1,5 +1,5 @@
 -- Programs that go with their slots, one slot after the other, and slots of live dies.
-use Rattle.fa_machine.specs.State.{MapState, WaitingProgram, is_live}
+use Rattle.fa_machine.specs.State.{WaitingProgram}
 use Rattle.fa_machine.specs.declared.places.Target.{Target}
 use Rattle.fa_writes.proofs.Placed.{take_more}
 use Rattle.std.proofs.Common.{Bool, List, [], ap, cond, false, get_or, inl, inr, length, refl, sym, take, true, ℕ, ◌+◌, ◌<◌}
@@ -50,17 +50,3 @@ others_next ts n d ps low =
     ∙ filter_alike _ _ (λ p. neither (list_any (λ t. is_its t p) (take n ts)) (is_its (get_or ts n d) p)
     ∙ ap not (sym (list_any-append (λ t. is_its t p) (take n ts) (get_or ts n d ∷ [])))
     ∙ ap (λ xs. not (list_any (λ t. is_its t p) xs)) (sym (take_more ts n d low))) ps
-
--- whether one of those of live dies passes
-pub any_live : (m : MapState) (ts : List Target) → list_any (λ (t : Target). is_live m t.die.0 && t.programmed) ts
-    ≡ list_any (λ (t : Target). t.programmed) (filter (λ (t : Target). is_live m t.die.0) ts)
-any_live m [] = refl
-any_live m (t ∷ ts) = go (is_live m t.die.0) refl (any_live m ts)
-  where
-    go : (b : Bool) → is_live m t.die.0 ≡ b → list_any (λ (t : Target). is_live m t.die.0 && t.programmed) ts
-        ≡ list_any (λ (t : Target). t.programmed) (filter (λ (t : Target). is_live m t.die.0) ts)
-        → ((b && t.programmed) || list_any (λ (t : Target). is_live m t.die.0 && t.programmed) ts)
-        ≡ list_any (λ (t : Target). t.programmed)
-        (cond b (t ∷ filter (λ (t : Target). is_live m t.die.0) ts) (filter (λ (t : Target). is_live m t.die.0) ts))
-    go true is rest = ap (λ b. t.programmed || b) rest
-    go false is rest = rest

@@ -1,3 +1,5 @@
 mod Abandoned
+mod Holding
 mod Kept
+mod Live
 mod Placed

@@ -13,6 +13,7 @@ ghost use Rattle.fa_sound.specs.Sound.{IsSound};
 ghost use Rattle.fa_state.specs.Core.{core_of};
 ghost use Rattle.fa_writes.specs.Placed.{FitsLive};
 
+use crate::looking::are_programmed;
 use fa_machine::{AbandonRefused, ClaimId, Flight, Target};
 use fa_map::Map;
 use fa_parts::{ByDie, Waiting};
@@ -96,22 +97,6 @@ fn are_programming<A: Allocator>(jobs: &ByDie<Flight, A>, slots: &[Target]) -> b
     slots
         .iter()
         .any(|slot| is_programming(jobs.get(slot.die), slot.slot))
-}
-
-/// Whether a copy was programmed in one of the slots of live dies.
-fn are_programmed<M: Map>(page_map: &M, slots: &[Target]) -> bool
-    ensures { result ≡ list_any (λ slot. slot.programmed) (filter (λ slot. is_live (M.view page_map.now) slot.die.0) slots.now) }
-{
-    is_any_programmed(page_map, slots)
-}
-
-/// Whether one of the slots is on a live die and programmed.
-fn is_any_programmed<M: Map>(page_map: &M, slots: &[Target]) -> bool
-    ensures { result ≡ list_any (λ slot. is_live (M.view page_map.now) slot.die.0 && slot.programmed) slots.now }
-{
-    slots
-        .iter()
-        .any(|slot| page_map.is_live(slot.die) && slot.programmed)
 }
 
 /// The programs of these slots wait no more.

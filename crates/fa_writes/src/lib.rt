@@ -4,10 +4,13 @@
 
 mod abandoning;
 mod claiming;
+mod committing;
+mod looking;
 mod placing;
 mod queueing;
 mod reserving;
 
 pub use abandoning::abandon;
 pub use claiming::{claim, release};
+pub use committing::commit;
 pub use reserving::reserve;
