@@ -1,0 +1,101 @@
+//! The array's state as it is mounted.
+ghost use Rattle.std.specs.Prelude.{◌≡◌, ℕ, ◌+◌, ◌<◌, ◌^◌, ◌&&◌, [], nat_lt, IfOk};
+ghost use Rattle.std.specs.FinMap.{contains_key};
+ghost use Rattle.fa_machine.specs.State.{is_live};
+ghost use Rattle.fa_core.specs.Begun.{begun, numbers_of};
+ghost use Rattle.fa_parts.specs.Logs.{base_of, history_of};
+ghost use Rattle.fa_parts.specs.Counted.{new_base};
+ghost use Rattle.fa_set.specs.Members.{bound_of, members};
+ghost use Rattle.fa_state.specs.Core.{core_of};
+ghost use Rattle.fa_state.specs.Fitted.{IsFitted};
+
+use fa_bookings::Bookings;
+use fa_claims::Claims;
+use fa_map::Map;
+use fa_parts::{ByDie, Log, Waiting};
+use fa_set::NumberSet;
+use fa_state::{Batches, State};
+use fa_types::{Copies, Die, Round, Seq};
+use std::alloc::{AllocError, Allocator};
+
+/// The state over what images hold, with nothing under way: round 1, the header of each live die behind, an empty history. The
+/// page map, the epoch, the spares and the greatest number of a page are what mounting found. The error is out of memory.
+pub fn begin<M: Map + Drop, A: Allocator + Copy>(
+    alloc: A,
+    page_map: M,
+    copies: Copies,
+    epoch: u64,
+    spares: NumberSet<A>,
+    last: Seq,
+) -> Result<State<M, A>, AllocError>
+    requires spares { bound_of spares ≡ (M.view page_map).geometry.dies }
+    requires last { last.0 < 2 ^ 62 }
+    ensures begun { IfOk result (λ state. core_of M.view state ≡ begun copies.number (M.view page_map) epoch (members spares) last.0) }
+    ensures fitted { IfOk result (λ state. IsFitted M.view state) }
+{
+    let dies = page_map.geometry().dies;
+    let behind = live_dies(alloc, &page_map)?;
+    let stepped = NumberSet::new(alloc, dies as usize)?;
+    let bookings = Bookings::new(alloc, Round(1))?;
+    let waiting = Waiting::new(alloc, dies)?;
+    let jobs = ByDie::new(alloc, dies)?;
+    let asked = ByDie::new(alloc, dies)?;
+    let synced = ByDie::new(alloc, dies)?;
+    let log = new_log(alloc, &page_map)?;
+    Ok(State {
+        copies,
+        page_map,
+        bookings,
+        epoch,
+        behind,
+        spares,
+        stepped,
+        last: last.0,
+        waiting,
+        jobs,
+        copying: None,
+        claims: Claims::new(alloc),
+        batches: Batches::new(alloc),
+        flushes: 0,
+        asked,
+        synced,
+        log,
+    })
+}
+
+/// The live dies as a set.
+fn live_dies<M: Map, A: Allocator + Copy>(
+    alloc: A,
+    page_map: &M,
+) -> Result<NumberSet<A>, AllocError>
+    ensures members { IfOk result (λ dies. members dies ≡ (M.view page_map.now).live) }
+    ensures bound { IfOk result (λ dies. bound_of dies ≡ (M.view page_map.now).geometry.dies) }
+{
+    let dies = page_map.geometry().dies;
+    let mut live = NumberSet::new(alloc, dies as usize)?;
+    for die in 0..dies {
+        add_live(&mut live, page_map, die);
+    }
+    Ok(live)
+}
+
+/// The die is in the set if it is live, where the dies below it are.
+fn add_live<M: Map, A: Allocator>(live: &mut NumberSet<A>, page_map: &M, die: u32)
+    requires bound { bound_of live.old ≡ (M.view page_map.now).geometry.dies }
+    requires inside { die < (M.view page_map.now).geometry.dies }
+    requires before { (k : ℕ) → contains_key (members live.old) k ≡ (nat_lt k die && is_live (M.view page_map.now) k) }
+    ensures bound { bound_of live.new ≡ bound_of live.old }
+    ensures after { (k : ℕ) → contains_key (members live.new) k ≡ (nat_lt k (die + 1) && is_live (M.view page_map.now) k) }
+{
+    if page_map.is_live(Die(die as u8)) {
+        live.insert(die as usize);
+    }
+}
+
+/// An empty history, over the numbers that the pages have.
+fn new_log<M: Map, A: Allocator>(alloc: A, page_map: &M) -> Result<Log<A>, AllocError>
+    ensures base { IfOk result (λ log. base_of log ≡ new_base (numbers_of (M.view page_map.now))) }
+    ensures history { IfOk result (λ log. history_of log ≡ []) }
+{
+    Log::new(alloc, page_map)
+}
