@@ -8,9 +8,10 @@ ghost use Rattle.fa_machine.specs.Writing.{Abandons, is_programming as rule_prog
 ghost use Rattle.fa_machine.specs.declared.refusals.AbandonRefused.TheVariants.{Pending, Programmed};
 ghost use Rattle.fa_machine.specs.declared.places.Used.TheVariants.{Stale};
 ghost use Rattle.fa_parts.specs.Dies.{by_die};
-ghost use Rattle.fa_parts.specs.Waits.{waiting_of};
+ghost use Rattle.fa_parts.specs.Waits.{dies_of, waiting_of};
 ghost use Rattle.fa_sound.specs.Sound.{IsSound};
 ghost use Rattle.fa_state.specs.Core.{core_of};
+ghost use Rattle.fa_state.specs.Fitted.{IsFitted};
 ghost use Rattle.fa_writes.specs.Placed.{FitsLive};
 
 use crate::looking::are_programmed;
@@ -28,8 +29,9 @@ pub fn abandon<M: Map, A: Allocator + Clone>(
 ) -> Result<(), AbandonRefused>
     requires reserved { is_reserved (core_of M.view state.old) claim.0 ≡ true }
     requires sound { IsSound (core_of M.view state.old) }
-    ensures { Abandons (core_of M.view state.old) claim.0 (reserved_under (core_of M.view state.old) claim.0) result
+    ensures abandons { Abandons (core_of M.view state.old) claim.0 (reserved_under (core_of M.view state.old) claim.0) result
         (core_of M.view state.new) }
+    ensures fitted { IsFitted M.view state.old → IsFitted M.view state.new }
 {
     match state.claims.reserved(claim) {
         None => Ok(()),
@@ -50,10 +52,11 @@ pub fn abandon<M: Map, A: Allocator + Clone>(
 fn give_up<M: Map, A: Allocator + Clone>(state: &mut State<M, A>, claim: ClaimId, slots: &[Target])
     requires claimed { claim_open (core_of M.view state.old) claim.0 ≡ true }
     requires fits { All (FitsLive (M.view state.old.page_map)) slots.now }
-    ensures { core_of M.view state.new ≡ with_reserved claim.0 None (record (core_of M.view state.old) {
+    ensures given_up { core_of M.view state.new ≡ with_reserved claim.0 None (record (core_of M.view state.old) {
       page_map = with_targets Stale (live_targets (core_of M.view state.old) slots.now) (M.view state.old.page_map);
       waiting = filter (λ p. not (list_any (λ t. t.die.0 == p.die && t.slot.0 == p.slot) slots.now)) (waiting_of state.old.waiting);
     }) }
+    ensures fitted { IsFitted M.view state.old → IsFitted M.view state.new }
 {
     drop_programs(&mut state.waiting, slots);
     make_stale(&mut state.page_map, slots);
@@ -101,8 +104,9 @@ fn are_programming<A: Allocator>(jobs: &ByDie<Flight, A>, slots: &[Target]) -> b
 
 /// The programs of these slots wait no more.
 fn drop_programs<A: Allocator>(waiting: &mut Waiting<A>, slots: &[Target])
-    ensures { waiting_of waiting.new ≡ filter (λ p. not (list_any (λ slot. slot.die.0 == p.die && slot.slot.0 == p.slot) slots.now))
+    ensures dropped { waiting_of waiting.new ≡ filter (λ p. not (list_any (λ slot. slot.die.0 == p.die && slot.slot.0 == p.slot) slots.now))
         (waiting_of waiting.old) }
+    ensures dies { dies_of waiting.new ≡ dies_of waiting.old }
 {
     for index in 0..slots.len() {
         let slot = slots[index];

@@ -5,6 +5,7 @@ ghost use Rattle.fa_machine.specs.Conditions.{claim_open, is_reserved};
 ghost use Rattle.fa_machine.specs.Step.{is_page};
 ghost use Rattle.fa_machine.specs.Writing.{Claims};
 ghost use Rattle.fa_state.specs.Core.{core_of};
+ghost use Rattle.fa_state.specs.Fitted.{IsFitted};
 
 use fa_machine::{ClaimId, ClaimRefused};
 use fa_map::Map;
@@ -18,7 +19,8 @@ pub fn claim<M: Map, A: Allocator + Clone>(
     page: Page,
 ) -> Result<ClaimId, ClaimRefused>
     requires { is_page (core_of M.view state.old) page.0 ≡ true }
-    ensures { Claims (core_of M.view state.old) page.0 result (core_of M.view state.new) }
+    ensures claims { Claims (core_of M.view state.old) page.0 result (core_of M.view state.new) }
+    ensures fitted { IsFitted M.view state.old → IsFitted M.view state.new }
 {
     if state.claims.is_claimed(page) {
         return Err(ClaimRefused::Claimed);
@@ -33,8 +35,9 @@ pub fn claim<M: Map, A: Allocator + Clone>(
 pub fn release<M: Map, A: Allocator + Clone>(state: &mut State<M, A>, claim: ClaimId)
     requires claimed { claim_open (core_of M.view state.old) claim.0 ≡ true }
     requires empty { is_reserved (core_of M.view state.old) claim.0 ≡ false }
-    ensures { core_of M.view state.new
+    ensures released { core_of M.view state.new
         ≡ record (core_of M.view state.old) { claims = remove (core_of M.view state.old).claims claim.0 } }
+    ensures fitted { IsFitted M.view state.old → IsFitted M.view state.new }
 {
     state.claims.release(claim);
 }

@@ -12,6 +12,7 @@ ghost use Rattle.fa_parts.specs.Logs.{history_of};
 ghost use Rattle.fa_parts.specs.declared.log.TheConstants.{MAX_ENTRIES};
 ghost use Rattle.fa_sound.specs.Sound.{IsSound};
 ghost use Rattle.fa_state.specs.Core.{core_of};
+ghost use Rattle.fa_state.specs.Fitted.{IsFitted};
 ghost use Rattle.fa_writes.specs.Holding.{MayHoldAll};
 
 use crate::looking::{are_pending, are_programmed};
@@ -32,8 +33,9 @@ pub fn commit<M: Map, A: Allocator + Clone>(
     requires reserved { is_reserved (core_of M.view state.old) claim.0 ≡ true }
     requires room { history_full (core_of M.view state.old) ≡ false }
     requires sound { IsSound (core_of M.view state.old) }
-    ensures { Commits (core_of M.view state.old) claim.0 seat (reserved_under (core_of M.view state.old) claim.0) result
+    ensures commits { Commits (core_of M.view state.old) claim.0 seat (reserved_under (core_of M.view state.old) claim.0) result
         (core_of M.view state.new) }
+    ensures fitted { IsFitted M.view state.old → IsFitted M.view state.new }
 {
     match state.claims.reserved(claim) {
         None => Err(CommitRefused::Failed),
@@ -62,7 +64,8 @@ fn settle<M: Map, A: Allocator + Clone>(
     requires room { length (history_of state.old.log) < MAX_ENTRIES }
     requires holds { MayHoldAll (renewed page.0 reservation.version (M.view state.old.page_map)) page reservation.version
         (reservation_of reservation).targets }
-    ensures { core_of M.view state.new ≡ committed claim.0 seat (reservation_of reservation) (core_of M.view state.old) }
+    ensures settled { core_of M.view state.new ≡ committed claim.0 seat (reservation_of reservation) (core_of M.view state.old) }
+    ensures fitted { IsFitted M.view state.old → IsFitted M.view state.new }
 {
     state.page_map.renew(page, reservation.version);
     hold_slots(

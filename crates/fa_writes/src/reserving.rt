@@ -35,8 +35,9 @@ pub fn reserve<M: Map, A: Allocator + Clone>(
     requires empty { is_reserved (core_of M.view state.old) claim.0 ≡ false }
     requires page { claimed_page (core_of M.view state.old) claim.0 < (M.view state.old.page_map).geometry.pages }
     requires fitted { IsFitted M.view state.old }
-    ensures { Reserves (core_of M.view state.old) claim.0 least kind (arc_slice_items payload.now) result
+    ensures reserves { Reserves (core_of M.view state.old) claim.0 least kind (arc_slice_items payload.now) result
         (core_of M.view state.new) }
+    ensures fitted { IsFitted M.view state.new }
 {
     let page = state.claims.page_of(claim);
     let slots = slots_for(&state.page_map, state.copies, page);
@@ -66,10 +67,12 @@ fn reserve_on<M: Map, A: Allocator + Clone>(
         ≡ map (target_on (M.view state.old.page_map)) (targets state.old.copies.number (M.view state.old.page_map) page.0) }
     requires free { All (MayReserve (M.view state.old.page_map)) (targets_of slots) }
     requires fitted { IsFitted M.view state.old }
+    requires left { state.old.last + 1 < 2 ^ 62 }
     ensures seq { IfOk result (λ seq. seq.0 ≡ state.old.last + 1) }
     ensures reserved { OnOk result (core_of M.view state.new
         ≡ reserved claim.0 kind (arc_slice_items payload.now) (core_of M.view state.old)) }
     ensures refused { OnErr result (core_of M.view state.new ≡ core_of M.view state.old) }
+    ensures fitted { IsFitted M.view state.new }
 {
     let version = Version {
         seq: Seq(state.last + 1),

@@ -7,8 +7,8 @@ use Rattle.fa_writes.proofs.claiming.claim.Goals as goal
 pub claim-requires : goal.claim-requires
 claim-requires g c = sym c.is_claimed.ensures.number ∙ c.if-is_claimed.false
 
-pub returns-in-Ok : goal.returns-in-Ok
-returns-in-Ok g c =
+pub returns-in-Ok-clause-claims : goal.returns-in-Ok-clause-claims
+returns-in-Ok-clause-claims g c =
     let claims = claims_of c.args.state.now.claims in (
       sym c.is_claimed.ensures.claimed ∙ c.if-is_claimed.false,
       ap (contains_key claims) c.in-Ok.ensures.number ∙ sym c.is_claimed.ensures.number ∙ c.if-is_claimed.false,

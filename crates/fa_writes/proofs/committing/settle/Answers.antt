@@ -10,8 +10,8 @@ use Rattle.fa_writes.proofs.Live.{live_of}
 use Rattle.std.specs.FinMap.{insert}
 use Rattle.fa_writes.proofs.committing.settle.Goals as goal
 
-pub returns : goal.returns
-returns g c =
+pub returns-clause-settled : goal.returns-clause-settled
+returns-clause-settled g c =
     let m = g.M.Map.view c.args.state.now.page_map in
     let version = c.args.reservation.version in
     let claims = claims_of c.args.state.now.claims in λ i. record (core_of g.M.Map.view c.args.state.now) {
