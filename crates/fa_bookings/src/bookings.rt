@@ -147,7 +147,7 @@ impl<A: Allocator + Clone> Bookings<A> {
         self.calendar.window(die)
     }
 
-    /// Keeps the first run of so many open rounds of a die after the current one as its window, and answers its first round:
+    /// Keeps the first run of `rounds` open rounds of a die after the current one as its window, and answers its first round:
     /// 1 to 64 rounds, of a die that has no window. Refused, nothing has changed.
     pub fn reserve_window(&mut self, die: Die, rounds: u64) -> Result<Round, CalendarRefused>
         requires none { get (calendar_of self.old).windows die.0 ≡ None }

@@ -11,7 +11,7 @@ pub struct Candidate {
     pub stale: u32,
 }
 
-/// Whether a block with these slots may be emptied, on a die with so many erased slots: it has a stale slot, none that is
+/// Whether a block with these slots may be emptied, on a die with `free` erased slots: it has a stale slot, none that is
 /// reserved, and no more current ones than there are erased slots outside of it.
 pub fn may_be_emptied(counts: BlockCounts, free: u32) -> bool
     ensures { result ≡ (nat_lt 0 counts.stale && counts.reserved == 0 && nat_le counts.current (free - counts.erased)) }

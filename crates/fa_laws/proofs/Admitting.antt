@@ -1,11 +1,11 @@
 -- Admit and EndBatch keep what holds.
 use Rattle.fa_laws.proofs.Claiming.{value_other, value_same}
 use Rattle.fa_laws.proofs.Invariant.{AreAnswered, AreTold, Holds, later}
-use Rattle.fa_laws.proofs.Lists.{among-filter, among-filter_map}
+use Rattle.fa_machine.proofs.Lists.{among-filter, among-filter_map}
 use Rattle.fa_machine.proofs.Maps.{get-insert_cases, get-remove_some, nat_same}
-use Rattle.fa_laws.proofs.Maps.{any_value, get-insert_all}
+use Rattle.fa_machine.proofs.Values.{any_value, get-insert_all}
 use Rattle.fa_laws.proofs.Reserving.{among-append}
-use Rattle.fa_laws.proofs.Scene.{Among}
+use Rattle.fa_machine.specs.Among.{Among}
 use Rattle.fa_machine.specs.Maps.{insert_all}
 use Rattle.fa_machine.specs.Reading.{at_once, has_data, is_data, is_fresh, names_batch, zeros}
 use Rattle.fa_machine.specs.State.{CalendarState, OpenBatch}

@@ -3,8 +3,8 @@ use Rattle.fa_batch.specs.Plan.{rounds_of}
 use Rattle.fa_batch.specs.declared.plan.Place.{Place}
 use Rattle.fa_laws.proofs.Finishing.{passed_some}
 use Rattle.fa_machine.proofs.Maps.{get-keep, get-place_other, place_cmp_total, place_same}
-use Rattle.fa_laws.proofs.Scene.{Among}
-use Rattle.fa_laws.proofs.Takes.{IsOther, IsUrgent, take_cases}
+use Rattle.fa_machine.specs.Among.{Among}
+use Rattle.fa_machine.proofs.Takes.{IsOther, IsUrgent, take_cases}
 use Rattle.fa_laws.proofs.Timely.{Timely, TimelyCore, begun_timely, booked_cases, dropped_timely, ended_timely, kept_timely}
 use Rattle.fa_laws.proofs.Timely.{read_timely}
 use Rattle.fa_machine.specs.Conditions.{drop_die}

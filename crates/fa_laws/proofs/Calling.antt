@@ -1,5 +1,6 @@
 -- An image call of a job touches no slot in which a copy stands.
-use Rattle.fa_laws.proofs.Scene.{Among, Bytes, GaveFits, IsHeld, IsTargetAt, JobFits, Owned, Scene, Sound, Stands, WorkFits, writes}
+use Rattle.fa_laws.proofs.Scene.{Bytes, GaveFits, IsHeld, IsTargetAt, JobFits, Owned, Scene, Sound, Stands, WorkFits, writes}
+use Rattle.fa_machine.specs.Among.{Among}
 use Rattle.fa_machine.specs.Cells.{Cell, moved_payload, payload_of}
 use Rattle.fa_machine.specs.Copies.{is_held_slot}
 use Rattle.fa_machine.specs.State.{is_live}

@@ -1,14 +1,14 @@
 -- Claim, Release, and the three forms of Reserve keep what holds.
-use Rattle.fa_laws.proofs.Ending.{among-map}
 use Rattle.fa_laws.proofs.Invariant.{AreInside, Holds, later, owned_claim, owned_of, scene_of}
 use Rattle.fa_laws.proofs.Keeping.{Records, disowned_is_sound, recorded_is_sound}
-use Rattle.fa_laws.proofs.Lists.{among-filter, among-map-intro, among-take, found_passes, none_found, tally-filter-le, tally-map-le}
-use Rattle.fa_laws.proofs.Lists.{tally-take-le}
+use Rattle.fa_machine.proofs.Lists.{among-filter, among-map, among-map-intro, among-take, found_passes, none_found, tally-filter-le, tally-map-le}
+use Rattle.fa_machine.proofs.Lists.{tally-take-le}
 use Rattle.fa_machine.proofs.Maps.{get-insert_cases, get-insert_other, get-insert_same}
-use Rattle.fa_laws.proofs.Maps.{get-insert_all, get-insert_all_among}
+use Rattle.fa_machine.proofs.Values.{get-insert_all, get-insert_all_among}
 use Rattle.fa_machine.proofs.Maps.{get-remove_other, get-remove_same, get-remove_some, place_cmp_total, place_itself, place_same}
 use Rattle.fa_laws.proofs.Reserving.{Reserves, reserved_is_sound}
-use Rattle.fa_laws.proofs.Scene.{Among, Owned, Scene, program_is_at, tally}
+use Rattle.fa_laws.proofs.Scene.{Owned, Scene, program_is_at}
+use Rattle.fa_machine.specs.Among.{Among, tally}
 use Rattle.fa_machine.specs.Conditions.{claim_open}
 use Rattle.fa_machine.specs.Maps.{insert_all}
 use Rattle.fa_machine.specs.Placement.{copies_asked, free, has_room, is_erased_slot, lowest_erased, order_of, room, targets}

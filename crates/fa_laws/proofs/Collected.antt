@@ -7,7 +7,8 @@ use Rattle.fa_laws.proofs.Keeping.{Keeps, kept_is_sound}
 use Rattle.fa_machine.proofs.Maps.{get-insert_cases, get-keep, get-place_other, get-place_same, passed, place_cmp_total, place_same}
 use Rattle.fa_laws.proofs.Parts.{held≢stale, kept≢settled}
 use Rattle.fa_laws.proofs.Reserving.{among-append}
-use Rattle.fa_laws.proofs.Scene.{Among, IsMoving, Scene, Stands, is_settled}
+use Rattle.fa_laws.proofs.Scene.{IsMoving, Scene, Stands, is_settled}
+use Rattle.fa_machine.specs.Among.{Among}
 use Rattle.fa_machine.specs.Collecting.{is_in_block}
 use Rattle.fa_machine.specs.Copies.{is_current, is_reserved_slot}
 use Rattle.fa_machine.specs.Maps.{Numbers, keep, place_cmp}

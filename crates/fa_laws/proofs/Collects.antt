@@ -8,7 +8,6 @@ use Rattle.fa_laws.proofs.Table.{Ordered, Table, core_of, in_order, is_ordered}
 use Rattle.fa_laws.proofs.Tabled.{at, at_number, can_take, did, free_in, idle_in, is_none_there, took, with_number, without_number}
 use Rattle.fa_machine.specs.Cells.{DidMove, DidSync}
 use Rattle.fa_machine.specs.Collecting.{is_in_block, next_step, slots_in}
-use Rattle.fa_machine.specs.Conditions.{first_that}
 use Rattle.fa_machine.specs.Copies.{holds_last, is_current, is_held_slot, is_reserved_slot, is_stale_slot}
 use Rattle.fa_machine.specs.Maps.{below, place_cmp}
 use Rattle.fa_types.specs.Windows.{is_in_window, window_rounds}
@@ -29,14 +28,12 @@ use Rattle.fa_machine.specs.declared.jobs.Flight.TheVariants.{Erase, Move, Sync}
 use Rattle.fa_machine.specs.declared.places.Used.{Used}
 use Rattle.fa_machine.specs.declared.places.Used.TheVariants.{Held, Reserved, Stale}
 use Rattle.fa_machine.specs.declared.places.Version.{Version}
-use Rattle.fa_machine.specs.declared.refusals.WindowRefused.{WindowRefused}
-use Rattle.fa_machine.specs.declared.refusals.WindowRefused.TheVariants.{Busy as WindowBusy, HasOne}
 use Rattle.fa_types.specs.Open.{max_closed, rounds_that}
 use Rattle.fa_types.specs.declared.geometry.Geometry.{Geometry}
 use Rattle.fa_types.specs.declared.numbers.Page.{Page}
 use Rattle.fa_types.specs.declared.numbers.Round.{Round}
 use Rattle.fa_types.specs.declared.numbers.Slot.{Slot}
-use Rattle.std.proofs.Common.{Bool, List, None, Option, Some, [], ap, arith, false, length, map, not, refl, suc, sym, true, ℕ, ◌+◌, ◌-◌, ◌∙◌, ◌∷◌, ◌≡◌}
+use Rattle.std.proofs.Common.{Bool, List, None, Option, Some, ap, arith, false, length, map, not, refl, suc, sym, true, ℕ, ◌+◌, ◌-◌, ◌∙◌, ◌≡◌}
 use Rattle.std.proofs.lemmas.Bool.{and_parts, leb-true, not-true}
 use Rattle.fa_laws.proofs.Rounds.{taken_rounds}
 use Rattle.fa_types.specs.Windows.{is_in_window, window_rounds}

@@ -1,13 +1,13 @@
 -- Commit, Abandon and CommitCopy keep what holds.
 use Rattle.fa_laws.proofs.Claiming.{claimed_inside, inside_insert, own_insert}
-use Rattle.fa_laws.proofs.Ending.{among-map}
 use Rattle.fa_laws.proofs.Invariant.{Holds, later, owned_claim, owned_of, scene_of}
 use Rattle.fa_laws.proofs.Keeping.{Keeps, kept_is_sound, renumbered_is_sound}
-use Rattle.fa_laws.proofs.Lists.{among-filter, among-filter-intro, any_none, any_some, no_refusal, tally-filter-le}
+use Rattle.fa_machine.proofs.Lists.{among-filter, among-filter-intro, among-map, any_none, any_some, no_refusal, tally-filter-le}
 use Rattle.fa_machine.proofs.Maps.{get-change, get-insert_cases, get-insert_other, get-insert_same, place_cmp_total, place_same}
-use Rattle.fa_laws.proofs.Maps.{get-insert_all}
+use Rattle.fa_machine.proofs.Values.{get-insert_all}
 use Rattle.fa_laws.proofs.Parts.{held≢stale, kept≢held}
-use Rattle.fa_laws.proofs.Scene.{Among, IsNumbered, IsTargetAt, JobFits, Owned, Scene, Sound, is_settled, program_is_at}
+use Rattle.fa_laws.proofs.Scene.{IsNumbered, IsTargetAt, JobFits, Owned, Scene, Sound, is_settled, program_is_at}
+use Rattle.fa_machine.specs.Among.{Among}
 use Rattle.fa_laws.proofs.Settling.{Settles, settled_is_sound}
 use Rattle.fa_machine.specs.Conditions.{reserved_under}
 use Rattle.fa_machine.specs.Maps.{change, insert_all, place_cmp}

@@ -4,9 +4,10 @@ use Rattle.fa_laws.proofs.Committing.{program_target}
 use Rattle.fa_laws.proofs.Invariant.{Holds, later, owned_of, scene_of}
 use Rattle.fa_laws.proofs.Keeping.{disowned_is_sound}
 use Rattle.fa_machine.proofs.Maps.{place_cmp_total, place_itself, place_same}
-use Rattle.fa_laws.proofs.Maps.{get-insert_all, get-insert_all_among}
+use Rattle.fa_machine.proofs.Values.{get-insert_all, get-insert_all_among}
 use Rattle.fa_laws.proofs.Reserving.{Reserves, reserved_is_sound}
-use Rattle.fa_laws.proofs.Scene.{Among, IsNumbered, IsTargetAt, Owned, program_is_at}
+use Rattle.fa_laws.proofs.Scene.{IsNumbered, IsTargetAt, Owned, program_is_at}
+use Rattle.fa_machine.specs.Among.{Among}
 use Rattle.fa_laws.proofs.Settling.{Settles, settled_is_sound}
 use Rattle.fa_machine.specs.Maps.{insert_all}
 use Rattle.fa_machine.specs.Placement.{has_room}

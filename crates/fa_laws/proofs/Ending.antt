@@ -1,7 +1,9 @@
 -- How programs and moves end: a target is marked as programmed, and a slot to which a copy was moved is settled.
+use Rattle.fa_machine.proofs.Lists.{among-map}
 use Rattle.fa_laws.proofs.Keeping.{Preserves, job_preserved}
 use Rattle.fa_laws.proofs.Parts.{held≢stale, moved_stands, same_held}
-use Rattle.fa_laws.proofs.Scene.{Among, IsHeld, IsOwned, IsTarget, IsTargetAt, IsToCome, IsWaiting, Owned, Places, Scene, Sound}
+use Rattle.fa_laws.proofs.Scene.{IsHeld, IsOwned, IsTarget, IsTargetAt, IsToCome, IsWaiting, Owned, Places, Scene, Sound}
+use Rattle.fa_machine.specs.Among.{Among}
 use Rattle.fa_laws.proofs.Scene.{Stands, is_settled}
 use Rattle.fa_machine.specs.Copies.{is_held_slot}
 use Rattle.fa_machine.specs.State.{WaitingProgram}
@@ -11,19 +13,14 @@ use Rattle.fa_machine.specs.declared.places.Used.{Used}
 use Rattle.fa_machine.specs.declared.places.Used.TheVariants.{Held, Reserved, Stale}
 use Rattle.fa_machine.specs.declared.places.Version.{Version}
 use Rattle.fa_types.specs.declared.numbers.Page.{Page}
-use Rattle.std.proofs.Common.{Bool, List, None, Option, Some, [], ap, eqb-true, false, inl, inr, map, refl, subst, sym, true, ℕ, ◌∙◌}
-use Rattle.std.proofs.Common.{◌∷◌, ◌≡◌, ◌≤◌, ◌⊎◌}
+use Rattle.std.proofs.Common.{Bool, None, Option, Some, ap, eqb-true, false, inl, inr, map, refl, subst, sym, true, ℕ, ◌∙◌}
+use Rattle.std.proofs.Common.{◌≡◌, ◌≤◌, ◌⊎◌}
 use Rattle.std.proofs.lemmas.Bool.{and_parts, cases_Bool, cases_eq}
 use Rattle.std.proofs.lemmas.Option.{none-some}
 use Rattle.std.specs.Prelude.{if◌then◌else◌, ◌&&◌, ◌==◌}
 
 abbrev pub marked : ℕ → ℕ → Owned → Owned
 marked die slot x = record x { targets = map (mark die slot) x.targets }
-
-pub among-map : {X Y : Type 0} (f : X → Y) (y : Y) (xs : List X) → Among y (map f xs) → (x : X) × Among x xs × (f x ≡ y)
-among-map f y [] i = absurd i
-among-map f y (x ∷ xs) (inl same) = (x, inl refl, same)
-among-map f y (x ∷ xs) (inr rest) = let found = among-map f y xs rest in (found.0, inr found.1, found.2)
 
 mark_die_if : (b : Bool) (t : Target) → ◌≡◌ {A = ℕ} (if b then record t { programmed = true } else t).die.0 t.die.0
 mark_die_if true t = refl

@@ -8,7 +8,7 @@ use Rattle.fa_laws.proofs.Entering.{spare_holds}
 use Rattle.fa_laws.proofs.Handing.{take_holds}
 use Rattle.fa_laws.proofs.Invariant.{Holds, next, quiet, still}
 use Rattle.fa_laws.proofs.JobEnds.{done_holds}
-use Rattle.fa_laws.proofs.Lists.{among-contains, found_passes, no_refusal}
+use Rattle.fa_machine.proofs.Lists.{among-contains, found_passes, no_refusal}
 use Rattle.fa_machine.specs.Conditions.{claim_open, copy_open, reserved_under}
 use Rattle.fa_machine.specs.Copies.{holds_page}
 use Rattle.fa_machine.specs.History.{folded}
@@ -36,15 +36,14 @@ use Rattle.fa_machine.specs.declared.refusals.CommitCopyRefused.{CommitCopyRefus
 use Rattle.fa_machine.specs.declared.refusals.CommitCopyRefused.TheVariants.{Failed as CopyFailed, Pending as CopyPending}
 use Rattle.fa_machine.specs.declared.refusals.CommitRefused.{CommitRefused}
 use Rattle.fa_machine.specs.declared.refusals.FlushRefused.TheVariants.{Spent}
-use Rattle.fa_machine.specs.declared.refusals.ReserveCopyRefused.TheVariants.{Gone, NoMemory as CopyNoMemory}
+use Rattle.fa_machine.specs.declared.refusals.ReserveCopyRefused.TheVariants.{Gone}
 use Rattle.fa_machine.specs.declared.refusals.ReserveRefused.{ReserveRefused}
-use Rattle.fa_machine.specs.declared.refusals.ReserveRefused.TheVariants.{NoMemory as ReserveNoMemory}
 use Rattle.fa_machine.specs.declared.refusals.SpareRefused.TheVariants.{NotSpare}
 use Rattle.fa_machine.specs.declared.refusals.WindowRefused.TheVariants.{Busy as WindowBusy, HasOne, NoMemory as WindowNoMemory}
 use Rattle.fa_types.specs.declared.numbers.Seq.{Seq}
 use Rattle.std.proofs.Common.{Bool, List, None, Option, Some, [], ap, cond, eqb-true, false, inl, inr, not, refl, subst, suc, sym}
 use Rattle.std.proofs.Common.{true, ℕ, ◌+◌, ◌<◌, ◌∙◌, ◌∷◌, ◌≡◌}
-use Rattle.fa_laws.proofs.Scene.{Among}
+use Rattle.fa_machine.specs.Among.{Among}
 use Rattle.std.specs.List.{list_all}
 use Rattle.std.proofs.lemmas.Bool.{and_parts, false≢true, ltb-true, not-false, true≢false}
 use Rattle.std.proofs.lemmas.Option.{none-some}

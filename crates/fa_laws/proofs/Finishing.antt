@@ -4,10 +4,11 @@ use Rattle.fa_laws.proofs.Ending.{mark_other, marked, marked_is_sound}
 use Rattle.fa_laws.proofs.Invariant.{AreAt, AreInside, Holds, later, owned_claim, owned_of, scene_of}
 use Rattle.fa_laws.proofs.Keeping.{worked_is_sound}
 use Rattle.fa_laws.proofs.Leaving.{Drops, dropped_is_sound}
-use Rattle.fa_laws.proofs.Lists.{among-filter, tally-filter-le}
+use Rattle.fa_machine.proofs.Lists.{among-filter, tally-filter-le}
 use Rattle.fa_machine.proofs.Maps.{get-change, get-keep, get-remove_other, get-remove_same, get-remove_some, has_some, nat_same, passed}
 use Rattle.fa_machine.proofs.Maps.{place_cmp_total, place_same}
-use Rattle.fa_laws.proofs.Scene.{Among, IsTargetAt, IsToCome, Owned, Stands, program_is_at, writes}
+use Rattle.fa_laws.proofs.Scene.{IsToCome, Owned, Stands, program_is_at, writes}
+use Rattle.fa_machine.specs.Among.{Among}
 use Rattle.fa_machine.specs.Conditions.{drop_die}
 use Rattle.fa_machine.specs.Maps.{change, keep, place_cmp}
 use Rattle.fa_machine.specs.State.{OpenClaim, Reservation, WaitingProgram}

@@ -1,6 +1,6 @@
 -- Each event keeps the replay of the history, and counts.
 use Rattle.fa_laws.proofs.Endings.{HappensCall}
-use Rattle.fa_laws.proofs.Takes.{IsOther, IsUrgent, take_cases}
+use Rattle.fa_machine.proofs.Takes.{IsOther, IsUrgent, take_cases}
 use Rattle.fa_laws.specs.Counted.{HasHistory, commits_of, commits_over, is_read, starts_of, starts_over}
 use Rattle.fa_machine.specs.Beginning.{IsBeginning}
 use Rattle.fa_machine.specs.Cells.{DidErase, DidMove, DidProgram, DidRead, DidSync, DidWriteHeader, Outcome}

@@ -3,13 +3,14 @@ use Rattle.fa_laws.proofs.Admitting.{one_value_other, one_value_same}
 use Rattle.fa_laws.proofs.ImageCalls.{read_too}
 use Rattle.fa_laws.proofs.Invariant.{Holds, next, quiet, scene_of, still}
 use Rattle.fa_laws.proofs.Keeping.{Keeps, kept_is_sound}
-use Rattle.fa_laws.proofs.Lists.{among-without, counted_none, cut_first, found_passes, in_the_block, none_passes, tally-without}
-use Rattle.fa_laws.proofs.Lists.{without_first}
+use Rattle.fa_machine.proofs.Lists.{among-without, counted_none, cut_first, found_passes, in_the_block, none_passes, tally-without}
+use Rattle.fa_machine.proofs.Lists.{without_first}
 use Rattle.fa_machine.proofs.Maps.{get-place_other, get-place_same}
 use Rattle.fa_laws.proofs.Parts.{kept≢held, kept≢none, moved_to_come, none≢settled, target_kept, to_come_kept}
-use Rattle.fa_laws.proofs.Scene.{Among, IsErasing, JobFits, flight_writes, is_settled, program_is_at, tally, writes}
+use Rattle.fa_laws.proofs.Scene.{IsErasing, JobFits, flight_writes, is_settled, program_is_at, writes}
+use Rattle.fa_machine.specs.Among.{Among, tally}
 use Rattle.fa_laws.proofs.Starting.{Fits, begin_holds, idle_works}
-use Rattle.fa_laws.proofs.Takes.{IsOther, IsUrgent, take_cases}
+use Rattle.fa_machine.proofs.Takes.{IsOther, IsUrgent, take_cases}
 use Rattle.fa_laws.specs.Counted.{is_read}
 use Rattle.fa_machine.specs.Cells.{Broken, Cell, Empty, Sealed, payload_of}
 use Rattle.fa_machine.specs.Collecting.{count_in, is_erased_outside, may_be_victim, move_place, next_step, slots_in}

@@ -4,11 +4,11 @@ use Rattle.fa_laws.proofs.Booked.{Good, MayPlan, dropped_good, ended_good, good_
 use Rattle.fa_laws.proofs.Booked.{planned_timely, released_good, same_after, take_good, to_good}
 use Rattle.fa_laws.proofs.Events.{first_refusal}
 use Rattle.fa_laws.proofs.Finishing.{passed_some, passed_test}
-use Rattle.fa_laws.proofs.Lists.{among-filter-intro, among-range, any_none}
+use Rattle.fa_machine.proofs.Lists.{among-filter-intro, among-range, any_none}
 use Rattle.fa_machine.proofs.Maps.{get-keep, nat_same, place_cmp_total, place_itself, place_same}
-use Rattle.fa_laws.proofs.Maps.{any_value, some_value}
+use Rattle.fa_machine.proofs.Values.{any_value, some_value}
 use Rattle.fa_laws.proofs.Runs.{run_keeps}
-use Rattle.fa_laws.proofs.Scene.{Among}
+use Rattle.fa_machine.specs.Among.{Among}
 use Rattle.fa_laws.proofs.Timely.{TimelyCore, advanced_timely}
 use Rattle.fa_laws.specs.InTime.{IsPlannedUntil, PlansNothing}
 use Rattle.fa_laws.specs.Reached.{IsReached}

@@ -1,5 +1,6 @@
 -- What holds of each world that a run leads to.
-use Rattle.fa_laws.proofs.Scene.{Among, Owned, Scene, Sound, tally}
+use Rattle.fa_laws.proofs.Scene.{Owned, Scene, Sound}
+use Rattle.fa_machine.specs.Among.{Among, tally}
 use Rattle.fa_machine.specs.Maps.{Numbers}
 use Rattle.fa_machine.specs.Placement.{order_of}
 use Rattle.fa_machine.specs.Reading.{zeros}

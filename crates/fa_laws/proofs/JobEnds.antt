@@ -6,7 +6,8 @@ use Rattle.fa_laws.proofs.Finishing.{drop_holds, ended, ended_holds, program_end
 use Rattle.fa_laws.proofs.Invariant.{Holds, next, scene_of}
 use Rattle.fa_laws.proofs.Outcomes.{gave_move, gave_program, gave_read}
 use Rattle.fa_laws.proofs.Parts.{waits_once, written_here}
-use Rattle.fa_laws.proofs.Scene.{GaveFits, IsReading, JobFits, flight_writes, program_is_at, tally, writes}
+use Rattle.fa_laws.proofs.Scene.{GaveFits, IsReading, JobFits, flight_writes, program_is_at, writes}
+use Rattle.fa_machine.specs.Among.{tally}
 use Rattle.fa_machine.specs.Cells.{Cell, DidErase, DidMove, DidProgram, DidRead, DidSync, DidWriteHeader, Fault, Outcome, Wrong}
 use Rattle.fa_machine.specs.Cells.{is_of_kind, payload_of}
 use Rattle.fa_machine.specs.Maps.{Numbers}

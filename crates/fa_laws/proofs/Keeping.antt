@@ -1,5 +1,6 @@
 -- Changes of a scene that leave what is reserved: of slots, of numbers, of the jobs in flight, of the bytes reserved.
-use Rattle.fa_laws.proofs.Scene.{Among, Bytes, GaveFits, IsNumbered, IsTargetAt, IsToCome, JobFits, Owned, Places, Scene, Sound}
+use Rattle.fa_laws.proofs.Scene.{Bytes, GaveFits, IsNumbered, IsTargetAt, IsToCome, JobFits, Owned, Places, Scene, Sound}
+use Rattle.fa_machine.specs.Among.{Among}
 use Rattle.fa_laws.proofs.Scene.{WorkFits, is_settled, programs_at}
 use Rattle.fa_machine.specs.Copies.{is_held_slot}
 use Rattle.fa_machine.specs.Maps.{below}

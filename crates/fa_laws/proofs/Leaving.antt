@@ -1,6 +1,7 @@
 -- A die goes out with all that it had, and a spare comes in.
 use Rattle.fa_laws.proofs.Keeping.{Preserves, job_preserved, to_come_preserved}
-use Rattle.fa_laws.proofs.Scene.{Among, IsHeld, Owned, Places, Scene, Sound, is_settled, program_is_at, tally, writes}
+use Rattle.fa_laws.proofs.Scene.{IsHeld, Owned, Places, Scene, Sound, is_settled, program_is_at, writes}
+use Rattle.fa_machine.specs.Among.{Among, tally}
 use Rattle.fa_machine.specs.Copies.{is_held_slot}
 use Rattle.fa_machine.specs.State.{WaitingProgram, is_live}
 use Rattle.fa_machine.specs.World.{Work}

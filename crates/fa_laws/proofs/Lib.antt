@@ -27,11 +27,8 @@ pub mod JobEnds
 pub mod Keeping
 pub mod Leaving
 pub mod Listed
-pub mod Lists
-pub mod Maps
 pub mod Making
 pub mod MendedBatch
-pub mod Orders
 pub mod Outcomes
 pub mod Outlasting
 pub mod Parts
@@ -50,7 +47,6 @@ pub mod Starts
 pub mod Staying
 pub mod Table
 pub mod Tabled
-pub mod Takes
 pub mod Timely
 pub mod Within
 pub mod TornBatch

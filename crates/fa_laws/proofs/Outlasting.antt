@@ -1,9 +1,9 @@
 -- The end of a job changes the slots of its own die alone.
 use Rattle.fa_batch.specs.Batch.{holds}
 use Rattle.fa_laws.proofs.Finishing.{passed_all}
-use Rattle.fa_laws.proofs.Lists.{among-range}
+use Rattle.fa_machine.proofs.Lists.{among-range}
 use Rattle.fa_machine.proofs.Maps.{get-keep, get-place_other, get-remove_other, place_cmp_total, place_same}
-use Rattle.fa_laws.proofs.Scene.{Among}
+use Rattle.fa_machine.specs.Among.{Among}
 use Rattle.fa_machine.specs.Cells.{DidErase, DidMove, DidProgram, DidRead, DidSync, DidWriteHeader, Fault, Outcome, Wrong}
 use Rattle.fa_machine.specs.Collecting.{is_in_block}
 use Rattle.fa_machine.specs.Conditions.{drop_die}

@@ -1,6 +1,8 @@
 -- Small steps for scenes.
-use Rattle.fa_laws.proofs.Scene.{Among, Bytes, IsTargetAt, IsToCome, JobFits, Owned, Places, Scene, Sound, Stands, flight_writes}
-use Rattle.fa_laws.proofs.Scene.{is_settled, program_is_at, programs_at, tally, writes}
+use Rattle.fa_laws.proofs.Scene.{Bytes, IsTargetAt, IsToCome, JobFits, Owned, Places, Scene, Sound, Stands, flight_writes}
+use Rattle.fa_machine.specs.Among.{Among}
+use Rattle.fa_laws.proofs.Scene.{is_settled, program_is_at, programs_at, writes}
+use Rattle.fa_machine.specs.Among.{tally}
 use Rattle.fa_machine.specs.State.{WaitingProgram, is_live}
 use Rattle.fa_machine.specs.declared.jobs.Flight.{Flight}
 use Rattle.fa_machine.specs.declared.jobs.Flight.TheVariants.{Erase, Header, Move, Program, Read, Sync}

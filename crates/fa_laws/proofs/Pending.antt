@@ -8,7 +8,7 @@ use Rattle.fa_machine.proofs.Maps.{get-insert_other, get-insert_same, get-remove
 use Rattle.fa_laws.proofs.Outcomes.{gave_read}
 use Rattle.fa_laws.proofs.Runs.{run_keeps}
 use Rattle.fa_laws.proofs.Scene.{GaveFits, JobFits}
-use Rattle.fa_laws.proofs.Takes.{take_cases}
+use Rattle.fa_machine.proofs.Takes.{take_cases}
 use Rattle.fa_laws.specs.Reached.{IsReached}
 use Rattle.fa_laws.specs.Untouched.{EndsNoJob}
 use Rattle.fa_machine.specs.Cells.{Cell, DidErase, DidMove, DidProgram, DidRead, DidSync, DidWriteHeader, Fault, Outcome, Wrong}

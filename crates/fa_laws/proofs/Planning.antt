@@ -29,13 +29,11 @@ use Rattle.fa_types.specs.declared.geometry.Geometry.{Geometry}
 use Rattle.fa_types.specs.declared.numbers.Page.{Page}
 use Rattle.std.proofs.Common.{Bool, List, None, Option, Some, [], ap, arith, cond, false, length, map, not, refl, subst, suc, sym, true, ℕ, ◌+◌, ◌++◌, ◌∙◌, ◌∷◌, ◌≡◌, ◌≤◌}
 use Rattle.std.proofs.lemmas.Bool.{and_parts, leb-true}
-use Rattle.std.proofs.lemmas.List.{length-map}
-use Rattle.std.proofs.lemmas.List.Sums.{count_by-le-length}
 use Rattle.std.specs.Cmp.{nat_cmp_total}
-use Rattle.std.specs.FinMap.{empty, entries-from_sorted, find as find_entry, from_sorted, get, get-from_sorted, insert, is_sorted, keys, put, values}
+use Rattle.std.specs.FinMap.{empty, entries-from_sorted, find as find_entry, from_sorted, get, get-from_sorted, insert, is_sorted, put, values}
 use Rattle.std.specs.List.{fold, list_all, list_any}
 use Rattle.std.specs.Ordering.{eq_by_cmp, nat_cmp}
-use Rattle.std.specs.Prelude.{T, count_by, filter, filter_map, find, if◌then◌else◌, is_some, nat_le, option_map, replicate, unwrap_or, Ok, ◌&&◌, ◌||◌, ◌*◌, ◌==◌}
+use Rattle.std.specs.Prelude.{T, filter, filter_map, find, if◌then◌else◌, is_some, nat_le, option_map, replicate, unwrap_or, Ok, ◌&&◌, ◌||◌, ◌*◌, ◌==◌}
 
 -- no window has more than 64 rounds that have not passed
 abbrev pub are_short : ℕ → List (ℕ × WindowOf) → Bool

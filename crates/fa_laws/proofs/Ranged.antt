@@ -1,17 +1,17 @@
 -- Each used slot is one of its die.
 use Rattle.fa_laws.proofs.Endings.{HappensCall, HasOutcome}
 use Rattle.fa_laws.proofs.Committing.{reserved_owned}
-use Rattle.fa_laws.proofs.Ending.{among-map}
 use Rattle.fa_laws.proofs.Events.{happens_holds}
 use Rattle.fa_laws.proofs.Finishing.{passed_some}
 use Rattle.fa_laws.proofs.Invariant.{Holds, owned_of, scene_of}
-use Rattle.fa_laws.proofs.Lists.{among-filter, among-take, found_passes, no_refusal, none_found}
+use Rattle.fa_machine.proofs.Lists.{among-filter, among-map, among-take, among_low, found_passes, no_refusal, none_found}
 use Rattle.fa_machine.proofs.Maps.{get-change, get-keep, get-place_other, place_cmp_total, place_same}
-use Rattle.fa_laws.proofs.Maps.{get-insert_all}
+use Rattle.fa_machine.proofs.Values.{get-insert_all}
 use Rattle.fa_laws.proofs.Runs.{run_keeps}
-use Rattle.fa_laws.proofs.Scene.{Among, JobFits, Owned, is_settled}
+use Rattle.fa_laws.proofs.Scene.{JobFits, Owned, is_settled}
+use Rattle.fa_machine.specs.Among.{Among}
 use Rattle.fa_laws.proofs.Starts.{beginning_holds}
-use Rattle.fa_laws.proofs.Takes.{IsOther, IsUrgent, take_cases}
+use Rattle.fa_machine.proofs.Takes.{IsOther, IsUrgent, take_cases}
 use Rattle.fa_laws.specs.Reached.{IsReached}
 use Rattle.fa_machine.specs.Cells.{DidErase, DidMove, DidProgram, DidRead, DidSync, DidWriteHeader, Fault, Outcome, Wrong}
 use Rattle.fa_machine.specs.Collecting.{is_erased_outside}
@@ -53,12 +53,11 @@ use Rattle.fa_machine.specs.declared.refusals.ReserveRefused.TheVariants.{NoMemo
 use Rattle.fa_machine.specs.declared.refusals.SpareRefused.TheVariants.{NotSpare}
 use Rattle.fa_machine.specs.declared.refusals.WindowRefused.TheVariants.{Busy as WindowBusy, HasOne, NoMemory as WindowNoMemory}
 use Rattle.fa_types.specs.declared.numbers.Seq.{Seq}
-use Rattle.std.proofs.Common.{Bool, List, None, Option, Some, [], ap, arith, false, inl, inr, map, not, refl, subst, suc, sym, true}
-use Rattle.std.proofs.Common.{zero, ℕ, ◌*◌, ◌+◌, ◌-◌, ◌/◌, ◌<◌, ◌∙◌, ◌∷◌, ◌≡◌}
+use Rattle.std.proofs.Common.{Bool, List, None, Option, Some, [], ap, arith, false, inl, inr, map, not, refl, subst, sym, true}
+use Rattle.std.proofs.Common.{ℕ, ◌*◌, ◌-◌, ◌/◌, ◌<◌, ◌∙◌, ◌∷◌, ◌≡◌}
 use Rattle.std.proofs.lemmas.Bool.{and_parts, cases_eq, false≢true, ltb-true, not-false}
 use Rattle.std.proofs.lemmas.Option.{none-some, same_Some}
 use Rattle.std.specs.FinMap.{FinMap, get, insert, remove}
-use Rattle.std.specs.List.{range_with_len}
 use Rattle.std.specs.Prelude.{Err, Ok, Result, filter, if◌then◌else◌, is_some, option_map, unwrap_or, ◌&&◌, ◌==◌}
 
 abbrev pub slots_total : Core → ℕ
@@ -69,11 +68,6 @@ AreRanged total used = (d k : ℕ) (u : Used) → get used (d, k) ≡ Some u →
 
 abbrev pub Ranged : Core → Type 0
 Ranged core = AreRanged (slots_total core) core.page_map.used
-
-pub among_low : (first n x : ℕ) → Among x (range_with_len first n) → x < first + n
-among_low first zero x i = absurd i
-among_low first (suc n) x (inl same) = omega (arith, same)
-among_low first (suc n) x (inr rest) = let h = among_low (first + 1) n x rest in omega (arith, h)
 
 -- the slot that a die with room has for a copy is one of its slots
 pub room_low : (m : MapState) (die : ℕ) → has_room m die ≡ true → (target_on m die).slot.0 < m.geometry.blocks * m.geometry.slots

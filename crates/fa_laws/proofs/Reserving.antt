@@ -1,7 +1,10 @@
 -- Something new is reserved: slots that were erased are kept for it, and its programs wait.
+use Rattle.fa_machine.proofs.Lists.{tally-append}
 use Rattle.fa_laws.proofs.Parts.{kept≢held, kept≢none, moved_to_come, none≢settled, some_waits, target_kept, to_come_kept}
-use Rattle.fa_laws.proofs.Scene.{Among, AreApart, IsErasing, IsHeld, IsMoving, IsOwned, IsRight, IsTarget, IsTargetAt, IsToCome}
-use Rattle.fa_laws.proofs.Scene.{IsWaiting, JobFits, Owned, Places, Scene, Sound, is_settled, program_is_at, programs_at, tally}
+use Rattle.fa_laws.proofs.Scene.{AreApart, IsErasing, IsHeld, IsMoving, IsOwned, IsRight, IsTarget, IsTargetAt, IsToCome}
+use Rattle.fa_machine.specs.Among.{Among}
+use Rattle.fa_laws.proofs.Scene.{IsWaiting, JobFits, Owned, Places, Scene, Sound, is_settled, program_is_at, programs_at}
+use Rattle.fa_machine.specs.Among.{tally}
 use Rattle.fa_machine.specs.Copies.{is_held_slot}
 use Rattle.fa_machine.specs.State.{WaitingProgram, is_live}
 use Rattle.fa_machine.specs.declared.jobs.Flight.{Flight}
@@ -11,7 +14,7 @@ use Rattle.fa_machine.specs.declared.places.Used.{Used}
 use Rattle.fa_machine.specs.declared.places.Used.TheVariants.{Held, Reserved}
 use Rattle.fa_machine.specs.declared.places.Version.{Version}
 use Rattle.fa_types.specs.declared.numbers.Page.{Page}
-use Rattle.std.proofs.Common.{Bool, List, None, Option, Some, [], ap, arith, false, inl, inr, refl, subst, sym, true, ℕ, ◌++◌, ◌+◌}
+use Rattle.std.proofs.Common.{List, None, Option, Some, [], ap, arith, false, inl, inr, refl, subst, sym, true, ℕ, ◌++◌}
 use Rattle.std.proofs.Common.{◌∙◌, ◌∷◌, ◌≡◌, ◌≤◌, ◌⊎◌}
 use Rattle.std.proofs.lemmas.Bool.{cases_Bool, cases_lt, false≢true}
 
@@ -30,10 +33,6 @@ pub record Reserves (s : Scene) (o : Option ℕ) (x : Owned) (bytes : List ℕ) 
   pub programs : (w : WaitingProgram) → Among w more
       → (t : Target) × Among t x.targets × (w.die ≡ t.die.0) × (w.slot ≡ t.slot.0) × (w.page ≡ x.page) × (w.version ≡ x.version) × (w.payload ≡ bytes)
   pub distinct : (die slot : ℕ) → tally (program_is_at die slot) more ≤ 1
-
-pub tally-append : {X : Type 0} (passes : X → Bool) (xs ys : List X) → tally passes (xs ++ ys) ≡ tally passes xs + tally passes ys
-tally-append passes [] ys = omega arith
-tally-append passes (x ∷ xs) ys = let e = tally-append passes xs ys in omega (arith, e)
 
 pub among-append : {X : Type 0} (x : X) (xs ys : List X) → Among x (xs ++ ys) → Among x xs ⊎ Among x ys
 among-append x [] ys i = inr i

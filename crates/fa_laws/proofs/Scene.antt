@@ -1,5 +1,6 @@
 -- What the array's parts have to do with one another, told over plain functions: a scene is what of a world bears on which
 -- bytes stand where, and a scene is sound where each of them is the bytes that were reserved.
+use Rattle.fa_machine.specs.Among.{Among, tally}
 use Rattle.fa_machine.specs.Cells.{Cell, moved_payload, payload_of}
 use Rattle.fa_machine.specs.Copies.{is_held_slot}
 use Rattle.fa_machine.specs.State.{WaitingProgram}
@@ -12,7 +13,7 @@ use Rattle.fa_machine.specs.declared.places.Used.{Used}
 use Rattle.fa_machine.specs.declared.places.Used.TheVariants.{Held, Reserved, Stale}
 use Rattle.fa_machine.specs.declared.places.Version.{Version}
 use Rattle.fa_types.specs.declared.numbers.Page.{Page}
-use Rattle.std.proofs.Common.{Bool, List, None, Option, Some, [], false, true, ℕ, ◌+◌, ◌<◌, ◌∷◌, ◌≡◌, ◌≤◌, ◌⊎◌}
+use Rattle.std.proofs.Common.{Bool, List, None, Option, Some, [], false, true, ℕ, ◌+◌, ◌<◌, ◌∷◌, ◌≡◌, ◌≤◌}
 use Rattle.std.specs.Prelude.{if◌then◌else◌, ◌&&◌, ◌==◌}
 
 -- what is reserved under a claim, or under the copy under way
@@ -49,10 +50,6 @@ pub record Scene : Type 0 where
   pub plain : ℕ → List ℕ
   pub in_block : ℕ → ℕ → Bool
 
-abbrev pub Among : {X : Type 0} → X → List X → Type 0
-Among x [] = ⊥
-Among x (y ∷ ys) = (y ≡ x) ⊎ Among x ys
-
 -- whether the slot holds a copy, or one that is stale
 abbrev pub is_settled : Option Used → Bool
 is_settled (Some (Held page version)) = true
@@ -61,11 +58,6 @@ is_settled used = false
 
 abbrev pub program_is_at : ℕ → ℕ → WaitingProgram → Bool
 program_is_at die slot p = p.die == die && p.slot == slot
-
--- how many elements pass
-abbrev pub tally : {X : Type 0} → (X → Bool) → List X → ℕ
-tally passes [] = 0
-tally passes (x ∷ xs) = (if passes x then 1 else 0) + tally passes xs
 
 -- 1 where a job is to program the slot
 abbrev pub flight_writes : Flight → ℕ → ℕ

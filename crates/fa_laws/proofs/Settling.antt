@@ -1,7 +1,9 @@
 -- Slots that were kept are held or stale then, and what was reserved there is reserved no more.
 use Rattle.fa_laws.proofs.Parts.{held≢stale, kept≢settled, moved_stands, same_held, target_kept}
-use Rattle.fa_laws.proofs.Scene.{Among, IsErasing, IsHeld, IsMoving, IsOwned, IsTargetAt, IsToCome, IsWaiting, JobFits, Owned, Places}
-use Rattle.fa_laws.proofs.Scene.{Scene, Sound, is_settled, program_is_at, tally}
+use Rattle.fa_laws.proofs.Scene.{IsErasing, IsHeld, IsMoving, IsOwned, IsTargetAt, IsToCome, IsWaiting, JobFits, Owned, Places}
+use Rattle.fa_machine.specs.Among.{Among}
+use Rattle.fa_laws.proofs.Scene.{Scene, Sound, is_settled, program_is_at}
+use Rattle.fa_machine.specs.Among.{tally}
 use Rattle.fa_machine.specs.Copies.{is_held_slot}
 use Rattle.fa_machine.specs.State.{WaitingProgram, is_live}
 use Rattle.fa_machine.specs.World.{Work}

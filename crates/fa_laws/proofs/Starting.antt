@@ -3,8 +3,10 @@ use Rattle.fa_laws.proofs.Admitting.{one_value_other, one_value_same}
 use Rattle.fa_laws.proofs.Invariant.{AreAt, Holds, later, scene_of}
 use Rattle.fa_laws.proofs.Keeping.{ChangesWork, worked_is_sound}
 use Rattle.fa_machine.proofs.Maps.{get-insert_other, get-insert_same}
-use Rattle.fa_laws.proofs.Scene.{Among, Bytes, GaveFits, JobFits, Places, Scene, Sound, WorkFits, flight_writes, program_is_at}
-use Rattle.fa_laws.proofs.Scene.{programs_at, tally, writes}
+use Rattle.fa_laws.proofs.Scene.{Bytes, GaveFits, JobFits, Places, Scene, Sound, WorkFits, flight_writes, program_is_at}
+use Rattle.fa_machine.specs.Among.{Among}
+use Rattle.fa_laws.proofs.Scene.{programs_at, writes}
+use Rattle.fa_machine.specs.Among.{tally}
 use Rattle.fa_machine.specs.Maps.{place_cmp}
 use Rattle.fa_machine.specs.State.{CalendarState, OpenBatch, WaitingProgram, is_live}
 use Rattle.fa_machine.specs.Taking.{Handed, is_idle}

@@ -1,8 +1,9 @@
 -- What holds at a beginning.
 use Rattle.fa_laws.proofs.ImageCalls.{moves}
 use Rattle.fa_laws.proofs.Invariant.{Holds, owned_claim, owned_of, scene_of}
-use Rattle.fa_laws.proofs.Orders.{order_once}
-use Rattle.fa_laws.proofs.Scene.{Among, IsHeld, IsNumbered, Owned, program_is_at, programs_at, tally, writes}
+use Rattle.fa_machine.proofs.Orders.{order_once}
+use Rattle.fa_laws.proofs.Scene.{IsHeld, IsNumbered, Owned, program_is_at, programs_at, writes}
+use Rattle.fa_machine.specs.Among.{Among, tally}
 use Rattle.fa_machine.specs.Beginning.{IsBeginning, IsPlainOf, StandsAt}
 use Rattle.fa_machine.specs.Cells.{moved_payload}
 use Rattle.fa_machine.specs.Reading.{zeros}
@@ -90,7 +91,7 @@ module _ (w : World) (b : IsBeginning w) where
     jobs = λ die. ap (λ (c : Core). get c.jobs die) b.fresh ∙ get-empty nat_cmp die ∙ sym (ap (option_map {T = Work} (λ k. k.job.flight)) (b.idle die));
     claims = λ id c e. absurd (none-some c (sym (ap (λ (m : FinMap nat_cmp OpenClaim). get m id) no_claims ∙ get-empty nat_cmp id) ∙ e));
     told = λ t among. absurd (subst (Among t) b.told among);
-    ordered = order_once w.core b.copies b.enough;
+    ordered = order_once w.core.copies w.core.page_map b.copies b.enough;
     plain = b.pages.0;
     unwritten = λ page low e. unwritten_at w page (get w.core.page_map.versions page) e (b.plain page low);
     answered = record {

@@ -3,22 +3,22 @@ use Rattle.fa_laws.proofs.Endings.{HasOutcome}
 use Rattle.fa_batch.specs.Batch.{holds}
 use Rattle.fa_laws.proofs.Claiming.{room_erased}
 use Rattle.fa_laws.proofs.Committing.{reserved_owned}
-use Rattle.fa_laws.proofs.Ending.{among-map}
 use Rattle.fa_laws.proofs.Finishing.{passed_all}
 use Rattle.fa_laws.proofs.Handing.{holds_held, no_state}
 use Rattle.fa_laws.proofs.ImageCalls.{read_too}
 use Rattle.fa_laws.proofs.Invariant.{Holds, scene_of}
-use Rattle.fa_laws.proofs.Lists.{among-filter, among-map-intro, among-range, among-take, found_passes, no_refusal, none_passes}
+use Rattle.fa_machine.proofs.Lists.{among-filter, among-map, among-map-intro, among-range, among-take, found_passes, no_refusal, none_passes}
 use Rattle.fa_machine.proofs.Maps.{get-change, get-insert_other, get-insert_same, get-keep}
-use Rattle.fa_laws.proofs.Maps.{get-insert_all, get-insert_all_among}
+use Rattle.fa_machine.proofs.Values.{get-insert_all, get-insert_all_among}
 use Rattle.fa_machine.proofs.Maps.{get-place_other, get-place_same, get-remove_same, place_cmp_total, place_itself, place_same}
 use Rattle.fa_laws.proofs.Outlasting.{dropped_other, moved_other}
 use Rattle.fa_laws.proofs.Parts.{kept≢held}
 use Rattle.fa_laws.proofs.Ranged.{HoldsRanged, Ranged, calls_core, happens_ranged, reached_ranged, slots_total}
 use Rattle.fa_laws.proofs.Returning.{OutLaw, SparesLaw, spareless}
 use Rattle.fa_laws.proofs.Runs.{runs_on}
-use Rattle.fa_laws.proofs.Scene.{Among, IsErasing, IsMoving, JobFits}
-use Rattle.fa_laws.proofs.Takes.{IsOther, IsUrgent, take_cases}
+use Rattle.fa_laws.proofs.Scene.{IsErasing, IsMoving, JobFits}
+use Rattle.fa_machine.specs.Among.{Among}
+use Rattle.fa_machine.proofs.Takes.{IsOther, IsUrgent, take_cases}
 use Rattle.fa_laws.specs.Leaving.{LeavesPage, RunLeaving}
 use Rattle.fa_laws.specs.Reached.{IsReached}
 use Rattle.fa_machine.specs.Cells.{Broken, Cell, DidErase, DidMove, DidProgram, DidRead, DidSync, DidWriteHeader, Empty, Fault}

@@ -39,7 +39,7 @@ impl Order {
         self.copies + self.dies
     }
 
-    /// The die that is looked at so many dies after the first, and none where it is a home that was looked at before.
+    /// The die of a look, from 0, and none where it is a home that was looked at before.
     pub fn die_at(self, look: u32) -> Option<Die>
         requires { look < self.copies + self.dies }
         ensures { option_map (λ die. die.0) result ≡ slice_index_or (looks self.copies self.homes self.dies) look None }

@@ -18,7 +18,7 @@ pub struct ByDie<T: Copy, A: Allocator = Global> {
 impl<T: Copy, A: Allocator + Copy> ByDie<T, A> {
     ghost use Rattle.fa_parts.specs.Dies.{bound_of, by_die};
 
-    /// No value for any of so many dies. The error is out of memory.
+    /// No value for any of the first `dies` dies. The error is out of memory.
     pub fn new(alloc: A, dies: u32) -> Result<ByDie<T, A>, AllocError>
         ensures bound { IfOk result (λ values. bound_of values ≡ dies) }
         ensures empty { IfOk result (λ values. by_die values ≡ empty) }

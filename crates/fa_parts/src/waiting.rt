@@ -24,7 +24,7 @@ pub struct Waiting<A: Allocator = Global> {
 impl<A: Allocator + Copy> Waiting<A> {
     ghost use Rattle.fa_parts.specs.Waits.{dies_of, waiting_of};
 
-    /// No program for any of so many dies. The error is out of memory.
+    /// No program for any of the first `dies` dies. The error is out of memory.
     pub fn new(alloc: A, dies: u32) -> Result<Waiting<A>, AllocError>
         ensures dies { IfOk result (λ waiting. dies_of waiting ≡ dies) }
         ensures empty { IfOk result (λ waiting. waiting_of waiting ≡ []) }

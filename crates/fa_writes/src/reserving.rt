@@ -23,7 +23,7 @@ use std::alloc::{AllocError, Allocator};
 use std::sync::ArcSlice;
 
 /// The next sequence number, a slot on each die that the write goes to, and a program for each, for a write that wants a slot
-/// on so many dies at least. Refused, nothing has changed.
+/// on `least` dies or more. Refused, nothing has changed.
 pub fn reserve<M: Map, A: Allocator + Clone>(
     state: &mut State<M, A>,
     claim: ClaimId,
@@ -93,7 +93,7 @@ fn reserve_on<M: Map, A: Allocator + Clone>(
     }
 }
 
-/// Why a write is refused that has so many slots and wants some at least, as far as memory is not the matter.
+/// Why a write is refused that found `slots` slots and wants `least` of them, as far as memory is not the matter.
 fn refusal(slots: usize, least: u32, asked: u32, last: u64) -> Option<ReserveRefused>
     ensures { result ≡ first_that ((nat_lt slots least, NoRoom) ∷ (asked == 0, NoDie) ∷ (last == 2 ^ 62 - 1, Spent) ∷ []) }
 {

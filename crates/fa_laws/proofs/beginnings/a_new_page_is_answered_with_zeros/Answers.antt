@@ -1,7 +1,7 @@
 use Rattle.fa_laws.proofs.Invariant.{next}
 use Rattle.fa_machine.proofs.Maps.{get-insert_same, nat_same}
-use Rattle.fa_laws.proofs.Maps.{get-insert_all_among}
-use Rattle.fa_laws.proofs.Scene.{Among}
+use Rattle.fa_machine.proofs.Values.{get-insert_all_among}
+use Rattle.fa_machine.specs.Among.{Among}
 use Rattle.fa_laws.specs.Formatted.{admits_one, formatted, new_map}
 use Rattle.fa_machine.specs.Copies.{holders}
 use Rattle.fa_machine.specs.Maps.{insert_all, place_cmp}
@@ -21,14 +21,14 @@ use Rattle.fa_batch.proofs.Windows.{rounds_that-none}
 use Rattle.fa_machine.specs.Rounds.{is_taken_with}
 use Rattle.fa_types.specs.declared.geometry.Geometry.{Geometry}
 use Rattle.std.proofs.Common.{List, None, Some, [], ap, arith, cond, eq-eqb, false, inl, length, map, not, refl, subst, sym, true, ℕ, ◌<◌}
-use Rattle.std.proofs.Common.{◌∙◌, ◌∷◌, ◌≡◌, ◌≤◌}
+use Rattle.std.proofs.Common.{◌∙◌, ◌∷◌, ◌≡◌}
 use Rattle.std.proofs.lemmas.Bool.{and_from, false≢true, lt-ltb, not_from_false, or_from}
 use Rattle.std.proofs.lemmas.List.Elements.{All-nil}
 use Rattle.std.specs.Cmp.{nat_cmp_total, unsigned_tied}
-use Rattle.std.specs.FinMap.{empty, entries, get, get-empty, insert, keys, len-empty, len-entries, remove}
+use Rattle.std.specs.FinMap.{empty, entries, get, get-empty, insert, len-empty, len-entries, remove}
 use Rattle.std.specs.List.{cons_option, list_any}
 use Rattle.std.specs.Ordering.{is_eq, nat_cmp}
-use Rattle.std.specs.Prelude.{count_by, is_some, option_map, replicate, unwrap_or, ◌&&◌, ◌||◌, ◌==◌}
+use Rattle.std.specs.Prelude.{is_some, option_map, replicate, unwrap_or, ◌&&◌, ◌||◌, ◌==◌}
 use Rattle.std.specs.declared.cmp.Ordering.{Ordering}
 use Rattle.std.specs.declared.cmp.Ordering.TheVariants.{Equal, Greater, Less}
 use Rattle.fa_laws.proofs.beginnings.a_new_page_is_answered_with_zeros.Goals as goal

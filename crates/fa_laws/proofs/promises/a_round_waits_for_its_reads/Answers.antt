@@ -1,4 +1,4 @@
-use Rattle.fa_laws.proofs.Lists.{among-range, any_none}
+use Rattle.fa_machine.proofs.Lists.{among-range, any_none}
 use Rattle.fa_laws.proofs.Within.{reached_booked}
 use Rattle.fa_machine.specs.Reading.{booked}
 use Rattle.fa_machine.specs.State.{dies_of}

@@ -1,5 +1,5 @@
 use Rattle.fa_laws.proofs.Answering.{reached_holds}
-use Rattle.fa_laws.proofs.Lists.{among-contains}
+use Rattle.fa_machine.proofs.Lists.{among-contains}
 use Rattle.std.proofs.Common.{ap, sym, ◌∙◌}
 use Rattle.fa_laws.proofs.reads.what_was_told_is_the_numbers_bytes.Goals as goal
 

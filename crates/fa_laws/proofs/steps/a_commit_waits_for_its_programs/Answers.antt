@@ -1,4 +1,4 @@
-use Rattle.fa_laws.proofs.Lists.{no_refusal}
+use Rattle.fa_machine.proofs.Lists.{no_refusal}
 use Rattle.fa_machine.specs.Writing.{Commits, live_targets}
 use Rattle.fa_machine.specs.declared.refusals.CommitRefused.TheVariants.{Failed, Pending}
 use Rattle.std.proofs.Common.{Some, not, subst}

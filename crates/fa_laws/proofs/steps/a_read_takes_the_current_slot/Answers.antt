@@ -9,7 +9,7 @@ use Rattle.fa_machine.specs.declared.places.Version.{Version}
 use Rattle.fa_machine.specs.Copies.{copy_on, is_current}
 use Rattle.fa_machine.specs.State.{MapState, slots_of}
 use Rattle.fa_machine.specs.Taking.{read_from, read_of}
-use Rattle.fa_laws.proofs.Lists.{found_passes}
+use Rattle.fa_machine.proofs.Lists.{found_passes}
 use Rattle.fa_laws.proofs.steps.a_read_takes_the_current_slot.Goals as goal
 
 abbrev slot_of : Flight → ℕ

@@ -1,6 +1,6 @@
 use Rattle.fa_batch.specs.declared.plan.Place.{Place}
 use Rattle.fa_laws.proofs.Booked.{opened_live}
-use Rattle.fa_laws.proofs.Lists.{all_from_among}
+use Rattle.fa_machine.proofs.Lists.{all_from_among}
 use Rattle.fa_machine.specs.Reading.{released}
 use Rattle.fa_machine.specs.State.{is_live}
 use Rattle.std.proofs.Common.{true, ◌≡◌}

@@ -13,7 +13,7 @@ use Rattle.fa_machine.specs.Maps.{change}
 use Rattle.fa_machine.specs.State.{Core, Reservation, used_at}
 use Rattle.fa_machine.specs.Writing.{Commits, claimed_page, committed, live_targets, without_page}
 use Rattle.fa_machine.proofs.Maps.{get-change, place_cmp_total, place_same}
-use Rattle.fa_laws.proofs.Maps.{get-insert_all}
+use Rattle.fa_machine.proofs.Values.{get-insert_all}
 use Rattle.fa_laws.proofs.steps.no_older_copy_is_left.Goals as goal
 
 abbrev number_of : Version → Used → Version

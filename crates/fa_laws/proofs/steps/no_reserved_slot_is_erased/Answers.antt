@@ -9,7 +9,7 @@ use Rattle.fa_machine.specs.Collecting.{may_be_victim, victim, step_on, count_in
 use Rattle.fa_machine.specs.Copies.{is_reserved_slot, is_stale_slot}
 use Rattle.fa_machine.specs.Maps.{below}
 use Rattle.fa_machine.specs.State.{MapState}
-use Rattle.fa_laws.proofs.Lists.{found_passes}
+use Rattle.fa_machine.proofs.Lists.{found_passes}
 use Rattle.fa_laws.proofs.steps.no_reserved_slot_is_erased.Goals as goal
 
 abbrev is_erase : CollectorStep → Bool

@@ -1,5 +1,5 @@
 use Rattle.fa_machine.specs.Copies.{is_lost}
-use Rattle.fa_laws.proofs.Lists.{found_passes}
+use Rattle.fa_machine.proofs.Lists.{found_passes}
 use Rattle.fa_laws.proofs.steps.only_lost_pages_are_refused_as_lost.Goals as goal
 
 pub returns : goal.returns
