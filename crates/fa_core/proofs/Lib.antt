@@ -1,1 +1,2 @@
 mod Live
+mod Tracked

@@ -1,6 +1,6 @@
 //! The array's state as it is mounted.
-ghost use Rattle.std.specs.Prelude.{◌≡◌, ℕ, ◌+◌, ◌<◌, ◌^◌, ◌&&◌, [], nat_lt, IfOk};
-ghost use Rattle.std.specs.FinMap.{contains_key};
+ghost use Rattle.std.specs.Prelude.{◌≡◌, ℕ, ◌+◌, ◌*◌, ◌<◌, ◌^◌, ◌&&◌, [], nat_lt, IfOk};
+ghost use Rattle.std.specs.FinMap.{contains_key, len};
 ghost use Rattle.fa_machine.specs.State.{is_live};
 ghost use Rattle.fa_core.specs.Begun.{begun, numbers_of};
 ghost use Rattle.fa_parts.specs.Logs.{base_of, history_of};
@@ -9,12 +9,13 @@ ghost use Rattle.fa_set.specs.Members.{bound_of, members};
 ghost use Rattle.fa_state.specs.Core.{core_of};
 ghost use Rattle.fa_state.specs.Fitted.{IsFitted};
 
+use fa_batches::Batches;
 use fa_bookings::Bookings;
 use fa_claims::Claims;
 use fa_map::Map;
 use fa_parts::{ByDie, Log, Waiting};
 use fa_set::NumberSet;
-use fa_state::{Batches, State};
+use fa_state::State;
 use fa_types::{Copies, Die, Round, Seq};
 use std::alloc::{AllocError, Allocator};
 
@@ -30,10 +31,13 @@ pub fn begin<M: Map + Drop, A: Allocator + Copy>(
 ) -> Result<State<M, A>, AllocError>
     requires spares { bound_of spares ≡ (M.view page_map).geometry.dies }
     requires last { last.0 < 2 ^ 62 }
+    requires epoch { epoch + len (M.view page_map).live + 2 * len (members spares) < 2 ^ 62 }
     ensures begun { IfOk result (λ state. core_of M.view state ≡ begun copies.number (M.view page_map) epoch (members spares) last.0) }
     ensures fitted { IfOk result (λ state. IsFitted M.view state) }
 {
-    let dies = page_map.geometry().dies;
+    let geometry = page_map.geometry();
+    let dies = geometry.dies;
+    let page_bytes = geometry.page_bytes as usize;
     let behind = live_dies(alloc, &page_map)?;
     let stepped = NumberSet::new(alloc, dies as usize)?;
     let bookings = Bookings::new(alloc, Round(1))?;
@@ -55,7 +59,7 @@ pub fn begin<M: Map + Drop, A: Allocator + Copy>(
         jobs,
         copying: None,
         claims: Claims::new(alloc),
-        batches: Batches::new(alloc),
+        batches: Batches::new(alloc, page_bytes),
         flushes: 0,
         asked,
         synced,

@@ -6,6 +6,7 @@ ghost use Rattle.fa_machine.specs.Maps.{below, insert_all};
 ghost use Rattle.fa_machine.specs.State.{is_live};
 ghost use Rattle.fa_parts.specs.Dies.{bound_of, by_die};
 ghost use Rattle.fa_state.specs.Core.{core_of};
+ghost use Rattle.fa_state.specs.Fitted.{IsFitted};
 
 use fa_machine::{Flush, FlushRefused};
 use fa_map::Map;
@@ -21,10 +22,9 @@ const MAX_FLUSHES: u64 = 1 << 62;
 pub fn flush_begin<M: Map, A: Allocator + Clone>(
     state: &mut State<M, A>,
 ) -> Result<Flush, FlushRefused>
-    requires dies { bound_of state.old.asked ≡ (M.view state.old.page_map).geometry.dies }
-    requires flushes { state.old.flushes ≤ 2 ^ 62 }
+    requires fitted { IsFitted M.view state.old }
     ensures begun { BeginsFlush (core_of M.view state.old) result (core_of M.view state.new) }
-    ensures dies { bound_of state.new.asked ≡ bound_of state.old.asked }
+    ensures fitted { IsFitted M.view state.old → IsFitted M.view state.new }
 {
     if state.flushes == MAX_FLUSHES {
         return Err(FlushRefused::Spent);

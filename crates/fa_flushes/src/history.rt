@@ -5,6 +5,7 @@ ghost use Rattle.fa_machine.specs.Flushing.{Folds};
 ghost use Rattle.fa_machine.specs.Looks.{counts as rule_counts};
 ghost use Rattle.fa_parts.specs.Counted.{capped};
 ghost use Rattle.fa_state.specs.Core.{core_of};
+ghost use Rattle.fa_state.specs.Fitted.{IsFitted};
 
 use fa_map::Map;
 use fa_state::State;
@@ -12,7 +13,8 @@ use std::alloc::Allocator;
 
 /// The history is taken into its base, and none is left.
 pub fn fold<M: Map, A: Allocator + Clone>(state: &mut State<M, A>)
-    ensures { Folds (core_of M.view state.old) (core_of M.view state.new) }
+    ensures folded { Folds (core_of M.view state.old) (core_of M.view state.new) }
+    ensures fitted { IsFitted M.view state.old → IsFitted M.view state.new }
 {
     state.log.fold();
 }

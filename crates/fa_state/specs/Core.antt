@@ -1,4 +1,5 @@
 -- What contracts see of the array's state: the machine's own.
+use Rattle.fa_batches.specs.Batches.{batches_of}
 use Rattle.fa_bookings.specs.Bookings.{calendar_of}
 use Rattle.fa_claims.specs.Claims.{claims_of}
 use Rattle.fa_machine.specs.State.{Core, MapState}
@@ -6,7 +7,6 @@ use Rattle.fa_parts.specs.Dies.{by_die}
 use Rattle.fa_parts.specs.Logs.{base_of, history_of}
 use Rattle.fa_parts.specs.Waits.{waiting_of}
 use Rattle.fa_set.specs.Members.{members}
-use Rattle.fa_state.specs.Batches.{batches_of}
 use Rattle.fa_state.specs.declared.state.State.{State}
 
 module _ {M A : Type 0} (view : M → MapState) where

@@ -1,9 +1,14 @@
--- The containers of a state have a place for each die of its geometry, and the last number given is one that may be given.
-use Rattle.std.specs.Prelude.{◌≡◌, ◌<◌, ◌^◌}
+-- What holds of a state besides what is true of the machine's: its containers have a place for each die of its geometry, its counters
+-- are not at their ends, and its batches know their bookings and reads.
+use Rattle.std.specs.FinMap.{len}
+use Rattle.std.specs.Prelude.{◌≡◌, ◌+◌, ◌*◌, ◌<◌, ◌≤◌, ◌^◌}
+use Rattle.fa_batches.specs.Batches.{bytes_of}
+use Rattle.fa_bookings.specs.Bookings.{calendar_of}
 use Rattle.fa_machine.specs.State.{MapState}
-use Rattle.fa_parts.specs.Dies.{bound_of}
+use Rattle.fa_parts.specs.Dies.{bound_of, by_die}
 use Rattle.fa_parts.specs.Waits.{dies_of}
-use Rattle.fa_set.specs.Members.{bound_of as numbers_of}
+use Rattle.fa_set.specs.Members.{bound_of as numbers_of, members}
+use Rattle.fa_state.specs.Tracked.{AreTracked}
 use Rattle.fa_state.specs.declared.state.State.{State}
 
 pub record IsFitted {M A : Type 0} (view : M → MapState) (state : State M A) : Type 0 where
@@ -15,3 +20,9 @@ pub record IsFitted {M A : Type 0} (view : M → MapState) (state : State M A) :
   pub asked : bound_of state.asked ≡ (view state.page_map).geometry.dies
   pub synced : bound_of state.synced ≡ (view state.page_map).geometry.dies
   pub last : state.last < 2 ^ 62
+  -- so that it can rise with each die that goes out or comes in
+  pub epoch : state.epoch + len (view state.page_map).live + 2 * len (members state.spares) < 2 ^ 62
+  pub flushes : state.flushes ≤ 2 ^ 62
+  pub round : (calendar_of state.bookings).round ≤ 2 ^ 56
+  pub buffers : bytes_of state.batches ≡ (view state.page_map).geometry.page_bytes
+  pub tracked : AreTracked (calendar_of state.bookings).bookings (by_die state.jobs) state.batches

@@ -1,3 +1,3 @@
-pub mod Batches
 pub mod Core
 pub mod Fitted
+pub mod Tracked

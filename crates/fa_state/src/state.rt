@@ -1,5 +1,5 @@
 //! The array's state.
-use crate::batches::Batches;
+use fa_batches::Batches;
 use fa_bookings::Bookings;
 use fa_claims::Claims;
 use fa_machine::{Copying, Flight};

@@ -1,0 +1,6 @@
+mod Answered
+mod Opened
+mod Handed
+mod Kept
+mod Placed
+mod Written

@@ -1,0 +1,3 @@
+pub mod Batches
+pub mod Pages
+pub mod Whole

@@ -1,0 +1,50 @@
+//! A page of a batch.
+ghost use Rattle.std.specs.Prelude.{◌≡◌};
+ghost use Rattle.fa_batches.specs.Pages.{without_die as rule_without};
+
+use fa_types::{Die, Page, Round};
+use std::alloc::{Allocator, Global};
+
+/// How a page of a batch stands.
+#[derive(Clone, Copy, Debug, PartialEq, Eq)]
+pub enum PageState {
+    /// It has an answer.
+    Answered,
+    /// A read of it is booked.
+    Booked(Die, Round),
+    /// A read of it is in flight.
+    InFlight(Die),
+    /// None of these: no read of it is planned, or its read was lost.
+    Torn,
+}
+
+impl PageState {
+    /// How the page stands once a die is out.
+    pub(crate) fn without_die(self, die: Die) -> PageState
+        ensures { result ≡ rule_without die.0 self }
+    {
+        match self {
+            PageState::Booked(at, _) if at.0 == die.0 => PageState::Torn,
+            PageState::InFlight(at) if at.0 == die.0 => PageState::Torn,
+            _ => self,
+        }
+    }
+}
+
+/// A page of a batch, with the buffer that has its bytes once it is answered.
+#[derive(Drop)]
+pub struct BatchPage<A: Allocator = Global> {
+    /// How it stands.
+    pub state: PageState,
+    /// As many bytes as a page has.
+    pub buffer: Vec<u8, A>,
+}
+
+/// The pages of a batch in the order of its list, and the list in which their answers are handed out.
+#[derive(Drop)]
+pub struct BatchList<A: Allocator = Global> {
+    /// The pages.
+    pub pages: Vec<Page, A>,
+    /// Room for an answer of each page. It is empty until the batch ends.
+    pub answers: Vec<(Page, Vec<u8, A>), A>,
+}
