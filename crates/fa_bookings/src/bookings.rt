@@ -22,6 +22,9 @@ use fa_types::{Die, Page, Round, Rounds, Window};
 use std::alloc::{AllocError, Allocator, Global};
 use std::collections::BTreeMap;
 
+// The most rounds that may be closed for a die.
+const MAX_ENTRIES: u64 = 1_048_576;
+
 /// The current round, the booked rounds of each die with what they are for, and the window of each die that has one which
 /// has not passed. A round is looked up in as many steps as the logarithm of their number.
 #[derive(Drop)]
@@ -145,6 +148,15 @@ impl<A: Allocator + Clone> Bookings<A> {
         ensures { result ≡ get (calendar_of self.now).windows die.0 }
     {
         self.calendar.window(die)
+    }
+
+    /// Whether a die's calendar has room for `rounds` more rounds, 64 at most.
+    pub fn has_room(&self, die: Die, rounds: u64) -> bool
+        requires { rounds ≤ 64 }
+        ensures room { result ≡ true → HasRoomFor (calendar_of self.now) die.0 rounds }
+        ensures full { result ≡ false → IsFull (calendar_of self.now).round (is_taken (calendar_of self.now) die.0) rounds }
+    {
+        self.calendar.entries(die) <= MAX_ENTRIES - rounds
     }
 
     /// Keeps the first run of `rounds` open rounds of a die after the current one as its window, and answers its first round:

@@ -1,0 +1,4 @@
+mod Copied
+pub mod Numbers
+mod Placed
+mod Windowed
