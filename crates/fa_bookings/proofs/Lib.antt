@@ -1,5 +1,5 @@
 mod Booked
 mod Closed
 mod Exchanged
-mod Placed
+pub mod Placed
 mod Windows

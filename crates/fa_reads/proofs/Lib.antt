@@ -1,0 +1,12 @@
+pub mod Answered
+pub mod Chain
+pub mod Entries
+pub mod Exchanged
+pub mod Finds
+pub mod Last
+pub mod Opening
+pub mod Placed
+pub mod Planned
+pub mod Same
+pub mod Sound
+pub mod Tracked
