@@ -17,10 +17,9 @@ abbrev pub wants_window : MapState → ℕ → Bool
 wants_window m die = is_live m die && nat_lt (room m die) m.geometry.slots && is_some (victim m die)
 
 -- the lowest thin page that has a place to go, and that place
-abbrev pub next_thin : Core → Option (ℕ × ℕ)
-next_thin core = option_and_then (λ page. option_map (λ die. (page, die)) (copy_place core.copies core.page_map page))
-    (find (λ page. is_thin core.copies core.page_map page && is_some (copy_place core.copies core.page_map page))
-    (below core.page_map.geometry.pages))
+abbrev pub next_thin : ℕ → MapState → Option (ℕ × ℕ)
+next_thin copies m = option_and_then (λ page. option_map (λ die. (page, die)) (copy_place copies m page))
+    (find (λ page. is_thin copies m page && is_some (copy_place copies m page)) (below m.geometry.pages))
 
 -- a job, a claim, a batch or a copy is open
 abbrev pub is_busy : Core → Bool

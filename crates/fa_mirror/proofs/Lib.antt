@@ -1,3 +1,4 @@
+mod Firsts
 pub mod Chosen
 pub mod Looks
 pub mod Past

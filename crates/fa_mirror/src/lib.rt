@@ -6,7 +6,9 @@ mod home;
 mod order;
 mod placement;
 mod placing;
+mod thin;
 
 pub use home::homes;
 pub use placement::{copies_asked, copy_place, is_thin, targets};
 pub use placing::Placing;
+pub use thin::next_thin;
