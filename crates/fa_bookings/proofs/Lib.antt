@@ -1,5 +1,5 @@
 mod Booked
-mod Closed
+pub mod Closed
 mod Exchanged
 pub mod Placed
 mod Windows

@@ -1,21 +1,19 @@
 -- What is found out of the dies one by one.
-use Rattle.fa_machine.proofs.Lists.{among-range, any_some}
 use Rattle.fa_machine.proofs.Maps.{get-insert_other, get-insert_same}
 use Rattle.fa_machine.specs.Maps.{below, insert_all}
 use Rattle.fa_machine.specs.State.{MapState, is_live}
 use Rattle.fa_map.specs.Slots.{IsPageMap}
-use Rattle.std.proofs.Common.{◌≡◌, ℕ, ◌+◌, ◌<◌, ◌≤◌, zero, suc, Bool, true, false, List, [], ◌∷◌, Option, Some, ap, cond}
+use Rattle.std.proofs.Common.{◌≡◌, ℕ, ◌+◌, ◌<◌, ◌≤◌, Bool, true, false, List, [], ◌∷◌, Option, Some, ap, cond}
 use Rattle.std.proofs.Common.{inl, inr, length, refl, sym, map, get_or, ◌∙◌, arith, below_more}
 use Rattle.std.proofs.lemmas.Bool.{cases_Bool, cases_lt}
 use Rattle.std.proofs.lemmas.List.{ext_get_or}
-use Rattle.std.proofs.lemmas.List.Folds.{list_all_at}
-use Rattle.std.proofs.lemmas.List.FromFn.{get_or-map-range_with_len, get_or-range_with_len}
-use Rattle.std.proofs.lemmas.List.FromFn.{length-map-range_with_len, length-range_with_len}
+use Rattle.std.proofs.lemmas.List.FromFn.{get_or-map-range_with_len}
+use Rattle.std.proofs.lemmas.List.FromFn.{length-map-range_with_len}
 use Rattle.std.specs.Cmp.{nat_cmp_total}
 use Rattle.std.specs.FinMap.{FinMap, contains_key-keys, get, get-insert, insert, keys, nat_cmp-IsAntisymmetric, same_map}
-use Rattle.std.specs.List.{list_all, list_any, range_with_len}
+use Rattle.std.specs.List.{list_any}
 use Rattle.std.specs.Ordering.{eq_by_cmp, nat_cmp}
-use Rattle.std.specs.Prelude.{◌&&◌, ◌||◌}
+use Rattle.std.specs.Prelude.{◌||◌}
 
 either : {Y : Type 0} (a b : Bool) (y z : Y) → cond b y (cond a y z) ≡ cond (a || b) y z
 either true true y z = refl
@@ -31,35 +29,6 @@ get_inserted (k ∷ ks) x m q =
     get_inserted ks x (insert m k x) q
     ∙ ap (λ y. cond (list_any (eq_by_cmp nat_cmp q) ks) (Some x) y) (get-insert nat_cmp_total m k x q)
     ∙ either (eq_by_cmp nat_cmp q k) (list_any (eq_by_cmp nat_cmp q) ks) (Some x) (get m q)
-
--- a test of numbers that follow each other
-fails_in : (test : ℕ → Bool) (a n : ℕ) → ((k : ℕ) → a ≤ k → k < a + n → test k ≡ false) → list_any test (range_with_len a n) ≡ false
-fails_in test a zero fails = refl
-fails_in test a (suc n) fails =
-    ap (λ b. b || list_any test (range_with_len (a + 1) n)) (fails a (omega arith) (omega arith))
-    ∙ fails_in test (a + 1) n (λ k low high. fails k (omega arith) (omega arith))
-
-passes_in : (test : ℕ → Bool) (a n : ℕ) → ((k : ℕ) → a ≤ k → k < a + n → test k ≡ true) → list_all test (range_with_len a n) ≡ true
-passes_in test a zero passes = refl
-passes_in test a (suc n) passes =
-    ap (λ b. b && list_all test (range_with_len (a + 1) n)) (passes a (omega arith) (omega arith))
-    ∙ passes_in test (a + 1) n (λ k low high. passes k (omega arith) (omega arith))
-
-module _ (test : ℕ → Bool) (n : ℕ) where
-  pub any_fails : ((k : ℕ) → k < n → test k ≡ false) → list_any test (below n) ≡ false
-  any_fails fails = fails_in test 0 n (λ k low high. fails k (omega arith))
-
-  pub any_passes : (k : ℕ) → k < n → test k ≡ true → list_any test (below n) ≡ true
-  any_passes k low passes = any_some test (below n) k (among-range 0 n k (omega arith) (omega arith)) passes
-
-  pub all_pass : ((k : ℕ) → k < n → test k ≡ true) → list_all test (below n) ≡ true
-  all_pass passes = passes_in test 0 n (λ k low high. passes k (omega arith))
-
-  pub one_fails : (k : ℕ) → k < n → test k ≡ false → list_all test (below n) ≡ false
-  one_fails k low fails =
-      let long = length-range_with_len 0 n in
-      let here : get_or (below n) k 0 ≡ k = get_or-range_with_len 0 n k 0 low ∙ omega arith in
-      list_all_at test (below n) k 0 (omega (arith, long, low)) (ap test here ∙ fails)
 
 -- one die more has a value, or has none
 module _ (live : ℕ → Bool) (before after : FinMap nat_cmp ℕ) (x n : ℕ) where

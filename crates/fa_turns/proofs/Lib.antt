@@ -1,4 +1,4 @@
 mod Copied
-pub mod Numbers
+mod Passed
 mod Placed
 mod Windowed

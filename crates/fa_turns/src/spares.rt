@@ -1,18 +1,17 @@
 //! Spares that come in.
-ghost use Rattle.std.specs.Prelude.{◌≡◌, ℕ, ◌+◌, ◌<◌, ◌^◌, true, false};
+ghost use Rattle.std.specs.Prelude.{◌≡◌, ◌+◌, ◌<◌, true, false};
 ghost use Rattle.std.specs.FinMap.{contains_key, insert, remove};
 ghost use Rattle.fa_machine.specs.State.{is_live};
 ghost use Rattle.fa_machine.specs.Step.{is_die};
 ghost use Rattle.fa_machine.specs.Turning.{BringsIn};
-ghost use Rattle.fa_set.specs.Members.{bound_of, members};
+ghost use Rattle.fa_set.specs.Members.{members};
 ghost use Rattle.fa_sound.specs.Sound.{IsSound};
 ghost use Rattle.fa_state.specs.Core.{core_of};
 ghost use Rattle.fa_state.specs.Fitted.{IsFitted};
 
 use fa_machine::SpareRefused;
 use fa_map::Map;
-use fa_set::NumberSet;
-use fa_state::State;
+use fa_state::{State, mark_live};
 use fa_types::Die;
 use std::alloc::Allocator;
 
@@ -54,29 +53,4 @@ fn bring_in<M: Map, A: Allocator + Clone>(state: &mut State<M, A>, die: Die)
     state.spares.remove(die.0 as usize);
     state.epoch += 1;
     mark_live(&mut state.behind, &state.page_map);
-}
-
-/// The live dies are the set's members.
-fn mark_live<M: Map, A: Allocator>(set: &mut NumberSet<A>, page_map: &M)
-    requires { bound_of set.old ≡ (M.view page_map.now).geometry.dies }
-    ensures bound { bound_of set.new ≡ bound_of set.old }
-    ensures members { members set.new ≡ (M.view page_map.now).live }
-{
-    for die in 0..page_map.geometry().dies {
-        mark(set, page_map, Die(die as u8));
-    }
-}
-
-/// The die is a member where it is live, and else none.
-fn mark<M: Map, A: Allocator>(set: &mut NumberSet<A>, page_map: &M, die: Die)
-    requires { die.0 < bound_of set.old }
-    ensures bound { bound_of set.new ≡ bound_of set.old }
-    ensures here { contains_key (members set.new) die.0 ≡ is_live (M.view page_map.now) die.0 }
-    ensures others { (k : ℕ) → (k ≡ die.0 → ⊥) → contains_key (members set.new) k ≡ contains_key (members set.old) k }
-{
-    if page_map.is_live(die) {
-        set.insert(die.0 as usize);
-    } else {
-        set.remove(die.0 as usize);
-    }
 }

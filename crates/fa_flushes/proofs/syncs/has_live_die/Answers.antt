@@ -1,4 +1,4 @@
-use Rattle.fa_flushes.proofs.Dies.{any_fails, any_passes}
+use Rattle.fa_state.proofs.Below.{any_fails, any_passes}
 use Rattle.fa_flushes.proofs.syncs.has_live_die.Goals as goal
 use Rattle.fa_machine.specs.State.{is_live}
 use Rattle.fa_types.specs.declared.geometry.Geometry.{Geometry}

@@ -1,4 +1,4 @@
-use Rattle.fa_flushes.proofs.Dies.{all_pass, one_fails}
+use Rattle.fa_state.proofs.Below.{all_pass, one_fails}
 use Rattle.fa_flushes.proofs.syncs.have_synced.Goals as goal
 use Rattle.fa_machine.specs.Flushing.{has_synced}
 use Rattle.fa_state.specs.Core.{core_of}

@@ -1,6 +1,6 @@
 use Rattle.fa_machine.specs.State.{MapState}
 use Rattle.fa_set.specs.Members.{Numbers, members}
-use Rattle.fa_turns.proofs.Numbers.{len_less, len_more}
+use Rattle.fa_state.proofs.Numbers.{len_less, len_more}
 use Rattle.std.proofs.Common.{ap, arith, sym, ◌∙◌}
 use Rattle.std.specs.FinMap.{len}
 use Rattle.fa_turns.proofs.spares.bring_in.Goals as goal
@@ -29,4 +29,9 @@ returns-clause-fitted g c =
       round = fit.round;
       buffers = fit.buffers ∙ sym (ap (λ (m : MapState). m.geometry.page_bytes) c.bring_in.ensures);
       tracked = fit.tracked;
+      listed = λ batch page is.
+          let low = fit.listed batch page is in let pages = ap (λ (m : MapState). m.geometry.pages) c.bring_in.ensures in
+          omega (arith, low, pages);
+      few = fit.few;
+      inside = fit.inside;
     }

@@ -1,7 +1,9 @@
 use Rattle.fa_state.specs.Core.{core_of}
 use Rattle.fa_turns.proofs.Windowed.{closed_taken}
 use Rattle.fa_types.specs.Windows.{IsFirstWindow}
-use Rattle.std.proofs.Common.{Err, ap, refl, subst}
+use Rattle.fa_machine.specs.State.{CalendarState}
+use Rattle.fa_state.proofs.Fitted.{fitted_calendar}
+use Rattle.std.proofs.Common.{Err, ap, refl, subst, sym}
 use Rattle.std.specs.Prelude.{is_some}
 use Rattle.fa_turns.proofs.windows.keep_window.Goals as goal
 
@@ -27,3 +29,12 @@ returns-in-Err-NoMemory-clause-window g c =
       ap is_some c.requires.none,
       λ i. record core { calendar = c.in-Err-NoMemory.ensures.err i },
     )
+
+pub returns-in-Ok-clause-fitted : goal.returns-in-Ok-clause-fitted
+returns-in-Ok-clause-fitted g c = fitted_calendar _ _ c.requires.fitted _ (sym (ap (λ (k : CalendarState). k.round) c.in-Ok.ensures.windows)) (sym (ap (λ (k : CalendarState). k.bookings) c.in-Ok.ensures.windows))
+
+pub returns-in-Err-Full-clause-fitted : goal.returns-in-Err-Full-clause-fitted
+returns-in-Err-Full-clause-fitted g c = fitted_calendar _ _ c.requires.fitted _ (sym (ap (λ (k : CalendarState). k.round) c.in-Err-Full.ensures.err)) (sym (ap (λ (k : CalendarState). k.bookings) c.in-Err-Full.ensures.err))
+
+pub returns-in-Err-NoMemory-clause-fitted : goal.returns-in-Err-NoMemory-clause-fitted
+returns-in-Err-NoMemory-clause-fitted g c = fitted_calendar _ _ c.requires.fitted _ (sym (ap (λ (k : CalendarState). k.round) c.in-Err-NoMemory.ensures.err)) (sym (ap (λ (k : CalendarState). k.bookings) c.in-Err-NoMemory.ensures.err))

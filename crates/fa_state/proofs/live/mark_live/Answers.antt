@@ -1,7 +1,7 @@
-use Rattle.fa_turns.proofs.Numbers.{same_below}
+use Rattle.fa_state.proofs.Numbers.{same_below}
 use Rattle.fa_types.specs.declared.geometry.Geometry.{Geometry}
 use Rattle.std.proofs.Common.{ap, arith}
-use Rattle.fa_turns.proofs.spares.mark_live.Goals as goal
+use Rattle.fa_state.proofs.live.mark_live.Goals as goal
 
 pub returns-clause-members : goal.returns-clause-members
 returns-clause-members g c =

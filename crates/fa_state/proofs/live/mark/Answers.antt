@@ -1,8 +1,8 @@
 use Rattle.fa_set.specs.Members.{Numbers, members}
-use Rattle.fa_turns.proofs.Numbers.{inserted_here, inserted_other, removed_here, removed_other}
+use Rattle.fa_state.proofs.Numbers.{inserted_here, inserted_other, removed_here, removed_other}
 use Rattle.std.proofs.Common.{ap, sym, ◌∙◌}
 use Rattle.std.specs.FinMap.{contains_key}
-use Rattle.fa_turns.proofs.spares.mark.Goals as goal
+use Rattle.fa_state.proofs.live.mark.Goals as goal
 
 pub returns-then-is_live-clause-here : goal.returns-then-is_live-clause-here
 returns-then-is_live-clause-here g c =

@@ -3,11 +3,14 @@ use Rattle.fa_machine.proofs.Maps.{get-insert_other, get-insert_same, get-remove
 use Rattle.fa_set.proofs.Membership.{in_below}
 use Rattle.fa_set.specs.Members.{Numbers, numbers_below}
 use Rattle.fa_set.specs.Words.{has}
-use Rattle.std.proofs.Common.{List, None, Option, Some, ap, arith, false, inl, inr, refl, sym, true, ℕ, ◌+◌, ◌<◌, ◌∙◌, ◌≡◌}
-use Rattle.std.proofs.lemmas.Bool.{cases_eq, cases_lt, false_from_ne_true, false≢true, le-ltb}
+use Rattle.std.proofs.Common.{Bool, List, None, Option, Some, ap, arith, eq-eqb, eqb-true, false, inl, inr, refl, sym, true, ℕ, ◌+◌, ◌<◌}
+use Rattle.std.proofs.Common.{◌∙◌, ◌≡◌, ◌==◌}
+use Rattle.std.proofs.lemmas.Bool.{cases_eq, cases_lt, false_from_ne_true, false≢true, le-ltb, ltb-true}
 use Rattle.std.specs.Cmp.{nat_cmp_total}
-use Rattle.std.specs.FinMap.{contains_key, get, insert, len, len-insert, nat_cmp-IsAntisymmetric, remove, same_map}
-use Rattle.std.specs.Prelude.{if◌then◌else◌, is_some, ◌&&◌}
+use Rattle.std.specs.FinMap.{FinMap, contains_key, empty, empty_of_len, get, get-empty, insert, len, len-empty, len-insert}
+use Rattle.std.specs.FinMap.{nat_cmp-IsAntisymmetric, remove, same_map}
+use Rattle.std.specs.Ordering.{nat_cmp}
+use Rattle.std.specs.Prelude.{if◌then◌else◌, is_some, nat_lt, ◌&&◌}
 
 same_unit : (o p : Option (Unit {0})) → is_some o ≡ is_some p → o ≡ p
 same_unit None None is = refl
@@ -63,3 +66,30 @@ len_less m n is =
       | inr apart ↦ inserted_other (remove m n) n k apart ∙ removed_other m n k apart
     ])))
     ∙ len_more (remove m n) n (removed_here m n)
+
+-- a set below a bound that has no member below it is empty
+pub empty_below : (bound : ℕ) (words : List ℕ) → ((k : ℕ) → k < bound → contains_key (numbers_below bound words) k ≡ false)
+    → numbers_below bound words ≡ empty
+empty_below bound words none =
+    same_below bound words empty (λ k low. none k low ∙ sym (ap is_some (get-empty nat_cmp k)))
+    (λ k is. absurd (false≢true (sym (ap is_some (get-empty nat_cmp k)) ∙ is)))
+
+-- whether a map has an entry
+pub some_entry : {X : Type 0} (m : FinMap nat_cmp X) (k : ℕ) → contains_key m k ≡ true → (len m == 0) ≡ false
+some_entry m k is =
+    false_from_ne_true (len m == 0) (λ none. false≢true (sym (ap (λ (n : FinMap nat_cmp _). contains_key n k)
+    (empty_of_len m (eqb-true (len m) 0 none)) ∙ ap is_some (get-empty nat_cmp k)) ∙ is))
+
+pub no_entry : {X : Type 0} (m : FinMap nat_cmp X) → ((k : ℕ) → get m k ≡ None) → (len m == 0) ≡ true
+no_entry {X} m none =
+    eq-eqb (len m) 0 (ap len (same_map nat_cmp_total nat_cmp-IsAntisymmetric m empty (λ k. none k ∙ sym (get-empty nat_cmp k)))
+    ∙ len-empty nat_cmp X)
+
+-- a member of a set below a bound is below it
+pub below_bound : (bound : ℕ) (words : List ℕ) (k : ℕ) → contains_key (numbers_below bound words) k ≡ true → k < bound
+below_bound bound words k is =
+    ltb-true k bound (and_left_true (nat_lt k bound) (has words k) (sym (in_below bound words k) ∙ is))
+  where
+    and_left_true : (a b : Bool) → (a && b) ≡ true → a ≡ true
+    and_left_true true b both = refl
+    and_left_true false b both = absurd (false≢true both)

@@ -2,7 +2,7 @@ use Rattle.std.proofs.Common.{◌≡◌, ℕ, ◌<◌}
 use Rattle.fa_machine.specs.State.{is_live}
 use Rattle.fa_set.specs.Members.{bound_of, members}
 use Rattle.std.specs.FinMap.{contains_key}
-use Rattle.fa_turns.proofs.spares.mark_live.Given as goal
+use Rattle.fa_state.proofs.live.mark_live.Given as goal
 
 abbrev pub invariant-loop-die : goal.invariant-loop-die
 invariant-loop-die g l =

@@ -1,0 +1,7 @@
+use Rattle.fa_bookings.specs.Bookings.{calendar_of}
+use Rattle.std.proofs.Common.{◌≡◌, ℕ, ◌<◌, None}
+use Rattle.std.specs.FinMap.{get}
+use Rattle.fa_turns.proofs.rounds.has_window.Given as goal
+
+abbrev pub invariant-loop-die : goal.invariant-loop-die
+invariant-loop-die g l = (k : ℕ) → k < l.die → get (calendar_of l.bookings).windows k ≡ None
