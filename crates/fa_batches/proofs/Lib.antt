@@ -1,5 +1,5 @@
 mod Answered
-mod Opened
+pub mod Opened
 mod Handed
 mod Kept
 mod Placed

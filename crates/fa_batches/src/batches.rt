@@ -135,6 +135,9 @@ impl<A: Allocator + Clone> Batches<A> {
         requires { contains_key (batches_of self.now) batch.0 ≡ true }
         ensures pages { map (λ page. page.0) result.now ≡ (opened (batches_of self.now) batch.0).pages }
         ensures there { (p : ℕ) → is_one_of (opened (batches_of self.now) batch.0).pages p ≡ is_some (state_of self.now batch.0 p) }
+        ensures answers { (p : ℕ) → contains_key (opened (batches_of self.now) batch.0).answers p
+            ≡ option_map_or is_answered (state_of self.now batch.0 p) false }
+        ensures older { batch.0 < next_of self.now }
     {
         match self.lists.get(&batch.0) {
             Some(list) => &list.pages,

@@ -8,3 +8,7 @@ ok_both P Q R go (Err e) p q = p
 pub on_err_of : {X E : Type 0} (P : Type 0) → P → (r : Result X E) → OnErr r P
 on_err_of P p (Ok x) = tt
 on_err_of P p (Err e) = p
+
+pub ok_one : {X E : Type 0} (P Q : X → Type 0) → ((x : X) → P x → Q x) → (r : Result X E) → IfOk r P → IfOk r Q
+ok_one P Q go (Ok x) p = go x p
+ok_one P Q go (Err e) p = p

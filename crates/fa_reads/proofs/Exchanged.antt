@@ -2,9 +2,9 @@
 use Rattle.fa_batch.specs.declared.plan.Place.{Place}
 use Rattle.fa_batches.specs.declared.page.PageState.{PageState}
 use Rattle.fa_batches.specs.declared.page.PageState.TheVariants.{Answered, Booked, InFlight, Torn}
-use Rattle.fa_bookings.proofs.Placed.{get_over}
-use Rattle.fa_bookings.specs.Places.{booked_over, without_places}
-use Rattle.fa_calendar.specs.Dies.{is_at}
+use Rattle.fa_bookings.proofs.Placed.{get_over, here_is}
+use Rattle.fa_bookings.specs.Places.{booked_over, booking_of, without_places}
+use Rattle.fa_calendar.specs.Dies.{is_at, is_one}
 use Rattle.fa_machine.proofs.Maps.{get-keep, passed, place_cmp_total, place_same}
 use Rattle.fa_machine.specs.Among.{Among}
 use Rattle.fa_machine.specs.Maps.{place_cmp}
@@ -13,12 +13,13 @@ use Rattle.fa_machine.specs.Rounds.{is_taken}
 use Rattle.fa_machine.specs.State.{CalendarState}
 use Rattle.fa_machine.specs.declared.ids.BatchId.{BatchId}
 use Rattle.fa_machine.specs.declared.places.Booking.{Booking}
+use Rattle.fa_reads.proofs.Last.{Found, NotFound, last_of}
 use Rattle.fa_reads.specs.Left.{place_in, places_among}
 use Rattle.fa_state.specs.Tracked.{unstarted}
 use Rattle.fa_types.specs.Open.{IsOpen}
 use Rattle.fa_types.specs.declared.numbers.Die.{Die}
 use Rattle.fa_types.specs.declared.numbers.Round.{Round}
-use Rattle.std.proofs.Common.{Bool, List, None, Option, Some, [], ap, false, inl, inr, refl, subst, sym, true, ℕ, ◌∙◌, ◌∷◌, ◌≡◌}
+use Rattle.std.proofs.Common.{Bool, List, None, Option, Some, [], ap, false, inl, inr, refl, subst, sym, true, ℕ, ◌<◌, ◌∙◌, ◌∷◌, ◌≡◌, ◌⊎◌}
 use Rattle.std.proofs.lemmas.Bool.{false≢true, or_parts}
 use Rattle.std.specs.FinMap.{FinMap, contains_key, get}
 use Rattle.std.specs.List.{AllByRecursion, cons_option}
@@ -72,3 +73,25 @@ module _ (calendar : CalendarState) (old : List Place) where
       go false at None is = absurd (false≢true (sym (ap is_some is) ∙ some))
       go false at (Some b) is =
           absurd (false≢true (sym none ∙ (λ i. is_some (passed (λ booking. not (at i)) (is i)))))
+
+  -- where all bookings were on dies of the array, and a plan's places are, they are so once it is booked
+  pub booked_inside : (batch : BatchId) (new : List Place) (dies : ℕ)
+      → ((d r : ℕ) → contains_key calendar.bookings (d, r) ≡ true → d < dies) → ((x : Place) → Among x new → x.die.0 < dies)
+      → (now : CalendarState) → now ≡ booked batch new (without_places old calendar)
+      → (d r : ℕ) → contains_key now.bookings (d, r) ≡ true → d < dies
+  booked_inside batch new dies before low now is d r some = go (last_of (λ x. is_one x d r) (booking_of batch) new left)
+    where
+      left : Option Booking
+      left = passed (λ booking. not (is_at old d r)) (get calendar.bookings (d, r))
+
+      there : is_some (booked_over batch new d r left) ≡ true
+      there =
+          sym (ap is_some (ap (λ (k : CalendarState). get k.bookings (d, r)) is ∙ found_after batch new d r)) ∙ some
+
+      was : (o : Option Booking) → is_some (passed (λ booking. not (is_at old d r)) o) ≡ true → is_some o ≡ true
+      was None is = absurd (false≢true is)
+      was (Some b) is = refl
+
+      go : Found (λ x. is_one x d r) (booking_of batch) new left ⊎ NotFound (λ x. is_one x d r) (booking_of batch) new left → d < dies
+      go (inl x) = subst (λ n. n < dies) (here_is x.place d r x.passes).0 (low x.place x.among)
+      go (inr none) = before d r (was (get calendar.bookings (d, r)) (sym (ap is_some none.is) ∙ there))

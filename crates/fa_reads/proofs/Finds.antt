@@ -2,7 +2,7 @@
 use Rattle.std.proofs.Common.{Bool, List, None, Option, Some, [], ap, arith, cond, false, refl, suc, sym, true, zero, ℕ, ◌<◌, ◌∷◌}
 use Rattle.std.proofs.Common.{◌≡◌}
 use Rattle.std.proofs.lemmas.Option.{none-some}
-use Rattle.std.specs.Prelude.{find, length, map, option_map, slice_index_or, take}
+use Rattle.std.specs.Prelude.{filter, find, length, map, option_map, slice_index_or, take, ◌&&◌}
 
 module _ {X : Type 0} (p : X → Bool) where
   behind : (x : X) (xs ys : List X) → cond (p x) (Some x) (find p xs) ≡ None → (find p xs ≡ None → find p ys ≡ None)
@@ -47,4 +47,14 @@ find_mapped f p (x ∷ xs) = go (p (f x)) (find_mapped f p xs)
     go : (b : Bool) → option_map f (find (λ x. p (f x)) xs) ≡ find p (map f xs)
         → option_map f (cond b (Some x) (find (λ x. p (f x)) xs)) ≡ cond b (Some (f x)) (find p (map f xs))
     go true rest = refl
+    go false rest = rest
+
+-- the first of those that pass one test that passes another is the first that passes both
+pub find_filtered : {X : Type 0} (p q : X → Bool) (xs : List X) → find q (filter p xs) ≡ find (λ x. p x && q x) xs
+find_filtered p q [] = refl
+find_filtered p q (x ∷ xs) = go (p x) (find_filtered p q xs)
+  where
+    go : (b : Bool) → find q (filter p xs) ≡ find (λ x. p x && q x) xs
+        → find q (cond b (x ∷ filter p xs) (filter p xs)) ≡ cond (b && q x) (Some x) (find (λ x. p x && q x) xs)
+    go true rest = ap (cond (q x) (Some x)) rest
     go false rest = rest

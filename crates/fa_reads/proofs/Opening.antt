@@ -71,7 +71,7 @@ module _ {X : Type 0} (m : FinMap nat_cmp X) (k : ℕ) where
   pub contains_inserted : (x : X) → contains_key (insert m k x) k ≡ true
   contains_inserted x = ap is_some (get-insert_same m k x)
 
-swapped : (a b : ℕ) → (a == b) ≡ (b == a)
+pub swapped : (a b : ℕ) → (a == b) ≡ (b == a)
 swapped a b =
     elim (cases_Bool (b == a)) [
       | inl same ↦ eq-eqb a b (sym (eqb-true b a same)) ∙ sym same

@@ -1,5 +1,6 @@
 //! Batches that are opened, and plans that are booked for them.
-ghost use Rattle.std.specs.Prelude.{◌≡◌, ℕ, ◌+◌, ◌<◌, ◌==◌, ◌&&◌, length, not, true, false, if◌then◌else◌, is_some, [], map, replicate};
+ghost use Rattle.std.specs.Prelude.{◌≡◌, ℕ, ◌+◌, ◌<◌, ◌≤◌, ◌==◌, ◌&&◌, length, not, true, false};
+ghost use Rattle.std.specs.Prelude.{if◌then◌else◌, is_some, [], map, replicate};
 ghost use Rattle.std.specs.Prelude.{IfOk, OnOk, OnErr, IsErrOf, Some};
 ghost use Rattle.std.specs.FinMap.{contains_key, empty, insert, remove};
 ghost use Rattle.std.specs.List.{All, AllByRecursion};
@@ -50,6 +51,7 @@ pub fn open<M: Map, A: Allocator + Copy>(
     ensures bytes { bytes_of batches.new ≡ bytes_of batches.old }
     ensures refused { OnErr result (batches_of batches.new ≡ batches_of batches.old) }
     ensures refused_states { OnErr result ((b p : ℕ) → state_of batches.new b p ≡ state_of batches.old b p) }
+    ensures later { next_of batches.old ≤ next_of batches.new }
 {
     let batch = batches.begin(alloc, pages.len())?;
     match add_pages(alloc, batches, page_map, batch, pages) {
@@ -112,6 +114,7 @@ pub fn book<M: Map, A: Allocator + Copy>(
     requires once { ArePlacedOnce new.now }
     requires left { AllByRecursion (λ x. is_left (state_of state.old.batches batch.0 x.page.0) ≡ true) new.now }
     requires all { (page : ℕ) → is_left (state_of state.old.batches batch.0 page) ≡ true → 0 < times_placed new.now page }
+    requires inside { AllByRecursion (λ x. x.die.0 < (M.view state.old.page_map).geometry.dies) new.now }
     requires fitted { IsFitted M.view state.old }
     ensures ok { OnOk result (core_of M.view state.new ≡ record (core_of M.view state.old) {
       calendar = booked batch new.now (without_places old.now (calendar_of state.old.bookings));

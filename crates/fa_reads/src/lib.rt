@@ -1,14 +1,18 @@
-//! What the events of readers are made of, over the array's state: the pages that are to be read with their holders, a plan of them
-//! in the least number of rounds, a batch that is opened, and a plan that is booked for it.
+//! The events of readers, over the array's state: a batch is admitted, planned anew, and ended; how a batch stands; and the closed
+//! rounds without those that are booked for a batch. Each is one function. A plan takes the least number of rounds.
 #![tactic(auto)]
 
+mod admitting;
 mod asking;
 mod booking;
+mod ending;
 mod holding;
 mod lost;
 mod planning;
+mod replanning;
+mod standing;
 
-pub use asking::{booked_places, left_pages, written_pages};
-pub use booking::{book, open};
-pub use lost::first_lost;
-pub use planning::{is_late, plan_written};
+pub use admitting::{Admitted, admit};
+pub use ending::end_batch;
+pub use replanning::{closed_without, replan};
+pub use standing::results;

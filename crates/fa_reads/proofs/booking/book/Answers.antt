@@ -5,15 +5,16 @@ use Rattle.fa_bookings.specs.Bookings.{calendar_of}
 use Rattle.fa_bookings.specs.Places.{booked_over, without_places}
 use Rattle.fa_calendar.specs.Dies.{is_at}
 use Rattle.fa_machine.proofs.Maps.{passed}
+use Rattle.fa_machine.specs.Maps.{is_one_of}
 use Rattle.fa_machine.specs.Rounds.{is_taken}
 use Rattle.fa_machine.specs.State.{CalendarState}
-use Rattle.fa_parts.specs.Dies.{by_die}
-use Rattle.fa_reads.proofs.Exchanged.{among_all, found_after, free_place, places_booked}
+use Rattle.fa_parts.specs.Dies.{bound_of, by_die}
+use Rattle.fa_reads.proofs.Exchanged.{among_all, booked_inside, found_after, free_place, places_booked}
 use Rattle.fa_reads.proofs.Tracked.{tracked_after}
 use Rattle.fa_reads.proofs.booking.book.Goals as goal
 use Rattle.fa_reads.specs.Left.{is_left}
 use Rattle.fa_types.specs.Open.{IsOpen}
-use Rattle.std.proofs.Common.{ap, subst, sym, true, ◌∙◌, ◌≡◌, ◌≤◌}
+use Rattle.std.proofs.Common.{ap, length, subst, sym, true, ℕ, ◌<◌, ◌∙◌, ◌≡◌, ◌≤◌}
 use Rattle.std.specs.FinMap.{contains_key, get}
 use Rattle.std.specs.List.{AllByRecursion}
 use Rattle.std.specs.Prelude.{not, ◌^◌}
@@ -59,4 +60,12 @@ returns-clause-fitted g c =
           ∙ ap (λ old. booked_over c.args.batch c.args.new.now d r (passed (λ booking. not (is_at old d r)) (get calendar.bookings (d, r))))
           c.requires.booked)
           c.enter.ensures.batches c.enter.ensures.states c.enter.ensures.number;
+      listed = λ batch. subst (λ m. (page : ℕ) → is_one_of (opened m batch).pages page ≡ true
+          → page < (g.M.Map.view c.args.state.now.page_map).geometry.pages) (sym c.enter.ensures.batches) (fitted.listed batch);
+      few = λ batch. subst (λ m. length (opened m batch).pages ≤ 1024) (sym c.enter.ensures.batches) (fitted.few batch);
+      inside = booked_inside calendar c.args.old.now c.args.batch c.args.new.now (bound_of c.args.state.now.jobs) fitted.inside
+          (λ x among. subst (λ n. x.die.0 < n) (sym fitted.jobs)
+          (among_all (λ (x : Place). x.die.0 < (g.M.Map.view c.args.state.now.page_map).geometry.dies) c.args.new.now c.requires.inside x
+          among))
+          (calendar_of c.exchange.new.self) ok;
     }
