@@ -1,0 +1,5 @@
+mod Dropped
+mod Flights
+mod Masks
+mod Others
+mod Steps

@@ -1,0 +1,13 @@
+//! Jobs that are handed out to dies, over the array's state.
+#![tactic(auto)]
+
+mod collecting;
+mod header;
+mod job;
+mod jobs;
+mod programs;
+mod reading;
+mod taking;
+
+pub use job::Job;
+pub use taking::take;
