@@ -1,0 +1,4 @@
+mod Answered
+mod Ended
+mod Moved
+mod Tracked

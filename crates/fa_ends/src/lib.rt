@@ -1,0 +1,13 @@
+//! Jobs of dies that end, over the array's state.
+#![tactic(auto)]
+
+mod collecting;
+mod dropping;
+mod ending;
+mod outcome;
+mod programming;
+mod reading;
+mod telling;
+
+pub use ending::done;
+pub use outcome::Outcome;
