@@ -30,10 +30,10 @@ use Rattle.std.specs.List.{AllByRecursion}
 use Rattle.std.specs.Ordering.{nat_cmp}
 use Rattle.std.specs.Prelude.{Ok, fold, is_some, ◌==◌, ◌&&◌}
 
-abbrev booking_of : BatchId → Place → Booking
+abbrev pub booking_of : BatchId → Place → Booking
 booking_of batch x = record { batch = batch; page = x.page; started = false }
 
-abbrev with_places : BatchId → List Place → FinMap place_cmp Booking → FinMap place_cmp Booking
+abbrev pub with_places : BatchId → List Place → FinMap place_cmp Booking → FinMap place_cmp Booking
 with_places batch places bookings = fold (λ m x. insert m (x.die.0, x.round.0) (booking_of batch x)) bookings places
 
 booked_found : (batch : BatchId) (places : List Place) (bookings : FinMap place_cmp Booking) (d r : ℕ) (b : Booking)
@@ -49,7 +49,7 @@ booked_found batch (x ∷ xs) bookings d r b e =
       ]
     ]
 
-booked_kept : (batch : BatchId) (places : List Place) (bookings : FinMap place_cmp Booking) (d r : ℕ) (b : Booking)
+pub booked_kept : (batch : BatchId) (places : List Place) (bookings : FinMap place_cmp Booking) (d r : ℕ) (b : Booking)
     → ((x : Place) → Among x places → x.die.0 ≡ d → x.round.0 ≡ r → ⊥) → get bookings (d, r) ≡ Some b
     → get (with_places batch places bookings) (d, r) ≡ Some b
 booked_kept batch [] bookings d r b free e = e
@@ -63,7 +63,7 @@ all_among P (y ∷ ys) all x (inl same) = subst P same all.0
 all_among P (y ∷ ys) all x (inr rest) = all_among P ys all.1 x rest
 
 -- the places of a plan are open
-opened_at : (m : MapState) (calendar : CalendarState) (pages : List ℕ) (planned : Planned) → IsPlanned m calendar pages planned
+pub opened_at : (m : MapState) (calendar : CalendarState) (pages : List ℕ) (planned : Planned) → IsPlanned m calendar pages planned
     → (x : Place) → Among x planned.places
     → (calendar.round ≤ x.round.0) × (contains_key calendar.bookings (x.die.0, x.round.0) ≡ false)
 opened_at m calendar pages planned is x among =

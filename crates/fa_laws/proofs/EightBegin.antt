@@ -30,7 +30,7 @@ use Rattle.std.specs.declared.cmp.Ordering.{Ordering}
 use Rattle.std.specs.declared.cmp.Ordering.TheVariants.{Equal}
 
 -- what is found passes the test that each entry passes
-found_passes : {K X : Type 0} (R : K → K → Ordering) → ((x y : K) → R x y ≡ Equal → x ≡ y) → (test : K → X → Bool) (es : List (K × X))
+pub found_passes : {K X : Type 0} (R : K → K → Ordering) → ((x y : K) → R x y ≡ Equal → x ≡ y) → (test : K → X → Bool) (es : List (K × X))
     → list_all (λ e. test e.0 e.1) es ≡ true → (q : K) (x : X) → find_entry R q es ≡ Some x → test q x ≡ true
 found_passes R same test [] all q x e = absurd (none-some x e)
 found_passes R same test (e ∷ es) all q x found =
@@ -52,7 +52,7 @@ found_mapped f q (e ∷ es) = branch (eq_by_cmp nat_cmp q e.0) (found_mapped f q
     branch false rest = rest
 
 -- a number above those of the entries is not found
-missing : {X : Type 0} (n q : ℕ) (es : List (ℕ × X)) → list_all (λ e. nat_lt e.0 n) es ≡ true → n ≤ q → find_entry nat_cmp q es ≡ None
+pub missing : {X : Type 0} (n q : ℕ) (es : List (ℕ × X)) → list_all (λ e. nat_lt e.0 n) es ≡ true → n ≤ q → find_entry nat_cmp q es ≡ None
 missing n q [] all high = refl
 missing n q (e ∷ es) all high =
     let parts = and_parts (nat_lt e.0 n) (list_all (λ e. nat_lt e.0 n) es) all in

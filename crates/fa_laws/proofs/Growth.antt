@@ -11,7 +11,7 @@ use Rattle.fa_machine.specs.History.{folded, is_commit, is_legal, replay}
 use Rattle.fa_machine.specs.Placement.{copy_place}
 use Rattle.fa_machine.specs.Run.{CallsNext, Event, Happening, Happens, ImageCall, Run}
 use Rattle.fa_machine.specs.State.{Base, Core, OpenBatch, Reservation}
-use Rattle.fa_machine.specs.Step.{Abandon, Act, Admit, Advance, Claim, Commit, CommitCopy, Does, Done, EndBatch, FlushBegin}
+use Rattle.fa_machine.specs.Step.{Abandon, Act, Admit, Advance, Claim, Commit, CommitCopy, Does, Done, EndBatch, FlushBegin, Step}
 use Rattle.fa_machine.specs.Step.{FlushState, Fold, Release, Replan, Reserve, ReserveCopy, ReserveFewer, ReserveHole, SpareIn, Take}
 use Rattle.fa_machine.specs.Step.{Window}
 use Rattle.fa_machine.specs.Taking.{EndsJob, Handed, Takes, begins, begun, finished, handed, read_ends, with_answer}
@@ -347,3 +347,15 @@ fold_keeps old new e =
     let c : new.base.commits + commits_in new.history ≡ old.base.commits + commits_in old.history = omega (arith, g.commits_rise) in
     let s : new.base.starts + starts_in new.history ≡ old.base.starts + starts_in old.history = omega (arith, g.starts_rise) in
     (ap (λ (x : Core). replay x.base.numbers x.history) e, λ i. (c i, s i))
+
+-- what one event adds
+pub step_history : (old new : Core) (act : Act) → Step old act new → HasHistory old → HasHistory new
+step_history old new act step h =
+    let after = (event_grows old act new step.does).keeps (record { replayed = h.replayed; legal = h.legal }) in
+    record { replayed = after.replayed; legal = after.legal }
+
+pub step_counts : (old new : Core) (act : Act) → Step old act new
+    → counts new ≡ ((counts old).0 + commits_of (Event act), (counts old).1 + starts_of (Event act))
+step_counts old new act step =
+    let g = event_grows old act new step.does in
+    λ i. (g.commits_rise i, g.starts_rise i)

@@ -21,7 +21,7 @@ use Rattle.fa_types.specs.declared.kind.Kind.TheVariants.{Data, Hole}
 use Rattle.fa_machine.specs.declared.places.Version.{Version}
 use Rattle.fa_types.specs.Geometry.{IsGeometry}
 use Rattle.fa_types.specs.declared.geometry.Geometry.{Geometry}
-use Rattle.std.proofs.Common.{List, Some, [], ap, eq-eqb, length, refl, suc, sym, true, ℕ, ◌∙◌, ◌∷◌, ◌≡◌}
+use Rattle.std.proofs.Common.{List, None, Some, [], ap, eq-eqb, length, refl, suc, sym, true, ℕ, ◌∙◌, ◌∷◌, ◌≡◌}
 use Rattle.std.specs.Cmp.{nat_cmp_total}
 use Rattle.std.specs.FinMap.{empty, from_sorted, get, get-from_sorted, insert}
 use Rattle.std.specs.Ordering.{nat_cmp}
@@ -33,6 +33,11 @@ module _ (size : ℕ) (within : IsGeometry 2 0 4 4 size 8) (bytes : ℕ → List
 
   abbrev pub t0 : Table
   t0 = record {
+    copies = 2;
+    spares = [];
+    copying = None;
+    commits = 0;
+    starts = 0;
     live = (0, tt) ∷ (1, tt) ∷ [];
     versions = [];
     used = [];
@@ -78,6 +83,7 @@ module _ (size : ℕ) (within : IsGeometry 2 0 4 4 size 8) (bytes : ℕ → List
       };
       behind = two_live i;
       stepped = sym (empty_listed nat_cmp_total nat_same) i;
+      spares = sym (empty_listed nat_cmp_total nat_same) i;
       jobs = sym (empty_listed nat_cmp_total nat_same) i;
       claims = sym (empty_listed nat_cmp_total nat_same) i;
       batches = sym (empty_listed nat_cmp_total nat_same) i;

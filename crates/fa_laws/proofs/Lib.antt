@@ -13,8 +13,10 @@ pub mod EightBegin
 pub mod Ending
 pub mod Endings
 pub mod Entering
+pub mod Erasing
 pub mod Events
 pub mod Failing
+pub mod Few
 pub mod Finishing
 pub mod Growth
 pub mod Handing
@@ -24,11 +26,13 @@ pub mod ImageCalls
 pub mod InTimes
 pub mod Invariant
 pub mod JobEnds
+pub mod Jobs
 pub mod Keeping
 pub mod Leaving
 pub mod Listed
 pub mod Making
 pub mod MendedBatch
+pub mod Mending
 pub mod Outcomes
 pub mod Outlasting
 pub mod Parts
@@ -44,7 +48,10 @@ pub mod Scene
 pub mod Settling
 pub mod Starting
 pub mod Starts
+pub mod SpareBegin
+pub mod SpareTaken
 pub mod Staying
+pub mod Syncs
 pub mod Table
 pub mod Tabled
 pub mod Timely

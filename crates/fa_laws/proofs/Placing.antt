@@ -20,7 +20,7 @@ module _ (g : Geometry) where
       && nat_lt 0 (count_by (λ slot. is_none (find_entry place_cmp (die, slot) t.used)) (below (g.blocks * g.slots)) - g.slots)
 
   abbrev pub targets_in : Table → ℕ → List ℕ
-  targets_in t page = take (min 2 (length t.live)) (filter (room_in t) (order_of 2 (core_of g t).page_map page))
+  targets_in t page = take (min t.copies (length t.live)) (filter (room_in t) (order_of t.copies (core_of g t).page_map page))
 
   abbrev pub erased_in : Table → ℕ → Option ℕ
   erased_in t die = find (λ slot. is_none (find_entry place_cmp (die, slot) t.used)) (below (g.blocks * g.slots))
@@ -29,15 +29,15 @@ module _ (g : Geometry) where
     abbrev m : MapState
     m = (core_of g t).page_map
 
-    pub asked_same : copies_asked 2 m ≡ min 2 (length t.live)
-    asked_same = λ i. min 2 (len_listed nat_cmp_total nat_same t.live o.live i)
+    pub asked_same : copies_asked t.copies m ≡ min t.copies (length t.live)
+    asked_same = λ i. min t.copies (len_listed nat_cmp_total nat_same t.live o.live i)
 
-    room_same : (die : ℕ) → has_room m die ≡ room_in t die
+    pub room_same : (die : ℕ) → has_room m die ≡ room_in t die
     room_same die = λ i. is_some (get-from_sorted nat_cmp t.live die o.live i)
         && nat_lt 0 (count_by (λ slot. is_none (get-from_sorted place_cmp t.used (die, slot) o.used i)) (slots_of m) - g.slots)
 
-    pub targets_same : (page : ℕ) → targets 2 m page ≡ targets_in t page
-    targets_same page = λ i. take (asked_same i) (filter (λ die. room_same die i) (order_of 2 (core_of g t).page_map page))
+    pub targets_same : (page : ℕ) → targets t.copies m page ≡ targets_in t page
+    targets_same page = λ i. take (asked_same i) (filter (λ die. room_same die i) (order_of t.copies (core_of g t).page_map page))
 
     pub erased_same : (die : ℕ) → lowest_erased m die ≡ erased_in t die
     erased_same die = λ i. find (λ slot. is_none (get-from_sorted place_cmp t.used (die, slot) o.used i)) (slots_of m)

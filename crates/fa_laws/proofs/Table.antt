@@ -4,16 +4,18 @@ use Rattle.fa_machine.specs.State.{Core, OpenClaim, OpenBatch, WaitingProgram}
 use Rattle.fa_machine.specs.declared.answers.HistoryEntry.{HistoryEntry}
 use Rattle.fa_machine.specs.declared.jobs.Flight.{Flight}
 use Rattle.fa_machine.specs.declared.places.Booking.{Booking}
+use Rattle.fa_machine.specs.declared.places.Copying.{Copying}
 use Rattle.fa_machine.specs.declared.places.Used.{Used}
 use Rattle.fa_machine.specs.declared.places.Version.{Version}
 use Rattle.fa_types.specs.declared.window.Window.{Window as WindowOf}
 use Rattle.fa_types.specs.declared.geometry.Geometry.{Geometry}
-use Rattle.std.proofs.Common.{Bool, List, None, true, false, ℕ}
-use Rattle.std.specs.FinMap.{empty, from_sorted, is_sorted}
+use Rattle.std.proofs.Common.{Bool, List, Option, true, false, ℕ}
+use Rattle.std.specs.FinMap.{from_sorted, is_sorted}
 use Rattle.std.specs.Ordering.{nat_cmp}
 use Rattle.std.specs.Prelude.{T, ◌&&◌}
 
 pub record Table : Type 0 where
+  pub copies : ℕ
   pub live : List (ℕ × Unit {0})
   pub versions : List (ℕ × Version)
   pub used : List ((ℕ × ℕ) × Used)
@@ -22,38 +24,42 @@ pub record Table : Type 0 where
   pub windows : List (ℕ × WindowOf)
   pub epoch : ℕ
   pub behind : List (ℕ × Unit {0})
+  pub spares : List (ℕ × Unit {0})
   pub stepped : List (ℕ × Unit {0})
   pub last : ℕ
   pub waiting : List WaitingProgram
   pub jobs : List (ℕ × Flight)
+  pub copying : Option Copying
   pub claims : List (ℕ × OpenClaim)
   pub batches : List (ℕ × OpenBatch)
   pub flushes : ℕ
   pub asked : List (ℕ × ℕ)
   pub synced : List (ℕ × ℕ)
   pub based : List (ℕ × ℕ)
+  pub commits : ℕ
+  pub starts : ℕ
   pub history : List HistoryEntry
 
--- the state of an array with two copies of each page, no spare and no copy under way
+-- the state with these entries
 abbrev pub core_of : Geometry → Table → Core
 core_of geometry t = record {
-  copies = 2;
+  copies = t.copies;
   page_map = record { geometry = geometry; live = from_sorted t.live; versions = from_sorted t.versions; used = from_sorted t.used };
   calendar = record { round = t.round; bookings = from_sorted t.bookings; windows = from_sorted t.windows };
   epoch = t.epoch;
   behind = from_sorted t.behind;
-  spares = empty;
+  spares = from_sorted t.spares;
   stepped = from_sorted t.stepped;
   last = t.last;
   waiting = t.waiting;
   jobs = from_sorted t.jobs;
-  copying = None;
+  copying = t.copying;
   claims = from_sorted t.claims;
   batches = from_sorted t.batches;
   flushes = t.flushes;
   asked = from_sorted t.asked;
   synced = from_sorted t.synced;
-  base = record { numbers = from_sorted t.based; commits = 0; starts = 0 };
+  base = record { numbers = from_sorted t.based; commits = t.commits; starts = t.starts };
   history = t.history;
 }
 

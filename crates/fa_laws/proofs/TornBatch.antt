@@ -40,6 +40,11 @@ module _ (size : ℕ) (within : IsGeometry 3 0 16 8 size 64) (bytes : ℕ → Li
 
   abbrev pub t0 : Table
   t0 = record {
+    copies = 2;
+    spares = [];
+    copying = None;
+    commits = 0;
+    starts = 0;
     live = (0, tt) ∷ (1, tt) ∷ (2, tt) ∷ [];
     versions = map (λ page. (page, write_of page)) eight;
     used = held_slots;
@@ -73,6 +78,7 @@ module _ (size : ℕ) (within : IsGeometry 3 0 16 8 size 64) (bytes : ℕ → Li
         windows = sym (empty_listed nat_cmp_total nat_same) i;
       };
       stepped = sym (empty_listed nat_cmp_total nat_same) i;
+      spares = sym (empty_listed nat_cmp_total nat_same) i;
       jobs = sym (empty_listed nat_cmp_total nat_same) i;
       claims = sym (empty_listed nat_cmp_total nat_same) i;
       batches = sym (empty_listed nat_cmp_total nat_same) i;

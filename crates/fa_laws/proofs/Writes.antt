@@ -14,7 +14,7 @@ use Rattle.fa_machine.specs.Placement.{copies_asked, targets}
 use Rattle.fa_machine.specs.Run.{Happens, HappensEvent, ImageCall}
 use Rattle.fa_machine.specs.State.{Core, OpenClaim, Reservation}
 use Rattle.fa_machine.specs.Step.{Claim, Commit, Done, Release, Reserve, ReserveHole, Take, is_page}
-use Rattle.fa_machine.specs.Taking.{Handed, handed, is_for, mark_claim, program_of, read_of, other_job, urgent_job, without_stale_booking}
+use Rattle.fa_machine.specs.Taking.{Handed, handed, is_for, mark, mark_claim, program_of, read_of, other_job, urgent_job, without_stale_booking}
 use Rattle.fa_machine.specs.World.{Accepted, ProgramsSlot, World, with_cell, with_value_at}
 use Rattle.fa_machine.specs.Writing.{Commits, Reserves, claimed_page, committed, live_targets, program_at, reserve_refusal, reserved}
 use Rattle.fa_machine.specs.Writing.{target_on, with_targets, without_page}
@@ -23,6 +23,7 @@ use Rattle.fa_machine.specs.declared.ids.ClaimId.{ClaimId}
 use Rattle.fa_machine.specs.declared.jobs.Flight.TheVariants.{Program, Sync}
 use Rattle.fa_types.specs.declared.kind.Kind.{Kind}
 use Rattle.fa_types.specs.declared.kind.Kind.TheVariants.{Data, Hole}
+use Rattle.fa_machine.specs.declared.places.Copying.{Copying}
 use Rattle.fa_machine.specs.declared.places.Target.{Target}
 use Rattle.fa_machine.specs.declared.places.Used.{Used}
 use Rattle.fa_machine.specs.declared.places.Used.TheVariants.{Held, Reserved}
@@ -71,6 +72,7 @@ abbrev pub program_done : ℕ → ℕ → ℕ → Table → Table
 program_done page die slot t = record t {
   jobs = without_number die t.jobs;
   claims = map (λ e. (e.0, if e.1.page == page then mark_claim die slot e.1 else e.1)) t.claims;
+  copying = option_map {T = Copying} (λ c. record c { target = mark die slot c.target }) t.copying;
 }
 
 abbrev pub live_in : Table → List Target → List Target
@@ -149,7 +151,7 @@ module _ (g : Geometry) where
     page_found : claimed_page core id ≡ page
     page_found = ap (λ x. unwrap_or (option_map (λ (c : OpenClaim). c.page) x) 0) found
 
-    places_same : map (target_on core.page_map) (targets 2 core.page_map page) ≡ places_in t page
+    places_same : map (target_on core.page_map) (targets t.copies core.page_map page) ≡ places_in t page
     places_same = λ i. map (λ die. record { die = record { 0 = die }; slot = record { 0 = unwrap_or (erased_same g t o die i) 0 }; programmed = false })
         (targets_same g t o page i)
 
@@ -171,14 +173,14 @@ module _ (g : Geometry) where
           claims = sym (insert_listed nat_cmp_total nat_same t.claims id
               (record { page = page; reserved = Some (record { version = next_version kind t; targets = places_in t page }) }) o.claims) i;
         })
-        ∙ sym (ap (λ p. with_places p (map (target_on core.page_map) (targets 2 core.page_map p))) page_found ∙ ap (with_places page) places_same)
+        ∙ sym (ap (λ p. with_places p (map (target_on core.page_map) (targets t.copies core.page_map p))) page_found ∙ ap (with_places page) places_same)
 
     reserves_at_least : (seq : Seq) → first_that {R = ReserveRefused} (
-        (nat_lt (length (targets_in g t page)) (min 2 (length t.live)), NoRoom) ∷ (min 2 (length t.live) == 0, NoDie)
+        (nat_lt (length (targets_in g t page)) (min t.copies (length t.live)), NoRoom) ∷ (min t.copies (length t.live) == 0, NoDie)
         ∷ (t.last == 2 ^ 62 - 1, Spent) ∷ []) ≡ None → seq.0 ≡ t.last + 1
-        → Reserves core id (copies_asked 2 core.page_map) kind payload (Ok seq) (core_of g (reserved_in id page kind payload t))
+        → Reserves core id (copies_asked t.copies core.page_map) kind payload (Ok seq) (core_of g (reserved_in id page kind payload t))
     reserves_at_least seq free is = (
-      ap (λ p. reserve_refusal core p (copies_asked 2 core.page_map)) page_found
+      ap (λ p. reserve_refusal core p (copies_asked t.copies core.page_map)) page_found
           ∙ (λ i. first_that {R = ReserveRefused} (
           (nat_lt (length (targets_same g t o page i)) (asked_same g t o i), NoRoom) ∷ (asked_same g t o i == 0, NoDie)
           ∷ (t.last == 2 ^ 62 - 1, Spent) ∷ [])) ∙ free,
@@ -192,7 +194,7 @@ module _ (g : Geometry) where
   -- whether a reservation of a page is refused
   abbrev pub reserve_refused : Table → ℕ → Option ReserveRefused
   reserve_refused t page = first_that (
-      (nat_lt (length (targets_in g t page)) (min 2 (length t.live)), NoRoom) ∷ (min 2 (length t.live) == 0, NoDie)
+      (nat_lt (length (targets_in g t page)) (min t.copies (length t.live)), NoRoom) ∷ (min t.copies (length t.live) == 0, NoDie)
       ∷ (t.last == 2 ^ 62 - 1, Spent) ∷ [])
 
   pub reserves : (t : Table) (v : World) (id page : ℕ) (payload : List ℕ) (seq : Seq) → T (is_ordered t)
@@ -326,6 +328,7 @@ module _ (g : Geometry) where
       (λ i. record (core_of g t) {
         jobs = sym (remove_listed nat_cmp_total nat_same t.jobs die o.jobs) i;
         claims = sym (change_listed nat_cmp_total nat_same (λ id c. if c.page == page.0 then mark_claim die slot.0 c else c) t.claims o.claims l.claims) i;
+        copying = option_map {T = Copying} (λ c. record c { target = mark die slot.0 c.target }) t.copying;
       })
 
   abbrev pub commit_refused : Table → List Target → Option CommitRefused
@@ -338,13 +341,13 @@ module _ (g : Geometry) where
     claim_there : get (core_of g t).claims id ≡ Some (record { page = page; reserved = Some r })
     claim_there = get-from_sorted nat_cmp t.claims id o.claims ∙ there
 
-    page_there : claimed_page (core_of g t) id ≡ page
+    pub page_there : claimed_page (core_of g t) id ≡ page
     page_there = ap (λ x. unwrap_or (option_map (λ (c : OpenClaim). c.page) x) 0) claim_there
 
-    reserved_there : reserved_under (core_of g t) id ≡ Some r
+    pub reserved_there : reserved_under (core_of g t) id ≡ Some r
     reserved_there = ap (option_and_then (λ (c : OpenClaim). c.reserved)) claim_there
 
-    live_same : live_targets (core_of g t) r.targets ≡ live_in t r.targets
+    pub live_same : live_targets (core_of g t) r.targets ≡ live_in t r.targets
     live_same = λ i. filter (λ (x : Target). is_some (get-from_sorted nat_cmp t.live x.die.0 o.live i)) r.targets
 
     abbrev with_live : ℕ → List Target → Core

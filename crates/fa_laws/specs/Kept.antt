@@ -48,3 +48,8 @@ KeepsWindows old (Done die outcome) new =
     (new.calendar.windows ≡ old.calendar.windows)
     ⊎ ((new.calendar.windows ≡ remove old.calendar.windows die) × (new.page_map.live ≡ remove old.page_map.live die))
 KeepsWindows old act new = new.calendar.windows ≡ old.calendar.windows
+
+-- none but Advance changes the round
+abbrev pub KeepsRound : Core → Act → Core → Type 0
+KeepsRound old (Advance (Ok round)) new = (round.0 ≡ old.calendar.round + 1) × (new.calendar.round ≡ round.0)
+KeepsRound old act new = new.calendar.round ≡ old.calendar.round

@@ -1,5 +1,6 @@
 pub mod Counted
 pub mod EightPages
+pub mod Erased
 pub mod FailingDie
 pub mod Formatted
 pub mod Free
@@ -11,5 +12,7 @@ pub mod Leaving
 pub mod Plain
 pub mod Reached
 pub mod Reading
+pub mod SpareComesIn
+pub mod Syncing
 pub mod Telling
 pub mod Untouched

@@ -4,6 +4,7 @@ ghost use Rattle.fa_types.specs.declared.geometry.Geometry.{Geometry};
 ghost use Rattle.fa_laws.specs.EightPages.{HasThreeDies};
 ghost use Rattle.fa_laws.specs.FailingDie.{BatchOutlastsDie};
 ghost use Rattle.fa_laws.specs.HoleAndMove.{HasTwoDies, ReadsAHoleAndAMovedPage};
+ghost use Rattle.fa_laws.specs.SpareComesIn.{HasFiveDies, SpareTakesACopy};
 
 use crate::beginnings::a_formatted_array_is_a_beginning;
 
@@ -28,3 +29,14 @@ pub fn a_hole_a_move_and_a_flush()
 {
     a_formatted_array_is_a_beginning();
 }
+
+/// A page of an array of four dies and a spare has three copies. A read of it meets a fault: the die goes out, and the spare
+/// comes in. The batch is planned anew and answered, and what it read is copied to the spare. A write of another page is given
+/// up, and the block of a slot that it leaves stale is erased, in a window of its die. The history is folded. Then the page is
+/// read from the spare, and answered with its bytes.
+pub fn a_spare_takes_a_copy()
+    // There is such an array.
+    ensures some { (geometry : Geometry) × HasFiveDies geometry × (geometry.page_bytes ≡ 512) }
+    ensures told { (geometry : Geometry) (bytes : ℕ → List ℕ) → HasFiveDies geometry
+        → ((page : ℕ) → length (bytes page) ≡ geometry.page_bytes) → SpareTakesACopy geometry bytes }
+{}

@@ -8,6 +8,9 @@ ghost use Rattle.fa_laws.specs.InTime.{IsPlannedUntil, PlansNothing};
 ghost use Rattle.fa_laws.specs.Leaving.{RunLeaving};
 ghost use Rattle.fa_laws.specs.Reached.{IsReached};
 ghost use Rattle.fa_laws.specs.Reading.{HasEnded, IsAnsweredLost};
+ghost use Rattle.fa_laws.specs.Syncing.{TakesAndEndsSync};
+ghost use Rattle.fa_machine.specs.declared.answers.Flush.{Flush};
+ghost use Rattle.fa_machine.specs.declared.answers.FlushState.TheVariants.{Synced};
 ghost use Rattle.fa_machine.specs.declared.answers.ReadState.TheVariants.{Ready, Torn};
 ghost use Rattle.fa_machine.specs.declared.places.Booking.{Booking};
 ghost use Rattle.fa_machine.specs.declared.refusals.AdmitRefused.{AdmitRefused};
@@ -17,11 +20,14 @@ ghost use Rattle.fa_machine.specs.Copies.{holds_page, is_lost};
 ghost use Rattle.fa_machine.specs.Reading.{Admitted, results};
 ghost use Rattle.fa_machine.specs.Run.{Happening, HappensEvent, Run};
 ghost use Rattle.fa_machine.specs.State.{Reservation, is_live};
-ghost use Rattle.fa_machine.specs.Step.{Act, Admit, Advance, Commit, Done};
+ghost use Rattle.fa_machine.specs.Step.{Act, Admit, Advance, Commit, Done, FlushBegin, FlushState};
 ghost use Rattle.fa_machine.specs.World.{World};
 ghost use Rattle.fa_machine.specs.Writing.{claimed_page, live_targets};
 
-use crate::steps::{live_dies_are_kept, spares_are_kept, the_geometry_is_kept};
+use crate::steps::{
+    a_sync_is_of_its_take, flushes_are_counted, live_dies_are_kept, no_older_sync_answers_a_flush,
+    spares_are_kept, synced_rises_by_a_sync, the_geometry_is_kept,
+};
 
 /// In every run a die goes out only as its job ends with a fault that its image answered. As images are honest, no read
 /// and no move finds another slot than the one that it asks for.
@@ -100,4 +106,19 @@ pub fn a_copy_stays_with_its_die()
     spares_are_kept();
     the_geometry_is_kept();
     a_die_that_went_out_stays_out();
+}
+
+/// A flush is synced only as each die that was live when it began, and is live still, has taken a sync since, and ended it.
+pub fn a_flush_is_synced_by_syncs()
+    ensures { (w begun_then last after : World) (flush : Flush) (happenings : List Happening) (die : ℕ)
+        → IsReached w → HappensEvent w (FlushBegin (Ok flush)) begun_then → Run begun_then happenings last
+        → HappensEvent last (FlushState flush Synced) after
+        → is_live w.core.page_map die ≡ true → is_live last.core.page_map die ≡ true → TakesAndEndsSync die happenings }
+{
+    live_dies_are_kept();
+    the_geometry_is_kept();
+    synced_rises_by_a_sync();
+    a_sync_is_of_its_take();
+    flushes_are_counted();
+    no_older_sync_answers_a_flush();
 }

@@ -1,5 +1,6 @@
 //! Laws of single events, each the contract of a function with no code.
-ghost use Rattle.std.specs.Prelude.{◌≡◌, ℕ, ◌+◌, ◌<◌, ◌≤◌, ◌⊎◌, true, false, not, List, [], ◌∷◌, map, Option, Some, None, Result, Ok, Err};
+ghost use Rattle.std.specs.Prelude.{◌≡◌, ℕ, ◌+◌, ◌<◌, ◌≤◌, ◌⊎◌, true, false, not, List, [], ◌∷◌, map};
+ghost use Rattle.std.specs.Prelude.{Option, Some, None, is_some, Result, Ok, Err};
 ghost use Rattle.std.specs.List.{AllByRecursion, list_any, list_all};
 ghost use Rattle.std.specs.FinMap.{contains_key, get};
 ghost use Rattle.fa_types.specs.declared.numbers.Page.{Page};
@@ -32,7 +33,10 @@ ghost use Rattle.fa_machine.specs.declared.refusals.AdmitRefused.TheVariants.{Lo
 ghost use Rattle.fa_types.specs.declared.numbers.Slot.{Slot};
 ghost use Rattle.fa_machine.specs.Reading.{Admitted, Admits, EndsBatch, Planned, Replans};
 ghost use Rattle.fa_machine.specs.Conditions.{reserved_under};
-ghost use Rattle.fa_laws.specs.Kept.{IsFatal, KeepsLive, KeepsNumbers, KeepsPlain, KeepsSpares, KeepsWindows};
+ghost use Rattle.fa_laws.specs.Erased.{IsErased, RaisesNumber};
+ghost use Rattle.fa_laws.specs.Syncing.{KeepsFlushes, KeepsJobs, KeepsSynced};
+ghost use Rattle.fa_sound.specs.Sound.{IsSound};
+ghost use Rattle.fa_laws.specs.Kept.{IsFatal, KeepsLive, KeepsNumbers, KeepsPlain, KeepsRound, KeepsSpares, KeepsWindows};
 ghost use Rattle.fa_machine.specs.State.{Core, MapState, Reservation, dies_of, is_live, used_at};
 ghost use Rattle.fa_machine.specs.Step.{Abandon, Act, Admit, Commit, CommitCopy, Does, Done, Replan, Step};
 ghost use Rattle.fa_machine.specs.Taking.{Handed, Takes, mask_of, read_job};
@@ -103,9 +107,43 @@ pub fn windows_are_kept()
     ensures { (old new : Core) (act : Act) → Step old act new → KeepsWindows old act new }
 {}
 
+/// The round rises by Advance alone, by one.
+pub fn the_round_is_kept()
+    ensures { (old new : Core) (act : Act) → Step old act new → KeepsRound old act new }
+{}
+
 /// The numbers of pages change by Commit alone.
 pub fn numbers_are_kept()
     ensures { (old new : Core) (act : Act) → Step old act new → KeepsNumbers old act new }
+{}
+
+/// An accepted Commit gives the page of the claim the number that was reserved, and that is above the one that the page had.
+/// No other page's number changes.
+pub fn a_commit_raises_the_number()
+    ensures { (old new : Core) (claim seat : ℕ) (seq : Seq) → IsSound old → Step old (Commit claim seat (Ok seq)) new
+        → RaisesNumber old (claimed_page old claim) seq new }
+{}
+
+/// A used slot of a die that stays live is erased by the end of an erase of its block alone, and not where it is reserved.
+pub fn only_an_erase_erases()
+    ensures { (old new : Core) (act : Act) (die slot : ℕ) → Step old act new → is_live new.page_map die ≡ true
+        → is_some (used_at old.page_map die slot) ≡ true → used_at new.page_map die slot ≡ None → IsErased old act die slot }
+{}
+
+/// What a die has synced changes only as a sync of the die ends, to the flushes that the sync was taken for, or as the die
+/// goes out.
+pub fn synced_rises_by_a_sync()
+    ensures { (old new : Core) (act : Act) → Step old act new → KeepsSynced old act new }
+{}
+
+/// A job begins by a Take and ends by the die's Done. A sync is for the flushes that were begun as it was taken.
+pub fn a_sync_is_of_its_take()
+    ensures { (old new : Core) (act : Act) → Step old act new → KeepsJobs old act new }
+{}
+
+/// How many flushes were begun rises by FlushBegin alone, and the flush has that number.
+pub fn flushes_are_counted()
+    ensures { (old new : Core) (act : Act) → Step old act new → KeepsFlushes old act new }
 {}
 
 /// The plain array changes by Commit alone.
