@@ -1,2 +1,3 @@
-mod Live
+mod Allowed
 mod Tracked
+mod Whole

@@ -1,6 +1,18 @@
-//! The array's core: its state as it is mounted. The events over it stand in the crates below.
+//! The array's core: the array as it is mounted, and each event of it as a call. What the events do stands in the crates below.
 #![tactic(auto)]
 
+mod array;
+mod dies;
+mod flushing;
+mod keeping;
+mod looks;
 mod mounting;
+mod readers;
+mod turning;
+mod writers;
 
-pub use mounting::begin;
+pub use array::Array;
+pub use fa_ends::Outcome;
+pub use fa_plan::Planned;
+pub use fa_reads::Admitted;
+pub use fa_takes::Job;

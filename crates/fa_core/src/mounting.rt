@@ -1,7 +1,6 @@
 //! The array's state as it is mounted.
-ghost use Rattle.std.specs.Prelude.{◌≡◌, ℕ, ◌+◌, ◌*◌, ◌<◌, ◌^◌, ◌&&◌, [], nat_lt, IfOk};
-ghost use Rattle.std.specs.FinMap.{contains_key, len};
-ghost use Rattle.fa_machine.specs.State.{is_live};
+ghost use Rattle.std.specs.Prelude.{◌≡◌, ◌+◌, ◌*◌, ◌<◌, ◌^◌, [], IfOk};
+ghost use Rattle.std.specs.FinMap.{len};
 ghost use Rattle.fa_core.specs.Begun.{begun, numbers_of};
 ghost use Rattle.fa_parts.specs.Logs.{base_of, history_of};
 ghost use Rattle.fa_parts.specs.Counted.{new_base};
@@ -15,8 +14,8 @@ use fa_claims::Claims;
 use fa_map::Map;
 use fa_parts::{ByDie, Log, Waiting};
 use fa_set::NumberSet;
-use fa_state::State;
-use fa_types::{Copies, Die, Round, Seq};
+use fa_state::{State, mark_live};
+use fa_types::{Copies, Round, Seq};
 use std::alloc::{AllocError, Allocator};
 
 /// The state over what images hold, with nothing under way: round 1, the header of each live die behind, an empty history. The
@@ -75,25 +74,9 @@ fn live_dies<M: Map, A: Allocator + Copy>(
     ensures members { IfOk result (λ dies. members dies ≡ (M.view page_map.now).live) }
     ensures bound { IfOk result (λ dies. bound_of dies ≡ (M.view page_map.now).geometry.dies) }
 {
-    let dies = page_map.geometry().dies;
-    let mut live = NumberSet::new(alloc, dies as usize)?;
-    for die in 0..dies {
-        add_live(&mut live, page_map, die);
-    }
+    let mut live = NumberSet::new(alloc, page_map.geometry().dies as usize)?;
+    mark_live(&mut live, page_map);
     Ok(live)
-}
-
-/// The die is in the set if it is live, where the dies below it are.
-fn add_live<M: Map, A: Allocator>(live: &mut NumberSet<A>, page_map: &M, die: u32)
-    requires bound { bound_of live.old ≡ (M.view page_map.now).geometry.dies }
-    requires inside { die < (M.view page_map.now).geometry.dies }
-    requires before { (k : ℕ) → contains_key (members live.old) k ≡ (nat_lt k die && is_live (M.view page_map.now) k) }
-    ensures bound { bound_of live.new ≡ bound_of live.old }
-    ensures after { (k : ℕ) → contains_key (members live.new) k ≡ (nat_lt k (die + 1) && is_live (M.view page_map.now) k) }
-{
-    if page_map.is_live(Die(die as u8)) {
-        live.insert(die as usize);
-    }
 }
 
 /// An empty history, over the numbers that the pages have.

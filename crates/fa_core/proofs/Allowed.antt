@@ -1,0 +1,43 @@
+-- The conditions of events by what their callers keep.
+use Rattle.fa_ends.specs.Outcomes.{cell_of, outcome_of}
+use Rattle.fa_ends.specs.declared.outcome.Outcome.TheVariants.{Erased, Fault, HeaderWritten, Moved, Programmed, Read, Synced, Wrong}
+use Rattle.fa_ends.specs.declared.outcome.Outcome.{Outcome}
+use Rattle.fa_machine.specs.State.{Core}
+use Rattle.fa_machine.specs.Step.{is_distinct, is_page, is_sized_read}
+use Rattle.fa_tag.specs.declared.tag.Opened.TheVariants.{Bad, Erased as OpenedErased, Good}
+use Rattle.fa_types.specs.declared.numbers.Page.{Page}
+use Rattle.std.proofs.Common.{List, ap, eq-eqb, length, map, refl, true, ℕ, ◌<◌, ◌∙◌, ◌≡◌, ◌≤◌}
+use Rattle.std.proofs.lemmas.Bool.{and_from, le-leb, lt-ltb}
+use Rattle.std.proofs.lemmas.List.Folds.{list_all-map}
+use Rattle.std.proofs.lemmas.List.Sums.{list_all-from_AllPass}
+use Rattle.std.proofs.lemmas.List.{length-map}
+use Rattle.std.specs.List.{All, list_all}
+use Rattle.std.specs.Prelude.{nat_le, nat_lt, ◌&&◌}
+
+-- a list that may be admitted
+pub may_admit : (core : Core) (pages : List Page) → All (λ (page : Page). page.0 < core.page_map.geometry.pages) pages
+    → is_distinct (map (λ (page : Page). page.0) pages) ≡ true → length pages ≤ 1024
+    → (is_distinct (map (λ (page : Page). page.0) pages) && list_all (is_page core) (map (λ (page : Page). page.0) pages)
+    && nat_le (length (map (λ (page : Page). page.0) pages)) 1024) ≡ true
+may_admit core pages inside distinct few =
+    let numbers = map (λ (page : Page). page.0) pages in
+    and_from (is_distinct numbers && list_all (is_page core) numbers) (nat_le (length numbers) 1024)
+    (and_from (is_distinct numbers) (list_all (is_page core) numbers) distinct
+    (list_all-map (is_page core) (λ (page : Page). page.0) pages
+    ∙ list_all-from_AllPass (λ (page : Page). is_page core page.0) pages
+    (λ k d low. lt-ltb _ _ (inside k d low))))
+    (ap (λ n. nat_le n 1024) (length-map pages (λ (page : Page). page.0)) ∙ le-leb (length pages) 1024 few)
+
+-- an outcome with as many bytes as a page has
+pub is_whole_read : (core : Core) (outcome : Outcome) (bytes : List ℕ) → length bytes ≡ core.page_map.geometry.page_bytes
+    → is_sized_read core (outcome_of outcome bytes) ≡ true
+is_whole_read core (Read (Good tag)) bytes same = eq-eqb (length bytes) core.page_map.geometry.page_bytes same
+is_whole_read core (Read OpenedErased) bytes same = refl
+is_whole_read core (Read Bad) bytes same = refl
+is_whole_read core Programmed bytes same = refl
+is_whole_read core Moved bytes same = refl
+is_whole_read core Erased bytes same = refl
+is_whole_read core HeaderWritten bytes same = refl
+is_whole_read core Synced bytes same = refl
+is_whole_read core (Fault fault) bytes same = refl
+is_whole_read core Wrong bytes same = refl

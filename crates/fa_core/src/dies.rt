@@ -1,0 +1,50 @@
+//! The calls of dies.
+ghost use Rattle.std.specs.Prelude.{◌≡◌, length, true, false, option_map};
+ghost use Rattle.std.specs.FinMap.{get};
+ghost use Rattle.std.specs.Option.{option_map_or};
+ghost use Rattle.fa_ends.specs.Outcomes.{outcome_of};
+ghost use Rattle.fa_machine.specs.Cells.{is_of_kind};
+ghost use Rattle.fa_machine.specs.Conditions.{history_full};
+ghost use Rattle.fa_machine.specs.Step.{Done, Step, Take, is_die};
+ghost use Rattle.fa_takes.specs.Handed.{handed_of};
+
+use crate::array::Array;
+use crate::keeping::an_event_keeps;
+use fa_ends::Outcome;
+use fa_map::Map;
+use fa_takes::Job;
+use fa_types::Die;
+use std::alloc::Allocator;
+
+impl<M: Map, A: Allocator + Clone> Array<M, A> {
+    ghost use Rattle.fa_core.specs.Array.{IsWhole, state_of};
+
+    /// The next job of the die, and none where it is not live, is at one, or has nothing to do. The history says which seat started a
+    /// read.
+    pub fn take(&mut self, die: Die, seat: u32) -> Option<Job<A>>
+        requires die { is_die (state_of M.view self.old) die.0 ≡ true }
+        requires room { history_full (state_of M.view self.old) ≡ false }
+        requires whole { IsWhole M.view self.old }
+        ensures step { Step (state_of M.view self.old) (Take die.0 seat (option_map handed_of result)) (state_of M.view self.new) }
+        ensures whole { IsWhole M.view self.new }
+    {
+        let job = fa_takes::take(&mut self.state, die, seat);
+        an_event_keeps();
+        job
+    }
+
+    /// The job of the die has ended so, which is by an outcome of its kind. What a read gave is in the buffer, of a page's bytes; where
+    /// it answers a batch, the buffer and the batch's own change places.
+    pub fn done(&mut self, die: Die, outcome: Outcome, buffer: &mut Vec<u8, A>)
+        requires kind { option_map_or (λ job. is_of_kind job (outcome_of outcome buffer.old.items))
+            (get (state_of M.view self.old).jobs die.0) false ≡ true }
+        requires sized { length buffer.old.items ≡ (state_of M.view self.old).page_map.geometry.page_bytes }
+        requires whole { IsWhole M.view self.old }
+        ensures step { Step (state_of M.view self.old) (Done die.0 (outcome_of outcome buffer.old.items)) (state_of M.view self.new) }
+        ensures whole { IsWhole M.view self.new }
+        ensures buffer { length buffer.new.items ≡ length buffer.old.items }
+    {
+        fa_ends::done(&mut self.state, die, outcome, buffer);
+        an_event_keeps();
+    }
+}

@@ -1,0 +1,21 @@
+//! What each event keeps.
+ghost use Rattle.std.specs.Prelude.{◌≡◌};
+ghost use Rattle.fa_laws.specs.Counted.{HasHistory};
+ghost use Rattle.fa_machine.specs.State.{Core};
+ghost use Rattle.fa_machine.specs.Step.{Act, Step};
+ghost use Rattle.fa_sound.specs.Sound.{IsSound};
+
+use fa_laws::histories::a_step_keeps_history;
+use fa_laws::steps::the_geometry_is_kept;
+use fa_sound::sound::a_step_keeps_sound;
+
+/// What is true of the state at any time is true after each event.
+pub fn an_event_keeps()
+    ensures sound { (old new : Core) (act : Act) → Step old act new → IsSound old → IsSound new }
+    ensures history { (old new : Core) (act : Act) → Step old act new → HasHistory old → HasHistory new }
+    ensures geometry { (old new : Core) (act : Act) → Step old act new → new.page_map.geometry ≡ old.page_map.geometry }
+{
+    a_step_keeps_sound();
+    a_step_keeps_history();
+    the_geometry_is_kept();
+}

@@ -1,0 +1,99 @@
+//! The calls of readers.
+ghost use Rattle.std.specs.Prelude.{◌≡◌, ℕ, ◌<◌, ◌≤◌, length, map, true, IfOk};
+ghost use Rattle.std.specs.List.{All};
+ghost use Rattle.fa_batch.specs.Closed.{current_of, is_closed};
+ghost use Rattle.fa_machine.specs.Conditions.{batch_open};
+ghost use Rattle.fa_machine.specs.Reading.{released, results as rule_results};
+ghost use Rattle.fa_machine.specs.Rounds.{is_taken};
+ghost use Rattle.fa_machine.specs.Step.{Admit, EndBatch, Replan, Step, is_distinct};
+ghost use Rattle.fa_reads.specs.Answers.{admit_answer, plan_answer};
+
+use crate::array::Array;
+use crate::keeping::an_event_keeps;
+use fa_batch::Closed;
+use fa_machine::{AdmitRefused, BatchId, ReadState};
+use fa_map::Map;
+use fa_plan::Planned;
+use fa_reads::Admitted;
+use fa_types::Page;
+use std::alloc::{AllocError, Allocator};
+
+impl<M: Map, A: Allocator + Copy> Array<M, A> {
+    ghost use Rattle.fa_core.specs.Array.{IsWhole, state_of};
+
+    /// A batch of these pages, at most 1,024 and no two the same: those that have bytes on their dies are planned in the least number of
+    /// rounds and booked, and the others are answered with zeros at once. Refused, nothing has changed.
+    pub fn admit(&mut self, alloc: A, pages: &[Page]) -> Result<Admitted<A>, AdmitRefused>
+        requires inside { All (λ page. page.0 < (state_of M.view self.old).page_map.geometry.pages) pages.now }
+        requires distinct { is_distinct (map (λ page. page.0) pages.now) ≡ true }
+        requires few { length pages.now ≤ 1024 }
+        requires whole { IsWhole M.view self.old }
+        ensures step { Step (state_of M.view self.old) (Admit (map (λ page. page.0) pages.now) (admit_answer result))
+            (state_of M.view self.new) }
+        ensures whole { IsWhole M.view self.new }
+    {
+        let answer = fa_reads::admit(alloc, &mut self.state, pages);
+        an_event_keeps();
+        answer
+    }
+
+    /// The batch's bookings that were not started are given up, and its pages that have no answer and no read in flight are planned
+    /// anew, in the least number of rounds, and booked. Refused, nothing has changed.
+    pub fn replan(&mut self, alloc: A, batch: BatchId) -> Result<Planned<A>, AdmitRefused>
+        requires open { batch_open (state_of M.view self.old) batch.0 ≡ true }
+        requires whole { IsWhole M.view self.old }
+        ensures step { Step (state_of M.view self.old) (Replan batch.0 (plan_answer result)) (state_of M.view self.new) }
+        ensures whole { IsWhole M.view self.new }
+    {
+        let answer = fa_reads::replan(alloc, &mut self.state, batch);
+        an_event_keeps();
+        answer
+    }
+
+    /// The closed rounds of all dies from the current one on. Those that are booked for the batch and were not started are left out. The
+    /// error is out of memory.
+    pub fn closed_without(&self, alloc: A, batch: BatchId) -> Result<Closed<A>, AllocError>
+        requires open { batch_open (state_of M.view self.now) batch.0 ≡ true }
+        requires whole { IsWhole M.view self.now }
+        ensures current { IfOk result (λ closed. current_of closed ≡ (state_of M.view self.now).calendar.round) }
+        ensures closed { IfOk result (λ closed. (die round : ℕ) → (state_of M.view self.now).calendar.round ≤ round
+            → is_closed closed die round ≡ is_taken (released batch.0 (state_of M.view self.now).calendar) die round) }
+    {
+        fa_reads::closed_without(alloc, &self.state, batch)
+    }
+
+    /// The closed rounds of all dies from the current one on. The error is out of memory.
+    pub fn closed(&self, alloc: A) -> Result<Closed<A>, AllocError>
+        ensures current { IfOk result (λ closed. current_of closed ≡ (state_of M.view self.now).calendar.round) }
+        ensures closed { IfOk result (λ closed. (die round : ℕ) → (state_of M.view self.now).calendar.round ≤ round
+            → is_closed closed die round ≡ is_taken (state_of M.view self.now).calendar die round) }
+    {
+        self.state.bookings.closed(alloc, &[])
+    }
+}
+
+impl<M: Map, A: Allocator + Clone> Array<M, A> {
+    ghost use Rattle.fa_core.specs.Array.{IsWhole, state_of};
+
+    /// The batch is open no more: its bookings that were not started are given up, and its answers are handed out in the order of its
+    /// list, each with the buffer that has its bytes. A read in flight for it answers nothing.
+    pub fn end_batch(&mut self, batch: BatchId) -> Vec<(Page, Vec<u8, A>), A>
+        requires open { batch_open (state_of M.view self.old) batch.0 ≡ true }
+        requires whole { IsWhole M.view self.old }
+        ensures step { Step (state_of M.view self.old) (EndBatch batch.0 (map (λ e. (e.0.0, e.1.items)) result.items))
+            (state_of M.view self.new) }
+        ensures whole { IsWhole M.view self.new }
+    {
+        let answers = fa_reads::end_batch(&mut self.state, batch);
+        an_event_keeps();
+        answers
+    }
+
+    /// How the batch stands.
+    pub fn results(&self, batch: BatchId) -> ReadState
+        requires whole { IsWhole M.view self.now }
+        ensures { result ≡ rule_results (state_of M.view self.now) batch.0 }
+    {
+        fa_reads::results(&self.state, batch)
+    }
+}
