@@ -1,3 +1,5 @@
 mod Allowed
+mod Alone
+mod Tests
 mod Tracked
 mod Whole

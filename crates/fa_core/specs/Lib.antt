@@ -1,2 +1,3 @@
 pub mod Array
 pub mod Begun
+pub mod Calls

@@ -1,6 +1,8 @@
 //! What each event keeps.
-ghost use Rattle.std.specs.Prelude.{◌≡◌};
-ghost use Rattle.fa_laws.specs.Counted.{HasHistory};
+ghost use Rattle.std.specs.Prelude.{◌≡◌, ◌+◌};
+ghost use Rattle.fa_laws.specs.Counted.{HasHistory, commits_of};
+ghost use Rattle.fa_machine.specs.Looks.{counts};
+ghost use Rattle.fa_machine.specs.Run.{Event};
 ghost use Rattle.fa_machine.specs.State.{Core};
 ghost use Rattle.fa_machine.specs.Step.{Act, Step};
 ghost use Rattle.fa_sound.specs.Sound.{IsSound};
@@ -18,4 +20,11 @@ pub fn an_event_keeps()
     a_step_keeps_sound();
     a_step_keeps_history();
     the_geometry_is_kept();
+}
+
+/// Each event raises the count of Commits by what it answers.
+pub fn an_event_counts()
+    ensures { (old new : Core) (act : Act) → Step old act new → (counts new).0 ≡ (counts old).0 + commits_of (Event act) }
+{
+    a_step_keeps_history();
 }

@@ -2,16 +2,25 @@
 #![tactic(auto)]
 
 mod array;
+mod call;
+mod conditions;
 mod dies;
+mod distinct;
 mod flushing;
 mod keeping;
 mod looks;
 mod mounting;
 mod readers;
+mod step;
+mod step_dies;
+mod step_readers;
+mod step_turning;
+mod step_writers;
 mod turning;
 mod writers;
 
 pub use array::Array;
+pub use call::{Answer, Call};
 pub use fa_ends::Outcome;
 pub use fa_plan::Planned;
 pub use fa_reads::Admitted;
