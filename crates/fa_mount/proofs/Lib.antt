@@ -14,11 +14,11 @@ pub mod OnlyReading
 pub mod Outcomes
 pub mod PagesGiven
 pub mod PagesLeft
+pub mod ReadAhead
 pub mod Readable
 pub mod Settling
 pub mod SideBySide
 pub mod SideOutcomes
 pub mod SlotCells
-pub mod SlotsRead
 pub mod SlotsScanned
 pub mod Tallying

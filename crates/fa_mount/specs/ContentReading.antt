@@ -1,5 +1,5 @@
 -- How the slots of a die are read: each once, from slot 0 on, up to the end or to the first read that is refused.
-use Rattle.std.specs.Prelude.{◌≡◌, ℕ, suc, List, [], ◌∷◌, length, slice_get, Option, Some, None, Result, Ok, Err}
+use Rattle.std.specs.Prelude.{◌≡◌, ℕ, ◌+◌, suc, List, [], ◌∷◌, length, slice_get, Option, Some, None, Result, Ok, Err}
 use Rattle.fa_types.specs.declared.geometry.Geometry.{Geometry}
 use Rattle.fa_image.specs.declared.fault.ImageFault.{ImageFault}
 use Rattle.fa_image.specs.Image.{ImageState, slot_count, ImageCall, ReadingSlot, ImageAnswer, Gave, Refused}
@@ -36,6 +36,13 @@ module _ {I : Type 0} (made : I → ImageCall → ImageAnswer → I → Type 0) 
     pub middle : I
     pub read : ReadsSlots 0 contents before middle
     pub refused : made middle (ReadingSlot (length contents)) (Refused fault) after
+
+  -- the same from a slot on
+  pub record StopsAfter (first : ℕ) (fault : ImageFault) (before after : I) : Type 0 where
+    pub contents : List SlotContent
+    pub middle : I
+    pub read : ReadsSlots first contents before middle
+    pub refused : made middle (ReadingSlot (first + length contents)) (Refused fault) after
 
 -- A die of an array was read: all of its slots, or as far as it could be.
 abbrev pub ReadsDie : {I : Type 0} → (I → ImageCall → ImageAnswer → I → Type 0) → Geometry → ℕ → Result (List SlotContent) ImageFault

@@ -5,6 +5,7 @@ pub mod ContentReading
 pub mod MountedWorld
 pub mod Mounting
 pub mod Pages
+pub mod ReadingAhead
 pub mod Readings
 pub mod Reported
 pub mod Scanned

@@ -1,5 +1,5 @@
 -- The images of dies that are read side by side: what stands ready for each image, and what came of it.
-use Rattle.std.specs.Prelude.{◌≡◌, ℕ, ◌<◌, List, [], ◌∷◌, length, slice_get, slice_set, Option, Some, None, Result, Ok, Err}
+use Rattle.std.specs.Prelude.{◌≡◌, ℕ, ◌*◌, ◌<◌, List, [], ◌∷◌, length, slice_get, slice_set, Option, Some, None, Result, Ok, Err}
 use Rattle.fa_types.specs.declared.geometry.Geometry.{Geometry}
 use Rattle.fa_image.specs.declared.fault.ImageFault.{ImageFault}
 use Rattle.fa_image.specs.Image.{ImageState, slot_bytes, slot_count, ImageCall, ImageAnswer}
@@ -17,9 +17,9 @@ outcome_of reading = told reading.fault
     told None = Ok reading.contents.items
     told (Some fault) = Err fault
 
--- there is room for the bytes of a slot and for what is found in each slot
+-- there is room for the bytes of eight slots and for what is found in each slot
 abbrev pub IsRoomy : {A : Type 0} → Geometry → Reading A → Type 0
-IsRoomy geometry reading = (length reading.buffer.items ≡ slot_bytes geometry) × (length reading.contents.items ≡ slot_count geometry)
+IsRoomy geometry reading = (length reading.buffer.items ≡ 8 * slot_bytes geometry) × (length reading.contents.items ≡ slot_count geometry)
 
 module _ {I A : Type 0} (view : I → ImageState) (geometry : Geometry) where
   -- an image that is to be read is made for this geometry, and there is room

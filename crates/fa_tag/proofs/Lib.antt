@@ -1,3 +1,5 @@
+mod ByEights
 mod Cuts
 pub mod Headers
+pub mod OpenedParts
 pub mod Slots

@@ -1,2 +1,4 @@
+pub mod Hashed
 pub mod HeaderGrammar
+pub mod OpenedTogether
 pub mod SlotGrammar

@@ -75,6 +75,10 @@ IsErased bytes = All (λ byte. byte ≡ 0xff) bytes
 abbrev pub payload_of : List ℕ → List ℕ
 payload_of bytes = take (length bytes - 64) bytes
 
+-- all bytes but the last 32: those of which a slot's digest is
+abbrev pub sealed_part : List ℕ → List ℕ
+sealed_part bytes = take (length bytes - 32) bytes
+
 -- what bytes are: erased, a slot with the tag, or neither
 abbrev pub IsOpened : List ℕ → Opened → Type 0
 IsOpened bytes Erased = IsErased bytes

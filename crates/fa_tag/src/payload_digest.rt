@@ -1,12 +1,15 @@
 //! The digest of a slot, begun with its payload.
-ghost use Rattle.std.specs.Prelude.{◌≡◌, ◌+◌, ◌++◌, length};
+ghost use Rattle.std.specs.Prelude.{◌≡◌, ◌+◌, ◌++◌, length, map};
 ghost use Rattle.sha2.specs.Sha256.{sha256};
+ghost use Rattle.fa_lanes.specs.Beginning.{IsBegun};
 ghost use Rattle.fa_tag.specs.SlotGrammar.{IsTag, IsPayloadOf, slot_2};
 
+use crate::eights::have_length;
 use crate::fields::{FIELD_BYTES, newest_fields};
 use crate::numbers::join;
 use crate::tag::Tag;
 use fa_ghost::History;
+use fa_lanes::{Begun, LANES, begin};
 use sha2::{Digest, Sha256};
 use std::marker::Model;
 
@@ -15,19 +18,28 @@ use std::marker::Model;
 /// about a hundred bytes of memory, and does not keep the payload.
 #[derive(Drop)]
 pub struct PayloadDigest {
-    hasher: Sha256,
+    state: State,
     hashed: History<Bytes>,
+}
+
+/// How far a digest has come.
+#[derive(Drop)]
+enum State {
+    /// The payload was hashed by itself.
+    Alone(Sha256),
+    /// It was hashed side by side with others.
+    Among(Begun),
 }
 
 impl Model for PayloadDigest {
     ghost use Rattle.std.specs.Prelude.{List, ℕ};
-    ghost use Rattle.sha2.specs.Hashers.{Holds256};
+    ghost use Rattle.fa_tag.specs.Hashed.{HasHashed};
 
     ghost Value = { List ℕ };
 
     ghost view = { λ digest. digest.hashed.shown };
 
-    ghost invariant = { λ digest. Holds256 digest.hasher digest.hashed.shown };
+    ghost invariant = { λ digest. HasHashed digest.state digest.hashed.shown };
 }
 
 impl PayloadDigest {
@@ -38,7 +50,29 @@ impl PayloadDigest {
         let mut hasher = Sha256::new();
         hasher.update(payload);
         let hashed = History::begin(&payload);
-        PayloadDigest { hasher, hashed }
+        PayloadDigest {
+            state: State::Alone(hasher),
+            hashed,
+        }
+    }
+
+    /// Hashes each payload, in place of what was hashed before. Eight payloads of one length, a multiple of 64
+    /// bytes, are hashed side by side, and what is left over one by one.
+    pub fn begin_all(payloads: &[&[u8]], digests: &mut [PayloadDigest])
+        requires { length digests.old ≡ length payloads.now }
+        ensures { digests.new ≡ map (λ payload. payload.now) payloads.now }
+    {
+        let eights = payloads.len() / LANES;
+        'eights: for i in 0..eights {
+            let from = LANES * i;
+            begin_eight(
+                &payloads[from..from + LANES],
+                &mut digests[from..from + LANES],
+            );
+        }
+        'rest: for i in LANES * eights..payloads.len() {
+            digests[i] = PayloadDigest::begin(payloads[i]);
+        }
     }
 
     /// Writes the payload, which has to be the one that was hashed, with a tag: what [`crate::seal`]
@@ -59,9 +93,26 @@ impl PayloadDigest {
     fn with_fields(&self, fields: &[u8; FIELD_BYTES]) -> [u8; 32]
         ensures { result ≡ sha256 (self.now ++ fields.now) }
     {
-        let mut hasher = same_state(&self.hasher);
-        hasher.update(fields);
-        hasher.finalize()
+        match &self.state {
+            State::Alone(hasher) => {
+                let mut hasher = same_state(hasher);
+                hasher.update(fields);
+                hasher.finalize()
+            }
+            State::Among(begun) => begun.finish(fields),
+        }
+    }
+
+    /// A payload that was hashed side by side with others.
+    fn among(begun: Begun, payload: &[u8]) -> PayloadDigest
+        requires { IsBegun begun payload.now }
+        ensures { result ≡ payload.now }
+    {
+        let hashed = History::begin(&payload);
+        PayloadDigest {
+            state: State::Among(begun),
+            hashed,
+        }
     }
 }
 
@@ -74,6 +125,33 @@ impl Model for Bytes {
     ghost Value = { List ℕ };
 
     ghost view = { λ _. [] };
+}
+
+/// Hashes eight payloads.
+fn begin_eight(payloads: &[&[u8]], digests: &mut [PayloadDigest])
+    requires payloads { length payloads.now ≡ 8 }
+    requires digests { length digests.old ≡ 8 }
+    ensures { digests.new ≡ map (λ payload. payload.now) payloads.now }
+{
+    let bytes = payloads[0].len();
+    if bytes % 64 != 0 || !have_length(payloads, bytes) {
+        begin_each(payloads, digests);
+        return;
+    }
+    let begun = begin(payloads);
+    'payloads: for i in 0..LANES {
+        digests[i] = PayloadDigest::among(begun[i], payloads[i]);
+    }
+}
+
+/// Hashes any payloads, one by one.
+fn begin_each(payloads: &[&[u8]], digests: &mut [PayloadDigest])
+    requires { length digests.old ≡ length payloads.now }
+    ensures { digests.new ≡ map (λ payload. payload.now) payloads.now }
+{
+    'payloads: for i in 0..payloads.len() {
+        digests[i] = PayloadDigest::begin(payloads[i]);
+    }
 }
 
 /// A hasher in the same state.

@@ -2,16 +2,17 @@
 ghost use Rattle.std.specs.Prelude.{◌≡◌, ◌+◌, ◌↔◌, ℕ, List, length, IsTrue, IfSome, Some};
 ghost use Rattle.fa_types.specs.declared.kind.Kind.TheVariants.{Data};
 ghost use Rattle.fa_tag.specs.declared.tag.Tag.{Tag};
-ghost use Rattle.fa_tag.specs.SlotGrammar.{IsTag, IsPayloadOf, IsSlot, IsErased as AreErased, IsOpened, slot_1, slot_2, payload_of};
+ghost use Rattle.sha2.specs.Sha256.{sha256};
+ghost use Rattle.fa_tag.specs.SlotGrammar.{IsTag, IsPayloadOf, IsSlot, IsErased as AreErased, IsOpened, payload_of, sealed_part, slot_1, slot_2};
 
 use crate::fields::{FIELD_BYTES, oldest_fields, tag_in};
-use crate::numbers::{are_zeros, digest_of, is_digest_of, join};
+use crate::numbers::{are_zeros, digest_of, is_digest_of, join, same_bytes};
 use crate::payload_digest::PayloadDigest;
 use fa_types::bytes::is_erased;
 use fa_types::{Die, Kind, Page, Seq, Slot, TAG_BYTES};
 
 /// How many bytes the digest has, the last of the tag.
-const DIGEST_BYTES: usize = 32;
+pub(crate) const DIGEST_BYTES: usize = 32;
 
 /// What a slot says of itself.
 #[derive(Clone, Copy, Debug, PartialEq, Eq)]
@@ -69,17 +70,28 @@ pub fn open(bytes: &[u8]) -> Opened
     ensures good { (tag : Tag) (payload : List ℕ) → IsSlot tag payload bytes.now → result ≡ Opened.Good tag }
     ensures erased { AreErased bytes.now → result ≡ Opened.Erased }
 {
+    open_with(bytes, None)
+}
+
+/// The same, where the digest of the bytes in front of a slot's own may have been made already.
+pub(crate) fn open_with(bytes: &[u8], made: Option<&[u8; DIGEST_BYTES]>) -> Opened
+    requires { IfSome made (λ digest. digest.now ≡ sha256 (sealed_part bytes.now)) }
+    ensures opened { IsOpened bytes.now result }
+    ensures good { (tag : Tag) (payload : List ℕ) → IsSlot tag payload bytes.now → result ≡ Opened.Good tag }
+    ensures erased { AreErased bytes.now → result ≡ Opened.Erased }
+{
     if is_erased(bytes) {
         return Opened::Erased;
     }
-    match sealed_tag(bytes) {
+    match sealed_tag(bytes, made) {
         Some(tag) => Opened::Good(tag),
         None => Opened::Bad,
     }
 }
 
 /// The tag of sealed bytes.
-fn sealed_tag(bytes: &[u8]) -> Option<Tag>
+fn sealed_tag(bytes: &[u8], made: Option<&[u8; DIGEST_BYTES]>) -> Option<Tag>
+    requires { IfSome made (λ digest. digest.now ≡ sha256 (sealed_part bytes.now)) }
     ensures found { IfSome result (λ tag. IsSlot tag (payload_of bytes.now) bytes.now) }
     ensures only { (tag : Tag) (payload : List ℕ) → IsSlot tag payload bytes.now → result ≡ Some tag }
 {
@@ -89,10 +101,21 @@ fn sealed_tag(bytes: &[u8]) -> Option<Tag>
     let (front, digest) = bytes.split_at(bytes.len() - DIGEST_BYTES);
     let (payload, fields) = front.split_at(front.len() - FIELD_BYTES);
     let tag = tag_in(fields)?;
-    if is_payload_of(tag.kind, payload) && is_digest_of(digest, front) {
+    if is_payload_of(tag.kind, payload) && is_made_digest_of(digest, front, made) {
         Some(tag)
     } else {
         None
+    }
+}
+
+/// Whether the first bytes are the digest of the others, which may have been made already.
+fn is_made_digest_of(digest: &[u8], bytes: &[u8], made: Option<&[u8; DIGEST_BYTES]>) -> bool
+    requires { IfSome made (λ digest. digest.now ≡ sha256 bytes.now) }
+    ensures { IsTrue result ↔ (digest.now ≡ sha256 bytes.now) }
+{
+    match made {
+        Some(made) => same_bytes(digest, made),
+        None => is_digest_of(digest, bytes),
     }
 }
 

@@ -4,7 +4,8 @@ ghost use Rattle.fa_types.specs.declared.kind.Kind.TheVariants.{Data};
 ghost use Rattle.fa_tag.specs.SlotGrammar.{IsTag};
 ghost use Rattle.flasharr_bench.specs.Good.{IsGood};
 
-use fa_tag::{Opened, Tag, open, seal};
+use fa_lanes::LANES;
+use fa_tag::{Opened, Tag, open, open_all, seal};
 use fa_types::{Die, Kind, Page, Seq, Slot, TAG_BYTES};
 use std::io;
 use std::rt::Clock;
@@ -23,7 +24,7 @@ const DIGEST_BYTES: usize = 32;
 pub const HASHED_BYTES: usize = SLOT_BYTES - DIGEST_BYTES;
 
 /// How many slots are sealed, and then opened, in a round. They are all in memory at once.
-const ROUND_SLOTS: u32 = 100;
+const ROUND_SLOTS: u32 = 96;
 
 /// How many rounds there are.
 const ROUNDS: u32 = 1000;
@@ -39,25 +40,32 @@ pub static PAYLOAD: [u8; PAGE_BYTES] = [0x5a; PAGE_BYTES];
 struct Times {
     sealing: Duration,
     opening: Duration,
-    /// How many slots were opened and found good.
+    together: Duration,
+    /// How many slots were opened one by one and found good.
     good: u32,
+    /// How many were opened eight at once and found good.
+    good_together: usize,
 }
 
-/// Seals slots and opens them again, and prints five lines, each a name and a number: how many slots
-/// there were, of how many bytes in all the digests were, the nanoseconds that sealing took and those
-/// that opening took, and how many of the slots were found good.
+/// Seals slots and opens them again, one by one and eight at once, and prints seven lines, each a name and a
+/// number: how many slots there were, of how many bytes in all the digests were, the nanoseconds that sealing and
+/// each opening took, and how many of the slots each opening found good.
 pub fn measure(rt: &(impl Clock + Print + AllocGlobal)) -> io::Result<()> {
     let mut slots = vec![in rt.alloc(); [0u8; SLOT_BYTES]; ROUND_SLOTS as usize]?;
     let times = times_of(rt, &mut slots)?;
     let bytes = SLOTS as usize * HASHED_BYTES;
     let sealing = times.sealing.as_nanos();
     let opening = times.opening.as_nanos();
+    let together = times.together.as_nanos();
     let good = times.good;
+    let good_together = times.good_together;
     println!(rt; "slots {SLOTS}")?;
     println!(rt; "bytes {bytes}")?;
     println!(rt; "seal_nanoseconds {sealing}")?;
     println!(rt; "open_nanoseconds {opening}")?;
-    println!(rt; "good {good}")
+    println!(rt; "together_nanoseconds {together}")?;
+    println!(rt; "good {good}")?;
+    println!(rt; "good_together {good_together}")
 }
 
 /// Seals and opens all slots, a round at a time in the memory of one.
@@ -68,7 +76,9 @@ fn times_of(rt: &impl Clock, slots: &mut [[u8; SLOT_BYTES]]) -> io::Result<Times
     let mut times = Times {
         sealing: Duration::ZERO,
         opening: Duration::ZERO,
+        together: Duration::ZERO,
         good: 0,
+        good_together: 0,
     };
     for round in 0..ROUNDS {
         let start = Instant::now(rt)?;
@@ -78,6 +88,10 @@ fn times_of(rt: &impl Clock, slots: &mut [[u8; SLOT_BYTES]]) -> io::Result<Times
         let opened = Instant::now(rt)?;
         times.sealing = times.sealing.saturating_add(sealed.duration_since(start));
         times.opening = times.opening.saturating_add(opened.duration_since(sealed));
+        let found = count_good_together(slots);
+        let again = Instant::now(rt)?;
+        times.good_together = times.good_together.saturating_add(found);
+        times.together = times.together.saturating_add(again.duration_since(opened));
     }
     Ok(times)
 }
@@ -137,4 +151,29 @@ fn is_good(slot: &[u8; SLOT_BYTES]) -> bool
     ensures { IsTrue result ↔ IsGood slot.now }
 {
     matches!(open(slot), Opened::Good(_))
+}
+
+/// How many of these slots are good, opened eight at once. No clause says what it counts; the script compares it.
+fn count_good_together(slots: &[[u8; SLOT_BYTES]]) -> usize {
+    let mut good: usize = 0;
+    for i in 0..slots.len() / LANES {
+        let first = LANES * i;
+        good = good.saturating_add(count_good_of_eight(&slots[first..first + LANES]));
+    }
+    good
+}
+
+/// How many of eight slots are good.
+fn count_good_of_eight(slots: &[[u8; SLOT_BYTES]]) -> usize
+    requires { length slots.now ≡ 8 }
+{
+    let eight: [&[u8]; LANES] = [
+        &slots[0], &slots[1], &slots[2], &slots[3], &slots[4], &slots[5], &slots[6], &slots[7],
+    ];
+    let mut opened = [Opened::Bad; LANES];
+    open_all(&eight, &mut opened);
+    opened
+        .iter()
+        .filter(|answer| matches!(answer, Opened::Good(_)))
+        .count()
 }

@@ -1,10 +1,9 @@
 //! What is found in the slots of a die.
 ghost use Rattle.std.specs.Prelude.{◌≡◌};
-ghost use Rattle.fa_mount.specs.Content.{content_of as content_of_opened};
-ghost use Rattle.fa_mount.specs.ContentReading.{IsContentOf};
+ghost use Rattle.fa_mount.specs.Content.{content_of};
 
 use fa_machine::Version;
-use fa_tag::{Opened, open};
+use fa_tag::Opened;
 use fa_types::{Die, Page, Slot};
 use std::alloc::{Allocator, Global};
 use std::marker::Model;
@@ -56,16 +55,9 @@ impl<A: Allocator> DieContents<A> {
     }
 }
 
-/// What a slot's bytes are to an array of so many pages.
-pub(crate) fn content_of(bytes: &[u8], pages: u64, die: Die, slot: Slot) -> SlotContent
-    ensures { IsContentOf bytes.now pages die.0 slot.0 result }
-{
-    content_of_opened(open(bytes), pages, die, slot)
-}
-
 /// What opened bytes are to an array of so many pages.
-fn content_of_opened(opened: Opened, pages: u64, die: Die, slot: Slot) -> SlotContent
-    ensures { result ≡ content_of_opened pages die.0 slot.0 opened }
+pub(crate) fn content_of_opened(opened: Opened, pages: u64, die: Die, slot: Slot) -> SlotContent
+    ensures { result ≡ content_of pages die.0 slot.0 opened }
 {
     match opened {
         Opened::Erased => SlotContent::Erased,

@@ -1,10 +1,10 @@
 //! The slots of all dies, read.
-ghost use Rattle.std.specs.Prelude.{◌≡◌, ℕ, ◌<◌, length, slice_get, Some, None, Ok, Err, IfOk, OnErr, List};
+ghost use Rattle.std.specs.Prelude.{◌≡◌, ℕ, ◌*◌, ◌<◌, length, slice_get, Some, None, Ok, Err, IfOk, OnErr, List};
 ghost use Rattle.fa_image.specs.Image.{slot_bytes, slot_count};
 ghost use Rattle.fa_mount.specs.ContentReading.{EachOnlyRead, AreOutcomes, HasOutcome, HasImageOf, AreReadable, ReadsDie, image_read};
 
 use crate::slots::content::{DieContents, SlotContent};
-use crate::slots::die::read_die;
+use crate::slots::die::{AHEAD, read_die};
 use fa_headers::Standing;
 use fa_image::{Image, ImageFault};
 use fa_types::{Die, Geometry, TAG_BYTES};
@@ -26,7 +26,7 @@ pub(crate) fn read_dies<I: Image, A: Allocator + Copy>(
     ensures outcomes { IfOk result (λ outcomes. AreOutcomes I.made geometry images.old images.new standings.now outcomes.items) }
     ensures only_read { EachOnlyRead I.view images.old images.new }
 {
-    let mut buffer = vec![in alloc; 0u8; geometry.page_bytes as usize + TAG_BYTES]?;
+    let mut buffer = vec![in alloc; 0u8; AHEAD * (geometry.page_bytes as usize + TAG_BYTES)]?;
     let mut outcomes = Vec::with_capacity(alloc, standings.len())?;
     for die in 0..standings.len() {
         let outcome = read_standing(
@@ -53,7 +53,7 @@ fn read_standing<I: Image, A: Allocator>(
 ) -> Result<Option<DieRead<A>>, AllocError>
     requires within { (index : ℕ) → image_read standing ≡ Some index → index < length images.old }
     requires image { (index : ℕ) → image_read standing ≡ Some index → HasImageOf I.view geometry images.old index }
-    requires buffer { length buffer.old ≡ slot_bytes geometry }
+    requires buffer { length buffer.old ≡ 8 * slot_bytes geometry }
     ensures outcome { IfOk result (λ outcome. HasOutcome I.made geometry images.old images.new die.0 (image_read standing) outcome) }
     ensures others { (index : ℕ) → ¬ (image_read standing ≡ Some index) → slice_get images.new index ≡ slice_get images.old index }
     ensures only_read { EachOnlyRead I.view images.old images.new }
@@ -82,7 +82,7 @@ fn read_image<I: Image, A: Allocator>(
     die: Die,
     buffer: &mut [u8],
 ) -> Result<DieRead<A>, AllocError>
-    requires { length buffer.old ≡ slot_bytes (I.view image.old).geometry }
+    requires { length buffer.old ≡ 8 * slot_bytes (I.view image.old).geometry }
     ensures read { IfOk result (λ outcome. ReadsDie I.made (I.view image.old).geometry die.0 outcome image.old image.new) }
     ensures err { OnErr result (image.new ≡ image.old) }
 {

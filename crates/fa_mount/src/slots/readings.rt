@@ -5,6 +5,7 @@ ghost use Rattle.fa_mount.specs.Readings.{AddsReading, AreFrom, AreReadingsOf, I
 ghost use Rattle.fa_headers.specs.declared.judging.Standing.{Standing};
 
 use crate::slots::content::{DieContents, SlotContent};
+use crate::slots::die::AHEAD;
 use crate::slots::dies::{DieRead, index_read};
 use fa_headers::Standing;
 use fa_image::ImageFault;
@@ -16,7 +17,7 @@ use std::alloc::{AllocError, Allocator};
 pub(crate) struct Reading<A: Allocator> {
     /// The die.
     pub(crate) die: Die,
-    /// The bytes of one slot.
+    /// The bytes of eight slots.
     pub(crate) buffer: Vec<u8, A>,
     /// What was found in its slots, as far as they were read.
     pub(crate) contents: Vec<SlotContent, A>,
@@ -83,7 +84,7 @@ fn make_ready<A: Allocator + Copy>(
     Ok(())
 }
 
-/// A reading with room for the bytes of a slot and for what is found in each slot.
+/// A reading with room for the bytes of eight slots and for what is found in each slot.
 fn reading_of<A: Allocator + Copy>(
     alloc: A,
     geometry: Geometry,
@@ -95,7 +96,7 @@ fn reading_of<A: Allocator + Copy>(
     let slots = (geometry.blocks * geometry.slots) as usize;
     Ok(Reading {
         die,
-        buffer: vec![in alloc; 0u8; geometry.page_bytes as usize + TAG_BYTES]?,
+        buffer: vec![in alloc; 0u8; AHEAD * (geometry.page_bytes as usize + TAG_BYTES)]?,
         contents: vec![in alloc; SlotContent::Erased; slots]?,
         fault: None,
     })

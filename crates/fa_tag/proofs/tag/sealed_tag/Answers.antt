@@ -5,7 +5,7 @@ use Rattle.sha2.specs.Sha256.{sha256}
 use Rattle.fa_tag.specs.declared.tag.Tag.{Tag}
 use Rattle.fa_tag.specs.SlotGrammar.{IsPayloadOf, AreFields}
 use Rattle.fa_tag.proofs.Slots.{IsCutSlot, cut_slot, slot_from_parts}
-use Rattle.fa_tag.proofs.tag.sealed_tag.Goals.{else-is_payload_of-via-then-is_payload_of+else-is_digest_of, else-is_payload_of-via-else-is_payload_of}
+use Rattle.fa_tag.proofs.tag.sealed_tag.Goals.{else-is_payload_of-via-then-is_payload_of+else-is_made_digest_of, else-is_payload_of-via-else-is_payload_of}
 use Rattle.fa_tag.proofs.tag.sealed_tag.Goals as goal
 
 -- the fields of a slot stand behind its front's payload
@@ -32,21 +32,21 @@ returns-in_err-tag-clause-only c tag payload slot =
     let none = c.in_err-tag.ensures.only tag slot.0 (fields_are tag payload c.args.bytes.now c.split_at.result.0.now c.split_at-2.result.1.now own c.split_at.ensures.front c.split_at-2.ensures.back) in
     cc none
 
-pub returns-then-is_digest_of-clause-found : goal.returns-then-is_digest_of-clause-found
-returns-then-is_digest_of-clause-found c =
+pub returns-then-is_made_digest_of-clause-found : goal.returns-then-is_made_digest_of-clause-found
+returns-then-is_made_digest_of-clause-found c =
     let bytes = c.args.bytes.now in
     let tag = c.in_ok-tag.tag in
     let front : c.split_at.result.0.now ≡ take (length bytes - 32) bytes = c.split_at.ensures.front in
     let before = c.split_at-2.ensures.front ∙ ap (λ (l : List ℕ). take (length l - 32) l) front in
     let behind = c.split_at-2.ensures.back ∙ ap (λ (l : List ℕ). drop (length l - 32) l) front in
-    let digest = sym c.split_at.ensures.back ∙ c.if-is_digest_of.ensures.0 refl ∙ ap sha256 front in
+    let digest = sym c.split_at.ensures.back ∙ c.if-is_made_digest_of.ensures.0 refl ∙ ap sha256 front in
     slot_from_parts tag bytes c.in_ok-tag.ensures.found.0 (omega arith)
     (subst (λ (l : List ℕ). IsPayloadOf tag.kind l) before (c.if-is_payload_of.ensures.0 refl))
     (subst (λ (l : List ℕ). AreFields tag l) behind c.in_ok-tag.ensures.found.1)
     digest
 
-pub returns-then-is_digest_of-clause-only : goal.returns-then-is_digest_of-clause-only
-returns-then-is_digest_of-clause-only c tag payload slot =
+pub returns-then-is_made_digest_of-clause-only : goal.returns-then-is_made_digest_of-clause-only
+returns-then-is_made_digest_of-clause-only c tag payload slot =
     let own = cut_slot tag payload c.args.bytes.now slot in
     c.in_ok-tag.ensures.only tag slot.0 (fields_are tag payload c.args.bytes.now c.split_at.result.0.now c.split_at-2.result.1.now own c.split_at.ensures.front c.split_at-2.ensures.back)
 
@@ -60,8 +60,8 @@ returns-else-is_payload_of-clause-only c tag payload slot =
     let piece = payload_is tag payload bytes front c.split_at-2.result.1.now own c.split_at.ensures.front c.split_at-2.result.0.now c.split_at-2.ensures.front in
     let kind : IsPayloadOf c.in_ok-tag.tag.kind payload = subst (λ (t : Tag). IsPayloadOf t.kind payload) same slot.1 in
     elim c.else-is_payload_of.branch [
-      | else-is_payload_of-via-then-is_payload_of+else-is_digest_of w ↦
-          absurd (false≢true (w.if-is_digest_of.ensures.1 (digest_is tag payload bytes front front own c.split_at.ensures.front c.split_at.result.1.now c.split_at.ensures.back)))
+      | else-is_payload_of-via-then-is_payload_of+else-is_made_digest_of w ↦
+          absurd (false≢true (w.if-is_made_digest_of.ensures.1 (digest_is tag payload bytes front front own c.split_at.ensures.front c.split_at.result.1.now c.split_at.ensures.back)))
       | else-is_payload_of-via-else-is_payload_of w ↦
           absurd (false≢true (w.if-is_payload_of.ensures.1 (subst (λ (l : List ℕ). IsPayloadOf c.in_ok-tag.tag.kind l) (sym piece) kind)))
     ]

@@ -1,4 +1,4 @@
-use Rattle.std.proofs.Common.{◌≡◌, ◌∙◌, ◌<◌, ℕ, List, Option, Some, length, set, get_or, sym, subst, ap}
+use Rattle.std.proofs.Common.{◌≡◌, ◌∙◌, ◌*◌, ◌<◌, ℕ, List, Option, Some, length, set, get_or, sym, subst, ap}
 use Rattle.std.proofs.lemmas.Option.{same_Some, slice_get-get_or}
 use Rattle.fa_types.specs.declared.geometry.Geometry.{Geometry}
 use Rattle.fa_image.specs.Image.{ImageState, slot_bytes}
@@ -18,7 +18,7 @@ pub read_image-requires : goal.read_image-requires
 read_image-requires g c =
     let which : image_read c.args.standing ≡ Some c.in-Some.index = sym c.index_read.ensures ∙ c.in-Some.is in
     c.requires.buffer
-    ∙ ap slot_bytes (sym (made_for g.I.Image.view c.args.geometry c.args.images.now c.in-Some.index c.index-images-index.result
+    ∙ ap (λ (shape : Geometry). 8 * slot_bytes shape) (sym (made_for g.I.Image.view c.args.geometry c.args.images.now c.in-Some.index c.index-images-index.result
     (c.requires.within c.in-Some.index which) (c.requires.image c.in-Some.index which)))
 
 pub returns-in_err-outcome-clause-only_read : goal.returns-in_err-outcome-clause-only_read

@@ -1,0 +1,5 @@
+pub mod Chaining
+pub mod InLanes
+pub mod Loading
+pub mod Majority
+pub mod Tails
