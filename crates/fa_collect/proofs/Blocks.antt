@@ -1,11 +1,13 @@
 -- Counts over the slots of a die and of one of its blocks, and tests of all numbers of a range.
 use Rattle.fa_map.proofs.Indices.{die_fits}
-use Rattle.fa_map.proofs.Ranges.{count_agree, count_cons, count_same}
+use Rattle.fa_map.proofs.Ranges.{bit, count_agree, count_cons, count_same}
 use Rattle.fa_machine.specs.Collecting.{count_in, is_erased_outside, is_in_block, may_be_victim}
 use Rattle.fa_machine.specs.Copies.{is_held_slot, is_reserved_slot, is_stale_slot}
 use Rattle.fa_machine.specs.Placement.{free, is_erased_slot}
-use Rattle.fa_machine.specs.State.{MapState, slots_of}
-use Rattle.std.proofs.Common.{Bool, ap, arith, eq-eqb, false, inl, inr, not, refl, subst, suc, sym, true, zero, ℕ, ◌*◌, ◌+◌, ◌-◌, ◌/◌, ◌<◌, ◌∙◌, ◌≡◌, ◌≤◌}
+use Rattle.fa_machine.specs.State.{MapState, slots_of, used_at}
+use Rattle.fa_machine.specs.declared.places.Used.{Used}
+use Rattle.fa_machine.specs.declared.places.Used.TheVariants.{Held, Reserved, Stale}
+use Rattle.std.proofs.Common.{Bool, None, Option, Some, ap, arith, eq-eqb, false, inl, inr, not, refl, subst, suc, sym, true, zero, ℕ, ◌*◌, ◌+◌, ◌-◌, ◌/◌, ◌<◌, ◌∙◌, ◌≡◌, ◌≤◌}
 use Rattle.std.proofs.Math.Nat.{div-eq_of_lt-le, div-mul-le_self, lt-div-mul-add}
 use Rattle.std.proofs.lemmas.Bool.{and_from, and_parts, cases_eq, ne_eqb}
 use Rattle.std.specs.List.{count_by, list_all, range_with_len}
@@ -111,3 +113,41 @@ module _ (m : MapState) (die block : ℕ) (some : 0 < m.geometry.slots) (fits : 
   may_is stale reserved held blank all_blank a b c d e =
       let room : all_blank - blank ≡ count_by (is_erased_outside m die block) (slots_of m) = (λ i. e i - d i) ∙ sym outside_is in
       λ i. nat_lt 0 (a i) && b i == 0 && nat_le (c i) (room i)
+
+  -- the erased slots of a block are some of the die's
+  pub erased_few : count_in m die block is_none ≤ free m die
+  erased_few =
+      let whole = count_split erased 0 first (slots + rest) in
+      let parts = count_split erased first slots rest in
+      let e : count_by erased (range_with_len 0 (first + (slots + rest))) ≡ free m die = ap (λ n. count_by erased (range_with_len 0 n)) all in
+      let x : count_by erased (range_with_len (0 + first) (slots + rest)) ≡ count_by erased (range_with_len first (slots + rest)) =
+      ap (λ k. count_by erased (range_with_len k (slots + rest))) {x = 0 + first} {y = first} (omega arith) in
+      let i : count_by erased (range_with_len first slots) ≡ count_in m die block is_none = refl in
+      omega (arith, whole, parts, e, x, i)
+
+-- a slot is in one state
+one_state : (used : Option Used) → bit (is_none used) + bit (is_reserved_slot used) + bit (is_held_slot used) + bit (is_stale_slot used) ≡ 1
+one_state None = refl
+one_state (Some Reserved) = refl
+one_state (Some (Held page version)) = refl
+one_state (Some Stale) = refl
+
+-- each slot of a block is counted once
+module _ (m : MapState) (die : ℕ) where
+  abbrev tally : (Option Used → Bool) → ℕ → ℕ → ℕ
+  tally test a n = count_by (λ slot. test (used_at m die slot)) (range_with_len a n)
+
+  all_states : (a n : ℕ) → tally is_none a n + tally is_reserved_slot a n + tally is_held_slot a n + tally is_stale_slot a n ≡ n
+  all_states a zero = refl
+  all_states a (suc n) =
+      let rest = all_states (a + 1) n in
+      let one = one_state (used_at m die a) in
+      let e = count_cons (λ slot. is_none (used_at m die slot)) a n in
+      let r = count_cons (λ slot. is_reserved_slot (used_at m die slot)) a n in
+      let h = count_cons (λ slot. is_held_slot (used_at m die slot)) a n in
+      let s = count_cons (λ slot. is_stale_slot (used_at m die slot)) a n in
+      omega (arith, rest, one, e, r, h, s)
+
+  pub block_sum : (block : ℕ) → count_in m die block is_none + count_in m die block is_reserved_slot + count_in m die block is_held_slot
+      + count_in m die block is_stale_slot ≡ m.geometry.slots
+  block_sum block = all_states (block * m.geometry.slots) m.geometry.slots

@@ -1,85 +1,27 @@
--- The best block of those that were looked at is the victim once all were.
-use Rattle.fa_collect.proofs.Blocks.{all_in, one_of_all}
-use Rattle.fa_collect.specs.Best.{next_best}
-use Rattle.fa_collect.specs.declared.candidate.Candidate.{Candidate}
+-- The block with most stale slots, of those with no reserved one, is the victim, or there is none.
+use Rattle.fa_collect.proofs.Blocks.{all_in, block_sum, erased_few, one_of_all, outside_is}
 use Rattle.fa_map.proofs.Ranges.{find_none, find_some}
-use Rattle.fa_machine.specs.Collecting.{count_in, is_no_better, may_be_victim, victim}
-use Rattle.fa_machine.specs.Copies.{is_stale_slot}
+use Rattle.fa_map.specs.Found.{IsGreatest, is_clean_block}
+use Rattle.fa_machine.specs.Collecting.{count_in, is_erased_outside, is_no_better, may_be_victim, victim}
+use Rattle.fa_machine.specs.Copies.{is_held_slot, is_reserved_slot, is_stale_slot}
 use Rattle.fa_machine.specs.Maps.{below}
-use Rattle.fa_machine.specs.State.{MapState}
-use Rattle.std.proofs.Common.{Bool, None, Option, Some, ap, arith, false, inl, inr, not, refl, sym, true, ℕ, ◌+◌, ◌<◌, ◌∙◌, ◌≡◌, ◌≤◌}
-use Rattle.std.proofs.lemmas.Bool.{and_from, and_parts, cases_Bool, cases_eq, false≢true, false_from_ne_true, leb-true, le-leb, leb-false, or_cases, or_left, or_right}
-use Rattle.std.specs.List.{list_all}
-use Rattle.std.specs.Prelude.{if◌then◌else◌, nat_le, option_map, ◌&&◌}
+use Rattle.fa_machine.specs.Placement.{free}
+use Rattle.fa_machine.specs.State.{MapState, slots_of}
+use Rattle.std.proofs.Common.{Bool, None, Option, Some, ap, arith, false, inl, inr, not, refl, sym, true, ℕ, ◌+◌, ◌-◌, ◌<◌, ◌≤◌, ◌==◌, ◌∙◌, ◌≡◌}
+use Rattle.std.proofs.lemmas.Bool.{and_from, and_parts, cases_Bool, eqb-true, false_from_ne_true, false≢true, le-leb, leb-true, or_cases, or_left, or_right}
+use Rattle.std.specs.List.{count_by, list_all}
+use Rattle.std.specs.Prelude.{is_none, nat_le, nat_lt, ◌&&◌}
 
-module _ (m : MapState) (die : ℕ) where
-  abbrev pub may : ℕ → Bool
+module _ (m : MapState) (die : ℕ) (found : Option ℕ)
+    (is : IsGreatest m.geometry.blocks (is_clean_block m die) (λ b. count_in m die b is_stale_slot) found) where
+  abbrev may : ℕ → Bool
   may k = may_be_victim m die k
 
-  abbrev pub stale : ℕ → ℕ
+  abbrev stale : ℕ → ℕ
   stale k = count_in m die k is_stale_slot
 
-  -- the candidate is the best of the blocks below n
-  pub record IsBestBelow (n : ℕ) (c : Candidate) : Type 0 where
-    pub low : c.block < n
-    pub may_be : may c.block ≡ true
-    pub stale_is : c.stale ≡ stale c.block
-    pub best : (k : ℕ) → k < n → may k ≡ true → stale k ≤ c.stale
-    pub lowest : (k : ℕ) → k < c.block → may k ≡ true → stale k < c.stale
-
-  abbrev pub IsBest : ℕ → Option Candidate → Type 0
-  IsBest n None = (k : ℕ) → k < n → may k ≡ true → ⊥
-  IsBest n (Some c) = IsBestBelow n c
-
-  pub best_of_none : IsBest 0 None
-  best_of_none k low = absurd (omega (arith, low))
-
-  module _ (n : ℕ) (c : Candidate) (block_is : c.block ≡ n) (stale_is : c.stale ≡ stale n) where
-    may_same : (k : ℕ) → k ≡ n → may k ≡ may n
-    may_same k e = ap may e
-
-    -- the block itself, which is better than those before it
-    new_best : may n ≡ true → ((k : ℕ) → k < n → may k ≡ true → stale k < c.stale) → IsBestBelow (n + 1) c
-    new_best passing above = record {
-      low = omega (arith, block_is);
-      may_be = ap may block_is ∙ passing;
-      stale_is = stale_is ∙ sym (ap stale block_is);
-      best = λ k low passes. elim (cases_eq k n) [
-        | inl same ↦ let e = ap stale same in omega (arith, e, stale_is)
-        | inr apart ↦ let less = above k (omega (arith, low, apart)) passes in omega (arith, less)
-      ];
-      lowest = λ k low passes. above k (omega (arith, low, block_is)) passes;
-    }
-
-    -- the candidate from before, which is as good
-    old_best : (f : Candidate) → IsBestBelow n f → (may n ≡ true → c.stale ≤ f.stale) → IsBestBelow (n + 1) f
-    old_best f h good = record {
-      low = let low = h.low in omega (arith, low);
-      may_be = h.may_be;
-      stale_is = h.stale_is;
-      best = λ k low passes. elim (cases_eq k n) [
-        | inl same ↦ let e = ap stale same in let few = good (sym (may_same k same) ∙ passes) in omega (arith, e, few, stale_is)
-        | inr apart ↦ h.best k (omega (arith, low, apart)) passes
-      ];
-      lowest = h.lowest;
-    }
-
-    pick : (f : Candidate) → IsBestBelow n f → may n ≡ true → (t : Bool) → nat_le c.stale f.stale ≡ t
-        → IsBest (n + 1) (if not t then Some c else Some f)
-    pick f h passing true few = old_best f h (λ i. leb-true c.stale f.stale few)
-    pick f h passing false more = new_best passing (λ k low passes.
-        let less = h.best k low passes in
-        let over = leb-false c.stale f.stale more in
-        omega (arith, less, over))
-
-    pub better_is : (best : Option Candidate) (b : Bool) → IsBest n best → b ≡ may n → IsBest (n + 1) (next_best best c b)
-    better_is None false h is = λ k low passes. elim (cases_eq k n) [
-      | inl same ↦ false≢true (is ∙ sym (may_same k same) ∙ passes)
-      | inr apart ↦ h k (omega (arith, low, apart)) passes
-    ]
-    better_is (Some f) false h is = old_best f h (λ passing. absurd (false≢true (is ∙ passing)))
-    better_is None true h is = new_best (sym is) (λ k low passes. absurd (h k low passes))
-    better_is (Some f) true h is = pick f h (sym is) (nat_le c.stale f.stale) refl
+  abbrev fits_outside : ℕ → Bool
+  fits_outside k = nat_le (count_in m die k is_held_slot) (count_by (is_erased_outside m die k) (slots_of m))
 
   abbrev wins : ℕ → Bool
   wins k = may k && list_all (is_no_better m die k) (below m.geometry.blocks)
@@ -87,37 +29,69 @@ module _ (m : MapState) (die : ℕ) where
   loses : (k : ℕ) → may k ≡ false → wins k ≡ false
   loses k none = ap (λ b. b && list_all (is_no_better m die k) (below m.geometry.blocks)) none
 
-  pub victim_is : (best : Option Candidate) → IsBest m.geometry.blocks best → option_map (λ (c : Candidate). c.block) best ≡ victim m die
-  victim_is None h = sym (find_none wins 0 m.geometry.blocks (λ k low high. elim (cases_Bool (may k)) [
-    | inl passing ↦ absurd (h k (omega (arith, high)) passing)
-    | inr none ↦ loses k none
-  ]))
-  victim_is (Some c) h = sym (find_some wins 0 m.geometry.blocks c.block (omega arith) (let low = h.low in omega (arith, low)) passes fails)
-    where
-      no_better : (k : ℕ) → k < m.geometry.blocks → is_no_better m die c.block k ≡ true
-      no_better k low =
-          elim (cases_Bool (may k)) [
-            | inl passing ↦ or_right (not (may k)) (nat_le (stale k) (stale c.block))
-                (le-leb (stale k) (stale c.block) (let most = h.best k low passing in let is = h.stale_is in omega (arith, most, is)))
-            | inr none ↦ or_left (not (may k)) (nat_le (stale k) (stale c.block)) (ap not none)
-          ]
+  may_clean : (k : ℕ) → may k ≡ true → is_clean_block m die k ≡ true
+  may_clean k passing = (and_parts (is_clean_block m die k) (fits_outside k) passing).0
 
-      passes : wins c.block ≡ true
-      passes = and_from (may c.block) (list_all (is_no_better m die c.block) (below m.geometry.blocks)) h.may_be
-          (all_in (is_no_better m die c.block) 0 m.geometry.blocks (λ k low high. no_better k (omega (arith, high))))
+  nothing : ((k : ℕ) → k < m.geometry.blocks → may k ≡ true → ⊥) → victim m die ≡ None
+  nothing none = find_none wins 0 m.geometry.blocks (λ k low high. loses k (false_from_ne_true (may k) (none k (omega (arith, high)))))
 
-      worse : (k : ℕ) → k < c.block → may k ≡ true → is_no_better m die k c.block ≡ true → ⊥
-      worse k low passing all =
-          elim (or_cases (not (may c.block)) (nat_le (stale c.block) (stale k)) all) [
-            | inl none ↦ false≢true (sym (ap not h.may_be) ∙ none)
-            | inr few ↦ let a = leb-true (stale c.block) (stale k) few in let b = h.lowest k low passing in let is = h.stale_is in omega (arith, a, b, is)
-          ]
+  pub victim_none : found ≡ None → victim m die ≡ None
+  victim_none at = nothing (λ k fits passing. false≢true (sym (is.none at k fits) ∙ may_clean k passing))
 
-      fails : (k : ℕ) → 0 ≤ k → k < c.block → wins k ≡ false
-      fails k low high =
-          elim (cases_Bool (may k)) [
-            | inr none ↦ loses k none
-            | inl passing ↦ false_from_ne_true (wins k) (λ all. worse k high passing
-                (one_of_all (is_no_better m die k) 0 m.geometry.blocks c.block (omega arith) (let at = h.low in omega (arith, at))
-                (and_parts (may k) (list_all (is_no_better m die k) (below m.geometry.blocks)) all).1))
-          ]
+  module _ (b : ℕ) (at : found ≡ Some b) where
+    low : b < m.geometry.blocks
+    low = (is.inside b at).0
+
+    pub victim_some : may b ≡ true → victim m die ≡ Some b
+    victim_some passing = find_some wins 0 m.geometry.blocks b (omega arith) (let inner = low in omega (arith, inner)) passes fails
+      where
+        no_better : (k : ℕ) → k < m.geometry.blocks → is_no_better m die b k ≡ true
+        no_better k inner =
+            elim (cases_Bool (may k)) [
+              | inl other ↦ or_right (not (may k)) (nat_le (stale k) (stale b)) (le-leb (stale k) (stale b) (is.most b k at inner (may_clean k other)))
+              | inr none ↦ or_left (not (may k)) (nat_le (stale k) (stale b)) (ap not none)
+            ]
+
+        passes : wins b ≡ true
+        passes = and_from (may b) (list_all (is_no_better m die b) (below m.geometry.blocks)) passing
+            (all_in (is_no_better m die b) 0 m.geometry.blocks (λ k from inner. no_better k (omega (arith, inner))))
+
+        worse : (k : ℕ) → k < b → may k ≡ true → is_no_better m die k b ≡ true → ⊥
+        worse k less other all =
+            elim (or_cases (not (may b)) (nat_le (stale b) (stale k)) all) [
+              | inl none ↦ false≢true (sym (ap not passing) ∙ none)
+              | inr few ↦
+                  let a = leb-true (stale b) (stale k) few in
+                  let c = is.lowest b k at less (may_clean k other) in omega (arith, a, c)
+            ]
+
+        fails : (k : ℕ) → 0 ≤ k → k < b → wins k ≡ false
+        fails k from less =
+            elim (cases_Bool (may k)) [
+              | inr none ↦ loses k none
+              | inl other ↦ false_from_ne_true (wins k) (λ all. worse k less other
+                  (one_of_all (is_no_better m die k) 0 m.geometry.blocks b (omega arith) (let inner = low in omega (arith, inner))
+                  (and_parts (may k) (list_all (is_no_better m die k) (below m.geometry.blocks)) all).1))
+            ]
+
+    -- where it may not be the victim, no block may: none has more stale slots, and so none fewer that are current or erased
+    pub victim_full : may b ≡ false → victim m die ≡ None
+    victim_full off = nothing (λ k fits passing. false≢true (sym off ∙ also k fits passing))
+      where
+        also : (k : ℕ) → k < m.geometry.blocks → may k ≡ true → may b ≡ true
+        also k fits passing =
+            let some = m.geometry.within.slots_fit in
+            let parts = and_parts (is_clean_block m die k) (fits_outside k) passing in
+            let least = leb-true (count_in m die k is_held_slot) (count_by (is_erased_outside m die k) (slots_of m)) parts.1 in
+            let here = outside_is m die b (omega (arith, some.0)) low in
+            let there = outside_is m die k (omega (arith, some.0)) fits in
+            let few = erased_few m die k (omega (arith, some.0)) fits in
+            let clean = (is.inside b at).1 in
+            let none = eqb-true (count_in m die b is_reserved_slot) 0 (and_parts (nat_lt 0 (stale b)) (count_in m die b is_reserved_slot == 0) clean).1 in
+            let bare = eqb-true (count_in m die k is_reserved_slot) 0 (and_parts (nat_lt 0 (stale k)) (count_in m die k is_reserved_slot == 0) parts.0).1 in
+            let more = is.most b k at fits parts.0 in
+            let all = block_sum m die b in
+            let others = block_sum m die k in
+            and_from (is_clean_block m die b) (fits_outside b) clean
+            (le-leb (count_in m die b is_held_slot) (count_by (is_erased_outside m die b) (slots_of m))
+            (omega (arith, least, here, there, few, none, bare, more, all, others)))

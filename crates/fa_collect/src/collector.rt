@@ -1,34 +1,37 @@
 //! The victim of a die, and the steps on it.
-ghost use Rattle.std.specs.Prelude.{◌≡◌, ◌<◌, option_map};
+ghost use Rattle.std.specs.Prelude.{◌≡◌, ◌-◌, ◌<◌, ◌==◌, ◌&&◌, nat_le, nat_lt, option_map};
 ghost use Rattle.fa_machine.specs.Collecting.{victim as rule_victim, next_step as rule_step, step_on as rule_step_on};
 ghost use Rattle.fa_machine.specs.Looks.{wants_window as rule_window};
 
-use crate::candidate::{Candidate, better, may_be_emptied};
 use fa_machine::{Block, CollectorStep};
-use fa_map::{Map, SlotState};
+use fa_map::{BlockCounts, Map, SlotState};
 use fa_types::{Die, Slot};
 
 /// The block that the collector of a die empties: of the blocks with a stale slot, no reserved slot and no more current slots
-/// than there are erased slots outside of it, the one with most stale slots, the lowest on ties. It looks at the counts of
-/// each block once.
+/// than there are erased slots outside of it, the one with most stale slots, the lowest on ties. It is the block with most stale
+/// slots that has no reserved one, or there is none: where that block has too many current slots, each of the others has.
 pub fn victim<M: Map>(map: &M, die: Die) -> Option<Block>
     requires { die.0 < (M.view map.now).geometry.dies }
     ensures { option_map (λ block. block.0) result ≡ rule_victim (M.view map.now) die.0 }
 {
-    let free = map.free(die);
-    let mut best: Option<Candidate> = None;
-    for block in 0..map.geometry().blocks {
-        let counts = map.counts(die, Block(block));
-        let candidate = Candidate {
-            block,
-            stale: counts.stale,
-        };
-        best = better(best, candidate, may_be_emptied(counts, free));
-    }
-    match best {
-        Some(candidate) => Some(Block(candidate.block)),
+    match map.stalest_block(die) {
+        Some(block) => {
+            if may_be_emptied(map.counts(die, block), map.free(die)) {
+                Some(block)
+            } else {
+                None
+            }
+        }
         None => None,
     }
+}
+
+/// Whether a block with these slots may be emptied, on a die with `free` erased slots: it has a stale slot, none that is
+/// reserved, and no more current ones than there are erased slots outside of it.
+fn may_be_emptied(counts: BlockCounts, free: u32) -> bool
+    ensures { result ≡ (nat_lt 0 counts.stale && counts.reserved == 0 && nat_le counts.current (free - counts.erased)) }
+{
+    counts.stale > 0 && counts.reserved == 0 && counts.current <= free.saturating_sub(counts.erased)
 }
 
 /// The next step of a die's collector: to move the lowest current slot of its victim, and where none is left to erase it.

@@ -2,7 +2,6 @@
 //! the array's rule of what the page map shows. No call takes memory.
 #![tactic(auto)]
 
-mod candidate;
 mod collector;
 
 pub use collector::{next_step, victim, wants_window};

@@ -18,7 +18,7 @@ over d die n less =
     omega (arith, more)
 
 -- the slots of a die come before those of a later one
-later : (d die s slot n : ℕ) → d < die → s < n → d * n + s < die * n + slot
+pub later : (d die s slot n : ℕ) → d < die → s < n → d * n + s < die * n + slot
 later d die s slot n less fits = let more = over d die n less in omega (arith, more)
 
 -- two slots that stand at one index are one

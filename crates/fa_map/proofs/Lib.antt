@@ -3,6 +3,7 @@ pub mod Changed
 pub mod Counted
 pub mod Few
 pub mod Firsts
+pub mod Found
 pub mod Holders
 pub mod Indices
 pub mod Kept

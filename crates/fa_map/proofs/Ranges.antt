@@ -181,3 +181,32 @@ count_none f a n i low high none =
       | inr fails ↦ fails
       | inl passes ↦ let some = count_some f a n i low high passes in absurd (omega (arith, some, none))
     ]
+
+-- what is found is the first of the numbers that passes
+pub find_is : (test : ℕ → Bool) (a n i : ℕ) → find test (range_with_len a n) ≡ Some i
+    → (a ≤ i) × (i < a + n) × (test i ≡ true) × ((k : ℕ) → a ≤ k → k < i → test k ≡ false)
+find_is test a zero i e = absurd (none-some i e)
+find_is test a (suc n) i e =
+    elim (cases_Bool (test a)) [
+      | inl here ↦
+          let is : a ≡ i = same_Some a i (sym (ap (λ (b : Bool). cond b (Some a) (find test (range_with_len (a + 1) n))) here) ∙ e) in
+          (omega arith, omega arith, ap test (sym is) ∙ here, λ k low high. absurd (omega (arith, low, high, is)))
+      | inr later ↦
+          let rest = find_is test (a + 1) n i (sym (ap (λ (b : Bool). cond b (Some a) (find test (range_with_len (a + 1) n))) later) ∙ e) in (
+            omega (arith, rest.0),
+            omega (arith, rest.1),
+            rest.2,
+            λ k low high. elim (cases_eq k a) [
+              | inl same ↦ ap test same ∙ later
+              | inr apart ↦ rest.3 k (omega (arith, low, apart)) high
+            ],
+          )
+    ]
+
+-- where none is found, each fails
+pub none_is : (test : ℕ → Bool) (a n i : ℕ) → find test (range_with_len a n) ≡ None → a ≤ i → i < a + n → test i ≡ false
+none_is test a n i e low high =
+    elim (cases_Bool (test i)) [
+      | inr fails ↦ fails
+      | inl passes ↦ absurd (false≢true (ap is_some (sym e) ∙ found_some test a n i low high passes))
+    ]

@@ -42,7 +42,7 @@ all_erased count = replicate count Erased
 erased_at : (count k : ℕ) → entry_at (all_erased count) k ≡ Erased
 erased_at count k = repeated count k Erased
 
-abbrev fresh : Geometry → BlockCounts
+abbrev pub fresh : Geometry → BlockCounts
 fresh g = record { erased = g.slots; reserved = 0; current = 0; stale = 0 }
 
 pub new_tables : (g : Geometry) → AreTables g (all_erased (g.dies * die_slots g)) (replicate (g.dies * die_slots g) no_link) (replicate g.pages no_link)

@@ -152,3 +152,17 @@ module _ (g : Geometry) (entries : List Entry) (counts : List BlockCounts) (eras
           let now = ap (λ (k : Entry). bit (is_same_state (state_of_entry k) states.Erased)) (entry_same entries (die_slots g) die slot die slot e fits_all refl refl) in
           let old = tallied.free die low in
           omega (arith, change, now, old, shifts)
+
+-- the counts of a block of which an entry was written are within its slots
+module _ (g : Geometry) (entries : List Entry) (counts : List BlockCounts) (erased : List ℕ) (tallied : AreTallied g entries counts erased)
+    (die slot : ℕ) (low : die < g.dies) (within : slot < die_slots g) where
+  pub set_few : (e : Entry) (c : BlockCounts) (n : ℕ)
+      → AreTallied g (set entries (die * die_slots g + slot) e) (set counts (die * g.blocks + slot / g.slots) c) (set erased die n)
+      → (x : SlotState) → count_of x c ≤ g.slots
+  set_few e c n after x =
+      let its = its_block g entries counts erased tallied die slot low within in
+      let here = get_or-set_same counts (die * g.blocks + slot / g.slots) c no_counts
+      (subst (λ k. die * g.blocks + slot / g.slots < k) (sym tallied.blocks) (index_fits die (slot / g.slots) g.dies g.blocks low its)) in
+      let few = count_le (λ s. is_same_state (state_of_entry (entry_of (set entries (die * die_slots g + slot) e) (die_slots g) die s)) x)
+      (slot / g.slots * g.slots) g.slots in
+      subst (λ k. k ≤ g.slots) (sym (sym (ap (count_of x) here) ∙ after.counted die (slot / g.slots) x low its)) few

@@ -8,3 +8,5 @@ pub mod PageView
 pub mod Shown
 pub mod Slots
 pub mod Plain
+pub mod Found
+pub mod Sets

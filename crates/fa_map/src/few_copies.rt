@@ -31,7 +31,7 @@ impl<A: Allocator> Model for FewCopies<A> {
 }
 
 /// The number comes into the set where that is wanted, and else goes.
-fn set_member<A: Allocator>(set: &mut NumberSet<A>, number: usize, wanted: bool)
+pub fn set_member<A: Allocator>(set: &mut NumberSet<A>, number: usize, wanted: bool)
     requires { number < bound_of set.old }
     ensures bound { bound_of set.new ≡ bound_of set.old }
     ensures members { members set.new ≡ with_member number wanted (members set.old) }

@@ -5,6 +5,7 @@
 mod change;
 mod entries;
 mod few_copies;
+mod finder;
 mod map;
 mod page_map;
 mod slots;

@@ -2,12 +2,13 @@
 ghost use Rattle.std.specs.Prelude.{◌≡◌, ℕ, ◌+◌, ◌-◌, ◌*◌, ◌<◌, ◌≤◌, ◌==◌, Bool, true, false, length, find, option_map, IfSome, Some};
 ghost use Rattle.std.specs.List.{range_with_len};
 ghost use Rattle.std.specs.FinMap.{get, len};
-ghost use Rattle.fa_machine.specs.Collecting.{move_place};
-ghost use Rattle.fa_machine.specs.Copies.{copy_on, holders};
+ghost use Rattle.fa_machine.specs.Collecting.{count_in, move_place};
+ghost use Rattle.fa_machine.specs.Copies.{copy_on, holders, is_stale_slot};
 ghost use Rattle.fa_machine.specs.Placement.{free, room};
 ghost use Rattle.fa_machine.specs.State.{MapState, is_live, used_at};
 ghost use Rattle.fa_map.specs.Changes.{with_used, writers_slot, taken, made_current, renewed, brought_in, dropped, without_block};
 ghost use Rattle.fa_map.specs.Changes.{MayHold, MayKeep};
+ghost use Rattle.fa_map.specs.Found.{IsGreatest, is_clean_block};
 ghost use Rattle.fa_map.specs.Slots.{IsPageMap, AreCounts, state_of, copy_in, first_holder};
 
 use crate::slots::{BlockCounts, SlotState};
@@ -111,6 +112,12 @@ pub trait Map {
         requires die { die.0 < (view self.now).geometry.dies }
         requires block { block.0 < (view self.now).geometry.blocks }
         ensures { option_map (λ slot. slot.0) result ≡ move_place (view self.now) die.0 block.0 };
+
+    /// The block of the die with most stale slots, of those with a stale slot and none that is reserved; the lowest on ties.
+    fn stalest_block(&self, die: Die) -> Option<Block>
+        requires { die.0 < (view self.now).geometry.dies }
+        ensures { IsGreatest (view self.now).geometry.blocks (is_clean_block (view self.now) die.0)
+            (λ block. count_in (view self.now) die.0 block is_stale_slot) (option_map (λ block. block.0) result) };
 
     /// The slot of the live die is reserved, whatever its state was.
     fn reserve_slot(&mut self, die: Die, slot: Slot)

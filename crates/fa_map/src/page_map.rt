@@ -14,12 +14,11 @@ use fa_machine::{Block, Version};
 use fa_types::{Die, Geometry, Page, Seq, Slot};
 use std::alloc::{AllocError, Allocator, Global};
 
-/// The page map of an array. A slot takes 16 bytes, and a page 32 and little more than two bits. No call but
-/// [`PageMap::new`] takes memory. `drop_die` takes time for each slot of the die, and `block_erased` for each
-/// of the block. A slot is found in at most as many looks as a die has blocks and a block has slots and one
-/// more. `copies_of` and `renew` take a step for each copy of the page, `first_copy` and `next_copy` one step,
-/// and `next_with` a look or two at a set. The other calls take at most a step for each die and, of each, for
-/// each copy of the page on a die below it.
+/// The page map of an array. A slot takes 16 bytes and little more than two bits, and a page 32 bytes and little more than two
+/// bits. No call but [`PageMap::new`] takes memory. `drop_die` takes time for each slot of the die, and `block_erased` for each of
+/// the block. An erased slot is found in a look or two at a set of slots, and the stalest block in one at a set of blocks.
+/// `copies_of` and `renew` take a step for each copy of the page, `first_copy` and `next_copy` one step, and `next_with` a look or
+/// two at a set. The other calls take at most a step for each die and, of each, for each copy of the page on a die below it.
 #[derive(Drop)]
 pub struct PageMap<A: Allocator = Global> {
     geometry: Geometry,
@@ -72,7 +71,7 @@ impl<A: Allocator> PageMap<A> {
     ghost use Rattle.fa_map.specs.PageView.{page_view, looks_of};
     ghost use Rattle.fa_map.specs.Shown.{is_number};
 
-    /// How many states and counts the last `take_slot` or `take_slot_outside` read; 0 before the first.
+    /// How many states, counts and sets of slots the last `take_slot` or `take_slot_outside` read; 0 before the first.
     pub fn last_looks(&self) -> u32
         ensures looks { result ≡ looks_of self.now }
         ensures few { result ≤ (page_view self.now).geometry.blocks + (page_view self.now).geometry.slots + 1 }
@@ -249,6 +248,13 @@ impl<A: Allocator> Map for PageMap<A> {
 
     fn slot_for_move(&self, die: Die, block: Block) -> Option<Slot> {
         slot_of(self.found_outside(die, block))
+    }
+
+    fn stalest_block(&self, die: Die) -> Option<Block> {
+        match self.tables.stalest(die) {
+            Some(block) => Some(Block(block)),
+            None => None,
+        }
     }
 
     fn reserve_slot(&mut self, die: Die, slot: Slot) {

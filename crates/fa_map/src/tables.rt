@@ -3,12 +3,14 @@ ghost use Rattle.std.specs.Prelude.{◌≡◌, ℕ, ◌+◌, ◌*◌, ◌/◌, �
 ghost use Rattle.fa_map.specs.Chains.{IsSeam, IsNext, behind, entry_at, entry_of, link_at, link_from, target};
 ghost use Rattle.fa_map.specs.Entries.{AreTables, AreTallied, copies_in, count_of, erased_entry, is_current_entry, is_erased_entry, is_left_out, may_take, no_counts, one_if, retired, with_head, with_link};
 ghost use Rattle.fa_map.specs.Few.{IsCounted, IsCounted-prop};
+ghost use Rattle.fa_map.specs.Found.{IsFound, IsFound-prop, IsGreatest};
 ghost use Rattle.fa_map.specs.Plain.{die_slots};
 ghost use Rattle.std.specs.List.{range_with_len};
 ghost use Rattle.fa_machine.specs.Maps.{below};
 
 use crate::entries::{Entry, Link};
 use crate::few_copies::FewCopies;
+use crate::finder::Finder;
 use crate::slots::BlockCounts;
 use crate::tallies::{is_erased, moved, state_of};
 use fa_types::{Die, Geometry, Slot};
@@ -30,8 +32,11 @@ pub struct Tables<A: Allocator = Global> {
     erased: Vec<u32, A>,
     /// The pages with one copy and those with two.
     few: FewCopies<A>,
+    /// The erased slots, and the blocks that may be emptied.
+    finder: Finder<A>,
     ghost sound: { AreTables geometry entries.items links.items heads.items counts.items erased.items },
     ghost counted: { IsCounted geometry entries.items few } by { IsCounted-prop geometry entries.items few },
+    ghost found: { IsFound geometry entries.items counts.items finder } by { IsFound-prop geometry entries.items counts.items finder },
 }
 
 /// Where a die's copy of a page belongs in the page's chain.
@@ -48,7 +53,7 @@ pub struct Seam {
 pub struct Found {
     /// The slot; none where there is none.
     pub slot: Option<u32>,
-    /// How many entries and counts were read.
+    /// How many slots and counts were looked at.
     pub looks: u32,
 }
 
@@ -97,12 +102,13 @@ fn shifted(count: u32, loses: bool, gains: bool) -> u32
     if gains { kept + 1 } else { kept }
 }
 
-/// The entry of a slot is written, and the counts follow.
-fn write_entry(
+/// The entry of a slot is written, and the counts and the sets follow.
+fn write_entry<A: Allocator>(
     geometry: Geometry,
     entries: &mut [Entry],
     counts: &mut [BlockCounts],
     erased: &mut [u32],
+    finder: &mut Finder<A>,
     die: Die,
     slot: Slot,
     entry: Entry,
@@ -110,27 +116,24 @@ fn write_entry(
     requires die { die.0 < geometry.dies }
     requires slot { slot.0 < die_slots geometry }
     requires tallied { AreTallied geometry entries.old counts.old erased.old }
+    requires found { IsFound geometry entries.old counts.old finder.old }
     ensures entries { entries.new ≡ slice_set entries.old (die.0 * die_slots geometry + slot.0) entry }
     ensures tallied { AreTallied geometry entries.new counts.new erased.new }
+    ensures found { IsFound geometry entries.new counts.new finder.new }
 {
     let index = index_of(geometry, die, slot);
-    let block = die.0 as usize * geometry.blocks as usize + (slot.0 / geometry.slots) as usize;
+    let number = slot.0 / geometry.slots;
+    let block = die.0 as usize * geometry.blocks as usize + number as usize;
     let from = state_of(entries[index]);
     let to = state_of(entry);
-    counts[block] = moved(counts[block], from, to);
+    let before = counts[block];
+    let after = moved(before, from, to);
+    counts[block] = after;
     let at = die.0 as usize;
     erased[at] = shifted(erased[at], is_erased(entries[index]), is_erased(entry));
     entries[index] = entry;
-}
-
-/// Whether slots of the block may be taken.
-fn may_take_from(block: u32, outside: Option<u32>) -> bool
-    ensures { result ≡ not (is_left_out outside block) }
-{
-    match outside {
-        None => true,
-        Some(outside) => block != outside,
-    }
+    finder.put_slot(index, is_erased(entry));
+    finder.put_block(geometry, die, number, before, after);
 }
 
 impl<A: Allocator + Copy> Tables<A> {
@@ -156,6 +159,7 @@ impl<A: Allocator + Copy> Tables<A> {
         }; blocks]?;
         let erased = vec![in alloc; geometry.blocks * geometry.slots; dies]?;
         let few = FewCopies::new(alloc, geometry.pages as usize)?;
+        let finder = Finder::new(alloc, geometry)?;
         Ok(Tables {
             geometry,
             entries,
@@ -164,6 +168,7 @@ impl<A: Allocator + Copy> Tables<A> {
             counts,
             erased,
             few,
+            finder,
         })
     }
 }
@@ -306,6 +311,7 @@ impl<A: Allocator> Tables<A> {
             &mut self.entries,
             &mut self.counts,
             &mut self.erased,
+            &mut self.finder,
             die,
             slot,
             entry,
@@ -332,6 +338,7 @@ impl<A: Allocator> Tables<A> {
             &mut self.entries,
             &mut self.counts,
             &mut self.erased,
+            &mut self.finder,
             die,
             slot,
             entry,
@@ -373,6 +380,7 @@ impl<A: Allocator> Tables<A> {
             &mut self.entries,
             &mut self.counts,
             &mut self.erased,
+            &mut self.finder,
             die,
             slot,
             Entry::Current { page },
@@ -420,9 +428,10 @@ impl<A: Allocator> Tables<A> {
             ≡ (if is_last then entry_of self.old.entries.items (die_slots self.old.geometry) die slot
             else retired page (entry_of self.old.entries.items (die_slots self.old.geometry) die slot)) }
     {
-        if !is_last {
-            self.retire(page);
+        if is_last {
+            return;
         }
+        self.retire(page);
     }
 
     /// The slots of the die are erased.
@@ -470,51 +479,79 @@ impl<A: Allocator> Tables<A> {
         }
     }
 
-    /// The lowest of a block's slots that is erased.
-    fn lowest_in(&self, die: Die, block: u32) -> Option<u32>
+    /// The lowest erased slot of the die from one on.
+    fn erased_from(&self, die: Die, from: u32) -> Option<u32>
         requires die { die.0 < self.now.geometry.dies }
-        requires block { block < self.now.geometry.blocks }
-        ensures some { (slot : ℕ) → result ≡ Some slot → (block * self.now.geometry.slots ≤ slot)
-            × (slot < block * self.now.geometry.slots + self.now.geometry.slots)
-            × (is_erased_entry (entry_of self.now.entries.items (die_slots self.now.geometry) die.0 slot) ≡ true)
-            × ((k : ℕ) → block * self.now.geometry.slots ≤ k → k < slot
-            → is_erased_entry (entry_of self.now.entries.items (die_slots self.now.geometry) die.0 k) ≡ false) }
-        ensures none { result ≡ None → (k : ℕ) → block * self.now.geometry.slots ≤ k
-            → k < block * self.now.geometry.slots + self.now.geometry.slots
-            → is_erased_entry (entry_of self.now.entries.items (die_slots self.now.geometry) die.0 k) ≡ false }
+        requires from { from ≤ die_slots self.now.geometry }
+        ensures { result ≡ find (λ slot. is_erased_entry (entry_of self.now.entries.items (die_slots self.now.geometry) die.0 slot))
+            (range_with_len from (die_slots self.now.geometry - from)) }
     {
-        let first = block * self.geometry.slots;
-        for slot in first..first + self.geometry.slots {
-            if is_erased(self.entry(die, Slot(slot))) {
-                return Some(slot);
-            }
+        let size = (self.geometry.blocks * self.geometry.slots) as usize;
+        let first = die.0 as usize * size;
+        match self.finder.slot_from(first + from as usize) {
+            Some(index) if index < first + size => Some((index - first) as u32),
+            _ => None,
         }
-        None
     }
 
-    /// The lowest erased slot of the die outside a block, if one is named, and how many entries and counts
-    /// were read: at most as many as the die has blocks and a block has slots.
+    /// The lowest erased slot of the die outside a block.
+    fn erased_outside(&self, die: Die, block: u32) -> Found
+        requires { die.0 < self.now.geometry.dies }
+        ensures slot { result.slot
+            ≡ find (may_take self.now.entries.items (die_slots self.now.geometry) self.now.geometry.slots die.0 (Some block))
+            (below (die_slots self.now.geometry)) }
+        ensures looks { result.looks ≤ 2 }
+    {
+        match self.erased_from(die, 0) {
+            Some(slot) if slot / self.geometry.slots == block => Found {
+                slot: self.erased_from(die, (block + 1) * self.geometry.slots),
+                looks: 2,
+            },
+            Some(slot) => Found {
+                slot: Some(slot),
+                looks: 1,
+            },
+            None => Found {
+                slot: None,
+                looks: 1,
+            },
+        }
+    }
+
+    /// The lowest erased slot of the die outside a block, if one is named, and how many were looked at: two at most.
     pub fn lowest_erased(&self, die: Die, outside: Option<u32>) -> Found
         requires { die.0 < self.now.geometry.dies }
         ensures slot { result.slot
             ≡ find (may_take self.now.entries.items (die_slots self.now.geometry) self.now.geometry.slots die.0 outside)
             (below (die_slots self.now.geometry)) }
-        ensures looks { result.looks ≤ self.now.geometry.blocks + self.now.geometry.slots }
+        ensures looks { result.looks ≤ 2 }
     {
-        for block in 0..self.geometry.blocks {
-            if may_take_from(block, outside) && self.counts(die, block).erased > 0 {
-                if let Some(slot) = self.lowest_in(die, block) {
-                    let looks = block + 1 + (slot - block * self.geometry.slots + 1);
-                    return Found {
-                        slot: Some(slot),
-                        looks,
-                    };
-                }
-            }
+        match outside {
+            None => Found {
+                slot: self.erased_from(die, 0),
+                looks: 1,
+            },
+            Some(block) => self.erased_outside(die, block),
         }
-        Found {
-            slot: None,
-            looks: self.geometry.blocks,
+    }
+
+    /// The block of the die with most stale slots, of those with a stale slot and none that is reserved; the lowest on ties.
+    pub fn stalest(&self, die: Die) -> Option<u32>
+        requires { die.0 < self.now.geometry.dies }
+        ensures { IsGreatest self.now.geometry.blocks
+            (λ b. nat_lt 0 (entries_in self.now.entries.items (die_slots self.now.geometry) die.0 (b * self.now.geometry.slots)
+            self.now.geometry.slots SlotState.Stale)
+            && entries_in self.now.entries.items (die_slots self.now.geometry) die.0 (b * self.now.geometry.slots)
+            self.now.geometry.slots SlotState.Reserved == 0)
+            (λ b. entries_in self.now.entries.items (die_slots self.now.geometry) die.0 (b * self.now.geometry.slots)
+            self.now.geometry.slots SlotState.Stale) result }
+    {
+        let blocks = self.geometry.blocks as usize;
+        let size = (self.geometry.slots + 1) as usize * blocks;
+        let first = die.0 as usize * (self.geometry.slots + 1) as usize * blocks;
+        match self.finder.block_from(first) {
+            Some(index) if index < first + size => Some(((index - first) % blocks) as u32),
+            _ => None,
         }
     }
 }

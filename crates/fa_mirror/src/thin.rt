@@ -5,13 +5,24 @@ ghost use Rattle.fa_machine.specs.Looks.{next_thin as rule_next};
 ghost use Rattle.fa_machine.specs.Placement.{is_thin};
 ghost use Rattle.fa_mirror.specs.Firsts.{IsFirst, lower_of};
 
-use crate::placement::{copies_asked, copy_place};
+use crate::placement::{copies_asked, copy_place, has_any_room};
 use fa_map::Map;
 use fa_types::{Copies, Die, Page};
 
-/// The lowest thin page that has a place to go, and that place. It takes a look at thin pages alone, at each that has no place and at
-/// the first that has one.
+/// The lowest thin page that has a place to go, and that place. Where no live die has room it takes a look at each die, and else at
+/// thin pages alone, at each that has no place and at the first that has one.
 pub fn next_thin<M: Map>(map: &M, copies: Copies) -> Option<(Page, Die)>
+    ensures { option_map (λ found. (found.0.0, found.1.0)) result ≡ rule_next copies.number (M.view map.now) }
+{
+    if has_any_room(map) {
+        next_placed(map, copies)
+    } else {
+        None
+    }
+}
+
+/// The same by a look at each thin page before the one that has a place to go.
+fn next_placed<M: Map>(map: &M, copies: Copies) -> Option<(Page, Die)>
     ensures { option_map (λ found. (found.0.0, found.1.0)) result ≡ rule_next copies.number (M.view map.now) }
 {
     let mut from = Page(0);

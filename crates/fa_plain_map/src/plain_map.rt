@@ -1,5 +1,5 @@
 //! The page map as plain lists, for tests.
-ghost use Rattle.std.specs.Prelude.{◌≡◌, ℕ, ◌*◌, ◌-◌, ◌<◌, ◌≤◌, true, if◌then◌else◌, option_map, IfOk, IfSome, Some};
+ghost use Rattle.std.specs.Prelude.{◌≡◌, ℕ, ◌*◌, ◌-◌, ◌<◌, ◌≤◌, ◌==◌, ◌&&◌, find, true, if◌then◌else◌, option_map, IfOk, IfSome, Some};
 ghost use Rattle.fa_map.specs.Plain.{IsPlain, die_slots};
 
 use crate::plain_slots::{
@@ -52,8 +52,9 @@ impl<A: Allocator + Copy> PlainMap<A> {
 }
 
 impl<A: Allocator> PlainMap<A> {
-    ghost use Rattle.fa_machine.specs.Collecting.{move_place};
-    ghost use Rattle.fa_machine.specs.Copies.{copy_on};
+    ghost use Rattle.fa_machine.specs.Collecting.{count_in, move_place};
+    ghost use Rattle.fa_machine.specs.Copies.{copy_on, is_reserved_slot, is_stale_slot};
+    ghost use Rattle.fa_machine.specs.Maps.{below};
     ghost use Rattle.fa_machine.specs.State.{is_live};
     ghost use Rattle.fa_map.specs.Changes.{taken, writers_slot};
     ghost use Rattle.fa_map.specs.Slots.{first_holder};
@@ -96,6 +97,20 @@ impl<A: Allocator> PlainMap<A> {
         None
     }
 
+    /// The lowest block of the die with so many stale slots and no reserved one.
+    fn block_with(&self, die: Die, stale: u32) -> Option<u32>
+        requires { die.0 < (plain_view self.now).geometry.dies }
+        ensures { result ≡ find (λ b. count_in (plain_view self.now) die.0 b is_reserved_slot == 0
+            && count_in (plain_view self.now) die.0 b is_stale_slot == stale) (below (plain_view self.now).geometry.blocks) }
+    {
+        for block in 0..self.geometry.blocks {
+            if is_stale_with(self.counts(die, Block(block)), stale) {
+                return Some(block);
+            }
+        }
+        None
+    }
+
     /// The slot of the live die is reserved, if there is one.
     fn reserve(&mut self, die: Die, slot: Option<u32>) -> Option<Slot>
         requires die { is_live (plain_view self.old) die.0 ≡ true }
@@ -118,6 +133,13 @@ impl<A: Allocator> PlainMap<A> {
             }
         }
     }
+}
+
+/// Whether so many slots are stale and none is reserved.
+fn is_stale_with(counts: BlockCounts, stale: u32) -> bool
+    ensures { result ≡ (counts.reserved == 0 && counts.stale == stale) }
+{
+    counts.reserved == 0 && counts.stale == stale
 }
 
 /// How many slots a die has.
@@ -247,6 +269,15 @@ impl<A: Allocator> Map for PlainMap<A> {
 
     fn slot_for_move(&self, die: Die, block: Block) -> Option<Slot> {
         as_slot(self.slot_outside(die, block))
+    }
+
+    fn stalest_block(&self, die: Die) -> Option<Block> {
+        for other in 0..self.geometry.slots {
+            if let Some(block) = self.block_with(die, self.geometry.slots - other) {
+                return Some(Block(block));
+            }
+        }
+        None
     }
 
     fn reserve_slot(&mut self, die: Die, slot: Slot) {

@@ -6,6 +6,7 @@ use Rattle.fa_map.specs.declared.entries.Entry.TheVariants.{Current}
 use Rattle.fa_map.specs.declared.entries.Link.{Link}
 use Rattle.fa_map.specs.Few.{IsCounted}
 use Rattle.fa_map.proofs.Few.{few_added, few_bound}
+use Rattle.fa_map.proofs.Found.{found_told}
 use Rattle.fa_map.proofs.Indices.{index_fits}
 use Rattle.fa_map.proofs.Tabled.{copy_added, tables_told}
 use Rattle.fa_map.proofs.Written.{whole_part}
@@ -58,4 +59,7 @@ invariant_of-self g c =
           (few_added s.geometry s.entries.items c.args.die.0 c.args.slot.0 c.requires.die c.requires.slot inside (Current c.args.page) s.few s.counted
           c.args.page c.copies_up_to-copies.result c.copies_up_to-copies.ensures c.put.new.self
           c.requires.free refl c.requires.once c.put.ensures);
+      found = found_told s.geometry c.write_entry.new.entries c.write_entry.new.counts c.write_entry.new.finder _ _
+          (whole_part s.entries.len c.write_entry.new.entries s.entries.items long) (whole_part s.counts.len c.write_entry.new.counts s.counts.items many)
+          c.write_entry.ensures.found;
     }

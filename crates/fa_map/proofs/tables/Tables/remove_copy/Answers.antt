@@ -5,6 +5,7 @@ use Rattle.fa_map.specs.Entries.{AreTallied, with_head, with_link}
 use Rattle.fa_map.specs.Plain.{die_slots}
 use Rattle.fa_map.specs.Few.{IsCounted}
 use Rattle.fa_map.proofs.Few.{few_bound, few_removed, some_copies}
+use Rattle.fa_map.proofs.Found.{found_told}
 use Rattle.fa_map.proofs.Indices.{index_fits}
 use Rattle.fa_map.proofs.Tabled.{copy_removed, tables_told}
 use Rattle.fa_map.proofs.Written.{whole_part}
@@ -16,6 +17,12 @@ write_link-requires-clause-last g c = λ d slot e.
     let old = c.seam.ensures.found d slot e in
     let fits = index_fits d slot s.geometry.dies (die_slots s.geometry) old.1 old.2 in
     omega (arith, fits, c.deref_mut-2.ensures.len, s.sound.linked, s.links.ok.0)
+
+pub write_link-requires-clause-page : goal.write_link-requires-clause-page
+write_link-requires-clause-page g c =
+    let s = c.args.self.now in
+    let known = (s.sound.chained.fits c.args.die.0 c.args.slot.0 c.args.page c.requires.slot c.requires.old).1 in
+    omega (arith, known, c.deref_mut.ensures.len, s.sound.pages, s.heads.ok.0)
 
 pub overflow_sub-copies : goal.overflow_sub-copies
 overflow_sub-copies g c =
@@ -64,4 +71,7 @@ invariant_of-self g c =
           c.args.page c.copies_up_to-copies.result c.copies_up_to-copies.ensures c.put.new.self
           c.requires.old c.requires.new (λ k within is. s.sound.chained.once c.args.die.0 k c.args.slot.0 c.args.page within c.requires.slot is c.requires.old)
           c.put.ensures);
+      found = found_told s.geometry c.write_entry.new.entries c.write_entry.new.counts c.write_entry.new.finder _ _
+          (whole_part s.entries.len c.write_entry.new.entries s.entries.items long) (whole_part s.counts.len c.write_entry.new.counts s.counts.items many)
+          c.write_entry.ensures.found;
     }

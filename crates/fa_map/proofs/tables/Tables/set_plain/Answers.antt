@@ -3,6 +3,7 @@ use Rattle.fa_map.specs.Entries.{AreTallied}
 use Rattle.fa_map.specs.Plain.{die_slots}
 use Rattle.fa_map.specs.Few.{IsCounted}
 use Rattle.fa_map.proofs.Few.{few_plain}
+use Rattle.fa_map.proofs.Found.{found_told}
 use Rattle.fa_map.proofs.Indices.{index_fits}
 use Rattle.fa_map.proofs.Tabled.{plain_set, tables_told}
 use Rattle.fa_map.proofs.Written.{whole_part}
@@ -27,4 +28,7 @@ invariant_of-self g c =
       counted =
           subst (λ l. IsCounted s.geometry l s.few) (sym (whole_part s.entries.len c.write_entry.new.entries s.entries.items long ∙ entries))
           (few_plain s.geometry s.entries.items c.args.die.0 c.args.slot.0 c.requires.die c.requires.slot fits c.args.entry s.few s.counted c.requires.old c.requires.new);
+      found = found_told s.geometry c.write_entry.new.entries c.write_entry.new.counts c.write_entry.new.finder _ _
+          (whole_part s.entries.len c.write_entry.new.entries s.entries.items long) (whole_part s.counts.len c.write_entry.new.counts s.counts.items many)
+          c.write_entry.ensures.found;
     }

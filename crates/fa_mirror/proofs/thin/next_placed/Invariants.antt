@@ -1,7 +1,7 @@
 use Rattle.fa_machine.specs.Placement.{copy_place, is_thin}
 use Rattle.std.proofs.Common.{◌-◌, ◌<◌, ◌≡◌, false, ℕ}
 use Rattle.std.specs.Prelude.{is_some, ◌&&◌}
-use Rattle.fa_mirror.proofs.thin.next_thin.Given as goal
+use Rattle.fa_mirror.proofs.thin.next_placed.Given as goal
 
 abbrev pub invariant-loop-page : goal.invariant-loop-page
 invariant-loop-page g l =
