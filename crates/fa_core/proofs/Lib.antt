@@ -1,5 +1,6 @@
 mod Allowed
 mod Alone
+mod Rising
 mod Tests
 mod Tracked
 mod Whole

@@ -14,12 +14,12 @@ use Rattle.fa_machine.specs.declared.places.Used.TheVariants.{Held}
 use Rattle.fa_machine.specs.declared.places.Version.{Version}
 use Rattle.fa_map.specs.Slots.{IsPageMap}
 use Rattle.fa_sound.specs.Owners.{Owned, owned_claim, owned_of}
+use Rattle.fa_sound.specs.Ready.{AreReady}
 use Rattle.fa_sound.specs.Sound.{IsSound}
 use Rattle.fa_state.specs.Fitted.{IsFitted}
 use Rattle.fa_types.specs.declared.geometry.Geometry.{Geometry}
 use Rattle.std.proofs.Common.{None, Option, Some, ap, false, map, refl, subst, sym, true, ℕ, ◌-◌, ◌<◌, ◌≤◌, ◌∙◌, ◌≡◌}
 use Rattle.std.proofs.lemmas.Option.{none-some, same_Some}
-use Rattle.std.specs.Arc.{arc_slice_items}
 use Rattle.std.specs.Cmp.{nat_cmp_total}
 use Rattle.std.specs.FinMap.{contains_key, empty, entries, get, get-empty, get-entries, get-from_entries}
 use Rattle.std.specs.Ordering.{nat_cmp}
@@ -81,13 +81,15 @@ claimed_inside core sound claim is =
 module _ {M A : Type 0} (view : M → MapState) (old new : Array M A) (act : Act)
     (step : Step (state_of view old) act (state_of view new)) where
   pub whole_after : ((a b : Core) (x : Act) → Step a x b → IsSound a → IsSound b)
+      → ((a b : Core) (x : Act) → Step a x b → IsSound a → AreReady a → AreReady b)
       → ((a b : Core) (x : Act) → Step a x b → HasHistory a → HasHistory b)
       → ((a b : Core) (x : Act) → Step a x b → b.page_map.geometry ≡ a.page_map.geometry)
       → IsWhole view old → IsFitted view new.state → new.zeros ≡ old.zeros → IsWhole view new
-  whole_after sound history geometry whole fitted same = record {
+  whole_after sound ready history geometry whole fitted same = record {
     sound = sound (state_of view old) (state_of view new) act step whole.sound;
+    ready = ready (state_of view old) (state_of view new) act step whole.sound whole.ready;
     fitted = fitted;
     history = history (state_of view old) (state_of view new) act step whole.history;
-    zeros = ap arc_slice_items same ∙ whole.zeros
+    zeros = same ∙ whole.zeros
         ∙ sym (ap (λ (k : Geometry). replicate k.page_bytes 0) (geometry (state_of view old) (state_of view new) act step));
   }

@@ -1,9 +1,8 @@
 -- What one call of the array does: the machine's event of that call with the call's answer.
-use Rattle.std.specs.Arc.{arc_slice_items}
 use Rattle.std.specs.FinMap.{get}
 use Rattle.std.specs.List.{list_all}
 use Rattle.std.specs.Option.{option_map_or}
-use Rattle.std.specs.Prelude.{◌≡◌, ◌&&◌, ℕ, Bool, true, false, not, nat_le, length, map, option_map, Ok}
+use Rattle.std.specs.Prelude.{◌≡◌, ◌&&◌, ℕ, Bool, true, false, not, nat_le, length, map, option_map, List, Ok, Some}
 use Rattle.fa_core.specs.declared.call.Answer.{Answer}
 use Rattle.fa_core.specs.declared.call.Answer.TheVariants.{Stranger, Claim as GaveClaim, Release as GaveRelease, Reserve as GaveReserve}
 use Rattle.fa_core.specs.declared.call.Answer.TheVariants.{Commit as GaveCommit, Abandon as GaveAbandon, Admit as GaveAdmit}
@@ -27,7 +26,9 @@ use Rattle.fa_machine.specs.Step.{EndBatch as ActEndBatch, Take as ActTake, Done
 use Rattle.fa_machine.specs.Step.{SpareIn as ActSpareIn, ReserveCopy as ActReserveCopy, CommitCopy as ActCommitCopy}
 use Rattle.fa_machine.specs.Step.{FlushBegin as ActFlushBegin, FlushState as ActFlushState, Fold as ActFold}
 use Rattle.fa_reads.specs.Answers.{admit_answer, plan_answer}
+use Rattle.fa_takes.specs.Fits.{IsJobFor}
 use Rattle.fa_takes.specs.Handed.{handed_of}
+use Rattle.fa_types.specs.declared.geometry.Geometry.{Geometry}
 use Rattle.fa_types.specs.declared.numbers.Page.{Page}
 
 module _ {A : Type 0} where
@@ -37,10 +38,10 @@ module _ {A : Type 0} where
   may_make old seat (Claim page) = is_page old page.0
   may_make old seat (Release claim) = claim_open old claim.0 && not (is_reserved old claim.0)
   may_make old seat (Reserve claim payload) =
-      claim_open old claim.0 && not (is_reserved old claim.0) && is_sized old (arc_slice_items payload.now)
+      claim_open old claim.0 && not (is_reserved old claim.0) && is_sized old payload.now
   may_make old seat (ReserveHole claim) = claim_open old claim.0 && not (is_reserved old claim.0)
   may_make old seat (ReserveFewer claim payload) =
-      claim_open old claim.0 && not (is_reserved old claim.0) && is_sized old (arc_slice_items payload.now)
+      claim_open old claim.0 && not (is_reserved old claim.0) && is_sized old payload.now
   may_make old seat (Commit claim) = is_reserved old claim.0 && not (history_full old)
   may_make old seat (Abandon claim) = is_reserved old claim.0
   may_make old seat (Admit pages) =
@@ -53,7 +54,7 @@ module _ {A : Type 0} where
       option_map_or (λ job. is_of_kind job (outcome_of outcome buffer.items)) (get old.jobs die.0) false && is_sized old buffer.items
   may_make old seat (Window die rounds) = is_die old die.0 && nat_le 1 rounds && nat_le rounds 64
   may_make old seat (SpareIn die) = is_die old die.0
-  may_make old seat (ReserveCopy page seq payload) = is_page old page.0 && is_sized old (arc_slice_items payload.now)
+  may_make old seat (ReserveCopy page seq payload) = is_page old page.0 && is_sized old payload.now
   may_make old seat CommitCopy = copy_open old
   may_make old seat call = true
 
@@ -64,10 +65,10 @@ module _ {A : Type 0} where
   Makes old seat (Claim page) (GaveClaim answer) new = Step old (ActClaim page.0 answer) new
   Makes old seat (Release claim) GaveRelease new = Step old (ActRelease claim.0) new
   Makes old seat (Reserve claim payload) (GaveReserve answer) new =
-      Step old (ActReserve claim.0 (arc_slice_items payload.now) answer) new
+      Step old (ActReserve claim.0 payload.now answer) new
   Makes old seat (ReserveHole claim) (GaveReserve answer) new = Step old (ActReserveHole claim.0 answer) new
   Makes old seat (ReserveFewer claim payload) (GaveReserve answer) new =
-      Step old (ActReserveFewer claim.0 (arc_slice_items payload.now) answer) new
+      Step old (ActReserveFewer claim.0 payload.now answer) new
   Makes old seat (Commit claim) (GaveCommit answer) new = Step old (ActCommit claim.0 seat answer) new
   Makes old seat (Abandon claim) (GaveAbandon answer) new = Step old (ActAbandon claim.0 answer) new
   Makes old seat (Admit pages) (GaveAdmit answer) new =
@@ -81,12 +82,17 @@ module _ {A : Type 0} where
   Makes old seat Advance (GaveAdvance answer) new = Step old (ActAdvance answer) new
   Makes old seat (SpareIn die) (GaveSpareIn answer) new = Step old (ActSpareIn die.0 answer) new
   Makes old seat (ReserveCopy page seq payload) (GaveReserveCopy answer) new =
-      Step old (ActReserveCopy page.0 seq.0 (arc_slice_items payload.now) answer) new
+      Step old (ActReserveCopy page.0 seq.0 payload.now answer) new
   Makes old seat CommitCopy (GaveCommitCopy answer) new = Step old (ActCommitCopy answer) new
   Makes old seat FlushBegin (GaveFlushBegin answer) new = Step old (ActFlushBegin answer) new
   Makes old seat (FlushState flush) (GaveFlushState answer) new = Step old (ActFlushState flush answer) new
   Makes old seat Fold GaveFold new = Step old ActFold new
   Makes old seat call answer new = ⊥
+
+  -- A job that is handed out fits its die and the image of an array of this geometry and number.
+  abbrev pub FitsAnswer : Geometry → List ℕ → Call A → Answer A → Type 0
+  FitsAnswer geometry number (Take die) (GaveTake (Some job)) = IsJobFor geometry number die.0 (handed_of job)
+  FitsAnswer geometry number call answer = Unit {0}
 
   -- how many Commits were accepted
   abbrev pub commits_of_answer : Answer A → ℕ

@@ -1,6 +1,5 @@
 //! The array.
 ghost use Rattle.std.specs.Prelude.{◌≡◌, ℕ, ◌+◌, ◌-◌, ◌*◌, ◌<◌, ◌≤◌, ◌^◌, true, false, IfOk, Some};
-ghost use Rattle.std.specs.Arc.{arc_slice_items};
 ghost use Rattle.std.specs.FinMap.{contains_key, get, len};
 ghost use Rattle.fa_core.specs.Begun.{begun};
 ghost use Rattle.fa_machine.specs.Reading.{zeros as rule_zeros};
@@ -12,9 +11,9 @@ use crate::mounting::begin;
 use fa_map::Map;
 use fa_set::NumberSet;
 use fa_state::State;
+use fa_tag::Payload;
 use fa_types::{Copies, Seq};
 use std::alloc::{AllocError, Allocator, Global};
-use std::sync::ArcSlice;
 
 /// The array: which dies are live and what each page's copies are, what is booked, reserved and under way. Each event of it is one
 /// call, over any page map.
@@ -22,7 +21,7 @@ use std::sync::ArcSlice;
 pub struct Array<M, A: Allocator = Global> {
     pub(crate) state: State<M, A>,
     // A page of zeros, which the copies of holes share.
-    pub(crate) zeros: ArcSlice<u8, A>,
+    pub(crate) zeros: Payload<A>,
     // The number of the array.
     pub(crate) array: [u8; 16],
 }
@@ -44,6 +43,7 @@ impl<M: Map + Drop, A: Allocator + Copy> Array<M, A> {
     ) -> Result<Array<M, A>, AllocError>
         requires spares { bound_of spares ≡ (M.view page_map).geometry.dies }
         requires last { last.0 < 2 ^ 62 }
+        requires first { 1 ≤ epoch }
         requires epoch { epoch + len (M.view page_map).live + 2 * len (members spares) < 2 ^ 62 }
         requires numbers { (page : ℕ) (version : Version) → get (M.view page_map).versions page ≡ Some version
             → (1 ≤ version.seq.0) × (version.seq.0 ≤ last.0) }
@@ -64,12 +64,9 @@ impl<M: Map + Drop, A: Allocator + Copy> Array<M, A> {
 }
 
 /// A page of zeros. The error is out of memory.
-fn zero_page<M: Map, A: Allocator + Copy>(
-    alloc: A,
-    page_map: &M,
-) -> Result<ArcSlice<u8, A>, AllocError>
-    ensures { IfOk result (λ page. arc_slice_items page ≡ rule_zeros (M.view page_map.now)) }
+fn zero_page<M: Map, A: Allocator + Copy>(alloc: A, page_map: &M) -> Result<Payload<A>, AllocError>
+    ensures { IfOk result (λ page. page ≡ rule_zeros (M.view page_map.now)) }
 {
     let page = vec![in alloc; 0u8; page_map.geometry().page_bytes as usize]?;
-    ArcSlice::from_slice(alloc, page.as_slice())
+    Payload::new(page)
 }

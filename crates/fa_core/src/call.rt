@@ -7,9 +7,9 @@ use fa_machine::{
 };
 use fa_plan::Planned;
 use fa_reads::Admitted;
+use fa_tag::Payload;
 use fa_types::{Die, Page, Round, Seq};
 use std::alloc::{Allocator, Global};
-use std::sync::ArcSlice;
 
 /// An event of the array that is asked for.
 #[derive(Drop)]
@@ -19,11 +19,11 @@ pub enum Call<'a, A: Allocator = Global> {
     /// [`crate::Array::release`].
     Release(ClaimId),
     /// [`crate::Array::reserve`], of this payload.
-    Reserve(ClaimId, &'a ArcSlice<u8, A>),
+    Reserve(ClaimId, &'a Payload<A>),
     /// [`crate::Array::reserve_hole`].
     ReserveHole(ClaimId),
     /// [`crate::Array::reserve_fewer`], of this payload.
-    ReserveFewer(ClaimId, &'a ArcSlice<u8, A>),
+    ReserveFewer(ClaimId, &'a Payload<A>),
     /// [`crate::Array::commit`].
     Commit(ClaimId),
     /// [`crate::Array::abandon`].
@@ -45,7 +45,7 @@ pub enum Call<'a, A: Allocator = Global> {
     /// [`crate::Array::spare_in`].
     SpareIn(Die),
     /// [`crate::Array::reserve_copy`], of this payload.
-    ReserveCopy(Page, Seq, &'a ArcSlice<u8, A>),
+    ReserveCopy(Page, Seq, &'a Payload<A>),
     /// [`crate::Array::commit_copy`].
     CommitCopy,
     /// [`crate::Array::flush_begin`].

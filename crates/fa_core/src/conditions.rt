@@ -1,6 +1,5 @@
 //! What may be asked of the array before an event: whether the event's conditions hold. Nothing of this is an event.
 ghost use Rattle.std.specs.Prelude.{◌≡◌, ◌&&◌, ℕ, List, false, length, map, nat_le, nat_lt, not};
-ghost use Rattle.std.specs.Arc.{arc_slice_items};
 ghost use Rattle.std.specs.FinMap.{get};
 ghost use Rattle.std.specs.List.{list_all};
 ghost use Rattle.std.specs.Option.{option_map_or};
@@ -14,9 +13,9 @@ use crate::distinct::are_distinct;
 use fa_ends::Outcome;
 use fa_machine::{ClaimId, Flight};
 use fa_map::Map;
+use fa_tag::Payload;
 use fa_types::{Die, Page};
 use std::alloc::Allocator;
-use std::sync::ArcSlice;
 
 impl<M: Map, A: Allocator + Clone> Array<M, A> {
     ghost use Rattle.fa_core.specs.Array.{state_of};
@@ -50,11 +49,11 @@ impl<M: Map, A: Allocator + Clone> Array<M, A> {
     }
 
     /// Whether the same is true and the payload has a page's bytes.
-    pub fn may_reserve_payload(&self, claim: ClaimId, payload: &ArcSlice<u8, A>) -> bool
+    pub fn may_reserve_payload(&self, claim: ClaimId, payload: &Payload<A>) -> bool
         ensures { result ≡ (rule_claim (state_of M.view self.now) claim.0 && not (rule_reserved (state_of M.view self.now) claim.0)
-            && rule_sized (state_of M.view self.now) (arc_slice_items payload.now)) }
+            && rule_sized (state_of M.view self.now) payload.now) }
     {
-        self.may_reserve(claim) && self.is_sized(payload)
+        self.may_reserve(claim) && self.is_sized(payload.bytes())
     }
 
     /// Whether something is reserved under the claim and the history has room.
@@ -107,11 +106,11 @@ impl<M: Map, A: Allocator + Clone> Array<M, A> {
     }
 
     /// Whether the page is one of the array and the payload has a page's bytes.
-    pub fn may_reserve_copy(&self, page: Page, payload: &ArcSlice<u8, A>) -> bool
+    pub fn may_reserve_copy(&self, page: Page, payload: &Payload<A>) -> bool
         ensures { result ≡ (rule_page (state_of M.view self.now) page.0
-            && rule_sized (state_of M.view self.now) (arc_slice_items payload.now)) }
+            && rule_sized (state_of M.view self.now) payload.now) }
     {
-        self.is_page(page) && self.is_sized(payload)
+        self.is_page(page) && self.is_sized(payload.bytes())
     }
 }
 

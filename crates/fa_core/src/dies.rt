@@ -1,23 +1,25 @@
 //! The calls of dies.
-ghost use Rattle.std.specs.Prelude.{◌≡◌, length, true, false, option_map};
+ghost use Rattle.std.specs.Prelude.{◌≡◌, length, true, false, option_map, IfSome};
 ghost use Rattle.std.specs.FinMap.{get};
 ghost use Rattle.std.specs.Option.{option_map_or};
 ghost use Rattle.fa_ends.specs.Outcomes.{outcome_of};
 ghost use Rattle.fa_machine.specs.Cells.{is_of_kind};
 ghost use Rattle.fa_machine.specs.Conditions.{history_full};
 ghost use Rattle.fa_machine.specs.Step.{Done, Step, Take, is_die};
+ghost use Rattle.fa_takes.specs.Fits.{IsJobFor};
 ghost use Rattle.fa_takes.specs.Handed.{handed_of};
 
 use crate::array::Array;
-use crate::keeping::an_event_keeps;
+use crate::keeping::{an_event_keeps, is_a_number};
 use fa_ends::Outcome;
 use fa_map::Map;
 use fa_takes::Job;
+use fa_takes::laws::what_is_handed_out_fits;
 use fa_types::Die;
 use std::alloc::Allocator;
 
 impl<M: Map, A: Allocator + Clone> Array<M, A> {
-    ghost use Rattle.fa_core.specs.Array.{IsWhole, state_of};
+    ghost use Rattle.fa_core.specs.Array.{IsWhole, number_of, state_of};
 
     /// The next job of the die, and none where it is not live, is at one, or has nothing to do. The history says which seat started a
     /// read.
@@ -27,7 +29,13 @@ impl<M: Map, A: Allocator + Clone> Array<M, A> {
         requires whole { IsWhole M.view self.old }
         ensures step { Step (state_of M.view self.old) (Take die.0 seat (option_map handed_of result)) (state_of M.view self.new) }
         ensures whole { IsWhole M.view self.new }
+        // The job fits the die and its image.
+        ensures fits { IfSome result (λ job. IsJobFor (state_of M.view self.old).page_map.geometry (number_of self.old) die.0
+            (handed_of job)) }
     {
+        let _geometry = self.state.page_map.geometry();
+        is_a_number(&self.array);
+        what_is_handed_out_fits();
         let job = fa_takes::take(&mut self.state, die, seat);
         an_event_keeps();
         job

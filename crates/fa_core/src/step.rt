@@ -8,14 +8,15 @@ use fa_map::Map;
 use std::alloc::Allocator;
 
 impl<M: Map, A: Allocator + Copy> Array<M, A> {
-    ghost use Rattle.fa_core.specs.Array.{IsWhole, state_of};
-    ghost use Rattle.fa_core.specs.Calls.{Makes, commits_of_answer};
+    ghost use Rattle.fa_core.specs.Array.{IsWhole, number_of, state_of};
+    ghost use Rattle.fa_core.specs.Calls.{FitsAnswer, Makes, commits_of_answer};
 
     /// One event, made by a seat. Where a condition of the event does not hold, the answer is Stranger and nothing has changed.
     pub fn step(&mut self, alloc: A, seat: u32, call: Call<'_, A>) -> Answer<A>
         requires whole { IsWhole M.view self.old }
         ensures event { Makes (state_of M.view self.old) seat call.entry result (state_of M.view self.new) }
         ensures whole { IsWhole M.view self.new }
+        ensures fits { FitsAnswer (state_of M.view self.old).page_map.geometry (number_of self.old) call.entry result }
         ensures commits { (counts (state_of M.view self.new)).0 ≡ (counts (state_of M.view self.old)).0 + commits_of_answer result }
     {
         match call {

@@ -12,14 +12,15 @@ use fa_types::Die;
 use std::alloc::Allocator;
 
 impl<M: Map, A: Allocator + Copy> Array<M, A> {
-    ghost use Rattle.fa_core.specs.Array.{IsWhole, state_of};
-    ghost use Rattle.fa_core.specs.Calls.{Makes, commits_of_answer};
+    ghost use Rattle.fa_core.specs.Array.{IsWhole, number_of, state_of};
+    ghost use Rattle.fa_core.specs.Calls.{FitsAnswer, Makes, commits_of_answer};
 
     /// A Take, by the seat.
     pub(crate) fn make_take(&mut self, die: Die, seat: u32) -> Answer<A>
         requires { IsWhole M.view self.old }
         ensures event { Makes (state_of M.view self.old) seat (Call.Take die) result (state_of M.view self.new) }
         ensures whole { IsWhole M.view self.new }
+        ensures fits { FitsAnswer (state_of M.view self.old).page_map.geometry (number_of self.old) (Call.Take die) result }
         ensures commits { (rule_counts (state_of M.view self.new)).0 ≡ (rule_counts (state_of M.view self.old)).0 + commits_of_answer result }
     {
         if !self.may_take(die) {

@@ -6,9 +6,9 @@ use crate::array::Array;
 use crate::call::{Answer, Call};
 use crate::keeping::an_event_counts;
 use fa_map::Map;
+use fa_tag::Payload;
 use fa_types::{Die, Page, Seq};
 use std::alloc::Allocator;
-use std::sync::ArcSlice;
 
 impl<M: Map, A: Allocator + Copy> Array<M, A> {
     ghost use Rattle.fa_core.specs.Array.{IsWhole, state_of};
@@ -61,7 +61,7 @@ impl<M: Map, A: Allocator + Copy> Array<M, A> {
         &mut self,
         page: Page,
         seq: Seq,
-        payload: &ArcSlice<u8, A>,
+        payload: &Payload<A>,
     ) -> Answer<A>
         requires { IsWhole M.view self.old }
         ensures event { (seat : ℕ) → Makes (state_of M.view self.old) seat (Call.ReserveCopy page seq payload.entry) result (state_of M.view self.new) }

@@ -7,9 +7,9 @@ use crate::call::{Answer, Call};
 use crate::keeping::an_event_counts;
 use fa_machine::ClaimId;
 use fa_map::Map;
+use fa_tag::Payload;
 use fa_types::Page;
 use std::alloc::Allocator;
-use std::sync::ArcSlice;
 
 impl<M: Map, A: Allocator + Copy> Array<M, A> {
     ghost use Rattle.fa_core.specs.Array.{IsWhole, state_of};
@@ -46,7 +46,7 @@ impl<M: Map, A: Allocator + Copy> Array<M, A> {
     }
 
     /// A Reserve.
-    pub(crate) fn make_reserve(&mut self, claim: ClaimId, payload: &ArcSlice<u8, A>) -> Answer<A>
+    pub(crate) fn make_reserve(&mut self, claim: ClaimId, payload: &Payload<A>) -> Answer<A>
         requires { IsWhole M.view self.old }
         ensures event { (seat : ℕ) → Makes (state_of M.view self.old) seat (Call.Reserve claim payload.entry) result (state_of M.view self.new) }
         ensures whole { IsWhole M.view self.new }
@@ -76,11 +76,7 @@ impl<M: Map, A: Allocator + Copy> Array<M, A> {
     }
 
     /// A ReserveFewer.
-    pub(crate) fn make_reserve_fewer(
-        &mut self,
-        claim: ClaimId,
-        payload: &ArcSlice<u8, A>,
-    ) -> Answer<A>
+    pub(crate) fn make_reserve_fewer(&mut self, claim: ClaimId, payload: &Payload<A>) -> Answer<A>
         requires { IsWhole M.view self.old }
         ensures event { (seat : ℕ) → Makes (state_of M.view self.old) seat (Call.ReserveFewer claim payload.entry) result (state_of M.view self.new) }
         ensures whole { IsWhole M.view self.new }

@@ -1,6 +1,5 @@
 //! The calls of the collector and of the rebuilder.
 ghost use Rattle.std.specs.Prelude.{◌≡◌, ◌≤◌, true};
-ghost use Rattle.std.specs.Arc.{arc_slice_items};
 ghost use Rattle.fa_machine.specs.Conditions.{copy_open};
 ghost use Rattle.fa_machine.specs.Step.{Window, Advance, SpareIn, ReserveCopy, CommitCopy, Step, is_die, is_page, is_sized};
 
@@ -10,9 +9,9 @@ use fa_machine::{
     AdvanceRefused, CommitCopyRefused, Copied, ReserveCopyRefused, SpareRefused, WindowRefused,
 };
 use fa_map::Map;
+use fa_tag::Payload;
 use fa_types::{Die, Page, Round, Seq};
 use std::alloc::Allocator;
-use std::sync::ArcSlice;
 
 impl<M: Map, A: Allocator + Clone> Array<M, A> {
     ghost use Rattle.fa_core.specs.Array.{IsWhole, state_of};
@@ -61,12 +60,12 @@ impl<M: Map, A: Allocator + Clone> Array<M, A> {
         &mut self,
         page: Page,
         seq: Seq,
-        payload: &ArcSlice<u8, A>,
+        payload: &Payload<A>,
     ) -> Result<(), ReserveCopyRefused>
         requires page { is_page (state_of M.view self.old) page.0 ≡ true }
-        requires sized { is_sized (state_of M.view self.old) (arc_slice_items payload.now) ≡ true }
+        requires sized { is_sized (state_of M.view self.old) payload.now ≡ true }
         requires whole { IsWhole M.view self.old }
-        ensures step { Step (state_of M.view self.old) (ReserveCopy page.0 seq.0 (arc_slice_items payload.now) result)
+        ensures step { Step (state_of M.view self.old) (ReserveCopy page.0 seq.0 payload.now result)
             (state_of M.view self.new) }
         ensures whole { IsWhole M.view self.new }
     {

@@ -1,6 +1,5 @@
 //! The calls of writers.
 ghost use Rattle.std.specs.Prelude.{◌≡◌, min, true, false};
-ghost use Rattle.std.specs.Arc.{arc_slice_items};
 ghost use Rattle.fa_machine.specs.Conditions.{claim_open, history_full, is_reserved};
 ghost use Rattle.fa_machine.specs.Step.{Claim, Release, Reserve, ReserveHole, ReserveFewer, Commit, Abandon, Step, is_page, is_sized};
 
@@ -9,9 +8,9 @@ use crate::keeping::an_event_keeps;
 use fa_machine::{AbandonRefused, ClaimId, ClaimRefused, CommitRefused, ReserveRefused};
 use fa_map::Map;
 use fa_mirror::copies_asked;
+use fa_tag::Payload;
 use fa_types::{Kind, Page, Seq};
 use std::alloc::Allocator;
-use std::sync::ArcSlice;
 
 impl<M: Map, A: Allocator + Clone> Array<M, A> {
     ghost use Rattle.fa_core.specs.Array.{IsWhole, state_of};
@@ -42,16 +41,12 @@ impl<M: Map, A: Allocator + Clone> Array<M, A> {
 
     /// The next sequence number and a slot on each die that the write goes to, with a program for each, which share the payload of a
     /// page's bytes. Refused, nothing has changed.
-    pub fn reserve(
-        &mut self,
-        claim: ClaimId,
-        payload: &ArcSlice<u8, A>,
-    ) -> Result<Seq, ReserveRefused>
+    pub fn reserve(&mut self, claim: ClaimId, payload: &Payload<A>) -> Result<Seq, ReserveRefused>
         requires claimed { claim_open (state_of M.view self.old) claim.0 ≡ true }
         requires empty { is_reserved (state_of M.view self.old) claim.0 ≡ false }
-        requires sized { is_sized (state_of M.view self.old) (arc_slice_items payload.now) ≡ true }
+        requires sized { is_sized (state_of M.view self.old) payload.now ≡ true }
         requires whole { IsWhole M.view self.old }
-        ensures step { Step (state_of M.view self.old) (Reserve claim.0 (arc_slice_items payload.now) result) (state_of M.view self.new) }
+        ensures step { Step (state_of M.view self.old) (Reserve claim.0 payload.now result) (state_of M.view self.new) }
         ensures whole { IsWhole M.view self.new }
     {
         let least = copies_asked(&self.state.page_map, self.state.copies);
@@ -78,13 +73,13 @@ impl<M: Map, A: Allocator + Clone> Array<M, A> {
     pub fn reserve_fewer(
         &mut self,
         claim: ClaimId,
-        payload: &ArcSlice<u8, A>,
+        payload: &Payload<A>,
     ) -> Result<Seq, ReserveRefused>
         requires claimed { claim_open (state_of M.view self.old) claim.0 ≡ true }
         requires empty { is_reserved (state_of M.view self.old) claim.0 ≡ false }
-        requires sized { is_sized (state_of M.view self.old) (arc_slice_items payload.now) ≡ true }
+        requires sized { is_sized (state_of M.view self.old) payload.now ≡ true }
         requires whole { IsWhole M.view self.old }
-        ensures step { Step (state_of M.view self.old) (ReserveFewer claim.0 (arc_slice_items payload.now) result)
+        ensures step { Step (state_of M.view self.old) (ReserveFewer claim.0 payload.now result)
             (state_of M.view self.new) }
         ensures whole { IsWhole M.view self.new }
     {

@@ -1,6 +1,5 @@
 -- Programs that wait, in a queue for each die.
 use Rattle.std.specs.Prelude.{◌≡◌, ℕ, ◌-◌, List, [], filter, map, slice_index_or}
-use Rattle.std.specs.Arc.{arc_slice_items}
 use Rattle.std.specs.VecDeque.{deque_capacity, deque_len}
 use Rattle.std.specs.declared.collections.VecDeque.{VecDeque}
 use Rattle.fa_machine.specs.State.{WaitingProgram}
@@ -14,7 +13,7 @@ pub record AreQueues (waiting : List WaitingProgram) (queues : List (List Waitin
 module _ {A : Type 0} where
   -- a queued program as the array's state has it
   abbrev pub program_of : QueuedProgram A → WaitingProgram
-  program_of p = record { die = p.die.0; slot = p.slot.0; page = p.page.0; version = p.version; payload = arc_slice_items p.payload }
+  program_of p = record { die = p.die.0; slot = p.slot.0; page = p.page.0; version = p.version; payload = p.payload }
 
   abbrev pub programs_in : VecDeque (QueuedProgram A) A → List WaitingProgram
   programs_in queue = map program_of queue.items

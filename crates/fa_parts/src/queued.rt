@@ -1,8 +1,8 @@
 //! A program that waits for its die.
 use fa_machine::Version;
+use fa_tag::Payload;
 use fa_types::{Die, Page, Slot};
 use std::alloc::{Allocator, Global};
-use std::sync::ArcSlice;
 
 /// A program that waits for its die.
 #[derive(Drop)]
@@ -16,5 +16,5 @@ pub struct QueuedProgram<A: Allocator = Global> {
     /// The write of the page.
     pub version: Version,
     /// What is written. The programs of a write share it.
-    pub payload: ArcSlice<u8, A>,
+    pub payload: Payload<A>,
 }

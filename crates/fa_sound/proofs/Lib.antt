@@ -5,6 +5,7 @@ pub mod Ending
 pub mod Fewer
 pub mod Marking
 pub mod Owning
+pub mod Readying
 pub mod Reserving
 pub mod Steps
 pub mod Taking

@@ -1,4 +1,5 @@
 mod Dropped
+mod Fitting
 mod Flights
 mod Masks
 mod Others

@@ -1,7 +1,7 @@
 //! A job that is handed out.
 use fa_machine::Flight;
+use fa_tag::Payload;
 use std::alloc::{Allocator, Global};
-use std::sync::ArcSlice;
 
 /// A job that is handed out to a die.
 #[derive(Drop)]
@@ -9,5 +9,5 @@ pub struct Job<A: Allocator = Global> {
     /// What it is to do.
     pub flight: Flight,
     /// What a program writes. Another job has none.
-    pub payload: Option<ArcSlice<u8, A>>,
+    pub payload: Option<Payload<A>>,
 }

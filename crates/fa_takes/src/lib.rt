@@ -5,6 +5,7 @@ mod collecting;
 mod header;
 mod job;
 mod jobs;
+pub mod laws;
 mod programs;
 mod reading;
 mod taking;

@@ -1,6 +1,5 @@
 //! Copies that begin.
 ghost use Rattle.std.specs.Prelude.{◌≡◌, ◌<◌, [], ◌∷◌, ◌&&◌, is_none, not, true, Some, OnErr, OnOk};
-ghost use Rattle.std.specs.Arc.{arc_slice_items};
 ghost use Rattle.std.specs.FinMap.{get};
 ghost use Rattle.fa_machine.specs.Conditions.{copy_open, first_that};
 ghost use Rattle.fa_machine.specs.Placement.{copy_place as rule_place, has_room, is_thin as rule_thin};
@@ -20,9 +19,9 @@ use fa_map::Map;
 use fa_mirror::{copy_place, is_thin};
 use fa_parts::QueuedProgram;
 use fa_state::State;
+use fa_tag::Payload;
 use fa_types::{Copies, Die, Kind, Page, Seq, Slot};
 use std::alloc::{AllocError, Allocator};
-use std::sync::ArcSlice;
 
 /// A slot for one more copy of a thin page, whose last write has the number `seq`, and the copy's program. The copy of a hole
 /// shares `zeros`, and another one `payload`. Refused, nothing has changed.
@@ -30,13 +29,13 @@ pub fn reserve_copy<M: Map, A: Allocator + Clone>(
     state: &mut State<M, A>,
     page: Page,
     seq: Seq,
-    payload: &ArcSlice<u8, A>,
-    zeros: &ArcSlice<u8, A>,
+    payload: &Payload<A>,
+    zeros: &Payload<A>,
 ) -> Result<(), ReserveCopyRefused>
     requires page { is_page (core_of M.view state.old) page.0 ≡ true }
-    requires zeros { arc_slice_items zeros.now ≡ rule_zeros (M.view state.old.page_map) }
+    requires zeros { zeros.now ≡ rule_zeros (M.view state.old.page_map) }
     requires fitted { IsFitted M.view state.old }
-    ensures reserves { ReservesCopy (core_of M.view state.old) page.0 seq.0 (arc_slice_items payload.now) result
+    ensures reserves { ReservesCopy (core_of M.view state.old) page.0 seq.0 payload.now result
         (core_of M.view state.new) }
     ensures fitted { IsFitted M.view state.new }
 {
@@ -59,13 +58,13 @@ pub fn reserve_copy<M: Map, A: Allocator + Clone>(
 fn reserve_slot<M: Map, A: Allocator + Clone>(
     state: &mut State<M, A>,
     page: Page,
-    payload: &ArcSlice<u8, A>,
-    zeros: &ArcSlice<u8, A>,
+    payload: &Payload<A>,
+    zeros: &Payload<A>,
 ) -> Result<(), AllocError>
     requires page { page.0 < (M.view state.old.page_map).geometry.pages }
-    requires zeros { arc_slice_items zeros.now ≡ rule_zeros (M.view state.old.page_map) }
+    requires zeros { zeros.now ≡ rule_zeros (M.view state.old.page_map) }
     requires fitted { IsFitted M.view state.old }
-    ensures reserved { OnOk result (core_of M.view state.new ≡ copying_to (core_of M.view state.old) page.0 (arc_slice_items payload.now)
+    ensures reserved { OnOk result (core_of M.view state.new ≡ copying_to (core_of M.view state.old) page.0 payload.now
         (get (M.view state.old.page_map).versions page.0) (rule_place state.old.copies.number (M.view state.old.page_map) page.0)) }
     ensures refused { OnErr result (core_of M.view state.new ≡ core_of M.view state.old) }
     ensures fitted { IsFitted M.view state.new }
@@ -88,16 +87,16 @@ fn copy_to<M: Map, A: Allocator + Clone>(
     page: Page,
     version: Version,
     die: Die,
-    payload: &ArcSlice<u8, A>,
+    payload: &Payload<A>,
 ) -> Result<(), AllocError>
     requires place { TakesWrites (M.view state.old.page_map) die.0 }
     requires fitted { IsFitted M.view state.old }
     ensures reserved { OnOk result (core_of M.view state.new
-        ≡ copying_on (core_of M.view state.old) page.0 version (arc_slice_items payload.now) die.0) }
+        ≡ copying_on (core_of M.view state.old) page.0 version payload.now die.0) }
     ensures refused { OnErr result (core_of M.view state.new ≡ core_of M.view state.old) }
     ensures fitted { IsFitted M.view state.new }
 {
-    let shared = payload.clone()?;
+    let shared = payload.share()?;
     state.waiting.make_room(die, 1)?;
     let target = slot_on(&state.page_map, die);
     state.page_map.reserve_slot(target.die, target.slot);

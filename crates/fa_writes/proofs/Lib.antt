@@ -3,3 +3,4 @@ mod Holding
 mod Kept
 mod Live
 mod Placed
+mod Queued

@@ -1,15 +1,14 @@
 //! Programs for reserved slots.
 ghost use Rattle.std.specs.Prelude.{◌≡◌, ◌+◌, ◌<◌, ◌≤◌, ◌++◌, drop, length, map, take, OnErr, OnOk};
-ghost use Rattle.std.specs.Arc.{arc_slice_items};
 ghost use Rattle.std.specs.List.{All};
 ghost use Rattle.fa_machine.specs.Writing.{program_at};
 ghost use Rattle.fa_parts.specs.Waits.{dies_of, room_of, waiting_of};
 
 use fa_machine::{Target, Version};
 use fa_parts::{QueuedProgram, Waiting};
+use fa_tag::Payload;
 use fa_types::Page;
 use std::alloc::{AllocError, Allocator};
-use std::sync::ArcSlice;
 
 /// Room for three more programs on the die of each slot. The error is out of memory.
 pub fn make_rooms<A: Allocator>(
@@ -34,13 +33,13 @@ pub fn queue_one<A: Allocator>(
     index: usize,
     page: Page,
     version: Version,
-    payload: ArcSlice<u8, A>,
+    payload: Payload<A>,
 )
     requires few { index < 3 }
     requires room { All (λ slot. 3 ≤ room_of waiting.old slot.die.0 + index) slots.now }
     ensures dies { dies_of waiting.new ≡ dies_of waiting.old }
     ensures waiting { waiting_of waiting.new
-        ≡ waiting_of waiting.old ++ map (program_at page.0 version (arc_slice_items payload)) (take 1 (drop index slots.now)) }
+        ≡ waiting_of waiting.old ++ map (program_at page.0 version payload) (take 1 (drop index slots.now)) }
     ensures room { All (λ slot. 3 ≤ room_of waiting.new slot.die.0 + (index + 1)) slots.now }
 {
     if index < slots.len() {
@@ -61,18 +60,18 @@ pub fn queue<A: Allocator>(
     slots: &[Target],
     page: Page,
     version: Version,
-    payload: &ArcSlice<u8, A>,
+    payload: &Payload<A>,
 ) -> Result<(), AllocError>
     requires dies { All (λ slot. slot.die.0 < dies_of waiting.old) slots.now }
     requires few { length slots.now ≤ 3 }
     ensures dies { dies_of waiting.new ≡ dies_of waiting.old }
     ensures queued { OnOk result (waiting_of waiting.new
-        ≡ waiting_of waiting.old ++ map (program_at page.0 version (arc_slice_items payload.now)) slots.now) }
+        ≡ waiting_of waiting.old ++ map (program_at page.0 version payload.now) slots.now) }
     ensures refused { OnErr result (waiting_of waiting.new ≡ waiting_of waiting.old) }
 {
-    let first = payload.clone()?;
-    let second = payload.clone()?;
-    let third = payload.clone()?;
+    let first = payload.share()?;
+    let second = payload.share()?;
+    let third = payload.share()?;
     make_rooms(waiting, slots)?;
     queue_one(waiting, slots, 0, page, version, first);
     queue_one(waiting, slots, 1, page, version, second);

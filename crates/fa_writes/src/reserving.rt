@@ -1,6 +1,5 @@
 //! Reservations for writes.
 ghost use Rattle.std.specs.Prelude.{◌≡◌, ◌+◌, ◌-◌, ◌<◌, ◌^◌, ◌==◌, [], ◌∷◌, map, nat_lt, true, false, IfOk, OnErr, OnOk};
-ghost use Rattle.std.specs.Arc.{arc_slice_items};
 ghost use Rattle.fa_machine.specs.Conditions.{claim_open, first_that, is_reserved};
 ghost use Rattle.std.specs.List.{All};
 ghost use Rattle.fa_claims.specs.Claims.{targets_of};
@@ -18,9 +17,9 @@ use fa_machine::{ClaimId, ReserveRefused, Version};
 use fa_map::Map;
 use fa_mirror::copies_asked;
 use fa_state::State;
+use fa_tag::Payload;
 use fa_types::{Kind, Page, Seq};
 use std::alloc::{AllocError, Allocator};
-use std::sync::ArcSlice;
 
 /// The next sequence number, a slot on each die that the write goes to, and a program for each, for a write that wants a slot
 /// on `least` dies or more. Refused, nothing has changed.
@@ -29,13 +28,13 @@ pub fn reserve<M: Map, A: Allocator + Clone>(
     claim: ClaimId,
     least: u32,
     kind: Kind,
-    payload: &ArcSlice<u8, A>,
+    payload: &Payload<A>,
 ) -> Result<Seq, ReserveRefused>
     requires claimed { claim_open (core_of M.view state.old) claim.0 ≡ true }
     requires empty { is_reserved (core_of M.view state.old) claim.0 ≡ false }
     requires page { claimed_page (core_of M.view state.old) claim.0 < (M.view state.old.page_map).geometry.pages }
     requires fitted { IsFitted M.view state.old }
-    ensures reserves { Reserves (core_of M.view state.old) claim.0 least kind (arc_slice_items payload.now) result
+    ensures reserves { Reserves (core_of M.view state.old) claim.0 least kind payload.now result
         (core_of M.view state.new) }
     ensures fitted { IsFitted M.view state.new }
 {
@@ -58,7 +57,7 @@ fn reserve_on<M: Map, A: Allocator + Clone>(
     page: Page,
     slots: Targets,
     kind: Kind,
-    payload: &ArcSlice<u8, A>,
+    payload: &Payload<A>,
 ) -> Result<Seq, AllocError>
     requires claimed { claim_open (core_of M.view state.old) claim.0 ≡ true }
     requires page { page.0 ≡ claimed_page (core_of M.view state.old) claim.0 }
@@ -70,7 +69,7 @@ fn reserve_on<M: Map, A: Allocator + Clone>(
     requires left { state.old.last + 1 < 2 ^ 62 }
     ensures seq { IfOk result (λ seq. seq.0 ≡ state.old.last + 1) }
     ensures reserved { OnOk result (core_of M.view state.new
-        ≡ reserved claim.0 kind (arc_slice_items payload.now) (core_of M.view state.old)) }
+        ≡ reserved claim.0 kind payload.now (core_of M.view state.old)) }
     ensures refused { OnErr result (core_of M.view state.new ≡ core_of M.view state.old) }
     ensures fitted { IsFitted M.view state.new }
 {

@@ -7,10 +7,10 @@ ghost use Rattle.fa_parts.specs.Waits.{dies_of};
 use fa_machine::{Block, Flight, HistoryEntry, Version};
 use fa_map::{Map, PageMap};
 use fa_parts::{ByDie, Log, MAX_ENTRIES, QueuedProgram, Waiting};
+use fa_tag::Payload;
 use fa_types::{Die, Geometry, Kind, Page, Seq, Slot};
 use linked_list_allocator::LocalHeap;
 use std::alloc::{AllocError, Allocator};
-use std::sync::ArcSlice;
 use std::test::Fail;
 
 /// Fails where it isn't so.
@@ -133,7 +133,7 @@ fn put<A: Allocator>(
     waiting: &mut Waiting<A>,
     die: u8,
     slot: u32,
-    payload: ArcSlice<u8, A>,
+    payload: Payload<A>,
 ) -> Result<(), Fail>
     requires { die < dies_of waiting.old }
     ensures { dies_of waiting.new ≡ dies_of waiting.old }
@@ -157,7 +157,7 @@ fn taken<A: Allocator>(waiting: &mut Waiting<A>, die: u8) -> Option<(u32, Option
     ensures { dies_of waiting.new ≡ dies_of waiting.old }
 {
     match waiting.next(Die(die)) {
-        Some(program) => Some((program.slot.0, program.payload.as_slice().first().copied())),
+        Some(program) => Some((program.slot.0, program.payload.bytes().first().copied())),
         None => None,
     }
 }
@@ -165,11 +165,11 @@ fn taken<A: Allocator>(waiting: &mut Waiting<A>, die: u8) -> Option<(u32, Option
 #[test]
 fn the_oldest_program_of_a_die_comes_first(rt: HostRuntime) -> Result<(), Fail> {
     let mut waiting = Waiting::new(rt.alloc(), 2)?;
-    let shared = ArcSlice::from_slice(rt.alloc(), &[7u8, 8])?;
-    put(&mut waiting, 0, 5, shared.clone()?)?;
-    put(&mut waiting, 1, 6, shared.clone()?)?;
-    put(&mut waiting, 0, 4, shared.clone()?)?;
-    put(&mut waiting, 0, 3, shared.clone()?)?;
+    let shared = Payload::new(Vec::from_slice(rt.alloc(), &[7u8, 8])?)?;
+    put(&mut waiting, 0, 5, shared.share()?)?;
+    put(&mut waiting, 1, 6, shared.share()?)?;
+    put(&mut waiting, 0, 4, shared.share()?)?;
+    put(&mut waiting, 0, 3, shared.share()?)?;
     expect(
         taken(&mut waiting, 0) == Some((5, Some(7))),
         "the oldest of die 0",
@@ -215,8 +215,8 @@ fn each_allocation_of_the_queues_fails(rt: HostRuntime) -> Result<(), Fail> {
 fn programs_stay_where_room_is_refused(rt: HostRuntime) -> Result<(), Fail> {
     let heap = LocalHeap::new(rt.alloc(), 8_192)?;
     let mut waiting = Waiting::new(&heap, 1)?;
-    let payload = ArcSlice::from_slice(&heap, &[9u8])?;
-    put(&mut waiting, 0, 1, payload.clone()?)?;
+    let payload = Payload::new(Vec::from_slice(&heap, &[9u8])?)?;
+    put(&mut waiting, 0, 1, payload.share()?)?;
     put(&mut waiting, 0, 2, payload)?;
     expect(
         waiting.make_room(Die(0), 10_000).is_err(),

@@ -20,4 +20,4 @@ returns-clause-whole g c =
     (record {
       allows = may_admit (state_of g.M.Map.view c.args.self.now) c.args.pages.now c.requires.inside c.requires.distinct c.requires.few;
       does = c.admit-answer.ensures.admits;
-    }) keeps.sound keeps.history keeps.geometry c.requires.whole c.admit-answer.ensures.fitted refl
+    }) keeps.sound keeps.programs keeps.history keeps.geometry c.requires.whole c.admit-answer.ensures.fitted refl

@@ -6,5 +6,5 @@ use Rattle.fa_core.proofs.array.Array.commit.Goals as goal
 pub returns-clause-whole : goal.returns-clause-whole
 returns-clause-whole g c =
     let keeps = c.an_event_keeps.ensures in
-    whole_after g.M.Map.view c.args.self.now _ (Commit c.args.claim.0 c.args.seat c.commit-answer.result) (search rules) keeps.sound keeps.history
+    whole_after g.M.Map.view c.args.self.now _ (Commit c.args.claim.0 c.args.seat c.commit-answer.result) (search rules) keeps.sound keeps.programs keeps.history
     keeps.geometry c.requires.whole (c.commit-answer.ensures.fitted c.requires.whole.fitted) refl

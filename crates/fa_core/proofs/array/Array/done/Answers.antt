@@ -30,4 +30,4 @@ returns-clause-whole g c =
       allows = and_from (option_map_or (λ job. is_of_kind job outcome) (get core.jobs c.args.die.0) false) (is_sized_read core outcome)
           c.requires.kind (is_whole_read core c.args.outcome c.args.buffer.now.items c.requires.sized);
       does = c.done.ensures.ends;
-    }) keeps.sound keeps.history keeps.geometry c.requires.whole c.done.ensures.fitted refl
+    }) keeps.sound keeps.programs keeps.history keeps.geometry c.requires.whole c.done.ensures.fitted refl

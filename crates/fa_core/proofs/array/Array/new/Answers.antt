@@ -3,6 +3,7 @@ use Rattle.fa_state.proofs.Numbers.{below_bound}
 use Rattle.fa_core.specs.Begun.{begun}
 use Rattle.fa_laws.specs.Counted.{HasHistory}
 use Rattle.fa_machine.specs.State.{Core, MapState}
+use Rattle.fa_sound.specs.Ready.{AreReady}
 use Rattle.fa_sound.specs.Sound.{IsSound}
 use Rattle.fa_set.specs.Members.{members}
 use Rattle.std.proofs.Common.{ap, arith, subst, sym, ◌∙◌}
@@ -19,6 +20,7 @@ returns-clause-whole g c =
           c.requires.numbers number.0 number.1 c.requires.enough
           (λ die in_it. let low = below_bound c.args.spares.bound c.args.spares.low.items die in_it in let same = c.requires.spares in
           omega (arith, low, same)) c.requires.apart);
+      ready = subst AreReady (sym is) (record { programs = λ program among. absurd among; epoch = c.requires.first });
       fitted = c.in_ok-state.ensures.fitted;
       history = subst HasHistory (sym is)
           (begun_history c.args.copies.number m c.args.epoch (members c.args.spares) c.args.last.0);

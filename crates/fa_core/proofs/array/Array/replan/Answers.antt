@@ -7,5 +7,5 @@ use Rattle.fa_core.proofs.array.Array.replan.Goals as goal
 pub returns-clause-whole : goal.returns-clause-whole
 returns-clause-whole g c =
     let keeps = c.an_event_keeps.ensures in
-    whole_after g.M.Map.view c.args.self.now _ (Replan c.args.batch.0 (plan_answer c.replan-answer.result)) (search rules) keeps.sound keeps.history
+    whole_after g.M.Map.view c.args.self.now _ (Replan c.args.batch.0 (plan_answer c.replan-answer.result)) (search rules) keeps.sound keeps.programs keeps.history
     keeps.geometry c.requires.whole c.replan-answer.ensures.fitted refl

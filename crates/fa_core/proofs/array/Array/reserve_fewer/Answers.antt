@@ -2,7 +2,6 @@ use Rattle.fa_core.proofs.Whole.{claimed_inside, whole_after}
 use Rattle.fa_core.specs.Array.{state_of}
 use Rattle.fa_machine.specs.Step.{ReserveFewer}
 use Rattle.std.proofs.Common.{refl, rules}
-use Rattle.std.specs.Arc.{arc_slice_items}
 use Rattle.fa_core.proofs.array.Array.reserve_fewer.Goals as goal
 
 pub reserve-answer-requires-clause-page : goal.reserve-answer-requires-clause-page
@@ -12,5 +11,5 @@ reserve-answer-requires-clause-page g c =
 pub returns-clause-whole : goal.returns-clause-whole
 returns-clause-whole g c =
     let keeps = c.an_event_keeps.ensures in
-    whole_after g.M.Map.view c.args.self.now _ (ReserveFewer c.args.claim.0 (arc_slice_items c.args.payload.now) c.reserve-answer.result) (search rules) keeps.sound keeps.history
+    whole_after g.M.Map.view c.args.self.now _ (ReserveFewer c.args.claim.0 c.args.payload.now c.reserve-answer.result) (search rules) keeps.sound keeps.programs keeps.history
     keeps.geometry c.requires.whole c.reserve-answer.ensures.fitted refl

@@ -11,5 +11,5 @@ reserve-answer-requires-clause-page g c =
 pub returns-clause-whole : goal.returns-clause-whole
 returns-clause-whole g c =
     let keeps = c.an_event_keeps.ensures in
-    whole_after g.M.Map.view c.args.self.now _ (ReserveHole c.args.claim.0 c.reserve-answer.result) (search rules) keeps.sound keeps.history
+    whole_after g.M.Map.view c.args.self.now _ (ReserveHole c.args.claim.0 c.reserve-answer.result) (search rules) keeps.sound keeps.programs keeps.history
     keeps.geometry c.requires.whole c.reserve-answer.ensures.fitted refl

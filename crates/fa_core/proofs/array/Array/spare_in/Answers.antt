@@ -6,5 +6,5 @@ use Rattle.fa_core.proofs.array.Array.spare_in.Goals as goal
 pub returns-clause-whole : goal.returns-clause-whole
 returns-clause-whole g c =
     let keeps = c.an_event_keeps.ensures in
-    whole_after g.M.Map.view c.args.self.now _ (SpareIn c.args.die.0 c.spare_in-answer.result) (search rules) keeps.sound keeps.history
+    whole_after g.M.Map.view c.args.self.now _ (SpareIn c.args.die.0 c.spare_in-answer.result) (search rules) keeps.sound keeps.programs keeps.history
     keeps.geometry c.requires.whole c.spare_in-answer.ensures.fitted refl

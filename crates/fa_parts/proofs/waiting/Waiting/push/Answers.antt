@@ -8,9 +8,10 @@ use Rattle.fa_parts.proofs.waiting.Waiting.push.Goals as goal
 pub note-requires : goal.note-requires
 note-requires g c κs within =
     let one = ⊑_meet _ _ _ within (⊑_static _) in
-    let all = ⊑_meet _ _ _ (⊑_meet _ _ _ one one) one in
-    let bytes = ⊑_meet _ _ _ (⊑_meet _ _ _ all (⊑_static _)) (⊑_static _) in
-    (⊑_static _, ⊑_meet _ _ _ one (⊑_meet _ _ _ (⊑_meet _ _ _ one bytes) (⊑_static _)))
+    let hashed = ⊑_meet _ _ _ (⊑_meet _ _ _ one one) (⊑_static _) in
+    let all = ⊑_meet _ _ _ (⊑_meet _ _ _ one hashed) one in
+    let payload = ⊑_meet _ _ _ (⊑_meet _ _ _ all (⊑_static _)) (⊑_static _) in
+    (⊑_static _, ⊑_meet _ _ _ one (⊑_meet _ _ _ (⊑_meet _ _ _ one payload) (⊑_static _)))
 
 pub invariant_of-self : goal.invariant_of-self
 invariant_of-self g c =

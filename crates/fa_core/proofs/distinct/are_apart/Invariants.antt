@@ -1,7 +1,7 @@
 use Rattle.fa_machine.specs.Step.{is_distinct}
 use Rattle.fa_types.specs.declared.numbers.Page.{Page}
 use Rattle.std.proofs.Common.{◌≡◌, drop, map}
-use Rattle.fa_core.proofs.distinct.are_distinct.Given as goal
+use Rattle.fa_core.proofs.distinct.are_apart.Given as goal
 
 abbrev pub invariant-loop-i : goal.invariant-loop-i
 invariant-loop-i l =

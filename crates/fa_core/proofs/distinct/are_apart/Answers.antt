@@ -4,7 +4,7 @@ use Rattle.std.proofs.Common.{ap, false, get_or, sym, true, ◌+◌, ◌∙◌}
 use Rattle.std.proofs.lemmas.List.{take_rest}
 use Rattle.std.specs.List.{list_any}
 use Rattle.std.specs.Prelude.{◌==◌}
-use Rattle.fa_core.proofs.distinct.are_distinct.Goals as goal
+use Rattle.fa_core.proofs.distinct.are_apart.Goals as goal
 
 pub returns-then-is_one_of_these : goal.returns-then-is_one_of_these
 returns-then-is_one_of_these c =
