@@ -34,11 +34,12 @@ class Run:
 @dataclass
 class Case:
     """A case: its name, files by their paths, and its steps, each a run or a change that is made to the folder. One that is
-    `long` takes seconds where others take a hundredth of one."""
+    `long` takes seconds where others take a hundredth of one. Its runs are those of `program`."""
     name: str
     steps: list
     files: dict = field(default_factory=dict)
     long: bool = False
+    program: str = "flasharr"
 
 
 def between(front, back):

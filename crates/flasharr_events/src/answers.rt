@@ -1,0 +1,241 @@
+//! What events are answered, in words.
+ghost use Rattle.fa_core.specs.Array.{IsWhole};
+
+use crate::certified::show_planned;
+use crate::desk::Desk;
+use crate::looks::show_version;
+use crate::told::Told;
+use fa_core::{Admitted, Answer, Array, Job, Planned};
+use fa_machine::{AdmitRefused, BatchId, CommitCopyRefused, Copied, Flight, FlushState, Version};
+use fa_map::Map;
+use fa_types::{Page, Slot};
+use std::alloc::{AllocError, Allocator};
+use std::fmt::Display;
+
+/// Prints the answer of an event whose first number is this. The error is out of memory.
+pub(crate) fn show_answer<M: Map, A: Allocator + Copy, B: Allocator>(
+    array: &Array<M, A>,
+    heap: A,
+    first: u64,
+    answer: &Answer<A>,
+    desk: &mut Desk<B>,
+) -> Result<(), AllocError>
+    requires { IsWhole M.view array.now }
+{
+    match answer {
+        Answer::Admit(answer) => show_admitted(array, heap, answer, desk)?,
+        Answer::Replan(answer) => {
+            show_replanned(array, heap, desk.batch(first), answer, &mut desk.told)?;
+        }
+        _ => show_short(answer, &mut desk.told),
+    }
+    desk.told.end();
+    Ok(())
+}
+
+/// The answers that are a few words.
+fn show_short<A: Allocator + Copy, B: Allocator>(answer: &Answer<A>, told: &mut Told<B>) {
+    match answer {
+        Answer::Stranger(_) => told.word("stranger"),
+        Answer::Claim(answer) => show_numbered("claim", answer.map(|claim| claim.0), told),
+        Answer::Release => told.word("released"),
+        Answer::Reserve(answer) => show_numbered("seq", answer.map(|seq| seq.0), told),
+        Answer::Commit(answer) => show_numbered("seq", answer.map(|seq| seq.0), told),
+        Answer::Abandon(answer) => show_word("abandoned", *answer, told),
+        Answer::EndBatch(answers) => show_pages(answers.as_slice(), told),
+        Answer::Take(job) => show_job(job, told),
+        Answer::Done(_) => told.word("done"),
+        Answer::Window(answer) => show_numbered("round", answer.map(|round| round.0), told),
+        Answer::Advance(answer) => show_numbered("round", answer.map(|round| round.0), told),
+        Answer::SpareIn(answer) => show_word("in", *answer, told),
+        Answer::ReserveCopy(answer) => show_word("reserved", *answer, told),
+        Answer::CommitCopy(answer) => show_copied(*answer, told),
+        Answer::FlushBegin(answer) => show_numbered(
+            "flush",
+            answer.map(|flush| flush.number),
+            told,
+        ),
+        Answer::FlushState(state) => told.word(flush_word(*state)),
+        Answer::Fold => told.word("folded"),
+        Answer::Admit(_) | Answer::Replan(_) => {}
+    }
+}
+
+/// A word with a number, or why it was refused.
+fn show_numbered<E: Display + Drop, B: Allocator>(
+    word: &str,
+    answer: Result<u64, E>,
+    told: &mut Told<B>,
+) {
+    match answer {
+        Ok(number) => told.pair(word, number),
+        Err(refused) => told.refusal(&refused),
+    }
+}
+
+/// A word, or why it was refused.
+fn show_word<E: Display + Drop, B: Allocator>(
+    word: &str,
+    answer: Result<(), E>,
+    told: &mut Told<B>,
+) {
+    match answer {
+        Ok(()) => told.word(word),
+        Err(refused) => told.refusal(&refused),
+    }
+}
+
+fn show_copied<B: Allocator>(answer: Result<Copied, CommitCopyRefused>, told: &mut Told<B>) {
+    match answer {
+        Ok(Copied::Current) => told.word("current"),
+        Ok(Copied::Late) => told.word("late"),
+        Err(refused) => told.refusal(&refused),
+    }
+}
+
+fn flush_word(state: FlushState) -> &'static str {
+    match state {
+        FlushState::Waiting => "waiting",
+        FlushState::Synced => "synced",
+        FlushState::NoDie => "no die",
+    }
+}
+
+/// An Admit's answer. The batch is the last of the desk's.
+fn show_admitted<M: Map, A: Allocator + Copy, B: Allocator>(
+    array: &Array<M, A>,
+    heap: A,
+    answer: &Result<Admitted<A>, AdmitRefused>,
+    desk: &mut Desk<B>,
+) -> Result<(), AllocError>
+    requires { IsWhole M.view array.now }
+{
+    match answer {
+        Ok(admitted) => {
+            let number = (desk.batches().len() as u64).saturating_sub(1);
+            desk.told.pair("batch", number);
+            show_planned(
+                array,
+                heap,
+                admitted.batch,
+                &admitted.planned,
+                &mut desk.told,
+            )
+        }
+        Err(refused) => {
+            show_admit_refused(*refused, &mut desk.told);
+            Ok(())
+        }
+    }
+}
+
+/// A Replan's answer.
+fn show_replanned<M: Map, A: Allocator + Copy, B: Allocator>(
+    array: &Array<M, A>,
+    heap: A,
+    batch: BatchId,
+    answer: &Result<Planned<A>, AdmitRefused>,
+    told: &mut Told<B>,
+) -> Result<(), AllocError>
+    requires { IsWhole M.view array.now }
+{
+    match answer {
+        Ok(planned) => show_planned(array, heap, batch, planned, told),
+        Err(refused) => {
+            show_admit_refused(*refused, told);
+            Ok(())
+        }
+    }
+}
+
+fn show_admit_refused<B: Allocator>(refused: AdmitRefused, told: &mut Told<B>) {
+    told.refusal(&refused);
+    if let AdmitRefused::Lost(page) = refused {
+        told.number(page.0);
+    }
+}
+
+/// The pages that a batch answers, each with its bytes.
+fn show_pages<A: Allocator, B: Allocator>(pages: &[(Page, Vec<u8, A>)], told: &mut Told<B>) {
+    told.pair("pages", pages.len() as u64);
+    for page in pages {
+        told.pair("page", page.0.0);
+        show_bytes(page.1.as_slice(), told);
+    }
+}
+
+/// Bytes of a page: the one that all of them are.
+fn show_bytes<B: Allocator>(bytes: &[u8], told: &mut Told<B>) {
+    let first = bytes.first().copied().unwrap_or(0);
+    if bytes.iter().all(|byte| *byte == first) {
+        told.pair("of", u64::from(first));
+    } else {
+        told.word("mixed");
+    }
+}
+
+/// A Take's answer.
+fn show_job<A: Allocator + Clone, B: Allocator>(job: &Option<Job<A>>, told: &mut Told<B>) {
+    match job {
+        Some(job) => {
+            show_flight(job.flight, told);
+            if let Some(payload) = &job.payload {
+                show_bytes(payload.bytes(), told);
+            }
+        }
+        None => told.word("no job"),
+    }
+}
+
+fn show_flight<B: Allocator>(flight: Flight, told: &mut Told<B>) {
+    match flight {
+        Flight::Header { epoch, live } => show_header(epoch, live, told),
+        Flight::Move {
+            page,
+            version,
+            from,
+            to,
+        } => {
+            told.pair("move page", page.0);
+            show_version(version, told);
+            told.pair("from", u64::from(from.0));
+            told.pair("to", u64::from(to.0));
+        }
+        Flight::Erase { block } => told.pair("erase", u64::from(block.0)),
+        Flight::Read {
+            page,
+            version,
+            slot,
+            ..
+        } => show_slot("read page", page, version, slot, told),
+        Flight::Program {
+            page,
+            version,
+            slot,
+        } => show_slot("program page", page, version, slot, told),
+        Flight::Sync { .. } => told.word("sync"),
+    }
+}
+
+fn show_slot<B: Allocator>(
+    word: &str,
+    page: Page,
+    version: Version,
+    slot: Slot,
+    told: &mut Told<B>,
+) {
+    told.pair(word, page.0);
+    show_version(version, told);
+    told.pair("slot", u64::from(slot.0));
+}
+
+/// A header's epoch, and its live dies.
+fn show_header<B: Allocator>(epoch: u64, live: u64, told: &mut Told<B>) {
+    told.pair("header epoch", epoch);
+    told.word("live");
+    for die in 0..64u32 {
+        if live >> die & 1 == 1 {
+            told.number(u64::from(die));
+        }
+    }
+}

@@ -1,0 +1,101 @@
+//! A plan that the array made, with what the checker says of it.
+ghost use Rattle.fa_core.specs.Array.{IsWhole};
+
+use crate::desk::MAX_DIES;
+use crate::told::Told;
+use fa_batch::{Batch, Closed, Place};
+use fa_cert::{Verdict, check};
+use fa_core::{Array, Planned};
+use fa_machine::BatchId;
+use fa_map::Map;
+use fa_types::{Die, Page};
+use std::alloc::{AllocError, Allocator};
+
+/// Prints the rounds of a batch's plan, the verdict on it, its places, and its shortage. The error is out of memory.
+pub(crate) fn show_planned<M: Map, A: Allocator + Copy, B: Allocator>(
+    array: &Array<M, A>,
+    heap: A,
+    batch: BatchId,
+    planned: &Planned<A>,
+    told: &mut Told<B>,
+) -> Result<(), AllocError>
+    requires { IsWhole M.view array.now }
+{
+    told.pair("rounds", planned.rounds);
+    if array.batch_open(batch) {
+        let closed = array.closed_without(heap, batch)?;
+        let held = held_pages(array, heap, planned.plan.places.as_slice())?;
+        show_verdict(heap, &held, &closed, planned, told)?;
+    }
+    for place in planned.plan.places.as_slice() {
+        show_place(*place, told);
+    }
+    show_shortage(planned.shortage.as_slice(), told);
+    Ok(())
+}
+
+/// What the checker says of a plan for a batch.
+fn show_verdict<A: Allocator + Copy, B: Allocator>(
+    heap: A,
+    batch: &Batch<A>,
+    closed: &Closed<A>,
+    planned: &Planned<A>,
+    told: &mut Told<B>,
+) -> Result<(), AllocError> {
+    if !batch.is_sound() {
+        told.word("unsound");
+        return Ok(());
+    }
+    match check(heap, batch, closed, &planned.plan, &planned.shortage)? {
+        Verdict::Least(rounds) => told.pair("least", rounds),
+        Verdict::Refused(refusal) => told.refusal(&refusal),
+    }
+    Ok(())
+}
+
+/// The pages of a plan, each with the dies that hold it. The error is out of memory.
+fn held_pages<M: Map, A: Allocator + Copy>(
+    array: &Array<M, A>,
+    heap: A,
+    places: &[Place],
+) -> Result<Batch<A>, AllocError> {
+    let mut batch = Batch::new(heap);
+    for place in places {
+        batch.push(place.page, holders(array, heap, place.page)?)?;
+    }
+    Ok(batch)
+}
+
+/// The dies that hold a page. The error is out of memory.
+fn holders<M: Map, A: Allocator + Copy>(
+    array: &Array<M, A>,
+    heap: A,
+    page: Page,
+) -> Result<Vec<Die, A>, AllocError> {
+    let mut dies = Vec::new(heap);
+    for die in 0..MAX_DIES {
+        if holds(array, page, Die(die)) {
+            dies.push(Die(die))?;
+        }
+    }
+    Ok(dies)
+}
+
+fn holds<M: Map, A: Allocator + Copy>(array: &Array<M, A>, page: Page, die: Die) -> bool {
+    array.is_page(page) && array.is_die(die) && array.copy_on(page, die).is_some()
+}
+
+fn show_place<B: Allocator>(place: Place, told: &mut Told<B>) {
+    told.pair("place", place.page.0);
+    told.number(u64::from(place.die.0));
+    told.number(place.round.0);
+}
+
+fn show_shortage<B: Allocator>(pages: &[Page], told: &mut Told<B>) {
+    if !pages.is_empty() {
+        told.word("short");
+    }
+    for page in pages {
+        told.number(page.0);
+    }
+}

@@ -1,0 +1,103 @@
+//! A text of events from its first line to its last.
+ghost use Rattle.fa_core.specs.Array.{IsWhole};
+
+use crate::answers::show_answer;
+use crate::desk::Desk;
+use crate::event::{Event, Wish};
+use crate::looks::show;
+use crate::making::{Asked, make};
+use crate::naming::wish_of;
+use crate::shape::{Shape, array_of, shape_of};
+use crate::words::Words;
+use fa_core::Array;
+use fa_map::Map;
+use std::alloc::{AllocError, Allocator};
+
+/// Makes the array of a text on a heap, and its events, with a line of words for each. Answers whether the text has no wrong line; the
+/// first one is told, and nothing behind it is made. The error is out of memory.
+pub(crate) fn run<A: Allocator + Copy, B: Allocator + Copy>(
+    heap: A,
+    alloc: B,
+    text: &str,
+    desk: &mut Desk<B>,
+) -> Result<bool, AllocError> {
+    let Some(shape) = first_shape(alloc, text)? else {
+        tell_wrong(0, desk);
+        return Ok(false);
+    };
+    let mut array = array_of(heap, shape)?;
+    run_events(&mut array, heap, alloc, text, desk)
+}
+
+/// The array of which the first line speaks. The error is out of memory.
+fn first_shape<B: Allocator + Copy>(alloc: B, text: &str) -> Result<Option<Shape>, AllocError> {
+    match text.lines().next() {
+        Some(line) => Ok(shape_of(&Words::of(alloc, line)?)),
+        None => Ok(None),
+    }
+}
+
+/// The lines behind the first.
+fn run_events<M: Map, A: Allocator + Copy, B: Allocator + Copy>(
+    array: &mut Array<M, A>,
+    heap: A,
+    alloc: B,
+    text: &str,
+    desk: &mut Desk<B>,
+) -> Result<bool, AllocError>
+    requires { IsWhole M.view array.old }
+{
+    for (index, line) in text.lines().enumerate().skip(1) {
+        if !run_line(array, heap, alloc, line, desk)? {
+            tell_wrong(index, desk);
+            return Ok(false);
+        }
+    }
+    Ok(true)
+}
+
+/// One line. False where it is none of a text's.
+fn run_line<M: Map, A: Allocator + Copy, B: Allocator + Copy>(
+    array: &mut Array<M, A>,
+    heap: A,
+    alloc: B,
+    line: &str,
+    desk: &mut Desk<B>,
+) -> Result<bool, AllocError>
+    requires { IsWhole M.view array.old }
+    ensures { IsWhole M.view array.new }
+{
+    let words = Words::of(alloc, line)?;
+    let numbers = words.numbers.as_slice();
+    match wish_of(&words) {
+        Some(Wish::Make(event)) => run_event(array, heap, alloc, event, numbers, desk)?,
+        Some(Wish::Show(look)) => show(array, heap, look, numbers, desk)?,
+        None => return Ok(false),
+    }
+    Ok(true)
+}
+
+/// An event, and its answer.
+fn run_event<M: Map, A: Allocator + Copy, B: Allocator + Copy>(
+    array: &mut Array<M, A>,
+    heap: A,
+    alloc: B,
+    event: Event,
+    numbers: &[u64],
+    desk: &mut Desk<B>,
+) -> Result<(), AllocError>
+    requires { IsWhole M.view array.old }
+    ensures { IsWhole M.view array.new }
+{
+    let asked = Asked::new(heap, alloc, event, numbers, array.geometry().page_bytes)?;
+    let answer = make(array, heap, alloc, &asked, desk)?;
+    desk.keep(asked.die(), &answer)?;
+    show_answer(array, heap, asked.number(), &answer, desk)
+}
+
+/// A line that is none of a text's, by its index.
+fn tell_wrong<B: Allocator>(index: usize, desk: &mut Desk<B>) {
+    desk.told
+        .pair("no line of a text:", (index as u64).saturating_add(1));
+    desk.told.end();
+}

@@ -1,0 +1,163 @@
+//! The array that a text's first line asks for.
+ghost use Rattle.std.specs.Prelude.{◌≡◌, ◌+◌, ◌-◌, ◌<◌, ◌≤◌, ◌^◌, IfOk};
+ghost use Rattle.std.specs.FinMap.{empty, len};
+ghost use Rattle.fa_core.specs.Array.{IsWhole};
+ghost use Rattle.fa_map.specs.PageView.{page_view};
+ghost use Rattle.fa_set.specs.Members.{bound_of, members};
+ghost use Rattle.flasharr_events.specs.Apart.{AreApart};
+
+use crate::looks::die_of;
+use crate::words::{Words, number_at};
+use fa_core::Array;
+use fa_map::{Map, PageMap};
+use fa_set::NumberSet;
+use fa_types::{Copies, Die, Geometry, Seq};
+use std::alloc::{AllocError, Allocator};
+
+/// The names of the numbers of an array, in their order.
+const NAME: &str = "dies spares blocks slots bytes pages copies epoch last";
+
+/// The greatest epoch and the greatest sequence number that an array may begin with. The least epoch is 1.
+const MAX_EPOCH: u64 = 1 << 61;
+
+const MAX_LAST: u64 = (1 << 62) - 1;
+
+/// What an array begins with.
+#[derive(Clone, Copy)]
+pub(crate) struct Shape {
+    geometry: Geometry,
+    copies: Copies,
+    epoch: u64,
+    last: u64,
+    ghost first: { 1 ≤ epoch },
+    ghost within: { (epoch ≤ 2 ^ 61) × (last < 2 ^ 62) },
+    ghost enough: { copies.number ≤ geometry.dies - geometry.spares },
+}
+
+/// The shape of which a line speaks. None where it speaks of none that an array may have.
+pub(crate) fn shape_of<A: Allocator>(words: &Words<A>) -> Option<Shape> {
+    if words.name.as_str() != NAME || words.numbers.len() != 9 {
+        return None;
+    }
+    let geometry = geometry_of(words.numbers.as_slice())?;
+    let Ok(copies) = Copies::new(small_at(words.numbers.as_slice(), 6), geometry) else {
+        return None;
+    };
+    let epoch = number_at(words.numbers.as_slice(), 7);
+    let last = number_at(words.numbers.as_slice(), 8);
+    if epoch < 1 {
+        return None;
+    }
+    if epoch > MAX_EPOCH || last > MAX_LAST {
+        return None;
+    }
+    Some(Shape {
+        geometry,
+        copies,
+        epoch,
+        last,
+    })
+}
+
+/// The first six numbers as a geometry.
+fn geometry_of(numbers: &[u64]) -> Option<Geometry> {
+    let dies = small_at(numbers, 0);
+    let spares = small_at(numbers, 1);
+    let blocks = small_at(numbers, 2);
+    let slots = small_at(numbers, 3);
+    let bytes = small_at(numbers, 4);
+    let pages = number_at(numbers, 5);
+    Geometry::new(dies, spares, blocks, slots, bytes, pages).ok()
+}
+
+/// The number at an index, or the greatest of its type where it has no place there.
+fn small_at(numbers: &[u64], index: usize) -> u32 {
+    u32::try_from(number_at(numbers, index)).unwrap_or(u32::MAX)
+}
+
+/// The array of a shape: no page was written, all dies but the spares are live, and nothing is under way. The error is out of memory.
+pub(crate) fn array_of<A: Allocator + Copy>(
+    alloc: A,
+    shape: Shape,
+) -> Result<Array<PageMap<A>, A>, AllocError>
+    ensures { IfOk result (λ array. IsWhole page_view array) }
+{
+    let page_map = PageMap::new(alloc, shape.geometry)?;
+    array_over(alloc, page_map, shape)
+}
+
+/// The same over a new page map.
+fn array_over<M: Map + Drop, A: Allocator + Copy>(
+    alloc: A,
+    page_map: M,
+    shape: Shape,
+) -> Result<Array<M, A>, AllocError>
+    requires geometry { (M.view page_map).geometry ≡ shape.geometry }
+    requires unwritten { (M.view page_map).versions ≡ empty }
+    requires out { len (M.view page_map).live ≡ 0 }
+    ensures { IfOk result (λ array. IsWhole M.view array) }
+{
+    let mut page_map = page_map;
+    bring_all_in(&mut page_map);
+    let spares = spares_of(alloc, &page_map)?;
+    let Shape {
+        copies,
+        epoch,
+        last,
+        ..
+    } = shape;
+    Array::new(alloc, page_map, copies, epoch, spares, Seq(last), [0; 16])
+}
+
+/// All dies but the spares, which are the last ones, are live.
+fn bring_all_in<M: Map>(page_map: &mut M)
+    requires { len (M.view page_map.old).live ≡ 0 }
+    ensures geometry { (M.view page_map.new).geometry ≡ (M.view page_map.old).geometry }
+    ensures versions { (M.view page_map.new).versions ≡ (M.view page_map.old).versions }
+    ensures few { len (M.view page_map.new).live ≤ 2 ^ 32 }
+{
+    let geometry = page_map.geometry();
+    for die in 0..geometry.dies.saturating_sub(geometry.spares) {
+        bring_in(page_map, die_of(u64::from(die)));
+    }
+}
+
+/// The die is live, if it is one of the map.
+fn bring_in<M: Map>(page_map: &mut M, die: Die)
+    ensures geometry { (M.view page_map.new).geometry ≡ (M.view page_map.old).geometry }
+    ensures versions { (M.view page_map.new).versions ≡ (M.view page_map.old).versions }
+    ensures few { len (M.view page_map.new).live ≤ len (M.view page_map.old).live + 1 }
+{
+    if u32::from(die.0) < page_map.geometry().dies && !page_map.is_live(die) {
+        page_map.bring_in(die);
+    }
+}
+
+/// The dies that are not live, as a set. The error is out of memory.
+fn spares_of<M: Map, A: Allocator + Copy>(
+    alloc: A,
+    page_map: &M,
+) -> Result<NumberSet<A>, AllocError>
+    ensures bound { IfOk result (λ spares. bound_of spares ≡ (M.view page_map.now).geometry.dies) }
+    ensures apart { IfOk result (λ spares. AreApart (M.view page_map.now) (members spares)) }
+    ensures few { IfOk result (λ spares. len (members spares) ≤ 2 ^ 32) }
+{
+    let mut spares = NumberSet::new(alloc, page_map.geometry().dies as usize)?;
+    for die in 0..page_map.geometry().dies {
+        add_spare(&mut spares, page_map, Die(die as u8));
+    }
+    Ok(spares)
+}
+
+/// The die is a spare where it is not live.
+fn add_spare<M: Map, A: Allocator>(spares: &mut NumberSet<A>, page_map: &M, die: Die)
+    requires bound { die.0 < bound_of spares.old }
+    requires apart { AreApart (M.view page_map.now) (members spares.old) }
+    ensures bound { bound_of spares.new ≡ bound_of spares.old }
+    ensures apart { AreApart (M.view page_map.now) (members spares.new) }
+    ensures few { len (members spares.new) ≤ len (members spares.old) + 1 }
+{
+    if !page_map.is_live(die) {
+        spares.insert(die.0 as usize);
+    }
+}
