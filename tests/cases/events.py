@@ -1,7 +1,7 @@
 """The events of an array, one after the other, as docs/EVENTS.md spells them. What is wanted is worked out by hand from
 docs/MACHINE.md: the homes of the pages, the lowest erased slots, the rounds of a least plan.
 
-A script is lines `LINE -> ANSWER`. Each is made twice: with ample memory, and with each growth of each event refused first, which
+A script is lines `LINE -> ANSWER`. Each is made twice: with ample memory, and with the growths of each event refused first, which
 has to answer the same and may change nothing.
 """
 import re
