@@ -7,7 +7,7 @@ use Rattle.fa_types.specs.declared.numbers.Slot.{Slot}
 use Rattle.fa_machine.specs.declared.places.Version.{Version}
 use Rattle.fa_machine.specs.Copies.{copy_on}
 use Rattle.fa_machine.specs.State.{MapState}
-use Rattle.fa_mount.specs.Pages.{place_at, place_on, places_of, written_at, written_pages}
+use Rattle.fa_scan.specs.Pages.{place_at, place_on, places_of, written_at, written_pages}
 use Rattle.fa_admin.specs.Look.{copies_text, dump_text, head_text, line_text, page_text, place_text, places_text, texts_below}
 
 -- the text of what may be there

@@ -6,10 +6,10 @@ use Rattle.fa_types.specs.declared.geometry.Geometry.{Geometry}
 use Rattle.fa_image.specs.Image.{ImageState, ImageCall, ImageAnswer}
 use Rattle.fa_image.specs.declared.fault.ImageFault.{ImageFault}
 use Rattle.fa_machine.specs.State.{MapState}
-use Rattle.fa_mount.specs.ContentReading.{ReadsSlots, ReadsDie, HasOutcome, AreOutcomes, image_read}
+use Rattle.fa_scan.specs.ContentReading.{ReadsSlots, ReadsDie, HasOutcome, AreOutcomes, image_read}
 use Rattle.fa_headers.specs.Found.{ReadsHeader, ReadsHeaders}
-use Rattle.fa_mount.specs.Mounting.{SayArray, Mounts, RefusesMount}
-use Rattle.fa_mount.specs.declared.slots.content.SlotContent.{SlotContent}
+use Rattle.fa_scan.specs.Mounting.{SayArray, Mounts, RefusesMount}
+use Rattle.fa_scan.specs.declared.slots.content.SlotContent.{SlotContent}
 use Rattle.fa_headers.specs.declared.fault.MountRefused.{MountRefused}
 use Rattle.fa_headers.specs.declared.found.Found.{Found}
 use Rattle.fa_headers.specs.declared.judging.Judged.{Judged}

@@ -7,8 +7,8 @@ use Rattle.serde_json.specs.Events.{SendsValue, SendsItems, items_len}
 use Rattle.serde_json.specs.Sent.{IsTextOf}
 use Rattle.serde_json.specs.Written.{has_float, items_have_float}
 use Rattle.serde_json.proofs.FreeTexts.{text_of_value}
-use Rattle.fa_mount.specs.declared.mounted.Report.{Report}
-use Rattle.fa_mount.specs.Pages.{Written}
+use Rattle.fa_scan.specs.declared.mounted.Report.{Report}
+use Rattle.fa_scan.specs.Pages.{Written}
 use Rattle.fa_admin.specs.declared.table.DieRow.{DieRow}
 use Rattle.fa_admin.specs.Documents.{items_of, or_null, whole, row_data, page_data, place_data, check_data, dump_data, document_line}
 

@@ -3,14 +3,14 @@ use Rattle.std.specs.Prelude.{◌≡◌, ◌⊎◌, ℕ, Bool, true, false, List
 use Rattle.fa_image.specs.FileMade.{file_view, FileMade}
 use Rattle.fa_image.specs.declared.file_image.FileImage.{FileImage}
 use Rattle.fa_map.specs.PageView.{page_view}
-use Rattle.fa_mount.specs.Pages.{written_pages}
-use Rattle.fa_mount.specs.Reported.{IsReportOf}
+use Rattle.fa_scan.specs.Pages.{written_pages}
+use Rattle.fa_scan.specs.Reported.{IsReportOf}
 use Rattle.fa_headers.specs.declared.fault.MountFault.{MountFault}
 use Rattle.fa_headers.specs.declared.fault.MountFault.TheVariants.{HeaderBad, ArraysDiffer, GeometryDiffers, DieTwice}
 use Rattle.fa_headers.specs.declared.fault.MountFault.TheVariants.{Unclean, NoDieLive, ImageFault, NoMemory}
 use Rattle.fa_headers.specs.declared.fault.MountRefused.{MountRefused}
 use Rattle.fa_headers.specs.declared.found.Found.{Found}
-use Rattle.fa_mount.specs.declared.mounted.Report.{Report}
+use Rattle.fa_scan.specs.declared.mounted.Report.{Report}
 use Rattle.fa_settings.specs.Settings.{IsSettingsText}
 use Rattle.fa_settings.specs.declared.settings.Settings.{Settings}
 use Rattle.fa_admin.specs.Documents.{check_data, document_line, dump_data}

@@ -9,8 +9,8 @@ use Rattle.fa_types.specs.declared.kind.Kind.{Kind}
 use Rattle.fa_types.specs.declared.kind.Kind.TheVariants.{Data as DataKind, Hole}
 use Rattle.fa_types.specs.declared.numbers.Die.{Die}
 use Rattle.fa_types.specs.declared.numbers.Slot.{Slot}
-use Rattle.fa_mount.specs.declared.mounted.Report.{Report}
-use Rattle.fa_mount.specs.Pages.{Written}
+use Rattle.fa_scan.specs.declared.mounted.Report.{Report}
+use Rattle.fa_scan.specs.Pages.{Written}
 use Rattle.fa_admin.specs.declared.document.PageRow.{PageRow}
 use Rattle.fa_admin.specs.declared.table.DieRow.{DieRow}
 

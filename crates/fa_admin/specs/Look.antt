@@ -8,8 +8,8 @@ use Rattle.fa_types.specs.declared.numbers.Slot.{Slot}
 use Rattle.fa_types.specs.declared.kind.Kind.{Kind}
 use Rattle.fa_types.specs.declared.kind.Kind.TheVariants.{Data, Hole}
 use Rattle.fa_machine.specs.declared.places.Version.{Version}
-use Rattle.fa_mount.specs.declared.mounted.Report.{Report}
-use Rattle.fa_mount.specs.Pages.{Written}
+use Rattle.fa_scan.specs.declared.mounted.Report.{Report}
+use Rattle.fa_scan.specs.Pages.{Written}
 use Rattle.fa_machine.specs.Copies.{copy_on}
 use Rattle.fa_machine.specs.State.{MapState}
 

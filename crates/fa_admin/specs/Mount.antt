@@ -9,9 +9,9 @@ use Rattle.fa_headers.specs.Found.{IsReadOf}
 use Rattle.fa_headers.specs.Rules.{refused}
 use Rattle.fa_headers.specs.declared.fault.MountFault.TheVariants.{NoMemory}
 use Rattle.fa_headers.specs.declared.found.Found.{Found}
-use Rattle.fa_mount.specs.Mounting.{Mounts, RefusesMount}
+use Rattle.fa_scan.specs.Mounting.{Mounts, RefusesMount}
 use Rattle.fa_headers.specs.declared.fault.MountRefused.{MountRefused}
-use Rattle.fa_mount.specs.declared.mounted.Mounted.{Mounted}
+use Rattle.fa_scan.specs.declared.mounted.Mounted.{Mounted}
 use Rattle.fa_settings.specs.declared.settings.Settings.{Settings}
 
 -- an array that was mounted

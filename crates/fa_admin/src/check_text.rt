@@ -3,7 +3,7 @@ ghost use Rattle.std.specs.Prelude.{◌≡◌, ◌++◌, IfOk, OnOk, string_byte
 ghost use Rattle.fa_admin.specs.Look.{check_text as text_of, dies_line, epoch_line, pages_line};
 
 use crate::dump_text::push_number;
-use fa_mount::Report;
+use fa_scan::Report;
 use std::alloc::{AllocError, Allocator};
 
 /// What `check` prints of an array.

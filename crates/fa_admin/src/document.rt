@@ -1,7 +1,7 @@
 //! What `check` and `dump` print as one JSON document.
 ghost use Rattle.std.specs.Prelude.{◌≡◌, ℕ, List, [], ◌∷◌, ◌++◌, Some, map, string_bytes, IfOk, OnOk};
 ghost use Rattle.fa_map.specs.PageView.{page_view};
-ghost use Rattle.fa_mount.specs.Pages.{written_pages};
+ghost use Rattle.fa_scan.specs.Pages.{written_pages};
 ghost use Rattle.serde.specs.Event.{Log};
 ghost use Rattle.serde_json.specs.Sent.{IsTextOf};
 ghost use Rattle.fa_admin.specs.Documents.{WritesMember, check_data, document_line, dump_data, kind_name, written_of};
@@ -9,7 +9,7 @@ ghost use Rattle.fa_admin.specs.Documents.{WritesMember, check_data, document_li
 use crate::table::DieRow;
 use fa_machine::Version;
 use fa_map::{Map, PageMap};
-use fa_mount::{Mounted, Report, WrittenPage};
+use fa_scan::{Mounted, Report, WrittenPage};
 use fa_types::{Die, Kind, Page, Slot};
 use serde::{Described, Serialize, Serializer};
 use std::alloc::{AllocError, Global};

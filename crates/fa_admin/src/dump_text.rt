@@ -5,7 +5,7 @@ ghost use Rattle.fa_admin.specs.Look.{place_text, head_text, copies_text, line_t
 
 use fa_machine::Version;
 use fa_map::Map;
-use fa_mount::{Mounted, WrittenPage};
+use fa_scan::{Mounted, WrittenPage};
 use fa_types::{Die, Kind, Page, Slot};
 use itoa::Buffer;
 use std::alloc::{AllocError, Allocator};

@@ -18,7 +18,7 @@ use crate::watched::{Watched, clear};
 use fa_headers::{Found, MountFault, MountRefused, expect, read_headers};
 use fa_image::{FileImage, Image};
 use fa_map::PageMap;
-use fa_mount::{Mounted, scan_found_side_by_side};
+use fa_scan::{Mounted, scan_found_side_by_side};
 use fa_settings::Settings;
 use fa_types::Copies;
 use std::alloc::{AllocError, Allocator};

@@ -5,7 +5,7 @@ ghost use Rattle.fa_admin.specs.Table.{AreRowsFrom, IsRow, good_header as good, 
 use fa_headers::{Found, HeaderFound, Standing};
 use fa_machine::Block;
 use fa_map::Map;
-use fa_mount::Mounted;
+use fa_scan::Mounted;
 use fa_tag::Header;
 use fa_types::Die;
 use std::alloc::{AllocError, Allocator, Global};

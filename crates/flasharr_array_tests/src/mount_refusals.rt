@@ -4,7 +4,7 @@ use crate::mounting::{Images, images};
 use crate::slots::{put, tag};
 use fa_headers::{MountFault, MountRefused, format, format_1};
 use fa_image::Image;
-use fa_mount::{Report, scan, scan_side_by_side};
+use fa_scan::{Report, scan, scan_side_by_side};
 use fa_tag::{Tag, seal_1};
 use fa_types::{Copies, Die, Geometry, HEADER_BYTES, Kind, Page, Seq, Slot};
 use flasharr_tests::ensure;

@@ -9,7 +9,7 @@ use fa_headers::{MountFault, MountRefused, Standing, format};
 use fa_image::{FuseImage, Image, MemImage};
 use fa_machine::Version;
 use fa_map::{Map, PageMap, SlotState};
-use fa_mount::{Mounted, scan};
+use fa_scan::{Mounted, scan};
 use fa_tag::{Tag, seal};
 use fa_types::{Copies, Die, Geometry, Kind, Page, Seq, Slot};
 use flasharr_tests::ensure;

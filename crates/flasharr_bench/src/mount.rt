@@ -8,7 +8,7 @@ ghost use Rattle.fa_tag.specs.SlotGrammar.{IsTag};
 use crate::slots::{HASHED_BYTES, PAGE_BYTES, PAYLOAD, SLOT_BYTES, count_good};
 use fa_headers::format;
 use fa_image::{Image, MemImage};
-use fa_mount::{scan, scan_side_by_side};
+use fa_scan::{scan, scan_side_by_side};
 use fa_tag::{Tag, seal};
 use fa_types::{Copies, Die, Geometry, Kind, Page, Seq, Slot};
 use std::alloc::Global;

@@ -1,5 +1,5 @@
 use Rattle.std.proofs.Common.{◌≡◌, ◌++◌, map}
-use Rattle.fa_mount.specs.Pages.{written_pages}
+use Rattle.fa_scan.specs.Pages.{written_pages}
 use Rattle.fa_admin.specs.Documents.{written_of}
 use Rattle.fa_admin.proofs.document.page_rows.Given as goal
 

@@ -1,6 +1,6 @@
 use Rattle.std.proofs.Common.{◌++◌, List, ap, ◌∙◌}
 use Rattle.std.specs.List.{flat_map}
-use Rattle.fa_mount.specs.Pages.{Written}
+use Rattle.fa_scan.specs.Pages.{Written}
 use Rattle.fa_admin.specs.Look.{line_text}
 use Rattle.fa_admin.proofs.DumpLines.{lines_of_written}
 use Rattle.fa_admin.proofs.dump_text.dump_text.Goals as goal

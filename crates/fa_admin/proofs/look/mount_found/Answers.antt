@@ -1,6 +1,6 @@
 use Rattle.std.proofs.Common.{inr, subst}
 use Rattle.fa_headers.specs.Expected.{IsExpected}
-use Rattle.fa_mount.proofs.SlotsScanned.{either}
+use Rattle.fa_scan.proofs.SlotsScanned.{either}
 use Rattle.fa_admin.proofs.look.mount_found.Goals as goal
 
 pub returns : goal.returns
