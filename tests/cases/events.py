@@ -54,6 +54,12 @@ def read(die, page, seq, slot, byte):
     return [(f"take {die}", f"read page {page} seq {seq} slot {slot}"), (f"done {die} data {byte}", DONE)]
 
 
+def no_room_at_home(page):
+    """Both homes of a page have no room, of dies with four blocks of four slots: what was reserved is given up, and its slots are stale."""
+    reserved = [step for seq in range(1, 13) for step in ((f"reserve {page} 7", f"seq {seq}"), (f"abandon {page}", "abandoned"))]
+    return [(f"claim {page}", f"claim {page}"), *reserved]
+
+
 def tally(kinds):
     """The last line where memory is refused: each of these kinds of events was refused it."""
     return " ".join(f"{kind} {'[1-9][0-9]*' if kind in kinds else '[0-9]+'}" for kind in KINDS)
@@ -225,6 +231,36 @@ def writes():
         page 0 -> page 0 seq 2 at 0 1 at 1 1
         die 0 -> die 0 live room 118 victim 0
         die 2 -> die 2 live room 120
+    """), ("claim", "reserve"))
+
+    # Page 0 has the homes 0 and 1 of four dies. Where these have no room, the others take it from the highest on.
+    yield case("other_dies_fall", shape(4, blocks=4, slots=4, pages=8), headers(2, 0, 1, 2, 3) + no_room_at_home(0) + pairs("""
+        reserve 0 7 -> seq 13
+        take 0 -> no job
+        take 1 -> no job
+    """) + programs(0, 13, 7, ((3, 0), (2, 0))) + pairs("""
+        commit 0 -> seq 13
+        page 0 -> page 0 seq 13 at 2 0 at 3 0
+    """), ("claim", "reserve"))
+
+    # Die 0 alone of three has room. It is a home of page 0, and of page 1 it is the only die that is left.
+    yield case("one_die_has_room", shape(3, blocks=4, slots=4, pages=8), MOUNTED + no_room_at_home(1) + pairs("""
+        reserve 1 7 -> refused: too few dies have room
+        claim 0 -> claim 0
+        reserve 0 7 -> refused: too few dies have room
+        reserve fewer 0 7 -> seq 13
+        reserve fewer 1 8 -> seq 14
+    """) + programs(0, 13, 7, ((0, 0),)) + programs(1, 14, 8, ((0, 1),)) + pairs("""
+        take 0 -> no job
+        take 1 -> no job
+        take 2 -> no job
+    """), ("claim", "reserve", "fewer"))
+
+    # A spare that came in is no home of any page.
+    yield case("a_spare_is_no_home", shape(4, spares=1), MOUNTED + [("spare in 3", "in")] + headers(3, 0, 1, 2, 3)
+               + write(3, 1, 7, (0, 0), (2, 0)) + pairs("""
+        page 3 -> page 3 seq 1 at 0 0 at 2 0
+        take 3 -> no job
     """), ("claim", "reserve"))
 
     # A write on as many dies as have room goes to both where both have.

@@ -27,7 +27,7 @@ pub struct Array<M, A: Allocator = Global> {
 }
 
 impl<M: Map + Drop, A: Allocator + Copy> Array<M, A> {
-    ghost use Rattle.fa_core.specs.Array.{IsWhole, state_of};
+    ghost use Rattle.fa_core.specs.Array.{IsWhole, number_of, state_of};
 
     /// The array over what images hold, with nothing under way: round 1, the header of each live die behind, an empty history. The
     /// page map, the epoch, the spares, the greatest number of a page and the array's own number are what mounting found: no spare is
@@ -51,6 +51,7 @@ impl<M: Map + Drop, A: Allocator + Copy> Array<M, A> {
         requires enough { copies.number ≤ (M.view page_map).geometry.dies - (M.view page_map).geometry.spares }
         ensures begun { IfOk result (λ array. state_of M.view array
             ≡ begun copies.number (M.view page_map) epoch (members spares) last.0) }
+        ensures number { IfOk result (λ made. number_of made ≡ array) }
         ensures whole { IfOk result (λ array. IsWhole M.view array) }
     {
         let zeros = zero_page(alloc, &page_map)?;

@@ -28,6 +28,7 @@ impl<M: Map, A: Allocator + Clone> Array<M, A> {
         requires room { history_full (state_of M.view self.old) ≡ false }
         requires whole { IsWhole M.view self.old }
         ensures step { Step (state_of M.view self.old) (Take die.0 seat (option_map handed_of result)) (state_of M.view self.new) }
+        ensures number { number_of self.new ≡ number_of self.old }
         ensures whole { IsWhole M.view self.new }
         // The job fits the die and its image.
         ensures fits { IfSome result (λ job. IsJobFor (state_of M.view self.old).page_map.geometry (number_of self.old) die.0
@@ -49,6 +50,7 @@ impl<M: Map, A: Allocator + Clone> Array<M, A> {
         requires sized { length buffer.old.items ≡ (state_of M.view self.old).page_map.geometry.page_bytes }
         requires whole { IsWhole M.view self.old }
         ensures step { Step (state_of M.view self.old) (Done die.0 (outcome_of outcome buffer.old.items)) (state_of M.view self.new) }
+        ensures number { number_of self.new ≡ number_of self.old }
         ensures whole { IsWhole M.view self.new }
         ensures buffer { length buffer.new.items ≡ length buffer.old.items }
     {

@@ -10,12 +10,13 @@ use fa_map::Map;
 use std::alloc::Allocator;
 
 impl<M: Map, A: Allocator + Clone> Array<M, A> {
-    ghost use Rattle.fa_core.specs.Array.{IsWhole, state_of};
+    ghost use Rattle.fa_core.specs.Array.{IsWhole, number_of, state_of};
 
     /// Each live die is asked for a sync. Refused, nothing has changed.
     pub fn flush_begin(&mut self) -> Result<Flush, FlushRefused>
         requires whole { IsWhole M.view self.old }
         ensures step { Step (state_of M.view self.old) (FlushBegin result) (state_of M.view self.new) }
+        ensures number { number_of self.new ≡ number_of self.old }
         ensures whole { IsWhole M.view self.new }
     {
         let answer = fa_flushes::flush_begin(&mut self.state);
@@ -34,6 +35,7 @@ impl<M: Map, A: Allocator + Clone> Array<M, A> {
     pub fn fold(&mut self)
         requires whole { IsWhole M.view self.old }
         ensures step { Step (state_of M.view self.old) Fold (state_of M.view self.new) }
+        ensures number { number_of self.new ≡ number_of self.old }
         ensures whole { IsWhole M.view self.new }
     {
         fa_flushes::fold(&mut self.state);

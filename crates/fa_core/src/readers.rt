@@ -19,7 +19,7 @@ use fa_types::Page;
 use std::alloc::{AllocError, Allocator};
 
 impl<M: Map, A: Allocator + Copy> Array<M, A> {
-    ghost use Rattle.fa_core.specs.Array.{IsWhole, state_of};
+    ghost use Rattle.fa_core.specs.Array.{IsWhole, number_of, state_of};
 
     /// A batch of these pages, at most 1,024 and no two the same: those that have bytes on their dies are planned in the least number of
     /// rounds and booked, and the others are answered with zeros at once. Refused, nothing has changed.
@@ -30,6 +30,7 @@ impl<M: Map, A: Allocator + Copy> Array<M, A> {
         requires whole { IsWhole M.view self.old }
         ensures step { Step (state_of M.view self.old) (Admit (map (λ page. page.0) pages.now) (admit_answer result))
             (state_of M.view self.new) }
+        ensures number { number_of self.new ≡ number_of self.old }
         ensures whole { IsWhole M.view self.new }
     {
         let answer = fa_reads::admit(alloc, &mut self.state, pages);
@@ -43,6 +44,7 @@ impl<M: Map, A: Allocator + Copy> Array<M, A> {
         requires open { batch_open (state_of M.view self.old) batch.0 ≡ true }
         requires whole { IsWhole M.view self.old }
         ensures step { Step (state_of M.view self.old) (Replan batch.0 (plan_answer result)) (state_of M.view self.new) }
+        ensures number { number_of self.new ≡ number_of self.old }
         ensures whole { IsWhole M.view self.new }
     {
         let answer = fa_reads::replan(alloc, &mut self.state, batch);
@@ -73,7 +75,7 @@ impl<M: Map, A: Allocator + Copy> Array<M, A> {
 }
 
 impl<M: Map, A: Allocator + Clone> Array<M, A> {
-    ghost use Rattle.fa_core.specs.Array.{IsWhole, state_of};
+    ghost use Rattle.fa_core.specs.Array.{IsWhole, number_of, state_of};
 
     /// The batch is open no more: its bookings that were not started are given up, and its answers are handed out in the order of its
     /// list, each with the buffer that has its bytes. A read in flight for it answers nothing.
@@ -82,6 +84,7 @@ impl<M: Map, A: Allocator + Clone> Array<M, A> {
         requires whole { IsWhole M.view self.old }
         ensures step { Step (state_of M.view self.old) (EndBatch batch.0 (map (λ e. (e.0.0, e.1.items)) result.items))
             (state_of M.view self.new) }
+        ensures number { number_of self.new ≡ number_of self.old }
         ensures whole { IsWhole M.view self.new }
     {
         let answers = fa_reads::end_batch(&mut self.state, batch);

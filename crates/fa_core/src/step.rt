@@ -15,6 +15,7 @@ impl<M: Map, A: Allocator + Copy> Array<M, A> {
     pub fn step(&mut self, alloc: A, seat: u32, call: Call<'_, A>) -> Answer<A>
         requires whole { IsWhole M.view self.old }
         ensures event { Makes (state_of M.view self.old) seat call.entry result (state_of M.view self.new) }
+        ensures number { number_of self.new ≡ number_of self.old }
         ensures whole { IsWhole M.view self.new }
         ensures fits { FitsAnswer (state_of M.view self.old).page_map.geometry (number_of self.old) call.entry result }
         ensures commits { (counts (state_of M.view self.new)).0 ≡ (counts (state_of M.view self.old)).0 + commits_of_answer result }

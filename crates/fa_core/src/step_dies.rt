@@ -19,6 +19,7 @@ impl<M: Map, A: Allocator + Copy> Array<M, A> {
     pub(crate) fn make_take(&mut self, die: Die, seat: u32) -> Answer<A>
         requires { IsWhole M.view self.old }
         ensures event { Makes (state_of M.view self.old) seat (Call.Take die) result (state_of M.view self.new) }
+        ensures number { number_of self.new ≡ number_of self.old }
         ensures whole { IsWhole M.view self.new }
         ensures fits { FitsAnswer (state_of M.view self.old).page_map.geometry (number_of self.old) (Call.Take die) result }
         ensures commits { (rule_counts (state_of M.view self.new)).0 ≡ (rule_counts (state_of M.view self.old)).0 + commits_of_answer result }
@@ -35,6 +36,7 @@ impl<M: Map, A: Allocator + Copy> Array<M, A> {
     pub(crate) fn make_done(&mut self, die: Die, outcome: Outcome, buffer: Vec<u8, A>) -> Answer<A>
         requires { IsWhole M.view self.old }
         ensures event { (seat : ℕ) → Makes (state_of M.view self.old) seat (Call.Done die outcome buffer) result (state_of M.view self.new) }
+        ensures number { number_of self.new ≡ number_of self.old }
         ensures whole { IsWhole M.view self.new }
         ensures commits { (rule_counts (state_of M.view self.new)).0 ≡ (rule_counts (state_of M.view self.old)).0 + commits_of_answer result }
     {
@@ -51,6 +53,7 @@ impl<M: Map, A: Allocator + Copy> Array<M, A> {
     pub(crate) fn make_flush_begin(&mut self) -> Answer<A>
         requires { IsWhole M.view self.old }
         ensures event { (seat : ℕ) → Makes (state_of M.view self.old) seat Call.FlushBegin result (state_of M.view self.new) }
+        ensures number { number_of self.new ≡ number_of self.old }
         ensures whole { IsWhole M.view self.new }
         ensures commits { (rule_counts (state_of M.view self.new)).0 ≡ (rule_counts (state_of M.view self.old)).0 + commits_of_answer result }
     {
@@ -63,6 +66,7 @@ impl<M: Map, A: Allocator + Copy> Array<M, A> {
     pub(crate) fn make_flush_state(&mut self, flush: Flush) -> Answer<A>
         requires { IsWhole M.view self.old }
         ensures event { (seat : ℕ) → Makes (state_of M.view self.old) seat (Call.FlushState flush) result (state_of M.view self.new) }
+        ensures number { number_of self.new ≡ number_of self.old }
         ensures whole { IsWhole M.view self.new }
         ensures commits { (rule_counts (state_of M.view self.new)).0 ≡ (rule_counts (state_of M.view self.old)).0 + commits_of_answer result }
     {
@@ -74,6 +78,7 @@ impl<M: Map, A: Allocator + Copy> Array<M, A> {
     pub(crate) fn make_fold(&mut self) -> Answer<A>
         requires { IsWhole M.view self.old }
         ensures event { (seat : ℕ) → Makes (state_of M.view self.old) seat Call.Fold result (state_of M.view self.new) }
+        ensures number { number_of self.new ≡ number_of self.old }
         ensures whole { IsWhole M.view self.new }
         ensures commits { (rule_counts (state_of M.view self.new)).0 ≡ (rule_counts (state_of M.view self.old)).0 + commits_of_answer result }
     {

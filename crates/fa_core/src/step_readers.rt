@@ -11,13 +11,14 @@ use fa_types::Page;
 use std::alloc::Allocator;
 
 impl<M: Map, A: Allocator + Copy> Array<M, A> {
-    ghost use Rattle.fa_core.specs.Array.{IsWhole, state_of};
+    ghost use Rattle.fa_core.specs.Array.{IsWhole, number_of, state_of};
     ghost use Rattle.fa_core.specs.Calls.{Makes, commits_of_answer};
 
     /// An Admit.
     pub(crate) fn make_admit(&mut self, alloc: A, pages: &[Page]) -> Answer<A>
         requires { IsWhole M.view self.old }
         ensures event { (seat : ℕ) → Makes (state_of M.view self.old) seat (Call.Admit pages.entry) result (state_of M.view self.new) }
+        ensures number { number_of self.new ≡ number_of self.old }
         ensures whole { IsWhole M.view self.new }
         ensures commits { (rule_counts (state_of M.view self.new)).0 ≡ (rule_counts (state_of M.view self.old)).0 + commits_of_answer result }
     {
@@ -33,6 +34,7 @@ impl<M: Map, A: Allocator + Copy> Array<M, A> {
     pub(crate) fn make_replan(&mut self, alloc: A, batch: BatchId) -> Answer<A>
         requires { IsWhole M.view self.old }
         ensures event { (seat : ℕ) → Makes (state_of M.view self.old) seat (Call.Replan batch) result (state_of M.view self.new) }
+        ensures number { number_of self.new ≡ number_of self.old }
         ensures whole { IsWhole M.view self.new }
         ensures commits { (rule_counts (state_of M.view self.new)).0 ≡ (rule_counts (state_of M.view self.old)).0 + commits_of_answer result }
     {
@@ -48,6 +50,7 @@ impl<M: Map, A: Allocator + Copy> Array<M, A> {
     pub(crate) fn make_end_batch(&mut self, batch: BatchId) -> Answer<A>
         requires { IsWhole M.view self.old }
         ensures event { (seat : ℕ) → Makes (state_of M.view self.old) seat (Call.EndBatch batch) result (state_of M.view self.new) }
+        ensures number { number_of self.new ≡ number_of self.old }
         ensures whole { IsWhole M.view self.new }
         ensures commits { (rule_counts (state_of M.view self.new)).0 ≡ (rule_counts (state_of M.view self.old)).0 + commits_of_answer result }
     {

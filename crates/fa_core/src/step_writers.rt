@@ -12,13 +12,14 @@ use fa_types::Page;
 use std::alloc::Allocator;
 
 impl<M: Map, A: Allocator + Copy> Array<M, A> {
-    ghost use Rattle.fa_core.specs.Array.{IsWhole, state_of};
+    ghost use Rattle.fa_core.specs.Array.{IsWhole, number_of, state_of};
     ghost use Rattle.fa_core.specs.Calls.{Makes, commits_of_answer};
 
     /// A Claim.
     pub(crate) fn make_claim(&mut self, page: Page) -> Answer<A>
         requires { IsWhole M.view self.old }
         ensures event { (seat : ℕ) → Makes (state_of M.view self.old) seat (Call.Claim page) result (state_of M.view self.new) }
+        ensures number { number_of self.new ≡ number_of self.old }
         ensures whole { IsWhole M.view self.new }
         ensures commits { (rule_counts (state_of M.view self.new)).0 ≡ (rule_counts (state_of M.view self.old)).0 + commits_of_answer result }
     {
@@ -34,6 +35,7 @@ impl<M: Map, A: Allocator + Copy> Array<M, A> {
     pub(crate) fn make_release(&mut self, claim: ClaimId) -> Answer<A>
         requires { IsWhole M.view self.old }
         ensures event { (seat : ℕ) → Makes (state_of M.view self.old) seat (Call.Release claim) result (state_of M.view self.new) }
+        ensures number { number_of self.new ≡ number_of self.old }
         ensures whole { IsWhole M.view self.new }
         ensures commits { (rule_counts (state_of M.view self.new)).0 ≡ (rule_counts (state_of M.view self.old)).0 + commits_of_answer result }
     {
@@ -49,6 +51,7 @@ impl<M: Map, A: Allocator + Copy> Array<M, A> {
     pub(crate) fn make_reserve(&mut self, claim: ClaimId, payload: &Payload<A>) -> Answer<A>
         requires { IsWhole M.view self.old }
         ensures event { (seat : ℕ) → Makes (state_of M.view self.old) seat (Call.Reserve claim payload.entry) result (state_of M.view self.new) }
+        ensures number { number_of self.new ≡ number_of self.old }
         ensures whole { IsWhole M.view self.new }
         ensures commits { (rule_counts (state_of M.view self.new)).0 ≡ (rule_counts (state_of M.view self.old)).0 + commits_of_answer result }
     {
@@ -64,6 +67,7 @@ impl<M: Map, A: Allocator + Copy> Array<M, A> {
     pub(crate) fn make_reserve_hole(&mut self, claim: ClaimId) -> Answer<A>
         requires { IsWhole M.view self.old }
         ensures event { (seat : ℕ) → Makes (state_of M.view self.old) seat (Call.ReserveHole claim) result (state_of M.view self.new) }
+        ensures number { number_of self.new ≡ number_of self.old }
         ensures whole { IsWhole M.view self.new }
         ensures commits { (rule_counts (state_of M.view self.new)).0 ≡ (rule_counts (state_of M.view self.old)).0 + commits_of_answer result }
     {
@@ -79,6 +83,7 @@ impl<M: Map, A: Allocator + Copy> Array<M, A> {
     pub(crate) fn make_reserve_fewer(&mut self, claim: ClaimId, payload: &Payload<A>) -> Answer<A>
         requires { IsWhole M.view self.old }
         ensures event { (seat : ℕ) → Makes (state_of M.view self.old) seat (Call.ReserveFewer claim payload.entry) result (state_of M.view self.new) }
+        ensures number { number_of self.new ≡ number_of self.old }
         ensures whole { IsWhole M.view self.new }
         ensures commits { (rule_counts (state_of M.view self.new)).0 ≡ (rule_counts (state_of M.view self.old)).0 + commits_of_answer result }
     {
@@ -94,6 +99,7 @@ impl<M: Map, A: Allocator + Copy> Array<M, A> {
     pub(crate) fn make_commit(&mut self, claim: ClaimId, seat: u32) -> Answer<A>
         requires { IsWhole M.view self.old }
         ensures event { Makes (state_of M.view self.old) seat (Call.Commit claim) result (state_of M.view self.new) }
+        ensures number { number_of self.new ≡ number_of self.old }
         ensures whole { IsWhole M.view self.new }
         ensures commits { (rule_counts (state_of M.view self.new)).0 ≡ (rule_counts (state_of M.view self.old)).0 + commits_of_answer result }
     {
@@ -109,6 +115,7 @@ impl<M: Map, A: Allocator + Copy> Array<M, A> {
     pub(crate) fn make_abandon(&mut self, claim: ClaimId) -> Answer<A>
         requires { IsWhole M.view self.old }
         ensures event { (seat : ℕ) → Makes (state_of M.view self.old) seat (Call.Abandon claim) result (state_of M.view self.new) }
+        ensures number { number_of self.new ≡ number_of self.old }
         ensures whole { IsWhole M.view self.new }
         ensures commits { (rule_counts (state_of M.view self.new)).0 ≡ (rule_counts (state_of M.view self.old)).0 + commits_of_answer result }
     {

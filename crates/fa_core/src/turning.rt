@@ -14,7 +14,7 @@ use fa_types::{Die, Page, Round, Seq};
 use std::alloc::Allocator;
 
 impl<M: Map, A: Allocator + Clone> Array<M, A> {
-    ghost use Rattle.fa_core.specs.Array.{IsWhole, state_of};
+    ghost use Rattle.fa_core.specs.Array.{IsWhole, number_of, state_of};
 
     /// The first run of 1 to 64 open rounds of a die after the current one is its window; its first round is answered. Refused, nothing
     /// has changed.
@@ -24,6 +24,7 @@ impl<M: Map, A: Allocator + Clone> Array<M, A> {
         requires few { rounds ≤ 64 }
         requires whole { IsWhole M.view self.old }
         ensures step { Step (state_of M.view self.old) (Window die.0 rounds result) (state_of M.view self.new) }
+        ensures number { number_of self.new ≡ number_of self.old }
         ensures whole { IsWhole M.view self.new }
     {
         let answer = fa_turns::window(&mut self.state, die, rounds);
@@ -35,6 +36,7 @@ impl<M: Map, A: Allocator + Clone> Array<M, A> {
     pub fn advance(&mut self) -> Result<Round, AdvanceRefused>
         requires whole { IsWhole M.view self.old }
         ensures step { Step (state_of M.view self.old) (Advance result) (state_of M.view self.new) }
+        ensures number { number_of self.new ≡ number_of self.old }
         ensures whole { IsWhole M.view self.new }
     {
         let answer = fa_turns::advance(&mut self.state);
@@ -47,6 +49,7 @@ impl<M: Map, A: Allocator + Clone> Array<M, A> {
         requires die { is_die (state_of M.view self.old) die.0 ≡ true }
         requires whole { IsWhole M.view self.old }
         ensures step { Step (state_of M.view self.old) (SpareIn die.0 result) (state_of M.view self.new) }
+        ensures number { number_of self.new ≡ number_of self.old }
         ensures whole { IsWhole M.view self.new }
     {
         let answer = fa_turns::spare_in(&mut self.state, die);
@@ -67,6 +70,7 @@ impl<M: Map, A: Allocator + Clone> Array<M, A> {
         requires whole { IsWhole M.view self.old }
         ensures step { Step (state_of M.view self.old) (ReserveCopy page.0 seq.0 payload.now result)
             (state_of M.view self.new) }
+        ensures number { number_of self.new ≡ number_of self.old }
         ensures whole { IsWhole M.view self.new }
     {
         let answer = fa_turns::reserve_copy(&mut self.state, page, seq, payload, &self.zeros);
@@ -79,6 +83,7 @@ impl<M: Map, A: Allocator + Clone> Array<M, A> {
         requires open { copy_open (state_of M.view self.old) ≡ true }
         requires whole { IsWhole M.view self.old }
         ensures step { Step (state_of M.view self.old) (CommitCopy result) (state_of M.view self.new) }
+        ensures number { number_of self.new ≡ number_of self.old }
         ensures whole { IsWhole M.view self.new }
     {
         let answer = fa_turns::commit_copy(&mut self.state);

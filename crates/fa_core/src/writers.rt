@@ -13,13 +13,14 @@ use fa_types::{Kind, Page, Seq};
 use std::alloc::Allocator;
 
 impl<M: Map, A: Allocator + Clone> Array<M, A> {
-    ghost use Rattle.fa_core.specs.Array.{IsWhole, state_of};
+    ghost use Rattle.fa_core.specs.Array.{IsWhole, number_of, state_of};
 
     /// The page is the caller's to write, until it releases the claim. Refused, nothing has changed.
     pub fn claim(&mut self, page: Page) -> Result<ClaimId, ClaimRefused>
         requires page { is_page (state_of M.view self.old) page.0 ≡ true }
         requires whole { IsWhole M.view self.old }
         ensures step { Step (state_of M.view self.old) (Claim page.0 result) (state_of M.view self.new) }
+        ensures number { number_of self.new ≡ number_of self.old }
         ensures whole { IsWhole M.view self.new }
     {
         let answer = fa_writes::claim(&mut self.state, page);
@@ -33,6 +34,7 @@ impl<M: Map, A: Allocator + Clone> Array<M, A> {
         requires empty { is_reserved (state_of M.view self.old) claim.0 ≡ false }
         requires whole { IsWhole M.view self.old }
         ensures step { Step (state_of M.view self.old) (Release claim.0) (state_of M.view self.new) }
+        ensures number { number_of self.new ≡ number_of self.old }
         ensures whole { IsWhole M.view self.new }
     {
         fa_writes::release(&mut self.state, claim);
@@ -47,6 +49,7 @@ impl<M: Map, A: Allocator + Clone> Array<M, A> {
         requires sized { is_sized (state_of M.view self.old) payload.now ≡ true }
         requires whole { IsWhole M.view self.old }
         ensures step { Step (state_of M.view self.old) (Reserve claim.0 payload.now result) (state_of M.view self.new) }
+        ensures number { number_of self.new ≡ number_of self.old }
         ensures whole { IsWhole M.view self.new }
     {
         let least = copies_asked(&self.state.page_map, self.state.copies);
@@ -61,6 +64,7 @@ impl<M: Map, A: Allocator + Clone> Array<M, A> {
         requires empty { is_reserved (state_of M.view self.old) claim.0 ≡ false }
         requires whole { IsWhole M.view self.old }
         ensures step { Step (state_of M.view self.old) (ReserveHole claim.0 result) (state_of M.view self.new) }
+        ensures number { number_of self.new ≡ number_of self.old }
         ensures whole { IsWhole M.view self.new }
     {
         let least = copies_asked(&self.state.page_map, self.state.copies);
@@ -81,6 +85,7 @@ impl<M: Map, A: Allocator + Clone> Array<M, A> {
         requires whole { IsWhole M.view self.old }
         ensures step { Step (state_of M.view self.old) (ReserveFewer claim.0 payload.now result)
             (state_of M.view self.new) }
+        ensures number { number_of self.new ≡ number_of self.old }
         ensures whole { IsWhole M.view self.new }
     {
         let least = one_of(copies_asked(&self.state.page_map, self.state.copies));
@@ -95,6 +100,7 @@ impl<M: Map, A: Allocator + Clone> Array<M, A> {
         requires room { history_full (state_of M.view self.old) ≡ false }
         requires whole { IsWhole M.view self.old }
         ensures step { Step (state_of M.view self.old) (Commit claim.0 seat result) (state_of M.view self.new) }
+        ensures number { number_of self.new ≡ number_of self.old }
         ensures whole { IsWhole M.view self.new }
     {
         let answer = fa_writes::commit(&mut self.state, claim, seat);
@@ -107,6 +113,7 @@ impl<M: Map, A: Allocator + Clone> Array<M, A> {
         requires reserved { is_reserved (state_of M.view self.old) claim.0 ≡ true }
         requires whole { IsWhole M.view self.old }
         ensures step { Step (state_of M.view self.old) (Abandon claim.0 result) (state_of M.view self.new) }
+        ensures number { number_of self.new ≡ number_of self.old }
         ensures whole { IsWhole M.view self.new }
     {
         let answer = fa_writes::abandon(&mut self.state, claim);

@@ -1,10 +1,5 @@
-//! The tests of what the array's core decides and does, over its containers alone: values that are worked
-//! by hand, limits, and memory that is refused.
+//! The tests of the containers of the array's core, where memory is refused.
 #![tactic(auto)]
 
 #[cfg(test)]
-mod collector;
-#[cfg(test)]
 mod parts;
-#[cfg(test)]
-mod placement;

@@ -1,0 +1,5 @@
+pub mod Causes
+pub mod Codes
+pub mod Faults
+pub mod Locked
+pub mod Seats

@@ -1,0 +1,208 @@
+//! The array under its lock.
+ghost use Rattle.std.specs.Prelude.{◌≡◌, ℕ, ◌+◌, ◌<◌, ◌≤◌, true, false, IfOk, IfErr, IfSome, IfNone, length};
+ghost use Rattle.fa_machine.specs.Looks.{counts as rule_counts};
+ghost use Rattle.fa_parts.specs.Counted.{capped};
+ghost use Rattle.fa_core.specs.Calls.{commits_of_answer};
+ghost use Rattle.fa_shared.specs.Seats.{commits_together};
+
+use crate::seat::Seat;
+use fa_core::{Answer, Array, Call};
+use fa_map::Map;
+use std::alloc::{Allocator, Global};
+use std::marker::Model;
+use std::sync::ledger::{Blank, Book, Ledger, Share};
+
+/// How many seats may be out at once.
+pub const MAX_SEATS: u32 = 256;
+
+/// How many parts the ledger of an array has: one for each seat, and one that stays under the lock.
+const PARTS: u64 = MAX_SEATS as u64 + 1;
+
+/// Seats were not gathered.
+#[derive(Drop)]
+pub enum Gathered<L: Ledger, A: Allocator = Global> {
+    /// Some seat that is out is not among these, which are handed back.
+    Missing(Vec<Seat<L>, A>),
+}
+
+/// An array that is shared under a lock, with the account of its Commits: the book has how many there were, and each seat how many of
+/// them were made with it. Each event is made with a seat, and nothing else changes the array.
+#[derive(Drop)]
+pub struct Locked<L: Ledger, M: Map + Drop, A: Allocator + Copy = Global> {
+    array: Array<M, A>,
+    alloc: A,
+    book: Book<L>,
+    // What is left of the ledger's parts, with the Commits of the seats that came back.
+    rest: Share<L>,
+    out: u32,
+    stopping: bool,
+}
+
+impl<L: Ledger, M: Map + Drop, A: Allocator + Copy> Model for Locked<L, M, A> {
+    ghost use Rattle.std.specs.Prelude.{◌≡◌, ◌+◌, ◌≤◌};
+    ghost use Rattle.fa_core.specs.Array.{IsWhole, number_of, state_of};
+    ghost use Rattle.fa_machine.specs.Looks.{counts};
+    ghost use Rattle.fa_shared.specs.Codes.{locked_code};
+    ghost use Rattle.fa_shared.specs.Locked.{LockedState};
+
+    ghost Value = { LockedState };
+
+    ghost coded = { locked_code };
+
+    ghost view = { λ l. record {
+      core = state_of M.view l.array;
+      number = number_of l.array;
+      book = l.book.total;
+      out = l.out;
+      gathered = l.rest.amount;
+      stopping = l.stopping;
+    } };
+
+    ghost invariant = { λ l. IsWhole M.view l.array × (l.book.total ≡ (counts (state_of M.view l.array)).0)
+        × (l.rest.parts + l.out ≡ 257) × (l.out ≤ 256) };
+}
+
+impl<L: Ledger, M: Map + Drop, A: Allocator + Copy> Locked<L, M, A> {
+    ghost use Rattle.fa_core.specs.Array.{IsWhole, number_of as array_number, state_of};
+    ghost use Rattle.fa_core.specs.Calls.{FitsAnswer, Makes};
+    ghost use Rattle.fa_laws.specs.Counted.{HasHistory};
+    ghost use Rattle.fa_shared.specs.Locked.{LockedState};
+    ghost use Rattle.fa_shared.specs.Seats.{commits_with, number_of};
+
+    /// An array to be shared, of which no Commit was made yet, with a ledger of 257 parts that nothing else names.
+    pub fn new(alloc: A, blank: Blank, array: Array<M, A>) -> Locked<L, M, A>
+        requires name { blank.name ≡ L.name }
+        requires parts { (blank.parts ≡ L.parts) × (blank.parts ≡ 257) }
+        requires whole { IsWhole M.view array }
+        requires fresh { (rule_counts (state_of M.view array)).0 ≡ 0 }
+        ensures { result ≡ record {
+          core = state_of M.view array;
+          number = array_number array;
+          book = 0;
+          out = 0;
+          gathered = 0;
+          stopping = false;
+        } }
+    {
+        let (book, rest) = blank.open::<L>();
+        Locked {
+            array,
+            alloc,
+            book,
+            rest,
+            out: 0,
+            stopping: false,
+        }
+    }
+
+    /// One event of the array with its answer, made with a seat. Where a condition of the event does not hold of the array as it is now,
+    /// the answer is Stranger and nothing has changed.
+    pub fn step(&mut self, seat: &mut Seat<L>, call: Call<'_, A>) -> Answer<A>
+        ensures event { Makes self.old.core (number_of seat.old) call.entry result self.new.core }
+        ensures account { self.new ≡ record self.old { core = self.new.core; book = self.old.book + commits_of_answer result } }
+        ensures commits { commits_with seat.new ≡ commits_with seat.old + commits_of_answer result }
+        ensures number { number_of seat.new ≡ number_of seat.old }
+        ensures fits { FitsAnswer self.old.core.page_map.geometry self.old.number call.entry result }
+    {
+        let answer = self.array.step(self.alloc, seat.number, call);
+        if is_commit(&answer) {
+            self.book.add(&mut seat.share, 1);
+        }
+        answer
+    }
+
+    /// What holds of the array whenever the lock is free: its numbers are the replay of its history since the last fold, in which each
+    /// Start is legal, and the book is the count of its Commits.
+    pub fn account(&self)
+        ensures history { HasHistory self.now.core }
+        ensures book { self.now.book ≡ (rule_counts self.now.core).0 }
+    {
+        let _ = &self.array;
+    }
+
+    /// One more seat. None where 256 are out.
+    pub fn seat(&mut self) -> Option<Seat<L>>
+        ensures some { IfSome result (λ seat. (number_of seat ≡ self.old.out) × (commits_with seat ≡ 0)
+            × (self.new ≡ record self.old { out = self.old.out + 1 })) }
+        ensures none { IfNone result ((self.old.out ≡ 256) × (self.new ≡ self.old)) }
+    {
+        if self.out == MAX_SEATS {
+            return None;
+        }
+        let share = self.rest.split_off(1, 0);
+        let number = self.out;
+        self.out += 1;
+        Some(Seat { number, share })
+    }
+
+    /// All seats that are out come back, and the answer is how many Commits there were: the book, which is what was made with these seats
+    /// and with those that came back before. Refused, the seats are handed back and nothing has changed.
+    pub fn gather<B: Allocator>(&mut self, seats: Vec<Seat<L>, B>) -> Result<u64, Gathered<L, B>>
+        requires parts { L.parts ≡ 257 }
+        ensures sum { IfOk result (λ count. (count ≡ capped self.old.book)
+            × (self.old.book ≡ self.old.gathered + commits_together seats.items)
+            × (self.new ≡ record self.old { out = 0; gathered = self.old.book })) }
+        ensures missing { IfErr result (λ refused. (refused ≡ Gathered.Missing seats) × (self.new ≡ self.old)
+            × (length seats.items ≡ self.old.out → ⊥)) }
+    {
+        if seats.len() != self.out as usize {
+            return Err(Gathered::Missing(seats));
+        }
+        take_in(&mut self.rest, seats);
+        self.out = 0;
+        self.book.audit(&mut self.rest);
+        Ok(self.array.counts().0)
+    }
+
+    /// Whoever works for the array is to end.
+    pub fn stop(&mut self)
+        ensures { self.new ≡ record self.old { stopping = true } }
+    {
+        self.stopping = true;
+    }
+
+    /// Whether whoever works for the array is to end.
+    pub fn is_stopping(&self) -> bool
+        ensures { result ≡ self.now.stopping }
+    {
+        self.stopping
+    }
+
+    /// The array itself, for whoever only looks.
+    pub fn array(&self) -> &Array<M, A>
+        ensures whole { IsWhole M.view result.now }
+        ensures state { state_of M.view result.now ≡ self.now.core }
+        ensures number { array_number result.now ≡ self.now.number }
+    {
+        &self.array
+    }
+
+    /// The array, shared no more.
+    pub fn into_array(self) -> Array<M, A>
+        ensures whole { IsWhole M.view result }
+        ensures state { state_of M.view result ≡ self.core }
+        ensures number { array_number result ≡ self.number }
+    {
+        let Locked { array, .. } = self;
+        array
+    }
+}
+
+/// The seats' parts and Commits go to what is left of the ledger.
+fn take_in<L: Ledger, B: Allocator>(rest: &mut Share<L>, seats: Vec<Seat<L>, B>)
+    ensures parts { rest.new.parts ≡ rest.old.parts + length seats.items }
+    ensures amount { rest.new.amount ≡ rest.old.amount + commits_together seats.items }
+{
+    for seat in seats {
+        let Seat { share, .. } = seat;
+        rest.merge(share);
+    }
+}
+
+/// Whether a Commit was accepted.
+fn is_commit<A: Allocator>(answer: &Answer<A>) -> bool
+    ensures yes { result ≡ true → commits_of_answer answer.now ≡ 1 }
+    ensures no { result ≡ false → commits_of_answer answer.now ≡ 0 }
+{
+    matches!(answer, Answer::Commit(Ok(_)))
+}
