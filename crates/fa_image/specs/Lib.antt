@@ -13,3 +13,5 @@ pub mod Opened
 pub mod ReadBack
 pub mod Slots
 pub mod Untouched
+pub mod Wrong
+pub mod WrongMeets

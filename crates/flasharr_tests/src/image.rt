@@ -1,6 +1,6 @@
-//! Images on real files, in memory, and with a fuse.
+//! Images on real files, in memory, with a fuse, and one that lies.
 use crate::reopened::{left_and_opened, sealed_and_opened};
-use fa_image::{FileImage, FuseImage, Image, ImageFault, MemImage};
+use fa_image::{FileImage, FuseImage, Image, ImageFault, MemImage, WrongImage};
 use fa_tag::{Opened, Tag};
 use fa_types::{Die, Geometry, HEADER_BYTES, Kind, Page, Seq, Slot, TAG_BYTES};
 use std::fs::{OpenOptions, Permissions};
@@ -475,5 +475,19 @@ fn a_blown_fuse_leaves_the_image_alone(rt: HostRuntime) -> Result<(), Fail> {
     let mut inner = image.into_inner();
     ensure!(slot_is(&mut inner, 9, 0xff) && slot_is(&mut inner, 16, 16));
     ensure!(header_is(&mut inner, 0) && has_counted(&inner, 0, 0));
+    Ok(())
+}
+
+// Of the reads after arming the second gives each byte inverted, and no other does.
+#[test]
+fn one_read_lies(rt: HostRuntime) -> Result<(), Fail> {
+    let mut image = WrongImage::new(FuseImage::new(MemImage::new(rt.alloc(), shape()?)?));
+    program(&mut image, 16, &[0x5a; SLOT])?;
+    ensure!(slot_is(&mut image, 16, 0x5a) && !image.has_lied());
+    image.arm(2);
+    ensure!(slot_is(&mut image, 16, 0x5a) && !image.has_lied());
+    ensure!(slot_is(&mut image, 16, 0xa5) && image.has_lied());
+    ensure!(slot_is(&mut image, 16, 0x5a) && slot_is(&mut image, 9, 0xff));
+    ensure!(header_is(&mut image, 0) && has_counted(&image, 0, 0));
     Ok(())
 }
