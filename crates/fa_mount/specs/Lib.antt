@@ -1,0 +1,3 @@
+pub mod Begins
+pub mod MountsArray
+pub mod Standings
