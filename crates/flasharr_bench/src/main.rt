@@ -1,7 +1,9 @@
-//! Measures, by the name of a measurement. Without a word it measures nothing and prints its usage.
+//! Measures, or hashes messages for a comparison, by the name of a task. Without a word it does nothing and prints its
+//! usage.
 #![tactic(auto)]
 
 mod client;
+mod digests;
 mod mount;
 mod plans;
 mod session;
@@ -10,9 +12,9 @@ mod words;
 
 use std::process::ExitCode;
 use std::{env, io};
-use words::{Measurement, measurement_named};
+use words::{Task, task_named};
 
-/// The status where the words name no measurement.
+/// The status where the words name no task.
 const FAULTY: u8 = 2;
 
 fn main(rt: HostRuntime) -> io::Result<ExitCode> {
@@ -22,14 +24,15 @@ fn main(rt: HostRuntime) -> io::Result<ExitCode> {
             tell_usage(&rt)?;
             return Ok(ExitCode::SUCCESS);
         }
-        [word] => measurement_named(word.as_str()),
+        [word] => task_named(word.as_str()),
         _ => None,
     };
     match wanted {
-        Some(Measurement::Mount) => mount::measure(&rt)?,
-        Some(Measurement::Plan) => plans::measure(&rt)?,
-        Some(Measurement::Session) => session::measure(&rt)?,
-        Some(Measurement::Slots) => slots::measure(&rt)?,
+        Some(Task::Digests) => digests::tell(&rt)?,
+        Some(Task::Mount) => mount::measure(&rt)?,
+        Some(Task::Plan) => plans::measure(&rt)?,
+        Some(Task::Session) => session::measure(&rt)?,
+        Some(Task::Slots) => slots::measure(&rt)?,
         None => {
             tell_usage(&rt)?;
             return Ok(ExitCode::from(FAULTY));
@@ -39,5 +42,5 @@ fn main(rt: HostRuntime) -> io::Result<ExitCode> {
 }
 
 fn tell_usage(rt: &impl Print) -> io::Result<()> {
-    println!(rt; "usage: flasharr_bench mount | plan | session | slots")
+    println!(rt; "usage: flasharr_bench digests | mount | plan | session | slots")
 }

@@ -1,31 +1,35 @@
-//! The names of the measurements.
+//! The names of the tasks.
 ghost use Rattle.std.specs.Prelude.{◌≡◌, ◌↔◌, Some, codes};
 
-/// Something that can be measured.
+/// Something that the program can do.
 #[derive(Clone, Copy, Debug, PartialEq, Eq)]
-pub enum Measurement {
-    /// Images are mounted.
+pub enum Task {
+    /// Messages are hashed.
+    Digests,
+    /// Mounting images is measured.
     Mount,
-    /// A batch is planned, and the plan is checked.
+    /// Planning a batch, and checking the plan, is measured.
     Plan,
-    /// READs and WRITEs are served.
+    /// Serving READs and WRITEs is measured.
     Session,
-    /// Slots are sealed and opened.
+    /// Sealing and opening slots is measured.
     Slots,
 }
 
-/// The measurement of this name.
-pub fn measurement_named(name: &str) -> Option<Measurement>
-    ensures mount { (result ≡ Some Measurement.Mount) ↔ (name.now ≡ codes "mount") }
-    ensures plan { (result ≡ Some Measurement.Plan) ↔ (name.now ≡ codes "plan") }
-    ensures session { (result ≡ Some Measurement.Session) ↔ (name.now ≡ codes "session") }
-    ensures slots { (result ≡ Some Measurement.Slots) ↔ (name.now ≡ codes "slots") }
+/// The task of this name.
+pub fn task_named(name: &str) -> Option<Task>
+    ensures digests { (result ≡ Some Task.Digests) ↔ (name.now ≡ codes "digests") }
+    ensures mount { (result ≡ Some Task.Mount) ↔ (name.now ≡ codes "mount") }
+    ensures plan { (result ≡ Some Task.Plan) ↔ (name.now ≡ codes "plan") }
+    ensures session { (result ≡ Some Task.Session) ↔ (name.now ≡ codes "session") }
+    ensures slots { (result ≡ Some Task.Slots) ↔ (name.now ≡ codes "slots") }
 {
     match name {
-        "mount" => Some(Measurement::Mount),
-        "plan" => Some(Measurement::Plan),
-        "session" => Some(Measurement::Session),
-        "slots" => Some(Measurement::Slots),
+        "digests" => Some(Task::Digests),
+        "mount" => Some(Task::Mount),
+        "plan" => Some(Task::Plan),
+        "session" => Some(Task::Session),
+        "slots" => Some(Task::Slots),
         _ => None,
     }
 }
