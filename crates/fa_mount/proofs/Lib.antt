@@ -1,7 +1,13 @@
 pub mod Arrays
+pub mod Bits
+pub mod Called
 pub mod Few
 pub mod Greatest
+pub mod Images
+pub mod Lists
+pub mod Lost
 pub mod Mounted
 pub mod Numbers
 pub mod Room
 pub mod Spares
+pub mod Tried
