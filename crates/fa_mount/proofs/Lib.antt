@@ -1,6 +1,7 @@
 pub mod Arrays
 pub mod Bits
 pub mod Called
+pub mod Cuts
 pub mod Few
 pub mod Greatest
 pub mod Images
@@ -9,5 +10,6 @@ pub mod Lost
 pub mod Mounted
 pub mod Numbers
 pub mod Room
+pub mod Seen
 pub mod Spares
 pub mod Tried
