@@ -1,7 +1,9 @@
 pub mod Arrays
+pub mod Become
 pub mod Bits
 pub mod Called
 pub mod Cuts
+pub mod Ended
 pub mod Few
 pub mod Greatest
 pub mod Images

@@ -76,29 +76,29 @@ pub fn close_clean<M: Map + Drop, A: Allocator + Clone, I: Image>(
     if mounted.array.is_busy() {
         return Err(CloseFault::Busy);
     }
-    close_idle(mounted, images)
+    close_idle(&mounted.array, mounted.dies.as_slice(), images)
 }
 
 /// The same of an array with nothing open.
-fn close_idle<M: Map + Drop, A: Allocator + Clone, I: Image>(
-    mounted: &MountedArray<M, A>,
+fn close_idle<M: Map, A: Allocator + Clone, I: Image>(
+    array: &Array<M, A>,
+    dies: &[Standing],
     images: &mut [I],
 ) -> Result<u64, CloseFault>
-    requires whole { IsWhole M.view mounted.now.array }
-    requires apart { AreApart mounted.now.dies.items }
-    requires have { HaveImages mounted.now.dies.items (is_live (state_of M.view mounted.now.array).page_map) (length images.old) }
-    ensures { Ends I.view I.made (state_of M.view mounted.now.array) (number_of mounted.now.array) mounted.now.dies.items
-        images.old images.new result }
+    requires whole { IsWhole M.view array.now }
+    requires apart { AreApart dies.now }
+    requires have { HaveImages dies.now (is_live (state_of M.view array.now).page_map) (length images.old) }
+    ensures { Ends I.view I.made (state_of M.view array.now) (number_of array.now) dies.now images.old images.new result }
 {
     let mut told = Told {
-        geometry: mounted.array.geometry(),
-        array: mounted.array.array_id(),
-        epoch: mounted.array.epoch(),
-        mask: live_mask(&mounted.array),
+        geometry: array.geometry(),
+        array: array.array_id(),
+        epoch: array.epoch(),
+        mask: live_mask(array),
     };
     let mut marked = 0;
     loop {
-        match take_turn(&mounted.array, mounted.dies.as_slice(), &told, &mut marked, images) {
+        match take_turn(array, dies, &told, &mut marked, images) {
             Turn::Closed => return Ok(told.mask),
             Turn::PageLost(page) => return Err(CloseFault::Lost(page)),
             Turn::NoDie => return Err(CloseFault::NoDieLive),
