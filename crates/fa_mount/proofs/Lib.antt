@@ -12,6 +12,6 @@ pub mod Lost
 pub mod Mounted
 pub mod Numbers
 pub mod Room
-pub mod Seen
 pub mod Spares
+pub mod Taken
 pub mod Tried

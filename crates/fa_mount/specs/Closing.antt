@@ -1,11 +1,12 @@
 -- What closing an array comes to.
-use Rattle.std.specs.Prelude.{◌≡◌, ◌⊎◌, ℕ, ◌+◌, ◌<◌, Bool, true, false, not, ◌&&◌, MatchBool, List, Option, Some, None, is_some, find}
+use Rattle.std.specs.Prelude.{◌≡◌, ◌⊎◌, ℕ, ◌+◌, ◌<◌, Bool, true, false, not, ◌&&◌, MatchBool, List, [], ◌∷◌, ◌++◌, Option, Some, None, is_some, find}
 use Rattle.std.specs.Prelude.{Result, Ok, Err}
 use Rattle.std.specs.FinMap.{get}
-use Rattle.std.specs.List.{count_by, list_any}
+use Rattle.std.specs.List.{AllByRecursion, count_by, list_any}
 use Rattle.fa_headers.specs.declared.judging.Standing.{Standing}
 use Rattle.fa_headers.specs.Rules.{is_in}
-use Rattle.fa_image.specs.Image.{ImageState, ImageCall, WritingHeader, Syncing, ImageAnswer, Done, one_more}
+use Rattle.fa_image.specs.Image.{ImageCall, WritingHeader, Syncing, ImageAnswer, Done, Refused}
+use Rattle.fa_image.specs.declared.fault.ImageFault.{ImageFault}
 use Rattle.fa_machine.specs.Copies.{holds_page}
 use Rattle.fa_machine.specs.Looks.{is_busy}
 use Rattle.fa_machine.specs.Maps.{below}
@@ -55,17 +56,10 @@ header_in geometry array epoch mask clean die = record {
 abbrev pub writing_in : Geometry → List ℕ → ℕ → ℕ → Bool → ℕ → ImageCall
 writing_in geometry array epoch mask clean die = WritingHeader (header_bytes 2 (header_in geometry array epoch mask clean die))
 
--- nothing of the image has changed but how many syncs it has counted
-abbrev pub IsOnlySynced : ImageState → ImageState → Type 0
-IsOnlySynced before after = after ≡ record before { syncs = after.syncs }
-
--- nothing of the image has changed but its header and that count, and it refused no call
-abbrev pub IsKept : ImageState → ImageState → Type 0
-IsKept before after = after ≡ record before { header = after.header; syncs = after.syncs }
-
--- the same, but it refused one call
-abbrev pub IsRefusedOnce : ImageState → ImageState → Type 0
-IsRefusedOnce before after = after ≡ record before { header = after.header; syncs = after.syncs; faults = one_more before.faults }
+-- A call of a die's image before an epoch: a sync, or the write of a clean header of an earlier epoch.
+abbrev pub IsEarlier : Geometry → List ℕ → ℕ → ℕ → ImageCall → Type 0
+IsEarlier geometry array epoch die call =
+    (call ≡ Syncing) ⊎ ((earlier mask : ℕ) × (earlier < epoch) × (call ≡ writing_in geometry array earlier mask true die))
 
 -- The dies that are left are live ones, and the epoch rose by one for each that is not.
 pub record AreLeft (core : Core) (epoch mask : ℕ) : Type 0 where
@@ -73,51 +67,71 @@ pub record AreLeft (core : Core) (epoch mask : ℕ) : Type 0 where
   pub rose : let dies = core.page_map.geometry.dies in
       epoch + how_many dies (is_in mask) ≡ core.epoch + how_many dies (is_live core.page_map)
 
-module _ {I : Type 0} (view : I → ImageState) (made : I → ImageCall → ImageAnswer → I → Type 0) where
-  -- An image was synced, told clean, and synced again. No call that came before was refused.
-  pub record IsClosed (mark : ImageCall) (before after : I) : Type 0 where
+module _ {I : Type 0} (made : I → ImageCall → ImageAnswer → I → Type 0) where
+  -- These calls of an image were accepted, one after the other, and it was not called otherwise.
+  abbrev pub AreAccepted : List ImageCall → I → I → Type 0
+  AreAccepted [] before after = after ≡ before
+  AreAccepted (call ∷ calls) before after = (between : I) × made before call Done between × AreAccepted calls between after
+
+  -- calls of this kind alone were made, and were accepted
+  abbrev pub Took : (ImageCall → Type 0) → I → I → Type 0
+  Took kind before after = (calls : List ImageCall) × AllByRecursion kind calls × AreAccepted calls before after
+
+  -- An image refused a call, and that was its last one.
+  pub record IsOut (kind : ImageCall → Type 0) (before after : I) : Type 0 where
     pub start : I
-    pub synced : I
-    pub told : I
-    pub kept : IsKept (view before) (view start)
-    pub first_sync : made start Syncing Done synced
-    pub clean : made synced mark Done told
-    pub last_sync : made told Syncing Done after
+    pub earlier : Took kind before start
+    pub call : ImageCall
+    pub is_kind : kind call
+    pub fault : ImageFault
+    pub refused : made start call (Refused fault) after
+
+  -- After what came before an image was synced, told clean, and synced again.
+  pub record IsClosed (kind : ImageCall → Type 0) (mark : ImageCall) (before after : I) : Type 0 where
+    pub earlier : List ImageCall
+    pub are_earlier : AllByRecursion kind earlier
+    pub accepted : AreAccepted (earlier ++ Syncing ∷ mark ∷ Syncing ∷ []) before after
 
   -- An image was only synced, or the last call of it was the write of a header without the mark, however that ended.
-  abbrev pub IsUnmarked : ImageCall → I → I → Type 0
-  IsUnmarked unmark before after =
-      IsOnlySynced (view before) (view after)
-      ⊎ ((start : I) × (answer : ImageAnswer) × IsKept (view before) (view start) × made start unmark answer after)
-
-  -- What has become of the image of a die: it was not called where the die was not live, it refused one call where the die is not
-  -- left, and is as is said where the die is left.
-  abbrev pub HasBecome : MapState → ℕ → (ℕ → I → I → Type 0) → ℕ → I → I → Type 0
-  HasBecome m mask is_left die before after =
-      MatchBool (is_live m die) (MatchBool (is_in mask die) (is_left die before after) (IsRefusedOnce (view before) (view after)))
-      (after ≡ before)
+  abbrev pub IsUnmarked : (ImageCall → Type 0) → ImageCall → I → I → Type 0
+  IsUnmarked kind unmark before after =
+      Took (λ call. call ≡ Syncing) before after
+      ⊎ ((start : I) × (answer : ImageAnswer) × Took kind before start × made start unmark answer after)
 
   module _ (core : Core) (array : List ℕ) (dies : List Standing) (before after : List I) where
+    -- What has become of the image of a die: it was not called where the die was not live, it refused a call where the die is not
+    -- left, and is as is said where the die is left.
+    abbrev pub HasBecome : ℕ → ℕ → ((ImageCall → Type 0) → ℕ → I → I → Type 0) → ℕ → I → I → Type 0
+    HasBecome epoch mask is_left die x y =
+        let kind = IsEarlier core.page_map.geometry array epoch die in
+        MatchBool (is_live core.page_map die) (MatchBool (is_in mask die) (is_left kind die x y) (IsOut kind x y)) (y ≡ x)
+
+    -- the same of all images
+    abbrev pub HaveBecome : ℕ → ℕ → ((ImageCall → Type 0) → ℕ → I → I → Type 0) → Type 0
+    HaveBecome epoch mask is_left = ByDie dies (HasBecome epoch mask is_left) before after
+
     -- The array was closed: its pages are on the dies that are left, and each of these was told so.
     pub record IsClosedClean (mask : ℕ) : Type 0 where
       pub epoch : ℕ
       pub left : AreLeft core epoch mask
       pub some : 0 < mask
       pub none_lost : lowest_lost core.page_map mask ≡ None
-      pub images : ByDie dies (HasBecome core.page_map mask (λ die. IsClosed (writing_in core.page_map.geometry array epoch mask true die))) before after
+      pub images : HaveBecome epoch mask (λ kind die. IsClosed kind (writing_in core.page_map.geometry array epoch mask true die))
 
-    -- A page is lost, and no mark stands.
+    -- A page is lost, and no mark stands on the dies that are left.
     pub record IsLostAt (page : ℕ) : Type 0 where
       pub epoch : ℕ
       pub mask : ℕ
       pub left : AreLeft core epoch mask
       pub lowest : lowest_lost core.page_map mask ≡ Some page
-      pub images : ByDie dies (HasBecome core.page_map mask (λ die. IsUnmarked (writing_in core.page_map.geometry array epoch mask false die))) before after
+      pub images : HaveBecome epoch mask (λ kind die. IsUnmarked kind (writing_in core.page_map.geometry array epoch mask false die))
 
     -- No page was written, and each live die refused a call.
     pub record IsNoneLive : Type 0 where
+      pub epoch : ℕ
+      pub left : AreLeft core epoch 0
       pub none_lost : lowest_lost core.page_map 0 ≡ None
-      pub images : ByDie dies (HasBecome core.page_map 0 (λ die x y. ⊥)) before after
+      pub images : HaveBecome epoch 0 (λ kind die x y. ⊥)
 
     -- what closing comes to where nothing is open
     abbrev pub Ends : Result ℕ CloseFault → Type 0
@@ -128,5 +142,4 @@ module _ {I : Type 0} (view : I → ImageState) (made : I → ImageCall → Imag
 
     -- what closing comes to: where something is open no image is called
     abbrev pub Closes : Result ℕ CloseFault → Type 0
-    Closes result =
-        MatchBool (is_busy core) ((result ≡ Err Busy) × (after ≡ before)) (Ends result)
+    Closes result = MatchBool (is_busy core) ((result ≡ Err Busy) × (after ≡ before)) (Ends result)

@@ -70,7 +70,7 @@ pub fn close_clean<M: Map + Drop, A: Allocator + Clone, I: Image>(
     requires whole { IsWhole M.view mounted.now.array }
     requires apart { AreApart mounted.now.dies.items }
     requires have { HaveImages mounted.now.dies.items (is_live (state_of M.view mounted.now.array).page_map) (length images.old) }
-    ensures { Closes I.view I.made (state_of M.view mounted.now.array) (number_of mounted.now.array) mounted.now.dies.items
+    ensures { Closes I.made (state_of M.view mounted.now.array) (number_of mounted.now.array) mounted.now.dies.items
         images.old images.new result }
 {
     if mounted.array.is_busy() {
@@ -88,7 +88,7 @@ fn close_idle<M: Map, A: Allocator + Clone, I: Image>(
     requires whole { IsWhole M.view array.now }
     requires apart { AreApart dies.now }
     requires have { HaveImages dies.now (is_live (state_of M.view array.now).page_map) (length images.old) }
-    ensures { Ends I.view I.made (state_of M.view array.now) (number_of array.now) dies.now images.old images.new result }
+    ensures { Ends I.made (state_of M.view array.now) (number_of array.now) dies.now images.old images.new result }
 {
     let mut told = Told {
         geometry: array.geometry(),
@@ -121,7 +121,7 @@ fn take_turn<M: Map, A: Allocator + Clone, I: Image>(
     requires apart { AreApart dies.now }
     requires have { HaveImages dies.now (rule_in told.now.mask) (length images.old) }
     requires told { IsTold told.now }
-    ensures { IsTurn I.view I.made dies.now told.now marked.old marked.new images.old images.new (state_of M.view array.now).page_map
+    ensures { IsTurn I.made dies.now told.now marked.old marked.new images.old images.new (state_of M.view array.now).page_map
         result }
 {
     if let Some(page) = lost_page(array, told.mask) {
@@ -147,7 +147,7 @@ fn tell_all<I: Image>(
     requires apart { AreApart dies.now }
     requires have { HaveImages dies.now (rule_in told.now.mask) (length images.old) }
     requires told { IsTold told.now }
-    ensures { IsToldAll I.view I.made dies.now told.now marked.old marked.new images.old images.new result }
+    ensures { IsToldAll I.made dies.now told.now marked.old marked.new images.old images.new result }
 {
     sync_all(images, dies, told)?;
     mark_all(images, dies, told, marked)?;

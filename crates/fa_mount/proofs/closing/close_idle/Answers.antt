@@ -29,7 +29,8 @@ loop-page-init g c =
             (λ die is. let low = below die (sym (c.live_mask.ensures.live die) ∙ is) in omega (arith, low, dies_same));
         number = number;
       };
-      images = called_at_first g.I.Image.view g.I.Image.made core c.args.dies.now c.args.images.now mask 0 c.live_mask.ensures.live;
+      images = called_at_first g.I.Image.made core (number_of c.args.array.now) c.args.dies.now c.args.images.now c.epoch.result mask 0
+          c.live_mask.ensures.live;
     }
 
 pub take_turn-requires-clause-have : goal.take_turn-requires-clause-have
@@ -40,21 +41,21 @@ take_turn-requires-clause-have g c =
 pub returns-in-Closed : goal.returns-in-Closed
 returns-in-Closed g c =
     let core = state_of g.M.Map.view c.args.array.now in
-    closed_clean g.I.Image.view g.I.Image.made core c.args.dies.now c.args.images.now (number_of c.args.array.now) c.loop-page.told
+    closed_clean g.I.Image.made core (number_of c.args.array.now) c.args.dies.now c.args.images.now c.loop-page.told
     c.loop-page.marked c.loop-page.images c.take_turn.new.images c.loop-page.invariant.left c.loop-page.invariant.images
     c.loop-page.invariant.shape c.loop-page.invariant.number c.in-Closed.ensures.0 c.in-Closed.ensures.1 c.in-Closed.ensures.2
 
 pub returns-in-PageLost : goal.returns-in-PageLost
 returns-in-PageLost g c =
     let core = state_of g.M.Map.view c.args.array.now in
-    lost_at g.I.Image.view g.I.Image.made core c.args.dies.now c.args.images.now (number_of c.args.array.now) c.loop-page.told
+    lost_at g.I.Image.made core (number_of c.args.array.now) c.args.dies.now c.args.images.now c.loop-page.told
     c.loop-page.marked c.loop-page.images c.take_turn.new.images c.loop-page.invariant.left c.loop-page.invariant.images
     c.loop-page.invariant.shape c.loop-page.invariant.number c.in-PageLost.page.0 c.in-PageLost.ensures.0 c.in-PageLost.ensures.1
 
 pub returns-in-NoDie : goal.returns-in-NoDie
 returns-in-NoDie g c =
     let core = state_of g.M.Map.view c.args.array.now in
-    none_live g.I.Image.view g.I.Image.made core c.args.dies.now c.args.images.now (number_of c.args.array.now) c.loop-page.told
+    none_live g.I.Image.made core (number_of c.args.array.now) c.args.dies.now c.args.images.now c.loop-page.told
     c.loop-page.marked c.loop-page.images c.take_turn.new.images c.loop-page.invariant.left c.loop-page.invariant.images
     c.in-NoDie.ensures.0 c.in-NoDie.ensures.1 c.in-NoDie.ensures.2
 
@@ -101,6 +102,7 @@ loop-page-preserved g c =
         inside = omega (arith, c.without.ensures.less, c.loop-page.invariant.told.inside);
         number = c.loop-page.invariant.told.number;
       };
-      images = called_then g.I.Image.view g.I.Image.made core c.args.dies.now c.args.images.now (number_of c.args.array.now) told
-          c.loop-page.marked c.loop-page.images c.take_turn.new.images left c.loop-page.invariant.images rest c.take_turn.new.marked out less cut;
+      images = called_then g.I.Image.made core (number_of c.args.array.now) c.args.dies.now c.args.images.now told
+          c.loop-page.marked c.loop-page.images c.take_turn.new.images left c.loop-page.invariant.images c.loop-page.invariant.shape
+          c.loop-page.invariant.number rest c.take_turn.new.marked out less cut;
     }

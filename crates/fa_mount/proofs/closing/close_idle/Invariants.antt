@@ -13,7 +13,7 @@ invariant-loop-page g l =
       number : l.told.array ≡ number_of l.array;
       left : AreLeft core l.told.epoch l.told.mask;
       told : IsTold l.told;
-      images : AreCalled g.I.Image.view g.I.Image.made core l.dies l.fn.images l.told.mask l.marked l.images;
+      images : AreCalled g.I.Image.made core (number_of l.array) l.dies l.fn.images l.told.epoch l.told.mask l.marked l.images;
     }
 
 abbrev pub decreases-loop-page : goal.decreases-loop-page
