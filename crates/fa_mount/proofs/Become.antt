@@ -1,11 +1,10 @@
 -- What has become of the image of a die since closing began, turn by turn.
-use Rattle.std.proofs.Common.{◌≡◌, ◌∙◌, ◌==◌, ◌&&◌, ◌+◌, ◌<◌, not, ℕ, Bool, true, false, List, [], ◌∷◌, refl, ap, sym, subst, arith, inl, inr}
+use Rattle.std.proofs.Common.{◌≡◌, ◌∙◌, ◌&&◌, not, Bool, true, false, [], ◌∷◌, refl, sym, subst, inl, inr}
 use Rattle.std.proofs.lemmas.Bool.{false≢true, true≢false}
 use Rattle.std.specs.Bool.{MatchBool}
-use Rattle.fa_headers.specs.Rules.{is_in}
 use Rattle.fa_image.specs.Image.{ImageCall, Syncing, ImageAnswer}
 use Rattle.fa_mount.proofs.Taken.{accepted_both, called_both, called_same, called_took, called_weaker, out_weaker, took_then_out, took_weaker}
-use Rattle.fa_mount.specs.Closing.{AreAccepted, IsClosed, IsOut, IsUnmarked, Took}
+use Rattle.fa_mount.specs.Closing.{AreAccepted, IsClosed, IsOut, IsUnmarked}
 use Rattle.fa_mount.specs.Turns.{IsCalled}
 
 module _ {I : Type 0} (made : I → ImageCall → ImageAnswer → I → Type 0) where

@@ -1,5 +1,5 @@
 -- One call of each die of a mask, the dies rising.
-use Rattle.std.proofs.Common.{ℕ, ◌+◌, ◌<◌, ◌≤◌, ◌≡◌, ◌∙◌, ◌==◌, ◌&&◌, ◌||◌, Bool, true, false, nat_lt, cond, List, refl, ap, sym, subst, arith, inl, inr, Ok, Err, eq-eqb}
+use Rattle.std.proofs.Common.{ℕ, ◌+◌, ◌<◌, ◌≡◌, ◌∙◌, ◌==◌, ◌&&◌, ◌||◌, Bool, true, false, nat_lt, cond, List, refl, ap, sym, subst, arith, inl, inr, eq-eqb}
 use Rattle.std.proofs.lemmas.Bool.{and_from, and_left, and_right, cases_Bool, cases_eq, le-ltb, lt-ltb, ne_eqb}
 use Rattle.fa_headers.specs.Rules.{is_in}
 use Rattle.fa_headers.specs.declared.judging.Standing.{Standing}

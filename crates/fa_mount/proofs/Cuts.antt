@@ -9,7 +9,7 @@ use Rattle.fa_image.specs.Image.{ImageCall, Syncing, ImageAnswer, Done}
 use Rattle.fa_mount.specs.Closing.{AreAccepted, IsOut, Took}
 use Rattle.fa_mount.specs.Phases.{AreMade, ByDie, Makes, Went, NotMade, WasAccepted, WasRefused, called, called_to, each_called, is_accepted}
 use Rattle.fa_mount.specs.Told.{writing}
-use Rattle.fa_mount.specs.Turns.{AreCut, AreDone, IsCalled, IsCut, IsOfTurn, IsToldAll}
+use Rattle.fa_mount.specs.Turns.{AreCut, IsCalled, IsCut, IsOfTurn, IsToldAll}
 use Rattle.fa_mount.specs.declared.telling.Told.{Told}
 use Rattle.fa_types.specs.declared.numbers.Die.{Die}
 use Rattle.fa_mount.proofs.Images.{after_that, weaker}

@@ -1,18 +1,18 @@
 -- The dies that are left, turn by turn, and what closing ends with.
-use Rattle.std.proofs.Common.{◌≡◌, ◌∙◌, ◌==◌, ◌&&◌, ◌⊎◌, ◌+◌, ◌*◌, ◌<◌, ◌≤◌, ◌^◌, not, ℕ, Bool, true, false, List, Some, None, length, refl, ap, inl, inr, sym, subst, arith}
+use Rattle.std.proofs.Common.{◌≡◌, ◌∙◌, ◌==◌, ◌&&◌, ◌+◌, ◌*◌, ◌<◌, ◌^◌, not, ℕ, Bool, true, false, List, Some, None, length, ap, inl, inr, sym, subst, arith}
 use Rattle.std.proofs.lemmas.Bool.{and_parts}
-use Rattle.std.specs.FinMap.{contains_key, len}
+use Rattle.std.specs.FinMap.{len}
 use Rattle.fa_headers.specs.Rules.{is_in}
 use Rattle.fa_headers.specs.declared.judging.Standing.{Standing}
 use Rattle.fa_image.specs.Image.{ImageCall, Syncing, ImageAnswer}
-use Rattle.fa_machine.specs.State.{Core, MapState, is_live}
+use Rattle.fa_machine.specs.State.{Core, is_live}
 use Rattle.fa_mount.proofs.Become.{Become, begun_by, cut_by, done_by, lost_by, none_by}
-use Rattle.fa_mount.proofs.Bits.{count_at_most, count_less, count_same, fits_below, in_below, none_in_zero}
+use Rattle.fa_mount.proofs.Bits.{count_at_most, count_less, count_same, in_below, none_in_zero}
 use Rattle.fa_mount.proofs.Images.{after_that, unchanged, weaker}
 use Rattle.fa_mount.specs.Closing.{AreLeft, HasBecome, IsClosed, IsClosedClean, IsEarlier, IsLostAt, IsNoneLive, IsUnmarked, how_many, lowest_lost, writing_in}
 use Rattle.fa_mount.specs.Phases.{ByDie}
-use Rattle.fa_mount.specs.Standings.{HaveImages, place_on}
-use Rattle.fa_mount.specs.Told.{IsTold, writing}
+use Rattle.fa_mount.specs.Standings.{HaveImages}
+use Rattle.fa_mount.specs.Told.{writing}
 use Rattle.fa_mount.specs.Turns.{AreCut, AreDone, AreUnmarked, IsCalled, IsCut, IsOfTurn}
 use Rattle.fa_mount.specs.declared.telling.Told.{Told}
 use Rattle.fa_types.specs.declared.geometry.Geometry.{Geometry}

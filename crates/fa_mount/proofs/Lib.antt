@@ -12,6 +12,7 @@ pub mod Lost
 pub mod Mounted
 pub mod Numbers
 pub mod Room
+pub mod Same
 pub mod Spares
 pub mod Taken
 pub mod Tried

@@ -1,7 +1,7 @@
 -- Whether one of the numbers that follow each other passes.
-use Rattle.std.proofs.Common.{ℕ, zero, suc, ◌+◌, ◌<◌, ◌≤◌, ◌≡◌, ◌||◌, Bool, true, false, ap, refl, sym, ◌∙◌, arith, inl, inr}
+use Rattle.std.proofs.Common.{ℕ, zero, suc, ◌+◌, ◌<◌, ◌≤◌, ◌≡◌, Bool, true, false, ap, refl, sym, ◌∙◌, arith, inl, inr}
 use Rattle.std.proofs.Common.{Option, Some, None, is_some, option_map}
-use Rattle.std.proofs.lemmas.Bool.{cases_Bool, cases_eq, or_from, or_left, or_right}
+use Rattle.std.proofs.lemmas.Bool.{cases_eq, or_from, or_left, or_right}
 use Rattle.std.specs.List.{list_any, range_with_len}
 
 none_from : (test : ℕ → Bool) (a n : ℕ) → ((k : ℕ) → a ≤ k → k < a + n → test k ≡ false) → list_any test (range_with_len a n) ≡ false

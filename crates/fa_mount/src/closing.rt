@@ -1,5 +1,5 @@
 //! Closing an array: the images of its live dies are told that they hold all there is.
-ghost use Rattle.std.specs.Prelude.{◌≡◌, ◌+◌, ◌<◌, ◌≤◌, ◌^◌, length};
+ghost use Rattle.std.specs.Prelude.{◌≡◌, ◌+◌, ◌<◌, ◌≤◌, ◌^◌, length, map};
 ghost use Rattle.fa_core.specs.Array.{IsWhole, number_of, state_of};
 ghost use Rattle.fa_headers.specs.Rules.{is_in as rule_in};
 ghost use Rattle.fa_machine.specs.State.{is_live};
@@ -70,8 +70,10 @@ pub fn close_clean<M: Map + Drop, A: Allocator + Clone, I: Image>(
     requires whole { IsWhole M.view mounted.now.array }
     requires apart { AreApart mounted.now.dies.items }
     requires have { HaveImages mounted.now.dies.items (is_live (state_of M.view mounted.now.array).page_map) (length images.old) }
-    ensures { Closes I.made (state_of M.view mounted.now.array) (number_of mounted.now.array) mounted.now.dies.items
+    ensures closes { Closes I.made (state_of M.view mounted.now.array) (number_of mounted.now.array) mounted.now.dies.items
         images.old images.new result }
+    ensures slots { map (λ image. (I.view image).slots) images.new ≡ map (λ image. (I.view image).slots) images.old }
+    ensures honest { map I.honest images.new ≡ map I.honest images.old }
 {
     if mounted.array.is_busy() {
         return Err(CloseFault::Busy);

@@ -26,7 +26,10 @@ pub(crate) fn live_mask<M: Map, A: Allocator + Clone>(array: &Array<M, A>) -> u6
 }
 
 /// The lowest page that was written and that no die of the mask holds.
-pub(crate) fn lost_page<M: Map, A: Allocator + Clone>(array: &Array<M, A>, mask: u64) -> Option<Page>
+pub(crate) fn lost_page<M: Map, A: Allocator + Clone>(
+    array: &Array<M, A>,
+    mask: u64,
+) -> Option<Page>
     ensures { option_map (λ page. page.0) result ≡ lowest_lost (state_of M.view array.now).page_map mask }
 {
     for page in 0..array.geometry().pages {

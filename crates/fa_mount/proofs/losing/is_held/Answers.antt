@@ -1,4 +1,4 @@
-use Rattle.std.proofs.Common.{◌&&◌, ap, arith, below_more, sym, ◌∙◌, Bool, ℕ}
+use Rattle.std.proofs.Common.{◌&&◌, ap, arith, below_more, sym, ◌∙◌}
 use Rattle.fa_core.specs.Array.{state_of}
 use Rattle.fa_headers.specs.Rules.{is_in}
 use Rattle.fa_machine.specs.Copies.{holds_page}

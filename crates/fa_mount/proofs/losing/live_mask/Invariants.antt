@@ -1,4 +1,4 @@
-use Rattle.std.proofs.Common.{◌≡◌, ◌<◌, ◌&&◌, ℕ, nat_lt}
+use Rattle.std.proofs.Common.{◌≡◌, ◌&&◌, ℕ, nat_lt}
 use Rattle.fa_core.specs.Array.{state_of}
 use Rattle.fa_headers.specs.Rules.{is_in}
 use Rattle.fa_machine.specs.State.{is_live}

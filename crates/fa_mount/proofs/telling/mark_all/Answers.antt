@@ -1,4 +1,4 @@
-use Rattle.std.proofs.Common.{◌+◌, ◌||◌, ◌≡◌, ap, arith, sym, subst, true, ◌∙◌, ℕ, List}
+use Rattle.std.proofs.Common.{◌+◌, ap, arith, sym, subst, true, ◌∙◌, ℕ}
 use Rattle.fa_headers.specs.Rules.{is_in}
 use Rattle.fa_image.specs.Image.{ImageCall}
 use Rattle.fa_mount.proofs.Bits.{in_below}

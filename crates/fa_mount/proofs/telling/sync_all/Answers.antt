@@ -1,5 +1,4 @@
-use Rattle.std.proofs.Common.{◌+◌, arith, sym, subst, ◌∙◌, ℕ, List}
-use Rattle.fa_headers.specs.Rules.{is_in}
+use Rattle.std.proofs.Common.{◌+◌, arith, sym, subst, ◌∙◌, ℕ}
 use Rattle.fa_image.specs.Image.{ImageCall, Syncing}
 use Rattle.fa_mount.proofs.Bits.{in_below}
 use Rattle.fa_mount.proofs.Called.{made_all, made_more, made_past, made_refused}

@@ -1,4 +1,3 @@
-use Rattle.std.proofs.Common.{length}
 use Rattle.fa_image.specs.Image.{Syncing}
 use Rattle.fa_mount.specs.Phases.{AreMade, called_below}
 use Rattle.fa_mount.proofs.telling.sync_all.Given as goal

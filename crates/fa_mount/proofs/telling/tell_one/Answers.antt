@@ -1,4 +1,4 @@
-use Rattle.std.proofs.Common.{arith, refl, sym, ◌<◌, ◌≡◌, ◌∙◌, length, Some, Ok, Err, List, Result, ℕ, subst, get_or, rules}
+use Rattle.std.proofs.Common.{arith, refl, sym, ◌<◌, ◌≡◌, ◌∙◌, length, Ok, Err, List, Result, ℕ, subst, get_or}
 use Rattle.std.proofs.lemmas.Bool.{eqb-true}
 use Rattle.std.proofs.lemmas.Option.{same_Some, slice_get-get_or}
 use Rattle.std.specs.Int.{bit_at}

@@ -1,4 +1,4 @@
-use Rattle.std.proofs.Common.{◌&&◌, ◌+◌, ◌≡◌, arith, false, subst, sym, true, ◌∙◌, ℕ, Bool, List}
+use Rattle.std.proofs.Common.{◌&&◌, ◌+◌, ◌≡◌, arith, false, subst, sym, ◌∙◌, ℕ, Bool}
 use Rattle.std.proofs.lemmas.Bool.{and_from, and_left, and_parts, and_right}
 use Rattle.fa_headers.specs.Rules.{is_in}
 use Rattle.fa_image.specs.Image.{ImageCall}
