@@ -1,3 +1,4 @@
+pub mod Apart
 pub mod Arrays
 pub mod Become
 pub mod Bits

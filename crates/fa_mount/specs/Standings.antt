@@ -14,6 +14,10 @@ place_of (Out index) = Some index
 abbrev pub place_on : List Standing → ℕ → Option ℕ
 place_on dies die = option_and_then place_of (slice_get dies die)
 
+-- two dies have one image
+abbrev pub SharePlace : List Standing → ℕ → ℕ → Type 0
+SharePlace dies die other = (index : ℕ) × (place_on dies die ≡ Some index) × (place_on dies other ≡ Some index)
+
 -- no image is that of two dies
 abbrev pub AreApart : List Standing → Type 0
 AreApart dies = (die other index : ℕ) → place_on dies die ≡ Some index → place_on dies other ≡ Some index → die ≡ other

@@ -4,6 +4,7 @@
 mod array;
 mod beginning;
 mod closing;
+mod fitting;
 mod losing;
 mod masks;
 mod mounting;

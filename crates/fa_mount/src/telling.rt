@@ -54,7 +54,7 @@ fn sync_one<I: Image>(images: &mut [I], dies: &[Standing], die: u32) -> Result<(
     requires { (index : ℕ) × (place_on dies.now die ≡ Some index) × (index < length images.old) }
     ensures { CallsDie I.made dies.now die Syncing (answer_of result) images.old images.new }
 {
-    let index = place_at(dies, die).unwrap();
+    let index = place_at(dies, die as usize).unwrap();
     let image = &mut images[index];
     image.sync()
 }
@@ -122,7 +122,7 @@ fn tell_one<I: Image>(
         mask: told.mask,
         array: told.array,
     };
-    let index = place_at(dies, die).unwrap();
+    let index = place_at(dies, die as usize).unwrap();
     let image = &mut images[index];
     image.write_header(&seal_header(&header))
 }
