@@ -1,15 +1,14 @@
 -- An array that is not refused for its headers has as many dies in use as a page is to have copies.
-use Rattle.std.proofs.Common.{◌≡◌, ℕ, ◌-◌, ◌*◌, ◌≤◌, ◌&&◌, Bool, true, List, [], ◌∷◌, Option, Some, None, refl, sym, ap, subst, ◌∙◌, inl, inr}
+use Rattle.std.proofs.Common.{◌≡◌, ℕ, ◌-◌, ◌*◌, ◌&&◌, Bool, true, List, [], ◌∷◌, Option, Some, None, refl, sym, ap, subst, ◌∙◌, inl, inr}
 use Rattle.std.proofs.lemmas.Bool.{and_parts, cases_Bool, leb-true}
 use Rattle.std.proofs.lemmas.Option.{none-some, same_Some}
 use Rattle.std.specs.Prelude.{nat_le, option_map, if◌then◌else◌}
 use Rattle.fa_types.specs.Geometry.{AreCopies}
 use Rattle.fa_types.specs.declared.geometry.Geometry.{Geometry}
 use Rattle.fa_headers.specs.Judged.{IsJudged, first_seen}
-use Rattle.fa_headers.specs.Rules.{can_hold, epoch_refusal, die_twice, first_of, greatest_epoch, header_refusal, mask_in, of_another_array}
-use Rattle.fa_headers.specs.Rules.{of_another_geometry, reading_refusal, refused, refused_for, seen_from, seen_refusal, without_room}
-use Rattle.fa_headers.specs.declared.fault.MountFault.TheVariants.{GeometryDiffers, NoDieLive}
-use Rattle.fa_headers.specs.declared.fault.MountRefused.{MountRefused}
+use Rattle.fa_headers.specs.Rules.{can_hold, first_of, header_refusal, of_another_array}
+use Rattle.fa_headers.specs.Rules.{of_another_geometry, reading_refusal, refused_for, seen_from, seen_refusal, without_room}
+use Rattle.fa_headers.specs.declared.fault.MountFault.TheVariants.{GeometryDiffers}
 use Rattle.fa_headers.specs.declared.found.Found.{Found}
 use Rattle.fa_headers.specs.declared.judging.Judged.{Judged}
 use Rattle.fa_headers.specs.declared.seen.Seen.{Seen}

@@ -13,7 +13,7 @@ use Rattle.fa_mount.specs.Begins.{AreSpares}
 use Rattle.fa_state.proofs.Numbers.{inserted_here, inserted_other}
 use Rattle.fa_machine.specs.State.{MapState, is_live}
 use Rattle.fa_types.specs.declared.geometry.Geometry.{Geometry}
-use Rattle.fa_scan.specs.Content.{Contents, IsMountedContent, slots_on}
+use Rattle.fa_scan.specs.Content.{Contents, IsMountedContent}
 use Rattle.fa_scan.specs.MountedWorld.{is_spare_of}
 use Rattle.fa_scan.specs.Reported.{is_spare}
 use Rattle.fa_scan.specs.Scanned.{AreSettled, Outcome, mounted_of, settled}

@@ -1,3 +1,7 @@
 pub mod Begins
+pub mod Closing
 pub mod MountsArray
+pub mod Phases
 pub mod Standings
+pub mod Told
+pub mod Turns

@@ -1,8 +1,7 @@
 -- Where the images of dies stand in a list of images.
-use Rattle.std.specs.Prelude.{◌≡◌, ℕ, ◌<◌, true, List, Option, Some, None, option_and_then, slice_get}
+use Rattle.std.specs.Prelude.{◌≡◌, ℕ, ◌<◌, Bool, true, List, Option, Some, None, option_and_then, slice_get}
 use Rattle.fa_headers.specs.declared.judging.Standing.{Standing}
 use Rattle.fa_headers.specs.declared.judging.Standing.TheVariants.{Missing, Live, Spare, Out}
-use Rattle.fa_headers.specs.Rules.{is_in}
 
 -- the place of the image of a die that stands so
 abbrev pub place_of : Standing → Option ℕ
@@ -15,10 +14,14 @@ place_of (Out index) = Some index
 abbrev pub place_on : List Standing → ℕ → Option ℕ
 place_on dies die = option_and_then place_of (slice_get dies die)
 
+-- two dies have one image
+abbrev pub SharePlace : List Standing → ℕ → ℕ → Type 0
+SharePlace dies die other = (index : ℕ) × (place_on dies die ≡ Some index) × (place_on dies other ≡ Some index)
+
 -- no image is that of two dies
 abbrev pub AreApart : List Standing → Type 0
 AreApart dies = (die other index : ℕ) → place_on dies die ≡ Some index → place_on dies other ≡ Some index → die ≡ other
 
--- each die of a mask has one of so many images
-abbrev pub HaveImages : List Standing → ℕ → ℕ → Type 0
-HaveImages dies mask images = (die : ℕ) → is_in mask die ≡ true → (index : ℕ) × (place_on dies die ≡ Some index) × (index < images)
+-- each of these dies has one of so many images
+abbrev pub HaveImages : List Standing → (ℕ → Bool) → ℕ → Type 0
+HaveImages dies these images = (die : ℕ) → these die ≡ true → (index : ℕ) × (place_on dies die ≡ Some index) × (index < images)

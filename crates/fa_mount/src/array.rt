@@ -23,6 +23,6 @@ impl<M: Map + Drop, A: Allocator> MountedArray<M, A> {
     pub fn image_of(&self, die: Die) -> Option<usize>
         ensures { result ≡ place_on self.now.dies.items die.0 }
     {
-        place_at(self.dies.as_slice(), u32::from(die.0))
+        place_at(self.dies.as_slice(), usize::from(die.0))
     }
 }

@@ -1,10 +1,16 @@
-//! An array over its images: mounted from them.
+//! An array over its images: mounted from them, and closed.
 #![tactic(auto)]
 
 mod array;
 mod beginning;
+mod closing;
+mod fitting;
+mod losing;
+mod masks;
 mod mounting;
 mod standings;
+mod telling;
 
 pub use array::MountedArray;
+pub use closing::{CloseFault, close_clean};
 pub use mounting::{mount, mount_found};

@@ -5,10 +5,10 @@ ghost use Rattle.fa_mount.specs.Standings.{place_of as place_by, place_on};
 use fa_headers::Standing;
 
 /// The place of the image of a die. None where it has no image, or is none of the array.
-pub(crate) fn place_at(dies: &[Standing], die: u32) -> Option<usize>
+pub(crate) fn place_at(dies: &[Standing], die: usize) -> Option<usize>
     ensures { result ≡ place_on dies.now die }
 {
-    match dies.get(die as usize) {
+    match dies.get(die) {
         Some(standing) => place_of(*standing),
         None => None,
     }

@@ -1,5 +1,3 @@
-use Rattle.fa_core.specs.Begun.{begun}
-use Rattle.fa_machine.specs.State.{is_live}
 use Rattle.fa_mount.proofs.Few.{few_below}
 use Rattle.fa_mount.proofs.Greatest.{last_fits}
 use Rattle.fa_mount.proofs.Spares.{spare_within}
@@ -7,7 +5,7 @@ use Rattle.fa_types.specs.declared.geometry.Geometry.{Geometry}
 use Rattle.fa_headers.specs.declared.judging.Standing.{Standing}
 use Rattle.fa_mount.specs.Begins.{AreSpares}
 use Rattle.fa_set.specs.Members.{members}
-use Rattle.std.proofs.Common.{List, ap, arith, length, subst, sym, ◌∙◌, ◌≡◌, ◌≤◌}
+use Rattle.std.proofs.Common.{List, ap, arith, length, subst, sym, ◌∙◌}
 use Rattle.fa_mount.proofs.beginning.array_over.Goals as goal
 
 pub new-requires-clause-last : goal.new-requires-clause-last

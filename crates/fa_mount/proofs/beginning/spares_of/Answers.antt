@@ -1,6 +1,6 @@
 use Rattle.fa_mount.proofs.Spares.{AreSparesBelow, all_spares, no_spares, one_more_spare}
 use Rattle.fa_set.specs.Members.{members}
-use Rattle.std.proofs.Common.{arith, length, subst, ◌<◌, ◌≡◌, ◌≤◌, ◌∙◌}
+use Rattle.std.proofs.Common.{arith, length, subst, ◌<◌, ◌≡◌, ◌∙◌}
 use Rattle.std.proofs.lemmas.Option.{slice_get-get_or}
 use Rattle.fa_mount.proofs.beginning.spares_of.Goals as goal
 

@@ -1,4 +1,4 @@
-use Rattle.std.proofs.Common.{inl, List}
+use Rattle.std.proofs.Common.{inl}
 use Rattle.fa_core.specs.Array.{number_of, state_of}
 use Rattle.fa_map.specs.PageView.{page_view}
 use Rattle.fa_mount.proofs.Arrays.{array_by}
