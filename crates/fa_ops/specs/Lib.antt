@@ -1,0 +1,6 @@
+pub mod Accounts
+pub mod Moves
+pub mod Ops
+pub mod Prepared
+pub mod Ranges
+pub mod Tasks

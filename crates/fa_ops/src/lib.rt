@@ -1,0 +1,20 @@
+//! A request of a block store, made event by event of an array under its lock.
+#![tactic(auto)]
+
+mod events;
+mod gathering;
+mod op;
+mod preparing;
+mod range;
+mod reading;
+mod request;
+mod room;
+mod stage;
+mod stages;
+mod syncing;
+mod writing;
+
+pub use op::Op;
+pub use range::Range;
+pub use request::{Fill, Request, Task};
+pub use stage::{Held, Purpose, Stage, Wish};
