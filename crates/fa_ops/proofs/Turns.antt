@@ -1,5 +1,5 @@
 -- Turns, from what the calls of the array tell.
-use Rattle.std.proofs.Common.{◌≡◌, ◌+◌, ◌∙◌, ℕ, List, Bool, true, false, Option, Some, None, IfSome, IfNone, Result, refl, sym, ap, subst, arith}
+use Rattle.std.proofs.Common.{◌≡◌, ◌∙◌, ℕ, List, false, Option, Some, None, IfSome, IfNone, Result, refl, sym, ap, subst, arith}
 use Rattle.fa_machine.specs.Conditions.{batch_open, history_full, is_reserved}
 use Rattle.fa_machine.specs.State.{Core}
 use Rattle.fa_machine.specs.Step.{Step, Abandon, EndBatch, Fold}

@@ -8,7 +8,6 @@ use Rattle.fa_machine.specs.Step.{Admit, Replan, EndBatch, FlushBegin, FlushStat
 use Rattle.fa_machine.specs.declared.answers.Flush.{Flush}
 use Rattle.fa_machine.specs.declared.answers.FlushState.{FlushState as StateOfFlush}
 use Rattle.fa_machine.specs.declared.answers.FlushState.TheVariants.{Waiting, Synced, NoDie}
-use Rattle.fa_machine.specs.declared.ids.BatchId.{BatchId}
 use Rattle.fa_machine.specs.declared.ids.ClaimId.{ClaimId}
 use Rattle.fa_machine.specs.declared.refusals.AbandonRefused.{AbandonRefused}
 use Rattle.fa_machine.specs.declared.refusals.AbandonRefused.TheVariants.{Pending as AbandonPending, Programmed}

@@ -6,7 +6,7 @@ use Rattle.fa_ops.specs.Moves.{stopped}
 use Rattle.fa_ops.specs.Ranges.{begins_at, bytes_in, part_for, part_of, past_page}
 use Rattle.fa_ops.specs.declared.range.Range.{Range}
 use Rattle.fa_ops.specs.declared.request.Fill.{Fill}
-use Rattle.fa_ops.specs.declared.request.Fill.TheVariants.{Bytes, Zeros, Holes}
+use Rattle.fa_ops.specs.declared.request.Fill.TheVariants.{Bytes, Holes}
 use Rattle.fa_ops.specs.declared.request.Task.{Task}
 use Rattle.fa_ops.specs.declared.stage.Held.{Held}
 use Rattle.fa_ops.specs.declared.stage.Purpose.{Purpose}

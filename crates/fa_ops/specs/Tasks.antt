@@ -1,5 +1,5 @@
 -- What a request comes to.
-use Rattle.std.specs.Prelude.{ℕ, ◌+◌, ◌-◌, ◌*◌, ◌/◌, Bool, true, false, nat_le, if◌then◌else◌, Some, None}
+use Rattle.std.specs.Prelude.{ℕ, ◌+◌, ◌*◌, ◌/◌, Bool, true, false, nat_le, if◌then◌else◌, Some, None}
 use Rattle.fa_ops.specs.declared.range.Range.{Range}
 use Rattle.fa_ops.specs.declared.request.Fill.{Fill}
 use Rattle.fa_ops.specs.declared.request.Fill.TheVariants.{Bytes, Zeros, Holes}
