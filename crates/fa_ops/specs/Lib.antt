@@ -3,4 +3,5 @@ pub mod Moves
 pub mod Ops
 pub mod Prepared
 pub mod Ranges
+pub mod SharedStore
 pub mod Tasks

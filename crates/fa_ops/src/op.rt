@@ -2,6 +2,7 @@
 ghost use Rattle.fa_ops.specs.Ranges.{IsRange};
 
 use crate::gathering::sort_answer;
+use crate::kinds::{kind_of, turn_from};
 use crate::preparing::{fill_page, list, sort_page};
 use crate::request::{Request, Task};
 use crate::stage::{Purpose, Stage};
@@ -12,6 +13,19 @@ use fa_types::BlockFault;
 use std::alloc::{AllocError, Allocator, Global};
 use std::mem::replace;
 use std::sync::ledger::Ledger;
+
+/// What a turn of a request came to.
+#[derive(Clone, Copy, Debug, PartialEq, Eq)]
+pub enum Turn {
+    /// The next turn may be made at once.
+    More,
+    /// [`Op::prepare`] is next, with no lock held.
+    Prepare,
+    /// The request waits for what others do.
+    Wait,
+    /// The request has ended.
+    End,
+}
 
 /// A request of a block store over an array that others use too. A turn is made with the array's lock held and makes at most one event of
 /// the array, behind a Fold where the history is full. Between turns the lock is free, and [`Op::prepare`] does what wants no lock.
@@ -53,12 +67,13 @@ impl<A: Allocator + Copy> Op<A> {
         })
     }
 
-    /// A turn, with a seat of the array. Where the request has something to prepare, or has ended, nothing is done.
+    /// A turn, with a seat of the array. Where the request has something to prepare, or has ended, nothing is done. What is answered says
+    /// whom to ask next, and is in no clause.
     pub fn turn<L: Ledger, M: Map + Drop>(
         &mut self,
         locked: &mut Locked<L, M, A>,
         seat: &mut Seat<L>,
-    )
+    ) -> Turn
         ensures turned { Turned (task_in self.old) (number_of seat.old) locked.old.core (stage_of self.old) locked.new.core
             (stage_of self.new) }
         ensures task { task_in self.new ≡ task_in self.old }
@@ -66,7 +81,9 @@ impl<A: Allocator + Copy> Op<A> {
         ensures account { IsAccounted locked.old seat.old locked.new seat.new }
     {
         let stage = replace(&mut self.stage, Stage::Ended(None));
+        let before = kind_of(&stage);
         self.stage = turn_stage(self.alloc, locked, seat, self.task, stage);
+        turn_from(before, kind_of(&self.stage))
     }
 
     /// Does what wants no lock, if there is something: lists pages, or makes what a page is to hold or the answer of a read. The bytes
