@@ -11,7 +11,7 @@ use fa_core::Array;
 use fa_map::Map;
 use std::alloc::{AllocError, Allocator, Global};
 use std::sync::ledger::{Blank, Ledger};
-use std::sync::{Mutex, MutexGuard, Wait};
+use std::sync::{Condvar, Mutex, MutexGuard, Wait};
 
 /// An array that threads share, with the faults that took its dies out. Nobody holds its lock but for one event, or for two that belong
 /// together, and no page, image or socket is touched under it. The faults have a lock of their own.
@@ -19,6 +19,7 @@ use std::sync::{Mutex, MutexGuard, Wait};
 pub struct Shared<L: Ledger, M: Map + Drop, A: Allocator + Copy = Global> {
     locked: Mutex<Locked<L, M, A>>,
     faults: Mutex<Faults<A>>,
+    changed: Condvar,
 }
 
 impl<L: Ledger, M: Map + Drop, A: Allocator + Copy> Shared<L, M, A> {
@@ -35,6 +36,7 @@ impl<L: Ledger, M: Map + Drop, A: Allocator + Copy> Shared<L, M, A> {
             Ok(faults) => Ok(Shared {
                 locked: Mutex::new(Locked::new(alloc, blank, array)),
                 faults: Mutex::new(faults),
+                changed: Condvar::new(),
             }),
             Err(_) => Err(array),
         }
@@ -43,6 +45,20 @@ impl<L: Ledger, M: Map + Drop, A: Allocator + Copy> Shared<L, M, A> {
     /// The array under its lock, which is free again once the guard is dropped.
     pub fn lock<R: Wait>(&self, rt: &R) -> MutexGuard<'_, Locked<L, M, A>> {
         self.locked.lock(rt)
+    }
+
+    /// Frees the lock until somebody tells of a change, or for no reason, and then takes it again.
+    pub fn wait<'a, R: Wait>(
+        &'a self,
+        rt: &R,
+        guard: MutexGuard<'a, Locked<L, M, A>>,
+    ) -> MutexGuard<'a, Locked<L, M, A>> {
+        self.changed.wait(rt, guard)
+    }
+
+    /// Tells all who wait that the array has changed.
+    pub fn tell(&self) {
+        self.changed.notify_all();
     }
 
     /// One more seat. None where 256 are out.
@@ -55,6 +71,7 @@ impl<L: Ledger, M: Map + Drop, A: Allocator + Copy> Shared<L, M, A> {
     /// Whoever works for the array is to end.
     pub fn stop<R: Wait>(&self, rt: &R) {
         self.locked.lock(rt).stop();
+        self.changed.notify_all();
     }
 
     /// Whether whoever works for the array is to end.

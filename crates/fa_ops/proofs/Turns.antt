@@ -1,0 +1,55 @@
+-- Turns, from what the calls of the array tell.
+use Rattle.std.proofs.Common.{◌≡◌, ◌∙◌, ℕ, List, false, Option, Some, None, IfSome, IfNone, Result, refl, sym, ap, subst, arith}
+use Rattle.fa_machine.specs.Conditions.{batch_open, history_full, is_reserved}
+use Rattle.fa_machine.specs.State.{Core}
+use Rattle.fa_machine.specs.Step.{Step, Abandon, EndBatch, Fold}
+use Rattle.fa_machine.specs.declared.ids.BatchId.{BatchId}
+use Rattle.fa_machine.specs.declared.refusals.AbandonRefused.{AbandonRefused}
+use Rattle.fa_ops.specs.Accounts.{IsAccounted}
+use Rattle.fa_ops.specs.Moves.{Turned, Moved, Rested, Strayed, stopped}
+use Rattle.fa_ops.specs.declared.request.Task.{Task}
+use Rattle.fa_ops.specs.declared.stage.Held.{Held}
+use Rattle.fa_ops.specs.declared.stage.Purpose.{Purpose}
+use Rattle.fa_ops.specs.declared.stage.Stage.{Stage}
+use Rattle.fa_ops.specs.declared.stage.Stage.TheVariants.{Leaving, Releasing}
+use Rattle.fa_shared.specs.Locked.{LockedState}
+use Rattle.fa_shared.specs.declared.seat.Seat.{Seat}
+use Rattle.fa_types.specs.declared.blocks.BlockFault.{BlockFault}
+
+-- a turn at a stage that is the same
+pub at_stage : {A : Type 0} {t : Task} {seat : ℕ} {old new : Core} {stage same next : Stage A} → stage ≡ same
+    → Turned t seat old same new next → Turned t seat old stage new next
+at_stage {A = A} {t = t} {seat = seat} {old = old} {new = new} {next = next} e turned =
+    let P : Stage A → Type 0 = λ s. Turned t seat old s new next in subst P (sym e) turned
+
+-- a batch that is left is ended, or it was not open
+pub left : {A X : Type 0} (t : Task) (seat : ℕ) (old new : Core) (purpose : Purpose) (batch : BatchId) (fault : BlockFault) (next : Stage A)
+    (told : X → List (ℕ × List ℕ)) (answers : Option X) → IfSome answers (λ a. Step old (EndBatch batch.0 (told a)) new)
+    → IfNone answers ((batch_open old batch.0 ≡ false) × (new ≡ old)) → next ≡ stopped purpose fault
+    → Turned t seat old (Leaving purpose batch fault) new next
+left t seat old new purpose batch fault next told (Some a) some none e = Moved (EndBatch batch.0 (told a)) some (refl, e)
+left t seat old new purpose batch fault next told None some none e = Strayed (none.1) (none.0, e)
+
+-- what is reserved is given up before the page is released, or it was not reserved
+pub gave_up : {A X : Type 0} (t : Task) (seat : ℕ) (old new : Core) (held : Held) (fault : Option BlockFault)
+    (told : X → Result (Unit {0}) AbandonRefused) (answer : Option X) → IfSome answer (λ a. Step old (Abandon held.claim.0 (told a)) new)
+    → IfNone answer ((is_reserved old held.claim.0 ≡ false) × (new ≡ old))
+    → Turned {A = A} t seat old (Releasing held fault) new (Releasing held fault)
+gave_up t seat old new held fault told (Some a) some none = Moved (Abandon held.claim.0 (told a)) some (refl, refl)
+gave_up t seat old new held fault told None some none = Rested (none.1) refl
+
+-- behind a Fold the history has room
+pub has_room : (old new : Core) → Step old Fold new → history_full new ≡ false
+has_room old new step = ap history_full step.does
+
+-- and what is reserved is reserved still
+pub keeps_reserved : (old new : Core) (claim : ℕ) → Step old Fold new → is_reserved new claim ≡ is_reserved old claim
+keeps_reserved old new claim step = ap (λ (c : Core). is_reserved c claim) step.does
+
+-- two accounts, one after the other
+pub join_accounts : {L : Type 0} (a b c : LockedState) (s t u : Seat L) → IsAccounted a s b t → IsAccounted b t c u → IsAccounted a s c u
+join_accounts a b c s t u one two = record {
+  rest = two.rest ∙ ap (λ (l : LockedState). record l { core = c.core; book = c.book }) one.rest;
+  commits = omega (arith, one.commits, two.commits);
+  number = two.number ∙ one.number;
+}

@@ -1,0 +1,11 @@
+-- What a turn leaves of the locked array beside its state: as many Commits are told of the seat as of the array, and nothing else changes.
+use Rattle.std.specs.Prelude.{◌≡◌, ◌+◌}
+use Rattle.fa_shared.specs.Locked.{LockedState}
+use Rattle.fa_shared.specs.Seats.{commits_with, number_of}
+use Rattle.fa_shared.specs.declared.seat.Seat.{Seat}
+
+module _ {L : Type 0} where
+  pub record IsAccounted (old : LockedState) (before : Seat L) (new : LockedState) (after : Seat L) : Type 0 where
+    pub rest : new ≡ record old { core = new.core; book = new.book }
+    pub commits : commits_with after + old.book ≡ commits_with before + new.book
+    pub number : number_of after ≡ number_of before

@@ -1,0 +1,46 @@
+-- What contracts see of a request, and what each of its calls does beside its turns.
+use Rattle.std.specs.Prelude.{◌≡◌, ℕ, ◌==◌, if◌then◌else◌, List, map, Option, Some, None}
+use Rattle.fa_ops.specs.Moves.{after_pages, from_page}
+use Rattle.fa_ops.specs.Prepared.{IsFilled, IsListed, SortsAnswer, SortsPage}
+use Rattle.fa_ops.specs.Ranges.{first_page}
+use Rattle.fa_ops.specs.declared.op.Op.{Op}
+use Rattle.fa_ops.specs.declared.request.Fill.{Fill}
+use Rattle.fa_ops.specs.declared.request.Task.{Task}
+use Rattle.fa_ops.specs.declared.stage.Purpose.TheVariants.{Answer, Merge}
+use Rattle.fa_ops.specs.declared.stage.Stage.{Stage}
+use Rattle.fa_ops.specs.declared.stage.Stage.TheVariants.{Ended, Filling, Listing, Sorting}
+use Rattle.fa_types.specs.declared.blocks.BlockFault.{BlockFault}
+
+module _ {A : Type 0} where
+  -- what the request comes to, how far it is, and the answer so far
+  abbrev pub task_in : Op A → Task
+  task_in op = op.task
+
+  abbrev pub stage_of : Op A → Stage A
+  stage_of op = op.stage
+
+  abbrev pub answer_of : Op A → List ℕ
+  answer_of op = op.answer.items
+
+  -- how a request begins: a write with its first page, a read with the list of its first pages
+  abbrev pub beginning_by : Task → Option Fill → Stage A
+  beginning_by t (Some fill) = from_page t (first_page t.range)
+  beginning_by t None = if t.flush then after_pages t else (if t.range.from == t.range.to then Ended None else Listing (Answer (first_page t.range)))
+
+  abbrev pub beginning : Task → Stage A
+  beginning t = beginning_by t t.fill
+
+  -- how a request ended, if it has
+  abbrev pub ended : Stage A → Option (Option BlockFault)
+  ended (Ended fault) = Some fault
+  ended stage = None
+
+  -- What is prepared at each stage. At most stages nothing is.
+  abbrev pub Prepares : Task → List ℕ → Stage A → List ℕ → Stage A → List ℕ → Type 0
+  Prepares t bytes (Listing purpose) before next after = IsListed t.range purpose next × (after ≡ before)
+  Prepares t bytes (Filling held fewer) before next after = IsFilled t bytes held fewer next × (after ≡ before)
+  Prepares t bytes (Sorting (Merge held) answers) before next after =
+      SortsPage t bytes held (map (λ e. (e.0.0, e.1.items)) answers.items) next × (after ≡ before)
+  Prepares t bytes (Sorting (Answer page) answers) before next after =
+      SortsAnswer t.range page (map (λ e. (e.0.0, e.1.items)) answers.items) before next after
+  Prepares t bytes stage before next after = (next ≡ stage) × (after ≡ before)

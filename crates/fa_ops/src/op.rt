@@ -1,0 +1,127 @@
+//! A request, from its beginning to its answer.
+ghost use Rattle.fa_ops.specs.Ranges.{IsRange};
+
+use crate::gathering::sort_answer;
+use crate::kinds::{kind_of, turn_from};
+use crate::preparing::{fill_page, list, sort_page};
+use crate::request::{Request, Task};
+use crate::stage::{Purpose, Stage};
+use crate::stages::{answer_len, begin, turn_stage};
+use fa_map::Map;
+use fa_shared::{Locked, Seat};
+use fa_types::BlockFault;
+use std::alloc::{AllocError, Allocator, Global};
+use std::mem::replace;
+use std::sync::ledger::Ledger;
+
+/// What a turn of a request came to.
+#[derive(Clone, Copy, Debug, PartialEq, Eq)]
+pub enum Turn {
+    /// The next turn may be made at once.
+    More,
+    /// [`Op::prepare`] is next, with no lock held.
+    Prepare,
+    /// The request waits for what others do.
+    Wait,
+    /// The request has ended.
+    End,
+}
+
+/// A request of a block store over an array that others use too. A turn is made with the array's lock held and makes at most one event of
+/// the array, behind a Fold where the history is full. Between turns the lock is free, and [`Op::prepare`] does what wants no lock.
+#[derive(Drop)]
+pub struct Op<A: Allocator = Global> {
+    alloc: A,
+    task: Task,
+    stage: Stage<A>,
+    answer: Vec<u8, A>,
+    ghost fits: { IsRange task.range },
+}
+
+impl<A: Allocator + Copy> Op<A> {
+    ghost use Rattle.std.specs.Prelude.{◌≡◌, ◌^◌, ◌≤◌, [], IfOk};
+    ghost use Rattle.fa_ops.specs.Accounts.{IsAccounted};
+    ghost use Rattle.fa_ops.specs.Moves.{Turned};
+    ghost use Rattle.fa_ops.specs.Ops.{Prepares, answer_of, beginning, ended as rule_ended, stage_of, task_in};
+    ghost use Rattle.fa_ops.specs.Tasks.{end_of, task_of};
+    ghost use Rattle.fa_shared.specs.Seats.{number_of};
+
+    /// A request of a store whose pages have so many bytes, of which no turn was made. A read has all memory for its answer from the
+    /// beginning. The error is out of memory.
+    pub fn new(alloc: A, request: Request, page_bytes: u64) -> Result<Op<A>, AllocError>
+        requires some_bytes { 1 ≤ page_bytes }
+        requires small { page_bytes ≤ 4096 }
+        requires inside { end_of request ≤ 2 ^ 32 }
+        ensures task { IfOk result (λ op. task_in op ≡ task_of page_bytes request) }
+        ensures stage { IfOk result (λ op. stage_of op ≡ beginning (task_of page_bytes request)) }
+        ensures answer { IfOk result (λ op. answer_of op ≡ []) }
+    {
+        let task = request.task(page_bytes);
+        let stage = begin(task);
+        let answer = Vec::with_capacity(alloc, answer_len(task))?;
+        Ok(Op {
+            alloc,
+            task,
+            stage,
+            answer,
+        })
+    }
+
+    /// A turn, with a seat of the array. Where the request has something to prepare, or has ended, nothing is done. What is answered says
+    /// whom to ask next, and is in no clause.
+    pub fn turn<L: Ledger, M: Map + Drop>(
+        &mut self,
+        locked: &mut Locked<L, M, A>,
+        seat: &mut Seat<L>,
+    ) -> Turn
+        ensures turned { Turned (task_in self.old) (number_of seat.old) locked.old.core (stage_of self.old) locked.new.core
+            (stage_of self.new) }
+        ensures task { task_in self.new ≡ task_in self.old }
+        ensures answer { answer_of self.new ≡ answer_of self.old }
+        ensures account { IsAccounted locked.old seat.old locked.new seat.new }
+    {
+        let stage = replace(&mut self.stage, Stage::Ended(None));
+        let before = kind_of(&stage);
+        self.stage = turn_stage(self.alloc, locked, seat, self.task, stage);
+        turn_from(before, kind_of(&self.stage))
+    }
+
+    /// Does what wants no lock, if there is something: lists pages, or makes what a page is to hold or the answer of a read. The bytes
+    /// are those of a write.
+    pub fn prepare(&mut self, bytes: &[u8])
+        ensures prepared { Prepares (task_in self.old) bytes.now (stage_of self.old) (answer_of self.old) (stage_of self.new)
+            (answer_of self.new) }
+        ensures task { task_in self.new ≡ task_in self.old }
+    {
+        let stage = replace(&mut self.stage, Stage::Ended(None));
+        self.stage = match stage {
+            Stage::Listing(purpose) => list(self.alloc, self.task.range, purpose),
+            Stage::Filling(held, fewer) => fill_page(self.alloc, self.task, bytes, held, fewer),
+            Stage::Sorting(Purpose::Merge(held), answers) => {
+                sort_page(self.task, bytes, held, answers)
+            }
+            Stage::Sorting(Purpose::Answer(page), answers) => {
+                sort_answer(self.task.range, page, answers.as_slice(), &mut self.answer)
+            }
+            stage => stage,
+        };
+    }
+
+    /// How the request ended. None where it has not.
+    pub fn ended(&self) -> Option<Option<BlockFault>>
+        ensures { result ≡ rule_ended (stage_of self.now) }
+    {
+        match &self.stage {
+            Stage::Ended(fault) => Some(*fault),
+            _ => None,
+        }
+    }
+
+    /// The answer of a read, as far as it was made.
+    pub fn into_answer(self) -> Vec<u8, A>
+        ensures { result.items ≡ answer_of self }
+    {
+        let Op { answer, .. } = self;
+        answer
+    }
+}

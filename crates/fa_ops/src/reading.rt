@@ -1,0 +1,163 @@
+//! Batches of pages, asked for, waited for and ended.
+ghost use Rattle.std.specs.Prelude.{◌≡◌};
+ghost use Rattle.fa_ops.specs.Accounts.{IsAccounted};
+ghost use Rattle.fa_ops.specs.Moves.{AfterAdmit, AfterPlanned, Turned, stopped as rule_stopped};
+ghost use Rattle.fa_reads.specs.Answers.{admit_answer, plan_answer};
+ghost use Rattle.fa_ops.specs.declared.request.Task.{Task};
+ghost use Rattle.fa_ops.specs.declared.stage.Stage.TheVariants.{Asking, Leaving, Reading};
+ghost use Rattle.fa_shared.specs.Seats.{number_of};
+
+use crate::events::{admit, end_batch, replan};
+use crate::stage::{Purpose, Stage};
+use fa_core::Planned;
+use fa_machine::{AdmitRefused, BatchId, ReadState};
+use fa_map::Map;
+use fa_reads::Admitted;
+use fa_shared::{Locked, Seat};
+use fa_types::{BlockFault, Page};
+use std::alloc::Allocator;
+use std::sync::ledger::Ledger;
+
+/// The request is refused. A page that is claimed is released first.
+pub(crate) fn stopped<A: Allocator>(purpose: Purpose, fault: BlockFault) -> Stage<A>
+    ensures { result ≡ rule_stopped purpose fault }
+{
+    match purpose {
+        Purpose::Answer(_) => Stage::Ended(Some(fault)),
+        Purpose::Merge(held) => Stage::Releasing(held, Some(fault)),
+    }
+}
+
+/// A batch of the pages is admitted.
+pub(crate) fn ask<L: Ledger, M: Map + Drop, A: Allocator + Copy>(
+    locked: &mut Locked<L, M, A>,
+    seat: &mut Seat<L>,
+    purpose: Purpose,
+    pages: Vec<Page, A>,
+) -> Stage<A>
+    ensures turned { (t : Task) → Turned t (number_of seat.old) locked.old.core (Asking purpose pages) locked.new.core result }
+    ensures account { IsAccounted locked.old seat.old locked.new seat.new }
+{
+    let waits = locked.array().copy_open();
+    match admit(locked, seat, pages.as_slice()) {
+        None => stopped(purpose, BlockFault::Lost),
+        Some(answer) => asked(purpose, pages, answer, waits),
+    }
+}
+
+/// What the request does behind its Admit. A page that is lost is waited for, if it is to be.
+fn asked<A: Allocator>(
+    purpose: Purpose,
+    pages: Vec<Page, A>,
+    answer: Result<Admitted<A>, AdmitRefused>,
+    waits: bool,
+) -> Stage<A>
+    ensures { AfterAdmit purpose (Asking purpose pages) (admit_answer answer) result }
+{
+    match answer {
+        Ok(admitted) => Stage::Reading(purpose, admitted.batch),
+        Err(AdmitRefused::Lost(_)) => {
+            if waits {
+                Stage::Asking(purpose, pages)
+            } else {
+                stopped(purpose, BlockFault::Lost)
+            }
+        }
+        Err(AdmitRefused::CalendarFull) => Stage::Asking(purpose, pages),
+        Err(AdmitRefused::Spent) => stopped(purpose, BlockFault::Spent),
+        Err(AdmitRefused::NoMemory) => stopped(purpose, BlockFault::NoMemory),
+    }
+}
+
+/// The batch goes on as it stands: it is waited for, or planned anew, or ended.
+pub(crate) fn read<L: Ledger, M: Map + Drop, A: Allocator + Copy>(
+    alloc: A,
+    locked: &mut Locked<L, M, A>,
+    seat: &mut Seat<L>,
+    purpose: Purpose,
+    batch: BatchId,
+) -> Stage<A>
+    ensures turned { (t : Task) → Turned t (number_of seat.old) locked.old.core (Reading purpose batch) locked.new.core result }
+    ensures account { IsAccounted locked.old seat.old locked.new seat.new }
+{
+    match locked.array().results(batch) {
+        ReadState::Waiting => Stage::Reading(purpose, batch),
+        ReadState::Ready => end(alloc, locked, seat, purpose, batch),
+        ReadState::Torn => plan_anew(alloc, locked, seat, purpose, batch),
+    }
+}
+
+/// The batch is ended, and its answers are to be sorted.
+fn end<L: Ledger, M: Map + Drop, A: Allocator + Copy>(
+    alloc: A,
+    locked: &mut Locked<L, M, A>,
+    seat: &mut Seat<L>,
+    purpose: Purpose,
+    batch: BatchId,
+) -> Stage<A>
+    ensures turned { (t : Task) → Turned t (number_of seat.old) locked.old.core (Reading purpose batch) locked.new.core result }
+    ensures account { IsAccounted locked.old seat.old locked.new seat.new }
+{
+    match end_batch(alloc, locked, seat, batch) {
+        Some(answers) => Stage::Sorting(purpose, answers),
+        None => stopped(purpose, BlockFault::Lost),
+    }
+}
+
+/// What is left of the batch is planned anew.
+fn plan_anew<L: Ledger, M: Map + Drop, A: Allocator + Copy>(
+    alloc: A,
+    locked: &mut Locked<L, M, A>,
+    seat: &mut Seat<L>,
+    purpose: Purpose,
+    batch: BatchId,
+) -> Stage<A>
+    ensures turned { (t : Task) → Turned t (number_of seat.old) locked.old.core (Reading purpose batch) locked.new.core result }
+    ensures account { IsAccounted locked.old seat.old locked.new seat.new }
+{
+    let waits = locked.array().copy_open();
+    match replan(alloc, locked, seat, batch) {
+        None => stopped(purpose, BlockFault::Lost),
+        Some(answer) => planned_anew(purpose, batch, answer, waits),
+    }
+}
+
+/// What the request does behind its Replan. A page that is lost is waited for, if it is to be.
+fn planned_anew<A: Allocator>(
+    purpose: Purpose,
+    batch: BatchId,
+    answer: Result<Planned<A>, AdmitRefused>,
+    waits: bool,
+) -> Stage<A>
+    ensures { AfterPlanned (Reading purpose batch) (Reading purpose batch) (Leaving purpose batch) (plan_answer answer) result }
+{
+    match answer {
+        Ok(_) => Stage::Reading(purpose, batch),
+        Err(AdmitRefused::Lost(_)) => {
+            if waits {
+                Stage::Reading(purpose, batch)
+            } else {
+                Stage::Leaving(purpose, batch, BlockFault::Lost)
+            }
+        }
+        Err(AdmitRefused::CalendarFull) => Stage::Reading(purpose, batch),
+        Err(AdmitRefused::Spent) => Stage::Leaving(purpose, batch, BlockFault::Spent),
+        Err(AdmitRefused::NoMemory) => Stage::Leaving(purpose, batch, BlockFault::NoMemory),
+    }
+}
+
+/// The batch is ended, whatever it answers.
+pub(crate) fn leave<L: Ledger, M: Map + Drop, A: Allocator + Copy>(
+    alloc: A,
+    locked: &mut Locked<L, M, A>,
+    seat: &mut Seat<L>,
+    purpose: Purpose,
+    batch: BatchId,
+    fault: BlockFault,
+) -> Stage<A>
+    ensures turned { (t : Task) → Turned t (number_of seat.old) locked.old.core (Leaving purpose batch fault) locked.new.core result }
+    ensures account { IsAccounted locked.old seat.old locked.new seat.new }
+{
+    let _answers = end_batch(alloc, locked, seat, batch);
+    stopped(purpose, fault)
+}

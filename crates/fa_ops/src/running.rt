@@ -1,0 +1,142 @@
+//! Requests over an array that is shared, from their beginning to their end.
+ghost use Rattle.std.specs.Prelude.{◌≡◌, ◌+◌, ◌*◌, ◌^◌, ◌≤◌, length, IfOk, IfErr};
+ghost use Rattle.fa_ops.specs.Tasks.{end_of};
+ghost use Rattle.fa_types.specs.declared.blocks.BlockFault.TheVariants.{NoRoom};
+
+use crate::op::{Op, Turn};
+use crate::request::Request;
+use fa_map::Map;
+use fa_shared::{Seat, Shared};
+use fa_types::{BlockFault, Geometry};
+use std::alloc::Allocator;
+use std::sync::Wait;
+use std::sync::ledger::Ledger;
+
+/// How many bytes the store of an array has, and how many a page of it.
+pub(crate) fn store_bytes(geometry: Geometry) -> (u64, u32)
+    ensures bytes { result.0 ≡ geometry.pages * geometry.page_bytes }
+    ensures most { result.0 ≤ 2 ^ 32 }
+    ensures page { result.1 ≡ geometry.page_bytes }
+    ensures some { 1 ≤ result.1 }
+    ensures small { result.1 ≤ 4096 }
+{
+    let bytes = geometry.pages * u64::from(geometry.page_bytes);
+    (bytes, geometry.page_bytes)
+}
+
+/// A request that answers no bytes.
+pub(crate) fn run<R: Wait, L: Ledger, M: Map + Drop, A: Allocator + Copy>(
+    rt: &R,
+    alloc: A,
+    shared: &Shared<L, M, A>,
+    seat: &mut Seat<L>,
+    page_bytes: u32,
+    request: Request,
+    bytes: &[u8],
+) -> Result<(), BlockFault>
+    requires some { 1 ≤ page_bytes }
+    requires small { page_bytes ≤ 4096 }
+    requires inside { end_of request ≤ 2 ^ 32 }
+{
+    let mut op = match Op::new(alloc, request, u64::from(page_bytes)) {
+        Ok(op) => op,
+        Err(_) => return Err(BlockFault::NoMemory),
+    };
+    match finish(rt, shared, seat, &mut op, bytes) {
+        None => Ok(()),
+        Some(fault) => Err(fault),
+    }
+}
+
+/// A read. It is never refused for want of room.
+pub(crate) fn run_read<R: Wait, L: Ledger, M: Map + Drop, A: Allocator + Copy, B: Allocator>(
+    rt: &R,
+    alloc: A,
+    shared: &Shared<L, M, A>,
+    seat: &mut Seat<L>,
+    page_bytes: u32,
+    offset: u64,
+    len: u64,
+    into: B,
+) -> Result<Vec<u8, B>, BlockFault>
+    requires some { 1 ≤ page_bytes }
+    requires small { page_bytes ≤ 4096 }
+    requires inside { offset + len ≤ 2 ^ 32 }
+    ensures length { IfOk result (λ answer. length answer.items ≡ len) }
+    ensures room { IfErr result (λ fault. fault ≡ NoRoom → ⊥) }
+{
+    let request = Request::Read { offset, len };
+    let mut op = match Op::new(alloc, request, u64::from(page_bytes)) {
+        Ok(op) => op,
+        Err(_) => return Err(BlockFault::NoMemory),
+    };
+    match finish(rt, shared, seat, &mut op, &[]) {
+        None => handed_out(op, len, into),
+        Some(fault) => Err(of_read(fault)),
+    }
+}
+
+/// The answer of a read, if it has so many bytes.
+fn handed_out<A: Allocator + Copy, B: Allocator>(
+    op: Op<A>,
+    len: u64,
+    into: B,
+) -> Result<Vec<u8, B>, BlockFault>
+    ensures length { IfOk result (λ answer. length answer.items ≡ len) }
+    ensures room { IfErr result (λ fault. fault ≡ NoRoom → ⊥) }
+{
+    let answer = op.into_answer();
+    if answer.len() as u64 != len {
+        return Err(BlockFault::Lost);
+    }
+    match Vec::from_slice(into, answer.as_slice()) {
+        Ok(bytes) => Ok(bytes),
+        Err(_) => Err(BlockFault::NoMemory),
+    }
+}
+
+/// Why a read was refused. No read wants room.
+fn of_read(fault: BlockFault) -> BlockFault
+    ensures { result ≡ NoRoom → ⊥ }
+{
+    match fault {
+        BlockFault::NoRoom => BlockFault::Lost,
+        fault => fault,
+    }
+}
+
+/// Goes on with a request until it has ended, and tells how.
+fn finish<R: Wait, L: Ledger, M: Map + Drop, A: Allocator + Copy>(
+    rt: &R,
+    shared: &Shared<L, M, A>,
+    seat: &mut Seat<L>,
+    op: &mut Op<A>,
+    bytes: &[u8],
+) -> Option<BlockFault> {
+    for _ in rt.forever() {
+        if let Some(end) = op.ended() {
+            return end;
+        }
+        op.prepare(bytes);
+        make_turns(rt, shared, seat, op);
+    }
+    unreachable!()
+}
+
+/// Makes turns until the request has something to prepare, or has ended. The lock is free while it waits, and behind.
+fn make_turns<R: Wait, L: Ledger, M: Map + Drop, A: Allocator + Copy>(
+    rt: &R,
+    shared: &Shared<L, M, A>,
+    seat: &mut Seat<L>,
+    op: &mut Op<A>,
+) {
+    let mut guard = shared.lock(rt);
+    for _ in rt.forever() {
+        match op.turn(&mut guard, seat) {
+            Turn::More => shared.tell(),
+            Turn::Prepare | Turn::End => break,
+            Turn::Wait => guard = shared.wait(rt, guard),
+        }
+    }
+    shared.tell();
+}

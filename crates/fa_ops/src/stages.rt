@@ -1,0 +1,75 @@
+//! A turn at each stage.
+ghost use Rattle.std.specs.Prelude.{◌≡◌};
+ghost use Rattle.fa_ops.specs.Accounts.{IsAccounted};
+ghost use Rattle.fa_ops.specs.Moves.{Turned};
+ghost use Rattle.fa_ops.specs.Ops.{beginning};
+ghost use Rattle.fa_ops.specs.Ranges.{IsRange};
+ghost use Rattle.fa_shared.specs.Seats.{number_of};
+
+use crate::reading::{ask, leave, read};
+use crate::request::Task;
+use crate::stage::{Purpose, Stage};
+use crate::syncing::{begin_flush, flush};
+use crate::writing::{
+    abandon_wish, after_pages, claim_page, commit_wish, from_page, release_page, reserve_wish,
+};
+use fa_map::Map;
+use fa_shared::{Locked, Seat};
+use std::alloc::Allocator;
+use std::sync::ledger::Ledger;
+
+/// A turn of a request that is so far.
+pub(crate) fn turn_stage<L: Ledger, M: Map + Drop, A: Allocator + Copy>(
+    alloc: A,
+    locked: &mut Locked<L, M, A>,
+    seat: &mut Seat<L>,
+    task: Task,
+    stage: Stage<A>,
+) -> Stage<A>
+    requires { IsRange task.range }
+    ensures turned { Turned task (number_of seat.old) locked.old.core stage locked.new.core result }
+    ensures account { IsAccounted locked.old seat.old locked.new seat.new }
+{
+    match stage {
+        Stage::Asking(purpose, pages) => ask(locked, seat, purpose, pages),
+        Stage::Reading(purpose, batch) => read(alloc, locked, seat, purpose, batch),
+        Stage::Leaving(purpose, batch, fault) => leave(alloc, locked, seat, purpose, batch, fault),
+        Stage::Claiming(page) => claim_page(alloc, locked, seat, task, page),
+        Stage::Reserving(held, wish) => reserve_wish(alloc, locked, seat, held, wish),
+        Stage::Committing(held, wish) => commit_wish(alloc, locked, seat, held, wish),
+        Stage::Abandoning(held, wish) => abandon_wish(alloc, locked, seat, held, wish),
+        Stage::Releasing(held, fault) => release_page(alloc, locked, seat, task, held, fault),
+        Stage::BeginningFlush => begin_flush(alloc, locked, seat),
+        Stage::Flushing(asked) => flush(alloc, locked, seat, asked),
+        stage => stage,
+    }
+}
+
+/// How a request begins.
+pub(crate) fn begin<A: Allocator>(task: Task) -> Stage<A>
+    requires { IsRange task.range }
+    ensures { result ≡ beginning task }
+{
+    if task.fill.is_some() {
+        return from_page(task, task.range.first_page());
+    }
+    if task.flush {
+        return after_pages(task);
+    }
+    if task.range.from == task.range.to {
+        Stage::Ended(None)
+    } else {
+        Stage::Listing(Purpose::Answer(task.range.first_page()))
+    }
+}
+
+/// How many bytes a request answers.
+pub(crate) fn answer_len(task: Task) -> usize
+    requires { IsRange task.range }
+{
+    if task.fill.is_some() {
+        0
+    } else {
+        (task.range.to - task.range.from) as usize
+    }
+}
