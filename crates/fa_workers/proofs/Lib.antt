@@ -1,1 +1,4 @@
 mod Deeds
+mod Dies
+mod Holds
+mod Rebuilds

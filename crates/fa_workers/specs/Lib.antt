@@ -1,1 +1,8 @@
+pub mod DieTurns
+pub mod Held
 pub mod Made
+pub mod Orders
+pub mod Rebuilding
+pub mod Rooms
+pub mod Spares
+pub mod Windows

@@ -1,12 +1,26 @@
 //! The work on the dies.
 #![tactic(auto)]
 
+mod collecting;
+mod die_events;
+mod events;
 mod gate;
 mod header;
 mod moving;
+mod order;
 mod reading;
+mod rebuild_events;
+mod rebuild_stage;
+mod rebuilding;
+mod room;
 mod running;
+mod spares;
+mod working;
 mod writing;
 
+pub use collecting::collector_worker;
 pub use gate::{Gate, ImageCallKind, Open};
+pub use rebuilding::rebuild_worker;
+pub use room::Room;
 pub use running::run_job;
+pub use working::die_worker;

@@ -1,0 +1,73 @@
+-- A turn of a die, and how its job ends.
+use Rattle.std.specs.Prelude.{◌≡◌, ◌⊎◌, ℕ, Bool, ◌&&◌, not, false, if◌then◌else◌, List, Option, Some, None, Result, Ok, Err}
+use Rattle.std.specs.FinMap.{get}
+use Rattle.std.specs.Option.{option_map_or}
+use Rattle.fa_ends.specs.Outcomes.{outcome_of}
+use Rattle.fa_ends.specs.declared.outcome.Outcome.{Outcome}
+use Rattle.fa_ends.specs.declared.outcome.Outcome.TheVariants.{Fault as WasFault}
+use Rattle.fa_machine.specs.Cells.{is_of_kind}
+use Rattle.fa_machine.specs.State.{Core, is_live}
+use Rattle.fa_machine.specs.Step.{Advance, Done, Step, Take, is_die, is_sized}
+use Rattle.fa_machine.specs.declared.refusals.AdvanceRefused.{AdvanceRefused}
+use Rattle.fa_machine.specs.declared.refusals.AdvanceRefused.TheVariants.{Pending}
+use Rattle.fa_shared.specs.declared.faults.Cause.{Cause}
+use Rattle.fa_shared.specs.declared.faults.Cause.TheVariants.{Image, Wrong}
+use Rattle.fa_shared.specs.declared.faults.Fault.{Fault}
+use Rattle.fa_takes.specs.Handed.{handed_of}
+use Rattle.fa_types.specs.declared.numbers.Die.{Die}
+use Rattle.fa_types.specs.declared.numbers.Round.{Round}
+use Rattle.fa_workers.specs.Held.{MakesFolded}
+use Rattle.fa_workers.specs.declared.die_events.Next.{Next}
+use Rattle.fa_workers.specs.declared.die_events.Next.TheVariants.{Run, Again, Rest}
+use Rattle.fa_workers.specs.declared.order.Order.{Order}
+
+module _ {A : Type 0} where
+  -- The die rests where the round is pending, and others are told where it is so no longer.
+  abbrev pub after_look : Result Round AdvanceRefused → Next A
+  after_look (Err Pending) = Rest
+  after_look answer = Again
+
+  -- Behind a Take that gave no job. Where the round was pending before it, the Take may have dropped a booking, and the die looks again.
+  pub data Rests (before : AdvanceRefused) (old : Core) (next : Next A) (new : Core) : Type 0 where
+    WasOpen : (before ≡ Pending → ⊥) → next ≡ Rest → new ≡ old → Rests before old next new
+    LooksAgain : (answer : Result Round AdvanceRefused) → before ≡ Pending → Step old (Advance answer) new → next ≡ after_look answer
+        → Rests before old next new
+
+  -- The die takes its next job, or rests where there is none.
+  pub data TakesNext (die seat : ℕ) (before : AdvanceRefused) (old : Core) (next : Next A) (new : Core) : Type 0 where
+    Took : (order : Order A) → next ≡ Run order → MakesFolded old (Take die seat (Some (handed_of order.job))) new
+        → TakesNext die seat before old next new
+    TookNone : (between : Core) → MakesFolded old (Take die seat None) between → Rests before between next new
+        → TakesNext die seat before old next new
+
+  -- A turn of a die: the round rises, or else the die takes its next job.
+  pub data Turns (die seat : ℕ) (old : Core) (next : Next A) (new : Core) : Type 0 where
+    Rose : (round : Round) → next ≡ Again → Step old (Advance (Ok round)) new → Turns die seat old next new
+    Stayed : (refused : AdvanceRefused) (between : Core) → Step old (Advance (Err refused)) between
+        → TakesNext die seat refused between next new → Turns die seat old next new
+    IsNone : is_die old die ≡ false → next ≡ Rest → new ≡ old → Turns die seat old next new
+
+-- whether a die's job may end so, with these bytes beside it
+abbrev pub may_end : Core → ℕ → Outcome → List ℕ → Bool
+may_end core die outcome bytes =
+    option_map_or (λ job. is_of_kind job (outcome_of outcome bytes)) (get core.jobs die) false && is_sized core bytes
+
+-- It ends so, or it may not.
+abbrev pub Ends : ℕ → Outcome → List ℕ → Core → Core → Type 0
+Ends die outcome bytes old new =
+    Step old (Done die (outcome_of outcome bytes)) new ⊎ ((may_end old die outcome bytes ≡ false) × (new ≡ old))
+
+-- why a die went out whose job ended so
+abbrev pub cause_of : Outcome → Cause
+cause_of (WasFault fault) = Image fault
+cause_of outcome = Wrong
+
+-- what is noted of a die whose job ended so: it was live and is out
+abbrev pub fault_of : Bool → Bool → Die → Outcome → Round → Option Fault
+fault_of was_live is_live die outcome round =
+    if was_live && not is_live then Some (record { die = die; cause = cause_of outcome; round = round }) else None
+
+-- and in which round
+abbrev pub noted : Core → Core → Die → Outcome → Option Fault
+noted old new die outcome =
+    fault_of (is_live old.page_map die.0) (is_live new.page_map die.0) die outcome (record { 0 = new.calendar.round })

@@ -1,0 +1,97 @@
+//! The worker that gives dies their windows.
+ghost use Rattle.std.specs.Prelude.{◌≡◌, ◌<◌, ◌≤◌, false, IfNone, IfSome};
+ghost use Rattle.fa_machine.specs.Step.{Step, Window};
+ghost use Rattle.fa_workers.specs.Held.{LeavesRest};
+ghost use Rattle.fa_workers.specs.Windows.{GivesWindow, GivesWindows};
+
+use crate::events::{make, plain};
+use fa_core::{Answer, Call};
+use fa_machine::WindowRefused;
+use fa_map::Map;
+use fa_shared::{Locked, Seat, Shared};
+use fa_types::{Die, Round};
+use std::alloc::Allocator;
+use std::sync::Wait;
+use std::sync::ledger::Ledger;
+
+/// Gives each live die that wants one a window of so many rounds, 1 to 64, until the array is to end. It tells the others of each, and
+/// waits for a change behind each look at the dies. A die that has a window, or may have none now, is asked again then.
+pub fn collector_worker<R: Wait, L: Ledger, M: Map + Drop, A: Allocator + Copy>(
+    rt: &R,
+    alloc: A,
+    shared: &Shared<L, M, A>,
+    seat: &mut Seat<L>,
+    window_rounds: u64,
+) {
+    let mut guard = shared.lock(rt);
+    for _ in rt.forever() {
+        if guard.is_stopping() {
+            break;
+        }
+        if give_windows(alloc, &mut guard, seat, window_rounds) {
+            shared.tell();
+        }
+        guard = shared.wait(rt, guard);
+    }
+}
+
+/// A Window for each die that wants one. Whether one was accepted.
+fn give_windows<L: Ledger, M: Map + Drop, A: Allocator + Copy>(
+    alloc: A,
+    locked: &mut Locked<L, M, A>,
+    seat: &mut Seat<L>,
+    rounds: u64,
+) -> bool
+    ensures gives { GivesWindows rounds locked.old.core locked.old.core.page_map.geometry.dies locked.new.core }
+    ensures nothing { result ≡ false → locked.new.core ≡ locked.old.core }
+    ensures account { LeavesRest locked.old seat.old locked.new seat.new }
+{
+    let mut given = false;
+    for die in 0..locked.array().geometry().dies {
+        if give_window(alloc, locked, seat, Die(die as u8), rounds) {
+            given = true;
+        }
+    }
+    given
+}
+
+/// A Window for a die, if it wants one. Whether it was accepted.
+fn give_window<L: Ledger, M: Map + Drop, A: Allocator + Copy>(
+    alloc: A,
+    locked: &mut Locked<L, M, A>,
+    seat: &mut Seat<L>,
+    die: Die,
+    rounds: u64,
+) -> bool
+    requires { die.0 < locked.old.core.page_map.geometry.dies }
+    ensures gives { GivesWindow rounds locked.old.core die.0 result locked.new.core }
+    ensures geometry { locked.new.core.page_map.geometry ≡ locked.old.core.page_map.geometry }
+    ensures account { LeavesRest locked.old seat.old locked.new seat.new }
+{
+    if !locked.array().wants_window(die) {
+        return false;
+    }
+    match window(alloc, locked, seat, die, rounds) {
+        None => false,
+        Some(answer) => answer.is_ok(),
+    }
+}
+
+/// A Window. None where no window has so many rounds.
+fn window<L: Ledger, M: Map + Drop, A: Allocator + Copy>(
+    alloc: A,
+    locked: &mut Locked<L, M, A>,
+    seat: &mut Seat<L>,
+    die: Die,
+    rounds: u64,
+) -> Option<Result<Round, WindowRefused>>
+    requires { die.0 < locked.old.core.page_map.geometry.dies }
+    ensures some { IfSome result (λ answer. Step locked.old.core (Window die.0 rounds answer) locked.new.core) }
+    ensures none { IfNone result (((1 ≤ rounds) × (rounds ≤ 64) → ⊥) × (locked.new.core ≡ locked.old.core)) }
+    ensures account { LeavesRest locked.old seat.old locked.new seat.new }
+{
+    let Answer::Window(answer) = make(locked, seat, plain(&alloc, Call::Window(die, rounds))) else {
+        return None;
+    };
+    Some(answer)
+}

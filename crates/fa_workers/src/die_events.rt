@@ -1,0 +1,213 @@
+//! What a die's worker does while it holds the array's lock.
+ghost use Rattle.std.specs.Prelude.{◌≡◌, true, false, IfErr, IfOk, IfSome, option_map};
+ghost use Rattle.fa_machine.specs.Conditions.{history_full};
+ghost use Rattle.fa_machine.specs.Step.{Advance, Step, Take, is_die};
+ghost use Rattle.fa_shared.specs.Seats.{number_of};
+ghost use Rattle.fa_takes.specs.Handed.{handed_of};
+ghost use Rattle.fa_workers.specs.DieTurns.{Ends, Rests, TakesNext, Turns};
+ghost use Rattle.fa_workers.specs.DieTurns.{after_look as rule_look, cause_of as rule_cause, fault_of, noted};
+ghost use Rattle.fa_workers.specs.Held.{LeavesRest};
+
+use crate::events::{make, make_room, plain};
+use crate::order::{Order, order_of};
+use fa_core::{Answer, Call};
+use fa_ends::Outcome;
+use fa_machine::AdvanceRefused;
+use fa_map::Map;
+use fa_shared::{Cause, Fault, Locked, Seat};
+use fa_types::{Die, Round};
+use std::alloc::{Allocator, Global};
+use std::sync::ledger::Ledger;
+
+/// What a die's worker does next.
+#[derive(Drop)]
+pub(crate) enum Next<A: Allocator = Global> {
+    /// It makes a job's calls.
+    Run(Order<A>),
+    /// Others are told of a change, and the die looks again.
+    Again,
+    /// The die has nothing to do.
+    Rest,
+}
+
+/// A job is over.
+#[derive(Drop)]
+pub(crate) struct Ended<A: Allocator = Global> {
+    /// The buffer that came with its end, or the one that it changed places with.
+    pub(crate) buffer: Vec<u8, A>,
+    /// Why the die went out, if it did.
+    pub(crate) fault: Option<Fault>,
+}
+
+/// A turn of a die: the round rises, if it may, or else the die takes its next job.
+///
+/// A Take drops a booking that cannot be read, and then answers no job. The round was pending before and may be so no longer, and whoever
+/// waits for that read is to be told.
+pub(crate) fn turn<L: Ledger, M: Map + Drop, A: Allocator + Copy>(
+    alloc: A,
+    locked: &mut Locked<L, M, A>,
+    seat: &mut Seat<L>,
+    die: Die,
+) -> Next<A>
+    ensures turns { Turns die.0 (number_of seat.old) locked.old.core result locked.new.core }
+    ensures account { LeavesRest locked.old seat.old locked.new seat.new }
+{
+    if !locked.array().is_die(die) {
+        return Next::Rest;
+    }
+    match advance(alloc, locked, seat) {
+        Ok(_) => Next::Again,
+        Err(refused) => take_next(alloc, locked, seat, die, refused),
+    }
+}
+
+/// The die takes its next job, where the round was refused so.
+fn take_next<L: Ledger, M: Map + Drop, A: Allocator + Copy>(
+    alloc: A,
+    locked: &mut Locked<L, M, A>,
+    seat: &mut Seat<L>,
+    die: Die,
+    refused: AdvanceRefused,
+) -> Next<A>
+    requires die { is_die locked.old.core die.0 ≡ true }
+    ensures takes { TakesNext die.0 (number_of seat.old) refused locked.old.core result locked.new.core }
+    ensures account { LeavesRest locked.old seat.old locked.new seat.new }
+{
+    make_room(alloc, locked, seat);
+    match take(alloc, locked, seat, die) {
+        Some(order) => Next::Run(order),
+        None => rest(alloc, locked, seat, refused),
+    }
+}
+
+/// The die has no job. Where the round was pending and is so no longer, a booking was dropped.
+fn rest<L: Ledger, M: Map + Drop, A: Allocator + Copy>(
+    alloc: A,
+    locked: &mut Locked<L, M, A>,
+    seat: &mut Seat<L>,
+    refused: AdvanceRefused,
+) -> Next<A>
+    ensures rests { Rests refused locked.old.core result locked.new.core }
+    ensures account { LeavesRest locked.old seat.old locked.new seat.new }
+{
+    match refused {
+        AdvanceRefused::Idle | AdvanceRefused::Spent => Next::Rest,
+        AdvanceRefused::Pending => after_look(advance(alloc, locked, seat)),
+    }
+}
+
+/// What the die does behind a second Advance.
+fn after_look<A: Allocator>(answer: Result<Round, AdvanceRefused>) -> Next<A>
+    ensures { result ≡ rule_look answer }
+{
+    match answer {
+        Err(AdvanceRefused::Pending) => Next::Rest,
+        Err(AdvanceRefused::Idle | AdvanceRefused::Spent) => Next::Again,
+        Ok(_) => Next::Again,
+    }
+}
+
+/// An Advance.
+fn advance<L: Ledger, M: Map + Drop, A: Allocator + Copy>(
+    alloc: A,
+    locked: &mut Locked<L, M, A>,
+    seat: &mut Seat<L>,
+) -> Result<Round, AdvanceRefused>
+    ensures event { Step locked.old.core (Advance result) locked.new.core }
+    ensures account { LeavesRest locked.old seat.old locked.new seat.new }
+{
+    let Answer::Advance(answer) = make(locked, seat, plain(&alloc, Call::Advance)) else {
+        unreachable!()
+    };
+    answer
+}
+
+/// A Take of a die of the array. The history has room for it.
+fn take<L: Ledger, M: Map + Drop, A: Allocator + Copy>(
+    alloc: A,
+    locked: &mut Locked<L, M, A>,
+    seat: &mut Seat<L>,
+    die: Die,
+) -> Option<Order<A>>
+    requires die { is_die locked.old.core die.0 ≡ true }
+    requires room { history_full locked.old.core ≡ false }
+    ensures event { Step locked.old.core (Take die.0 (number_of seat.old) (option_map (λ order. handed_of order.job) result))
+        locked.new.core }
+    ensures die { IfSome result (λ order. order.die ≡ die) }
+    ensures account { LeavesRest locked.old seat.old locked.new seat.new }
+{
+    let geometry = locked.array().geometry();
+    let array = locked.array().array_id();
+    let Answer::Take(job) = make(locked, seat, plain(&alloc, Call::Take(die))) else {
+        unreachable!()
+    };
+    order_of(die, geometry, array, job)
+}
+
+/// A Done, with the buffer that has what a read gave.
+pub(crate) fn end_job<L: Ledger, M: Map + Drop, A: Allocator + Copy>(
+    alloc: A,
+    locked: &mut Locked<L, M, A>,
+    seat: &mut Seat<L>,
+    die: Die,
+    outcome: Outcome,
+    buffer: Vec<u8, A>,
+) -> Ended<A>
+    ensures ends { Ends die.0 outcome buffer.items locked.old.core locked.new.core }
+    ensures fault { result.fault ≡ noted locked.old.core locked.new.core die outcome }
+    ensures account { LeavesRest locked.old seat.old locked.new seat.new }
+{
+    let was_live = locked.array().is_live(die);
+    let buffer = done(alloc, locked, seat, die, outcome, buffer);
+    let is_live = locked.array().is_live(die);
+    let fault = note(was_live, is_live, die, outcome, locked.array().now());
+    Ended { buffer, fault }
+}
+
+/// What is noted of a die that was live and is out.
+fn note(was_live: bool, is_live: bool, die: Die, outcome: Outcome, round: Round) -> Option<Fault>
+    ensures { result ≡ fault_of was_live is_live die outcome round }
+{
+    if was_live && !is_live {
+        Some(Fault {
+            die,
+            cause: cause_of(outcome),
+            round,
+        })
+    } else {
+        None
+    }
+}
+
+/// The event alone. The buffer is handed back, or the one that it changed places with.
+fn done<L: Ledger, M: Map + Drop, A: Allocator + Copy>(
+    alloc: A,
+    locked: &mut Locked<L, M, A>,
+    seat: &mut Seat<L>,
+    die: Die,
+    outcome: Outcome,
+    buffer: Vec<u8, A>,
+) -> Vec<u8, A>
+    ensures ends { Ends die.0 outcome buffer.items locked.old.core locked.new.core }
+    ensures account { LeavesRest locked.old seat.old locked.new seat.new }
+{
+    match make(
+        locked,
+        seat,
+        plain(&alloc, Call::Done(die, outcome, buffer)),
+    ) {
+        Answer::Done(left) => left,
+        Answer::Stranger(Some(back)) => back,
+        _ => Vec::new(alloc),
+    }
+}
+
+/// Why a die went out whose job ended so.
+fn cause_of(outcome: Outcome) -> Cause
+    ensures { result ≡ rule_cause outcome }
+{
+    match outcome {
+        Outcome::Fault(fault) => Cause::Image(fault),
+        _ => Cause::Wrong,
+    }
+}

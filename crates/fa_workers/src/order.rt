@@ -1,0 +1,96 @@
+//! A job with all that its calls want.
+ghost use Rattle.std.specs.Prelude.{◌≡◌, ◌+◌, IfSome, length, option_map};
+ghost use Rattle.fa_ends.specs.Outcomes.{outcome_of};
+ghost use Rattle.fa_takes.specs.Fits.{IsJobFor};
+ghost use Rattle.fa_takes.specs.Handed.{handed_of};
+ghost use Rattle.fa_workers.specs.Made.{Ran};
+ghost use Rattle.fa_workers.specs.Orders.{IsJobFor-prop};
+
+use crate::gate::Gate;
+use crate::running::run_job;
+use fa_ends::Outcome;
+use fa_image::{Image, ImageFault};
+use fa_machine::Flight;
+use fa_takes::Job;
+use fa_types::{Die, Geometry, TAG_BYTES};
+use std::alloc::{Allocator, Global};
+
+/// A job that a die has taken, of an array of this geometry and number.
+#[derive(Drop)]
+pub(crate) struct Order<A: Allocator = Global> {
+    die: Die,
+    geometry: Geometry,
+    array: [u8; 16],
+    job: Job<A>,
+    ghost fits: { IsJobFor geometry array die.0 (handed_of job) } by { IsJobFor-prop geometry array die.0 (handed_of job) },
+}
+
+/// The job that was handed out, if one was.
+pub(crate) fn order_of<A: Allocator>(
+    die: Die,
+    geometry: Geometry,
+    array: [u8; 16],
+    job: Option<Job<A>>,
+) -> Option<Order<A>>
+    requires { IfSome job (λ job. IsJobFor geometry array die.0 (handed_of job)) }
+    ensures job { option_map (λ order. handed_of order.job) result ≡ option_map handed_of job }
+    ensures die { IfSome result (λ order. order.die ≡ die) }
+{
+    match job {
+        None => None,
+        Some(job) => Some(Order {
+            die,
+            geometry,
+            array,
+            job,
+        }),
+    }
+}
+
+impl<A: Allocator> Order<A> {
+    /// Makes the job's calls on the image, if it is one for the array and the memory has the right sizes, and tells how the job ended.
+    /// Otherwise the image refuses the job, and none of its calls is made.
+    pub(crate) fn run<I: Image, G: Gate>(
+        &self,
+        image: &mut I,
+        scratch: &mut [u8],
+        buffer: &mut [u8],
+        gate: &G,
+    ) -> Outcome
+        ensures ran { (I.view image.old).geometry ≡ self.now.geometry → length scratch.old ≡ self.now.geometry.page_bytes + 64
+            → length buffer.old ≡ self.now.geometry.page_bytes
+            → Ran I.made self.now.geometry self.now.array self.now.die.0 (handed_of self.now.job) (outcome_of result buffer.new)
+            image.old image.new }
+        ensures geometry { (I.view image.new).geometry ≡ (I.view image.old).geometry }
+        ensures scratch { length scratch.new ≡ length scratch.old }
+        ensures buffer { length buffer.new ≡ length buffer.old }
+    {
+        let page_bytes = self.geometry.page_bytes as usize;
+        if image.geometry() != self.geometry
+            || scratch.len() != page_bytes + TAG_BYTES
+            || buffer.len() != page_bytes
+        {
+            return Outcome::Fault(fault_of(self.job.flight));
+        }
+        run_job(
+            self.die,
+            image,
+            &self.array,
+            &self.job,
+            scratch,
+            buffer,
+            gate,
+        )
+    }
+}
+
+/// The call by which an image refuses a job.
+fn fault_of(flight: Flight) -> ImageFault {
+    match flight {
+        Flight::Header { .. } => ImageFault::WriteHeader,
+        Flight::Move { .. } | Flight::Read { .. } => ImageFault::ReadSlot,
+        Flight::Erase { .. } => ImageFault::EraseBlock,
+        Flight::Program { .. } => ImageFault::Program,
+        Flight::Sync { .. } => ImageFault::Sync,
+    }
+}

@@ -1,0 +1,276 @@
+//! What the rebuilder does while it holds the array's lock.
+ghost use Rattle.std.specs.Prelude.{◌≡◌, false, map, IfNone, IfSome};
+ghost use Rattle.fa_machine.specs.Conditions.{batch_open, copy_open};
+ghost use Rattle.fa_machine.specs.Step.{CommitCopy, EndBatch, Step};
+ghost use Rattle.fa_reads.specs.Answers.{admit_answer};
+ghost use Rattle.fa_workers.specs.Held.{LeavesRest};
+ghost use Rattle.fa_workers.specs.Rebuilding.{AfterBatch, IsNumbered, Rebuilds, after_admit, after_commit as rule_commit, after_reserve};
+ghost use Rattle.fa_workers.specs.declared.rebuild_stage.Stage.TheVariants.{Looking, Pausing, Reading, Reserving, Copying};
+
+use crate::events::{make, plain};
+use crate::rebuild_stage::{Stage, ThinPage};
+use crate::spares::bring_in_spare;
+use fa_core::{Admitted, Answer, Call};
+use fa_machine::{AdmitRefused, BatchId, CommitCopyRefused, Copied, ReadState, ReserveCopyRefused};
+use fa_map::Map;
+use fa_shared::{Locked, Seat};
+use fa_tag::Payload;
+use fa_types::Page;
+use std::alloc::{Allocator, Global};
+use std::sync::ledger::Ledger;
+
+/// What a turn of the rebuilder came to.
+#[derive(Clone, Copy)]
+pub(crate) enum Came {
+    /// Others are told of a change, and the next turn is made at once.
+    Told,
+    /// The next turn is made at once.
+    More,
+    /// The rebuilder waits for what others do.
+    Wait,
+}
+
+/// A turn of the rebuilder: how far it is, and what it does next.
+#[derive(Drop)]
+pub(crate) struct Turned<A: Allocator = Global> {
+    pub(crate) stage: Stage<A>,
+    pub(crate) came: Came,
+}
+
+/// A turn, with at most one event that is accepted.
+pub(crate) fn turn<L: Ledger, M: Map + Drop, A: Allocator + Copy>(
+    alloc: A,
+    locked: &mut Locked<L, M, A>,
+    seat: &mut Seat<L>,
+    stage: Stage<A>,
+) -> Turned<A>
+    ensures rebuilds { Rebuilds locked.old stage locked.new.core result.stage }
+    ensures account { LeavesRest locked.old seat.old locked.new seat.new }
+{
+    match stage {
+        Stage::Looking => look(alloc, locked, seat),
+        Stage::Pausing => pause(locked),
+        Stage::Reading(thin, batch) => read(alloc, locked, seat, thin, batch),
+        Stage::Reserving(thin, payload) => reserve(locked, seat, thin, payload),
+        Stage::Copying => copy(alloc, locked, seat),
+        stage => comes_to(stage, Came::More),
+    }
+}
+
+fn comes_to<A: Allocator>(stage: Stage<A>, came: Came) -> Turned<A>
+    ensures { result.stage ≡ stage }
+{
+    Turned { stage, came }
+}
+
+/// A spare is brought in, or else the next thin page is read.
+fn look<L: Ledger, M: Map + Drop, A: Allocator + Copy>(
+    alloc: A,
+    locked: &mut Locked<L, M, A>,
+    seat: &mut Seat<L>,
+) -> Turned<A>
+    ensures rebuilds { Rebuilds locked.old Looking locked.new.core result.stage }
+    ensures account { LeavesRest locked.old seat.old locked.new seat.new }
+{
+    if locked.is_stopping() {
+        return comes_to(Stage::Ended, Came::More);
+    }
+    if bring_in_spare(alloc, locked, seat) {
+        return comes_to(Stage::Looking, Came::Told);
+    }
+    match find_thin(locked) {
+        Some(thin) => ask(locked, seat, thin),
+        None => comes_to(Stage::Looking, Came::Wait),
+    }
+}
+
+/// Something has to change first.
+fn pause<L: Ledger, M: Map + Drop, A: Allocator + Copy>(locked: &Locked<L, M, A>) -> Turned<A>
+    ensures { Rebuilds locked.now Pausing locked.now.core result.stage }
+{
+    if locked.is_stopping() {
+        comes_to(Stage::Ended, Came::More)
+    } else {
+        comes_to(Stage::Looking, Came::Wait)
+    }
+}
+
+/// The next thin page that has a place to go.
+fn find_thin<L: Ledger, M: Map + Drop, A: Allocator + Copy>(
+    locked: &Locked<L, M, A>,
+) -> Option<ThinPage>
+    ensures { IfSome result (λ thin. IsNumbered locked.now.core thin) }
+{
+    let (page, _) = locked.array().next_thin()?;
+    if !locked.array().is_page(page) {
+        return None;
+    }
+    let seq = locked.array().seq(page)?;
+    Some(ThinPage { page, seq })
+}
+
+/// A batch of the page alone is admitted.
+fn ask<L: Ledger, M: Map + Drop, A: Allocator + Copy>(
+    locked: &mut Locked<L, M, A>,
+    seat: &mut Seat<L>,
+    thin: ThinPage,
+) -> Turned<A>
+    requires number { IsNumbered locked.old.core thin }
+    requires goes_on { locked.old.stopping ≡ false }
+    ensures rebuilds { Rebuilds locked.old Looking locked.new.core result.stage }
+    ensures account { LeavesRest locked.old seat.old locked.new seat.new }
+{
+    let Answer::Admit(answer) = make(locked, seat, Call::Admit(&[thin.page])) else {
+        return comes_to(Stage::Looking, Came::Wait);
+    };
+    asked(thin, answer)
+}
+
+/// What the rebuilder does behind its Admit.
+fn asked<A: Allocator>(thin: ThinPage, answer: Result<Admitted<A>, AdmitRefused>) -> Turned<A>
+    ensures { result.stage ≡ after_admit thin (admit_answer answer) }
+{
+    match answer {
+        Ok(admitted) => comes_to(Stage::Reading(thin, admitted.batch), Came::Told),
+        Err(_) => comes_to(Stage::Looking, Came::Wait),
+    }
+}
+
+/// The batch goes on as it stands: it is waited for, or ended.
+fn read<L: Ledger, M: Map + Drop, A: Allocator + Copy>(
+    alloc: A,
+    locked: &mut Locked<L, M, A>,
+    seat: &mut Seat<L>,
+    thin: ThinPage,
+    batch: BatchId,
+) -> Turned<A>
+    ensures rebuilds { Rebuilds locked.old (Reading thin batch) locked.new.core result.stage }
+    ensures account { LeavesRest locked.old seat.old locked.new seat.new }
+{
+    let stops = locked.is_stopping();
+    let state = locked.array().results(batch);
+    if !stops && matches!(state, ReadState::Waiting) {
+        return comes_to(Stage::Reading(thin, batch), Came::Wait);
+    }
+    match end_batch(alloc, locked, seat, batch) {
+        None => comes_to(Stage::Looking, Came::More),
+        Some(answers) => comes_to(after_batch(thin, answers, stops, state), Came::Told),
+    }
+}
+
+/// How far the rebuilder is behind its EndBatch. A batch that is torn is begun anew.
+fn after_batch<A: Allocator>(
+    thin: ThinPage,
+    answers: Vec<(Page, Vec<u8, A>), A>,
+    stops: bool,
+    state: ReadState,
+) -> Stage<A>
+    ensures { AfterBatch stops state thin (map (λ e. (e.0.0, e.1.items)) answers.items) result }
+{
+    if stops {
+        return Stage::Ended;
+    }
+    match state {
+        ReadState::Ready => Stage::Read(thin, answers),
+        ReadState::Waiting | ReadState::Torn => Stage::Looking,
+    }
+}
+
+/// An EndBatch. None where the batch is not open.
+fn end_batch<L: Ledger, M: Map + Drop, A: Allocator + Copy>(
+    alloc: A,
+    locked: &mut Locked<L, M, A>,
+    seat: &mut Seat<L>,
+    batch: BatchId,
+) -> Option<Vec<(Page, Vec<u8, A>), A>>
+    ensures some { IfSome result (λ answers. Step locked.old.core (EndBatch batch.0 (map (λ e. (e.0.0, e.1.items)) answers.items))
+        locked.new.core) }
+    ensures none { IfNone result ((batch_open locked.old.core batch.0 ≡ false) × (locked.new.core ≡ locked.old.core)) }
+    ensures account { LeavesRest locked.old seat.old locked.new seat.new }
+{
+    let Answer::EndBatch(answers) = make(locked, seat, plain(&alloc, Call::EndBatch(batch))) else {
+        return None;
+    };
+    Some(answers)
+}
+
+/// A slot is reserved for the copy.
+fn reserve<L: Ledger, M: Map + Drop, A: Allocator + Copy>(
+    locked: &mut Locked<L, M, A>,
+    seat: &mut Seat<L>,
+    thin: ThinPage,
+    payload: Payload<A>,
+) -> Turned<A>
+    ensures rebuilds { Rebuilds locked.old (Reserving thin payload) locked.new.core result.stage }
+    ensures account { LeavesRest locked.old seat.old locked.new seat.new }
+{
+    if locked.is_stopping() {
+        return comes_to(Stage::Ended, Came::More);
+    }
+    let call = Call::ReserveCopy(thin.page, thin.seq, &payload);
+    let Answer::ReserveCopy(answer) = make(locked, seat, call) else {
+        return comes_to(Stage::Looking, Came::Wait);
+    };
+    reserved(thin, payload, answer)
+}
+
+/// What the rebuilder does behind a ReserveCopy. Where the page wants no such copy, or there is no room for it, it looks for another.
+fn reserved<A: Allocator>(
+    thin: ThinPage,
+    payload: Payload<A>,
+    answer: Result<(), ReserveCopyRefused>,
+) -> Turned<A>
+    ensures { result.stage ≡ after_reserve (Reserving thin payload) answer }
+{
+    match answer {
+        Ok(()) => comes_to(Stage::Copying, Came::Told),
+        Err(ReserveCopyRefused::Gone | ReserveCopyRefused::NoRoom) => {
+            comes_to(Stage::Looking, Came::More)
+        }
+        Err(ReserveCopyRefused::Busy | ReserveCopyRefused::NoMemory) => {
+            comes_to(Stage::Reserving(thin, payload), Came::Wait)
+        }
+    }
+}
+
+/// The copy is waited for until it has ended, whether the array is to end or not.
+fn copy<L: Ledger, M: Map + Drop, A: Allocator + Copy>(
+    alloc: A,
+    locked: &mut Locked<L, M, A>,
+    seat: &mut Seat<L>,
+) -> Turned<A>
+    ensures rebuilds { Rebuilds locked.old Copying locked.new.core result.stage }
+    ensures account { LeavesRest locked.old seat.old locked.new seat.new }
+{
+    match commit_copy(alloc, locked, seat) {
+        None => comes_to(Stage::Looking, Came::More),
+        Some(answer) => after_commit(answer),
+    }
+}
+
+/// A CommitCopy. None where no copy is under way.
+fn commit_copy<L: Ledger, M: Map + Drop, A: Allocator + Copy>(
+    alloc: A,
+    locked: &mut Locked<L, M, A>,
+    seat: &mut Seat<L>,
+) -> Option<Result<Copied, CommitCopyRefused>>
+    ensures some { IfSome result (λ answer. Step locked.old.core (CommitCopy answer) locked.new.core) }
+    ensures none { IfNone result ((copy_open locked.old.core ≡ false) × (locked.new.core ≡ locked.old.core)) }
+    ensures account { LeavesRest locked.old seat.old locked.new seat.new }
+{
+    let Answer::CommitCopy(answer) = make(locked, seat, plain(&alloc, Call::CommitCopy)) else {
+        return None;
+    };
+    Some(answer)
+}
+
+/// What the rebuilder does behind a CommitCopy.
+fn after_commit<A: Allocator>(answer: Result<Copied, CommitCopyRefused>) -> Turned<A>
+    ensures { result.stage ≡ rule_commit answer }
+{
+    match answer {
+        Ok(_) => comes_to(Stage::Looking, Came::Told),
+        Err(CommitCopyRefused::Pending) => comes_to(Stage::Copying, Came::Wait),
+        Err(CommitCopyRefused::Failed) => comes_to(Stage::Looking, Came::Told),
+    }
+}

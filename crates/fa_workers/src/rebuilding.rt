@@ -1,0 +1,68 @@
+//! The worker that makes thin pages whole.
+use crate::rebuild_events::{Came, turn};
+use crate::rebuild_stage::{Stage, ThinPage};
+use fa_map::Map;
+use fa_shared::{Seat, Shared};
+use fa_tag::Payload;
+use fa_types::Page;
+use std::alloc::Allocator;
+use std::sync::Wait;
+use std::sync::ledger::Ledger;
+
+/// Brings in spares while a die is live, and gives each thin page one more copy, until the array is to end.
+///
+/// It reads a thin page by a batch of its own, hashes what it read with no lock held, reserves one more copy of the write that it saw
+/// before the read, and waits until that copy is current. A batch that is open as the array is to end is ended at once; a copy that is under way
+/// is seen through. Where it has nothing to do, or memory is refused, it waits for a change.
+pub fn rebuild_worker<R: Wait, L: Ledger, M: Map + Drop, A: Allocator + Copy>(
+    rt: &R,
+    alloc: A,
+    shared: &Shared<L, M, A>,
+    seat: &mut Seat<L>,
+) {
+    let mut stage = Stage::Looking;
+    for _ in rt.forever() {
+        stage = match make_turns(rt, alloc, shared, seat, stage) {
+            Stage::Read(thin, answers) => prepare(thin, answers),
+            Stage::Ended => break,
+            stage => stage,
+        };
+    }
+}
+
+/// Makes turns until there is a page to be hashed, or the rebuilder has ended. The lock is free while it waits, and behind.
+fn make_turns<R: Wait, L: Ledger, M: Map + Drop, A: Allocator + Copy>(
+    rt: &R,
+    alloc: A,
+    shared: &Shared<L, M, A>,
+    seat: &mut Seat<L>,
+    stage: Stage<A>,
+) -> Stage<A> {
+    let mut guard = shared.lock(rt);
+    let mut stage = stage;
+    for _ in rt.forever() {
+        let turned = turn(alloc, &mut guard, seat, stage);
+        stage = turned.stage;
+        match turned.came {
+            Came::Told => shared.tell(),
+            Came::More => {}
+            Came::Wait => guard = shared.wait(rt, guard),
+        }
+        if matches!(stage, Stage::Read(..) | Stage::Ended) {
+            break;
+        }
+    }
+    stage
+}
+
+/// Hashes the page that was read. Out of memory, the rebuilder waits for a change.
+fn prepare<A: Allocator + Copy>(thin: ThinPage, answers: Vec<(Page, Vec<u8, A>), A>) -> Stage<A> {
+    let mut answers = answers;
+    let Some((_, bytes)) = answers.pop() else {
+        return Stage::Pausing;
+    };
+    match Payload::new(bytes) {
+        Ok(payload) => Stage::Reserving(thin, payload),
+        Err(_) => Stage::Pausing,
+    }
+}

@@ -1,0 +1,26 @@
+//! Memory for the jobs of a die.
+ghost use Rattle.std.specs.Prelude.{◌≡◌, ◌+◌, IfOk, length};
+ghost use Rattle.fa_workers.specs.Rooms.{buffer_in, scratch_in};
+
+use fa_types::TAG_BYTES;
+use std::alloc::{AllocError, Allocator, Global};
+
+/// Memory for the jobs of a die: a slot's bytes, and a page's. It is made before the die's thread is started.
+#[derive(Drop)]
+pub struct Room<A: Allocator = Global> {
+    pub(crate) scratch: Vec<u8, A>,
+    pub(crate) buffer: Vec<u8, A>,
+}
+
+impl<A: Allocator + Copy> Room<A> {
+    /// Memory for the jobs of a die whose pages have so many bytes. The error is out of memory.
+    pub fn new(alloc: A, page_bytes: u32) -> Result<Room<A>, AllocError>
+        ensures scratch { IfOk result (λ room. length (scratch_in room) ≡ page_bytes + 64) }
+        ensures buffer { IfOk result (λ room. length (buffer_in room) ≡ page_bytes) }
+    {
+        let page = page_bytes as usize;
+        let scratch = vec![in alloc; 0u8; page + TAG_BYTES]?;
+        let buffer = vec![in alloc; 0u8; page]?;
+        Ok(Room { scratch, buffer })
+    }
+}

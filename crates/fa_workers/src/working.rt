@@ -1,0 +1,121 @@
+//! The worker of a die.
+use crate::die_events::{Ended, Next, end_job, turn};
+use crate::gate::Gate;
+use crate::order::Order;
+use crate::room::Room;
+use fa_ends::Outcome;
+use fa_image::Image;
+use fa_map::Map;
+use fa_shared::{Seat, Shared};
+use fa_types::Die;
+use std::alloc::{Allocator, Global};
+use std::sync::Wait;
+use std::sync::ledger::Ledger;
+
+/// What a die's worker has behind a job.
+#[derive(Drop)]
+struct Behind<A: Allocator = Global> {
+    buffer: Vec<u8, A>,
+    next: Option<Order<A>>,
+}
+
+/// Works for a die until the array is to end and the die has nothing to do.
+///
+/// It takes the die's jobs one by one, makes the calls of each on the image with no lock held, and ends it: the end of a job and the Take
+/// of the next are made in one hold of the lock. Where the die has no job it lets the round pass, if it may, and else waits. It tells the
+/// others of each change, and notes why the die went out, if it did; the worker of a die that is out, or of a spare, waits.
+///
+/// An image of another geometry than the array's refuses each job. A room that was made for pages of another size ends no job.
+pub fn die_worker<R: Wait, L: Ledger, M: Map + Drop, A: Allocator + Copy, I: Image, G: Gate>(
+    rt: &R,
+    alloc: A,
+    shared: &Shared<L, M, A>,
+    seat: &mut Seat<L>,
+    die: Die,
+    image: &mut I,
+    room: Room<A>,
+    gate: &G,
+) {
+    let Room {
+        mut scratch,
+        mut buffer,
+    } = room;
+    let mut next = None;
+    for _ in rt.forever() {
+        let Some(order) = next_order(rt, alloc, shared, seat, die, next) else {
+            break;
+        };
+        let outcome = order.run(image, scratch.as_mut_slice(), buffer.as_mut_slice(), gate);
+        let behind = finish(rt, alloc, shared, seat, die, outcome, buffer);
+        buffer = behind.buffer;
+        next = behind.next;
+    }
+}
+
+/// The job that was taken already, or the next one, which is waited for. None where there is none and the array is to end.
+fn next_order<R: Wait, L: Ledger, M: Map + Drop, A: Allocator + Copy>(
+    rt: &R,
+    alloc: A,
+    shared: &Shared<L, M, A>,
+    seat: &mut Seat<L>,
+    die: Die,
+    taken: Option<Order<A>>,
+) -> Option<Order<A>> {
+    match taken {
+        Some(order) => Some(order),
+        None => wait_for_order(rt, alloc, shared, seat, die),
+    }
+}
+
+/// Waits for the die's next job. None where there is none and the array is to end.
+fn wait_for_order<R: Wait, L: Ledger, M: Map + Drop, A: Allocator + Copy>(
+    rt: &R,
+    alloc: A,
+    shared: &Shared<L, M, A>,
+    seat: &mut Seat<L>,
+    die: Die,
+) -> Option<Order<A>> {
+    let mut guard = shared.lock(rt);
+    for _ in rt.forever() {
+        match turn(alloc, &mut guard, seat, die) {
+            Next::Run(order) => return Some(order),
+            Next::Again => shared.tell(),
+            Next::Rest => {
+                if guard.is_stopping() {
+                    return None;
+                }
+                guard = shared.wait(rt, guard);
+            }
+        }
+    }
+    unreachable!()
+}
+
+/// Ends a job and makes the die's next turn, and one more where the round has risen, in one hold, and tells the others. Behind the hold it
+/// notes why the die went out, if it did.
+fn finish<R: Wait, L: Ledger, M: Map + Drop, A: Allocator + Copy>(
+    rt: &R,
+    alloc: A,
+    shared: &Shared<L, M, A>,
+    seat: &mut Seat<L>,
+    die: Die,
+    outcome: Outcome,
+    buffer: Vec<u8, A>,
+) -> Behind<A> {
+    let mut guard = shared.lock(rt);
+    let Ended { buffer, fault } = end_job(alloc, &mut guard, seat, die, outcome, buffer);
+    let mut turned = turn(alloc, &mut guard, seat, die);
+    if matches!(turned, Next::Again) {
+        turned = turn(alloc, &mut guard, seat, die);
+    }
+    drop(guard);
+    shared.tell();
+    if let Some(fault) = fault {
+        shared.note_fault(rt, fault);
+    }
+    let next = match turned {
+        Next::Run(order) => Some(order),
+        Next::Again | Next::Rest => None,
+    };
+    Behind { buffer, next }
+}
