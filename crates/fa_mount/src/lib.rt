@@ -13,4 +13,4 @@ mod telling;
 
 pub use array::MountedArray;
 pub use closing::{CloseFault, close_clean};
-pub use mounting::{mount, mount_found};
+pub use mounting::{mount, mount_found, mount_found_side_by_side};
