@@ -4,7 +4,7 @@ use std::fmt::Display;
 use std::io::{self, Eprint};
 
 /// Tells these words, behind the program's name.
-pub(crate) fn tell<R: Eprint, T: Display + Drop>(rt: &R, words: T) {
+pub fn tell<R: Eprint, T: Display + Drop>(rt: &R, words: T) {
     let _ = eprintln!(rt; "flasharr: {words}");
 }
 

@@ -14,16 +14,16 @@ use std::path::Path;
 
 /// The images that were opened, and for each the place of its path in the settings.
 #[derive(Drop)]
-pub(crate) struct OpenImages<'a, R> {
+pub struct OpenImages<'a, R> {
     /// The images.
-    pub(crate) images: Vec<Watched<'a, R, FileImage>>,
+    pub images: Vec<Watched<'a, R, FileImage>>,
     /// The places, from 0.
-    pub(crate) places: Vec<usize>,
+    pub places: Vec<usize>,
 }
 
 /// Why images were not opened.
 #[derive(Clone, Copy)]
-pub(crate) enum NotOpened {
+pub enum NotOpened {
     /// A file cannot be opened, or another process has it.
     Image,
     /// Memory was refused.
@@ -55,7 +55,7 @@ impl<T: Drop> From<AllocFailed<T>> for NotOpened {
 /// Opens the images of the settings. One that cannot be opened is told on standard error; where an unclean
 /// array may be mounted it is left aside, and else that is the answer. A file whose length is not that of
 /// an image is told too.
-pub(crate) fn open_images<'a, R: Host, A: Allocator>(
+pub fn open_images<'a, R: Host, A: Allocator>(
     rt: &'a R,
     settings: &'a Settings<A>,
     unclean: bool,

@@ -14,6 +14,10 @@ mod settings_file;
 mod table;
 mod watched;
 
+pub use complaint::tell;
 pub use format::run_format;
 pub use host::Host;
-pub use look::{Asked, Look, run_look};
+pub use images::{NotOpened, OpenImages, open_images};
+pub use look::{Asked, Look, explain, mount_line, run_look};
+pub use settings_file::{NoSettings, refuse_settings, settings_at};
+pub use watched::Watched;

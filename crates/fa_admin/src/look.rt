@@ -22,7 +22,7 @@ use fa_scan::{Mounted, scan_found_side_by_side};
 use fa_settings::Settings;
 use fa_types::Copies;
 use std::alloc::{AllocError, Allocator};
-use std::io::Write;
+use std::io::{Eprint, Write};
 
 /// What is to be told of an array.
 #[derive(Clone, Copy)]
@@ -262,7 +262,7 @@ fn document_of<R: Host>(
 }
 
 /// Tells on standard error which image or die is at fault.
-fn explain<R: Host, A: Allocator>(
+pub fn explain<R: Eprint, A: Allocator>(
     rt: &R,
     settings: &Settings<A>,
     places: &[usize],
@@ -283,7 +283,7 @@ fn explain<R: Host, A: Allocator>(
 }
 
 /// What is printed of images that are not mounted.
-fn mount_line(fault: MountFault) -> &'static [u8]
+pub fn mount_line(fault: MountFault) -> &'static [u8]
     ensures { result.now ≡ line_of fault }
 {
     match fault {

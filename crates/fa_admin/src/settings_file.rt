@@ -14,7 +14,7 @@ use std::io::{ErrorKind, Write};
 
 /// Why there are no settings.
 #[derive(Drop)]
-pub(crate) enum NoSettings<A: Allocator> {
+pub enum NoSettings<A: Allocator> {
     /// Their file cannot be read.
     Unread,
     /// Their text is faulty.
@@ -24,7 +24,7 @@ pub(crate) enum NoSettings<A: Allocator> {
 }
 
 /// The settings in the file of this path. What is wrong with them is told on standard error too.
-pub(crate) fn settings_at<R: Host, A: Allocator + Copy>(
+pub fn settings_at<R: Host, A: Allocator + Copy>(
     rt: &R,
     alloc: A,
     path: &str,
@@ -118,7 +118,7 @@ fn explain_value<R: Host>(rt: &R, path: &str, text: &[u8], key: Key) {
 }
 
 /// Prints why there are no settings.
-pub(crate) fn refuse_settings<W: Write, A: Allocator + Copy>(
+pub fn refuse_settings<W: Write, A: Allocator + Copy>(
     alloc: A,
     refused: NoSettings<A>,
     output: &mut W,

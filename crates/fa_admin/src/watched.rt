@@ -10,7 +10,7 @@ const STEP: u64 = 1 << 26;
 
 /// An image that a command reads or erases, and that tells on standard error how far it is.
 #[derive(Drop)]
-pub(crate) struct Watched<'a, R, I> {
+pub struct Watched<'a, R, I> {
     /// The image.
     pub(crate) image: I,
     /// Where it is told.
