@@ -17,8 +17,10 @@ impl<T> Model for History<T> {
     ghost also_owns = { λ _. ftrue };
 }
 
-// It owns nothing, so it may go to another thread.
+// It owns nothing, so it may go to another thread, and threads may share it.
 unsafe impl<T> Send for History<T> {}
+
+unsafe impl<T> Sync for History<T> {}
 
 impl<T> History<T> {
     /// A history that shows this first.
