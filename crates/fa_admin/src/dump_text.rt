@@ -85,7 +85,7 @@ fn push_place<A: Allocator>(out: &mut String<A>, die: Die, slot: Slot) -> Result
 }
 
 /// Adds a number.
-pub(crate) fn push_number<A: Allocator>(out: &mut String<A>, number: u64) -> Result<(), AllocError>
+pub fn push_number<A: Allocator>(out: &mut String<A>, number: u64) -> Result<(), AllocError>
     ensures { OnOk result (string_bytes out.new ≡ string_bytes out.old ++ decimal number) }
 {
     let mut digits = Buffer::new();

@@ -15,6 +15,7 @@ mod table;
 mod watched;
 
 pub use complaint::tell;
+pub use dump_text::push_number;
 pub use format::run_format;
 pub use host::Host;
 pub use images::{NotOpened, OpenImages, open_images};

@@ -1,0 +1,18 @@
+//! The server of an array: the command `serve`.
+#![tactic(auto)]
+
+mod accepting;
+mod closing;
+mod crew;
+mod export;
+mod host;
+mod lobby;
+mod ready;
+mod serve;
+mod serving;
+mod sessions;
+mod stop_line;
+mod watching;
+
+pub use host::{Networked, ServerHost};
+pub use serve::{Serve, run_serve, serve_on};

@@ -1,0 +1,141 @@
+//! What is told of the array while it is served.
+use crate::host::Networked;
+use fa_admin::tell;
+use fa_core::Array;
+use fa_map::PageMap;
+use fa_shared::{Cause, Fault, Shared};
+use fa_types::Die;
+use std::sync::ledger::Ledger;
+use std::thread;
+use std::time::Duration;
+
+/// How long it is between two looks at the array, in milliseconds.
+const LOOK_MILLISECONDS: u64 = 200;
+
+/// How an array stands.
+#[derive(Clone, Copy)]
+struct Sight {
+    /// Which dies are live, by their numbers.
+    live: [bool; 64],
+    /// A page has fewer copies than it could have.
+    is_thin: bool,
+    /// No page has, and each live die has room for more.
+    is_healed: bool,
+    /// A write may find too few dies with room for it.
+    is_full: bool,
+}
+
+/// Tells on standard error which dies went out and came in, when all pages have their copies again, and that the array is running full,
+/// until the array is to end. The paths are those of the dies' images, by the dies' numbers.
+pub(crate) fn watch<R: Networked, L: Ledger + Send>(
+    rt: &R,
+    shared: &Shared<L, PageMap>,
+    paths: &[&str],
+    copies: u32,
+) {
+    let mut seen = sight_of(shared.lock(rt).array(), copies);
+    let mut was_thin = seen.is_thin;
+    let mut told = 0usize;
+    for _ in rt.forever() {
+        let is_last = shared.stopped(rt);
+        let sight = sight_of(shared.lock(rt).array(), copies);
+        told = tell_faults(rt, shared, paths, told);
+        tell_comers(rt, paths, &seen, &sight);
+        if was_thin && sight.is_healed {
+            tell(rt, "all pages have their copies again");
+        }
+        if sight.is_full && !seen.is_full {
+            tell(
+                rt,
+                "the array is running full: trim what is not needed, or replace dies that are out",
+            );
+        }
+        was_thin = sight.is_thin || was_thin && !sight.is_healed;
+        seen = sight;
+        if is_last {
+            break;
+        }
+        thread::sleep(rt, Duration::from_millis(LOOK_MILLISECONDS));
+    }
+}
+
+/// How an array stands, whose pages are to have so many copies.
+fn sight_of(array: &Array<PageMap>, copies: u32) -> Sight {
+    let mut live = [false; 64];
+    let (mut dies, mut roomy) = (0u32, 0u32);
+    for number in 0..array.geometry().dies {
+        let die = Die(number as u8);
+        if array.is_live(die) {
+            dies = dies.saturating_add(1);
+            if let Some(place) = live.get_mut(number as usize) {
+                *place = true;
+            }
+            if array.room(die) > 0 || array.victim(die).is_some() {
+                roomy = roomy.saturating_add(1);
+            }
+        }
+    }
+    let is_thin = array.next_thin().is_some() || array.copy_open();
+    Sight {
+        live,
+        is_thin,
+        is_healed: !is_thin && roomy == dies,
+        is_full: roomy < copies,
+    }
+}
+
+/// Tells of the faults behind those that were told already, and answers how many were told now. Where there is no memory for them they
+/// are told later.
+fn tell_faults<R: Networked, L: Ledger + Send>(
+    rt: &R,
+    shared: &Shared<L, PageMap>,
+    paths: &[&str],
+    told: usize,
+) -> usize {
+    let Ok(faults) = shared.faults(rt, rt.alloc()) else {
+        return told;
+    };
+    for fault in faults.get(told..).unwrap_or(&[]) {
+        tell_fault(rt, paths, *fault);
+    }
+    faults.len()
+}
+
+/// Tells that a die went out.
+fn tell_fault<R: Networked>(rt: &R, paths: &[&str], fault: Fault) {
+    let (path, die, round) = (path_of(paths, fault.die), fault.die.0, fault.round.0);
+    match fault.cause {
+        Cause::Image(cause) => tell(
+            rt,
+            format_args!("{path}: die {die} went out in round {round}: {cause}; replace it"),
+        ),
+        Cause::Wrong => tell(
+            rt,
+            format_args!(
+                "{path}: die {die} went out in round {round}: a slot has other bytes than were written; replace it"
+            ),
+        ),
+    }
+}
+
+/// Tells of the dies that are live now and were not before.
+fn tell_comers<R: Networked>(rt: &R, paths: &[&str], seen: &Sight, sight: &Sight) {
+    for number in 0..64u8 {
+        let place = usize::from(number);
+        if sight.live[place] && !seen.live[place] {
+            let path = path_of(paths, Die(number));
+            tell(
+                rt,
+                format_args!("{path}: die {number} came in; it is being filled"),
+            );
+        }
+    }
+}
+
+/// The path of a die's image.
+fn path_of<'a>(paths: &[&'a str], die: Die) -> &'a str {
+    match paths.get(usize::from(die.0)) {
+        Some(path) => path,
+        None => "an image",
+    }
+}
