@@ -73,7 +73,7 @@ pub(crate) struct Lobby {
 }
 
 impl Lobby {
-    /// An open lobby of so many sessions. The error is out of memory.
+    /// An open lobby for this number of sessions. The error is out of memory.
     pub(crate) fn new(alloc: Global, sessions: usize) -> Result<Lobby, AllocError> {
         let mut served = Vec::with_capacity(alloc, sessions)?;
         for _ in 0..sessions {
@@ -112,7 +112,7 @@ impl Lobby {
         self.changed.notify_all();
     }
 
-    /// Lets a client wait for a session for so long. The client comes back where no session took it.
+    /// Lets a client wait for a session, up to the limit. The client comes back where no session took it.
     pub(crate) fn offer<R: Networked>(
         &self,
         rt: &R,

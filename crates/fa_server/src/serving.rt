@@ -223,7 +223,7 @@ fn serve_shared<R: Networked, L: Ledger + Send, I: Image + Send + Drop, N: Read>
     ))
 }
 
-/// How many seats come back from so many dies' workers and so many sessions, the collector and the rebuilder.
+/// How many seats come back from this number of dies' workers and of sessions, with the collector's and the rebuilder's.
 fn seat_count(dies: usize, sessions: usize) -> usize {
     dies.saturating_add(sessions).saturating_add(2)
 }

@@ -7,7 +7,7 @@ const STOP: &[u8] = b"stop";
 /// The line that is being read.
 #[derive(Clone, Copy)]
 enum Line {
-    /// It is so many bytes of the stop, so far.
+    /// The first bytes of the stop, of this number, and nothing else so far.
     Begun(usize),
     /// It is another.
     Other,

@@ -59,7 +59,7 @@ pub(crate) fn watch<R: Networked, L: Ledger + Send>(
     }
 }
 
-/// How an array stands, whose pages are to have so many copies.
+/// How an array stands, each of whose pages is to have this number of copies.
 fn sight_of(array: &Array<PageMap>, copies: u32) -> Sight {
     let mut live = [false; 64];
     let (mut dies, mut roomy) = (0u32, 0u32);
