@@ -27,8 +27,8 @@ RunsOver Tells cannot_read s status =
 abbrev pub ShowsUsage : Option (List ℕ) → Option (List ℕ) → ℕ → Type 0
 ShowsUsage old new status =
     (status ≡ 2)
-    × (Appends old new (codes "usage: flasharr format | check | dump | plan | talk | verify" ++ 10 ∷ [])
-    ⊎ IsCut old new (codes "usage: flasharr format | check | dump | plan | talk | verify" ++ 10 ∷ []))
+    × (Appends old new (codes "usage: flasharr format | check | dump | serve | plan | talk | verify" ++ 10 ∷ [])
+    ⊎ IsCut old new (codes "usage: flasharr format | check | dump | serve | plan | talk | verify" ++ 10 ∷ []))
 
 -- A text for a person was printed, or a prefix of it, and the status is 2.
 abbrev pub ShowsMistake : Option (List ℕ) → Option (List ℕ) → ℕ → Type 0

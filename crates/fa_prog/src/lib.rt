@@ -10,6 +10,6 @@ mod status;
 mod talk;
 mod verify;
 
-pub use fa_admin::Host;
+pub use fa_server::ServerHost;
 pub use program::{run, start};
 pub use status::Status;

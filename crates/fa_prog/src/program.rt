@@ -15,20 +15,27 @@ use crate::verify::run_verify;
 use clap::Error;
 use clap::error::ErrorKind as Finding;
 use fa_admin::printing::{DONE, FAULTY, print, refuse_for_memory};
-use fa_admin::{Asked, Host, Look, run_format, run_look};
+use fa_admin::{Asked, Look, run_format, run_look};
 use fa_io::send_all;
+use fa_server::{Serve, ServerHost, run_serve};
 use fa_settings::{Subcommand, command};
 use std::alloc::{AllocError, Allocator, Global};
 use std::env::Args;
 use std::io::{self, ErrorKind, Read, Write};
+use std::net::{Net, TcpListener, TcpStream};
 
 /// What is printed where the arguments cannot be had.
-const USAGE: &[u8] = b"usage: flasharr format | check | dump | plan | talk | verify\n";
+const USAGE: &[u8] = b"usage: flasharr format | check | dump | serve | plan | talk | verify\n";
 
 /// Runs the program with all of its arguments, of which the first is its name, as [`run`] does with
 /// those behind it. Where the arguments cannot be had, it prints that memory was refused, with status
 /// 1, or else, as where one is no text, a line of usage, with status 2.
-pub fn start<H: Host, R: Read, W: Write, A: Allocator + Copy>(
+pub fn start<
+    H: ServerHost + Net<Listener = TcpListener, Stream = TcpStream>,
+    R: Read,
+    W: Write,
+    A: Allocator + Copy,
+>(
     rt: &H,
     alloc: A,
     watched: bool,
@@ -60,6 +67,11 @@ pub fn start<H: Host, R: Read, W: Write, A: Allocator + Copy>(
 /// is; with `--unclean` also of one that was not closed, and with `--json` as one JSON document. These three
 /// read nothing of the input, and tell on standard error what an admin has to look at.
 ///
+/// `serve` mounts the array of the settings and serves it over NBD at their address, in many threads, until the
+/// input has the line `stop`, ends or fails, and then closes it; with `--unclean` also one that was not closed. It
+/// prints where it listens, and at the end the faults that took dies out and how the array was closed. With
+/// `--verbose` it tells on standard error of clients that come and go.
+///
 /// `talk` reads lines of hexadecimal digits as the bytes of one NBD client, serves them over a plain
 /// store of 64 pages of 512 zero bytes under the name `disk`, and prints the server's bytes, in
 /// hexadecimal on one line, and then how the connection ended.
@@ -75,7 +87,12 @@ pub fn start<H: Host, R: Read, W: Write, A: Allocator + Copy>(
 /// With `watched` a command that works for seconds on images tells on standard error how far it is.
 ///
 /// The arguments are read by `clap`, which takes its memory of the process.
-pub fn run<H: Host, R: Read, W: Write, A: Allocator + Copy>(
+pub fn run<
+    H: ServerHost + Net<Listener = TcpListener, Stream = TcpStream>,
+    R: Read,
+    W: Write,
+    A: Allocator + Copy,
+>(
     rt: &H,
     alloc: A,
     watched: bool,
@@ -125,6 +142,17 @@ pub fn run<H: Host, R: Read, W: Write, A: Allocator + Copy>(
                 watched,
             };
             run_look(rt, alloc, settings, look, output)
+        }
+        Ok(
+            Some(
+                Subcommand::Serve {
+                    settings,
+                    unclean,
+                    verbose,
+                },
+            ),
+        ) => {
+            run_serve(rt, alloc, settings, Serve { unclean, verbose }, input, output)
         }
         Ok(Some(Subcommand::Plan)) => run_plan(alloc, input, output),
         Ok(Some(Subcommand::Talk)) => run_talk(alloc, input, output),

@@ -1,16 +1,22 @@
 //! The program where its memory is refused, its input or its output fails, or its arguments cannot be had.
 use fa_io::faulty::{Failing, Piecewise};
-use fa_prog::{Host, run, start};
+use fa_prog::{ServerHost, run, start};
 use flasharr_tests::ensure;
 use linked_list_allocator::LocalHeap;
 use std::alloc::{AllocError, Allocator, Global};
 use std::env::Args;
 use std::io::{self, ErrorKind, Read, Write};
+use std::net::{Net, TcpListener, TcpStream};
 use std::slice;
 use std::test::Fail;
 
 /// The status of the program's run. What the run promises is told here alone: a test looks at what it did.
-pub fn status_of<H: Host, R: Read, W: Write, A: Allocator + Copy>(
+pub fn status_of<
+    H: ServerHost + Net<Listener = TcpListener, Stream = TcpStream>,
+    R: Read,
+    W: Write,
+    A: Allocator + Copy,
+>(
     rt: &H,
     alloc: A,
     arguments: &[String<A>],
@@ -31,7 +37,7 @@ fn given(alloc: Global, arguments: &[&str]) -> Result<Vec<String>, AllocError> {
 
 /// Tries a command with a writer that takes five bytes a call, until a call fails: so many were taken.
 fn fails_at_write(
-    rt: &impl Host,
+    rt: &(impl ServerHost + Net<Listener = TcpListener, Stream = TcpStream>),
     name: &str,
     text: &str,
     told: &str,
@@ -86,7 +92,10 @@ fn input_that_fails(rt: HostRuntime) -> Result<(), Fail> {
 }
 
 /// What the program prints that is started with these arguments, and its status.
-fn started(rt: &impl Host, all: io::Result<Args>) -> (u8, Vec<u8>) {
+fn started(
+    rt: &(impl ServerHost + Net<Listener = TcpListener, Stream = TcpStream>),
+    all: io::Result<Args>,
+) -> (u8, Vec<u8>) {
     let mut input = b"".as_slice();
     let mut output = Vec::new(rt.alloc());
     let status = start(rt, rt.alloc(), false, all, &mut input, &mut output);
@@ -100,7 +109,7 @@ fn arguments_that_cannot_be_had(rt: HostRuntime) -> Result<(), Fail> {
         (
             ErrorKind::InvalidData,
             2,
-            "usage: flasharr format | check | dump | plan | talk | verify\n",
+            "usage: flasharr format | check | dump | serve | plan | talk | verify\n",
         ),
     ];
     for (kind, status, told) in cases {

@@ -6,12 +6,13 @@ use Rattle.clap.specs.declared.error.Error.{Error}
 use Rattle.fa_io.specs.Streams.{Streams, Reads}
 use Rattle.std.specs.Borrow.{Bor}
 use Rattle.fa_types.specs.declared.numbers.Die.{Die}
-use Rattle.fa_settings.specs.CommandLine.{Wanted, Formats, Checks, Dumps, Plans, Talks, Verifies, IsWanted, found_instead, wanted_in}
-use Rattle.fa_settings.specs.declared.command_line.Subcommand.TheVariants.{Format, Check, Dump}
+use Rattle.fa_settings.specs.CommandLine.{Wanted, Formats, Checks, Dumps, Serves, Plans, Talks, Verifies, IsWanted, found_instead, wanted_in}
+use Rattle.fa_settings.specs.declared.command_line.Subcommand.TheVariants.{Format, Check, Dump, Serve}
 use Rattle.fa_admin.specs.Array.{TellsLook}
 use Rattle.fa_admin.specs.Formatting.{TellsFormat}
 use Rattle.fa_admin.specs.declared.look.Asked.TheVariants.{Check as CheckAsked, Dump as DumpAsked}
 use Rattle.fa_admin.specs.Printing.{TellsNoMemory}
+use Rattle.fa_server.specs.Serving.{TellsServe}
 use Rattle.fa_prog.specs.Output.{ShowsText}
 use Rattle.fa_prog.specs.Program.{Runs, RunsCommand}
 use Rattle.fa_prog.proofs.program.run.Goals as goal
@@ -33,6 +34,7 @@ ran_format A settings die (Some (Formats path text)) s status is reads tells = (
 ran_format A settings die None s status is reads tells = absurd is
 ran_format A settings die (Some (Checks path u j)) s status is reads tells = absurd is
 ran_format A settings die (Some (Dumps path u j)) s status is reads tells = absurd is
+ran_format A settings die (Some (Serves path u v)) s status is reads tells = absurd is
 ran_format A settings die (Some Plans) s status is reads tells = absurd is
 ran_format A settings die (Some Talks) s status is reads tells = absurd is
 ran_format A settings die (Some Verifies) s status is reads tells = absurd is
@@ -44,6 +46,7 @@ ran_check A settings unclean json (Some (Checks path u j)) s status is reads tel
 ran_check A settings unclean json None s status is reads tells = absurd is
 ran_check A settings unclean json (Some (Formats path text)) s status is reads tells = absurd is
 ran_check A settings unclean json (Some (Dumps path u j)) s status is reads tells = absurd is
+ran_check A settings unclean json (Some (Serves path u v)) s status is reads tells = absurd is
 ran_check A settings unclean json (Some Plans) s status is reads tells = absurd is
 ran_check A settings unclean json (Some Talks) s status is reads tells = absurd is
 ran_check A settings unclean json (Some Verifies) s status is reads tells = absurd is
@@ -55,9 +58,21 @@ ran_dump A settings unclean json (Some (Dumps path u j)) s status is reads tells
 ran_dump A settings unclean json None s status is reads tells = absurd is
 ran_dump A settings unclean json (Some (Formats path text)) s status is reads tells = absurd is
 ran_dump A settings unclean json (Some (Checks path u j)) s status is reads tells = absurd is
+ran_dump A settings unclean json (Some (Serves path u v)) s status is reads tells = absurd is
 ran_dump A settings unclean json (Some Plans) s status is reads tells = absurd is
 ran_dump A settings unclean json (Some Talks) s status is reads tells = absurd is
 ran_dump A settings unclean json (Some Verifies) s status is reads tells = absurd is
+
+ran_serve : (A : Type 0) (settings : Bor (List ℕ)) (unclean verbose : Bool) (wanted : Option Wanted) (s : Streams) (status : ℕ) → IsWanted (Some (Serve settings unclean verbose)) wanted
+    → TellsServe A s.held_before s.held_after status → RunsCommand A wanted s status
+ran_serve A settings unclean verbose (Some (Serves path u v)) s status is tells = tells
+ran_serve A settings unclean verbose None s status is tells = absurd is
+ran_serve A settings unclean verbose (Some (Formats path text)) s status is tells = absurd is
+ran_serve A settings unclean verbose (Some (Checks path u j)) s status is tells = absurd is
+ran_serve A settings unclean verbose (Some (Dumps path u j)) s status is tells = absurd is
+ran_serve A settings unclean verbose (Some Plans) s status is tells = absurd is
+ran_serve A settings unclean verbose (Some Talks) s status is tells = absurd is
+ran_serve A settings unclean verbose (Some Verifies) s status is tells = absurd is
 
 pub returns-in-Ok-Some-Format : goal.returns-in-Ok-Some-Format
 returns-in-Ok-Some-Format g c =
@@ -85,4 +100,13 @@ returns-in-Ok-Some-Dump g c =
       ran_dump _ k.settings k.unclean k.json (wanted_in (map string_bytes c.args.arguments.now)) _
           c.run_look-in-Ok-Some-Dump.result
           (subst (λ o. IsWanted o (wanted_in (map string_bytes c.args.arguments.now))) (k.field-0-is ∙ ap Some k.field-0-0-is) k.ensures.command) (Consumes-nil _) c.run_look-in-Ok-Some-Dump.ensures,
+    )
+
+pub returns-in-Ok-Some-Serve : goal.returns-in-Ok-Some-Serve
+returns-in-Ok-Some-Serve g c =
+    let k = c.in-Ok-Some-Serve in
+    inl (
+      k.ensures.no_other,
+      ran_serve _ k.settings k.unclean k.verbose (wanted_in (map string_bytes c.args.arguments.now)) _ c.run_serve.result
+          (subst (λ o. IsWanted o (wanted_in (map string_bytes c.args.arguments.now))) (k.field-0-is ∙ ap Some k.field-0-0-is) k.ensures.command) c.run_serve.ensures,
     )
