@@ -9,6 +9,7 @@ Commands:
   format  Makes the images of an array, which holds zeros
   check   Reads the images of an array, and tells what they hold
   dump    Reads the images of an array, and lists its written pages
+  serve   Serves an array over NBD, until the line `stop` comes on standard input
   plan    Plans a batch of reads, given as a batch text on standard input, in the least number of rounds
   talk    Serves one NBD client, whose bytes are given on standard input as lines of hexadecimal digits
   verify  Checks a batch text and a certificate text, given one behind the other on standard input
@@ -19,6 +20,25 @@ Options:
 
 Status: 0 where the work was done, 1 where it was refused or memory, input or output failed,
 2 at a fault of the arguments, the settings or the input's text.
+"""
+
+HELP_OF_SERVE = """Serves an array over NBD, until the line `stop` comes on standard input
+
+Usage: flasharr serve SETTINGS [--unclean] [--verbose]
+
+Arguments:
+  <SETTINGS>  The settings of the array, a TOML file
+
+Options:
+      --unclean  Takes an array that was not closed, or whose images are not all there
+      --verbose  Tells of clients that come and go, on standard error
+  -h, --help     Print help
+
+Printed is first `listening ADDRESS`, where clients can connect. The server also stops where the input ends
+or fails. At the end follow the last 64 faults that took dies out, a line `fault die D cause C round R` for
+each, where C is 1 slot not read, 2 slot not programmed, 3 block not erased, 4 header not read, 5 header not
+written, 6 image not synced, 7 slot with wrong bytes; and then `closed clean`, or `closed unclean: K` with
+status 1, where K is 1 busy, 2 a page is lost, 3 no die live.
 """
 
 HELP_OF_PLAN = """Plans a batch of reads, given as a batch text on standard input, in the least number of rounds
@@ -55,7 +75,7 @@ Printed is `least R`, or `refused K WORDS` with status 1 for the first rule that
 """
 
 NO_COMMAND = """error: 'flasharr' requires a subcommand but one was not provided
-  [subcommands: format, check, dump, plan, talk, verify]
+  [subcommands: format, check, dump, serve, plan, talk, verify]
 
 Usage: flasharr <COMMAND>
 
@@ -69,10 +89,11 @@ Usage: flasharr talk < LINES
 For more information, try '--help'.
 """
 
-USAGE = "usage: flasharr format | check | dump | plan | talk | verify\n"
+USAGE = "usage: flasharr format | check | dump | serve | plan | talk | verify\n"
 
 SHOWN = [
     ("help", ("--help",), HELP), ("short_help", ("-h",), HELP),
+    ("help_of_serve", ("serve", "--help"), HELP_OF_SERVE), ("short_help_of_serve", ("serve", "-h"), HELP_OF_SERVE),
     ("help_of_plan", ("plan", "--help"), HELP_OF_PLAN), ("help_of_talk", ("talk", "--help"), HELP_OF_TALK),
     ("help_of_verify", ("verify", "-h"), HELP_OF_VERIFY),
     ("version", ("--version",), "flasharr 0.1.0\n"), ("short_version", ("-V",), "flasharr 0.1.0\n"),

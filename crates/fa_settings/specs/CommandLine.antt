@@ -12,7 +12,7 @@ use Rattle.clap.specs.declared.builder.action.ArgAction.TheVariants.{Set, SetTru
 use Rattle.clap.specs.declared.builder.value_parser.ValueParser.TheVariants.{Signed}
 use Rattle.fa_types.specs.declared.numbers.Die.{Die}
 use Rattle.fa_settings.specs.declared.command_line.Subcommand.{Subcommand}
-use Rattle.fa_settings.specs.declared.command_line.Subcommand.TheVariants.{Format, Check, Dump, Plan, Talk, Verify}
+use Rattle.fa_settings.specs.declared.command_line.Subcommand.TheVariants.{Format, Check, Dump, Serve, Plan, Talk, Verify}
 
 -- the path of the settings, which has to be given
 abbrev pub settings_argument : Rule
@@ -48,13 +48,18 @@ program = record (new_shape (codes "flasharr")) {
 abbrev pub look_arguments : List Rule
 look_arguments = settings_argument ∷ flag (codes "unclean") ∷ flag (codes "json") ∷ []
 
+-- the arguments of the command that serves an array
+abbrev pub serve_arguments : List Rule
+serve_arguments = settings_argument ∷ flag (codes "unclean") ∷ flag (codes "verbose") ∷ []
+
 -- the program with its commands, each of which has --help besides
 abbrev pub command_line : App
 command_line =
-    with_subcommand (with_subcommand (with_subcommand (with_subcommand (with_subcommand (with_subcommand
+    with_subcommand (with_subcommand (with_subcommand (with_subcommand (with_subcommand (with_subcommand (with_subcommand
     (record { top = program; subs = [] })
     (with_arguments (codes "format") (settings_argument ∷ die_argument ∷ [])))
     (with_arguments (codes "check") look_arguments)) (with_arguments (codes "dump") look_arguments))
+    (with_arguments (codes "serve") serve_arguments))
     (new_shape (codes "plan"))) (new_shape (codes "talk"))) (new_shape (codes "verify"))
 
 -- What the arguments are where they are no command: a request for help or for the version, or a mistake, as the
@@ -67,6 +72,7 @@ pub data Wanted : Type 0 where
   Formats : (settings : List ℕ) (die : Option (List ℕ)) → Wanted
   Checks : (settings : List ℕ) (unclean json : Bool) → Wanted
   Dumps : (settings : List ℕ) (unclean json : Bool) → Wanted
+  Serves : (settings : List ℕ) (unclean verbose : Bool) → Wanted
   Plans : Wanted
   Talks : Wanted
   Verifies : Wanted
@@ -87,12 +93,17 @@ abbrev pub dumps : List Row → Option Wanted
 dumps rows =
     option_map (λ path. Dumps path (is_given (codes "unclean") rows) (is_given (codes "json") rows)) (first_of (codes "settings") rows)
 
+abbrev pub serves : List Row → Option Wanted
+serves rows =
+    option_map (λ path. Serves path (is_given (codes "unclean") rows) (is_given (codes "verbose") rows)) (first_of (codes "settings") rows)
+
 -- what the command of a name asks for with what was found of its arguments
 abbrev pub wanted_by : List ℕ → List Row → Option Wanted
 wanted_by name rows =
     if bytes_eq name (codes "format") then formats rows else if bytes_eq name (codes "check") then checks rows
-    else if bytes_eq name (codes "dump") then dumps rows else if bytes_eq name (codes "plan") then Some Plans
-    else if bytes_eq name (codes "talk") then Some Talks else if bytes_eq name (codes "verify") then Some Verifies else None
+    else if bytes_eq name (codes "dump") then dumps rows else if bytes_eq name (codes "serve") then serves rows
+    else if bytes_eq name (codes "plan") then Some Plans else if bytes_eq name (codes "talk") then Some Talks
+    else if bytes_eq name (codes "verify") then Some Verifies else None
 
 -- what the arguments ask for
 unfoldable pub wanted_in : List (List ℕ) → Option Wanted
@@ -111,6 +122,7 @@ IsWanted None None = Unit {0}
 IsWanted (Some (Format settings die)) (Some (Formats path text)) = (settings.now ≡ path) × IsDie text die
 IsWanted (Some (Check settings unclean json)) (Some (Checks path u j)) = (settings.now ≡ path) × (unclean ≡ u) × (json ≡ j)
 IsWanted (Some (Dump settings unclean json)) (Some (Dumps path u j)) = (settings.now ≡ path) × (unclean ≡ u) × (json ≡ j)
+IsWanted (Some (Serve settings unclean verbose)) (Some (Serves path u v)) = (settings.now ≡ path) × (unclean ≡ u) × (verbose ≡ v)
 IsWanted (Some Plan) (Some Plans) = Unit {0}
 IsWanted (Some Talk) (Some Talks) = Unit {0}
 IsWanted (Some Verify) (Some Verifies) = Unit {0}

@@ -5,7 +5,8 @@ ghost use Rattle.clap.specs.Simple.{app_of, new_app, with_subcommand};
 ghost use Rattle.clap.specs.declared.builder.command.Command.TheViews.{out-Command as fields_of};
 ghost use Rattle.clap.specs.Walk.{rows_of, rule_of, first_of, one_of};
 ghost use Rattle.clap.specs.Matches.{found_of};
-ghost use Rattle.fa_settings.specs.CommandLine.{command_line as line, found_instead, wanted_in, wanted_by, formats, checks, dumps, IsWanted, IsDie, is_given as flag_given, with_arguments, look_arguments};
+ghost use Rattle.fa_settings.specs.CommandLine.{command_line as line, found_instead, wanted_in, wanted_by, formats, checks, dumps, serves, IsWanted, IsDie};
+ghost use Rattle.fa_settings.specs.CommandLine.{is_given as flag_given, with_arguments, look_arguments, serve_arguments};
 ghost use Rattle.fa_settings.specs.CommandLine.{program as program_shape, settings_argument as settings_rule, die_argument as die_rule, flag as flag_rule};
 
 use crate::help::{self, Help};
@@ -40,6 +41,15 @@ pub enum Subcommand<'a> {
         unclean: bool,
         /// One JSON document is printed.
         json: bool,
+    },
+    /// Serves an array to clients over NBD.
+    Serve {
+        /// The path of the settings.
+        settings: &'a str,
+        /// The array may be one that was not closed, and images may be missing.
+        unclean: bool,
+        /// Clients that come and go are told on standard error.
+        verbose: bool,
     },
     /// Plans a batch.
     Plan,
@@ -81,7 +91,10 @@ fn command_line<'a>(global: Global) -> Result<Command<'a>, AllocError>
     let Ok(dump) = with_look(global, check, "dump", help::DUMP) else {
         return Err(AllocError);
     };
-    let Ok(plan) = dump.subcommand(plain_line(global, "plan", help::PLAN)) else {
+    let Ok(serve) = with_serve(global, dump) else {
+        return Err(AllocError);
+    };
+    let Ok(plan) = serve.subcommand(plain_line(global, "plan", help::PLAN)) else {
         return Err(AllocError);
     };
     let Ok(talk) = plan.subcommand(plain_line(global, "talk", help::TALK)) else {
@@ -151,6 +164,23 @@ fn with_look<'a>(
     program.subcommand(look)
 }
 
+/// The program with the command that serves an array besides.
+fn with_serve<'a>(global: Global, program: Command<'a>) -> Result<Command<'a>, AllocError>
+    ensures { IfOk result (λ c. app_of c ≡ with_subcommand (app_of program.entry) (with_arguments (codes "serve") serve_arguments)) }
+{
+    let serve = plain_line(global, "serve", help::SERVE);
+    let Ok(serve) = serve.arg(settings_argument(global)) else {
+        return Err(AllocError);
+    };
+    let Ok(serve) = serve.arg(flag(global, "unclean", help::ABOUT_UNCLEAN)) else {
+        return Err(AllocError);
+    };
+    let Ok(serve) = serve.arg(flag(global, "verbose", help::ABOUT_VERBOSE)) else {
+        return Err(AllocError);
+    };
+    program.subcommand(serve)
+}
+
 /// The path of the settings.
 fn settings_argument<'a>(global: Global) -> Arg<'a>
     ensures rule { rule_of result ≡ settings_rule }
@@ -195,6 +225,7 @@ fn wanted<'a>(name: &str, found: &ArgMatches<'a>) -> Option<Subcommand<'a>>
         "format" => wanted_format(found),
         "check" => wanted_check(found),
         "dump" => wanted_dump(found),
+        "serve" => wanted_serve(found),
         "plan" => Some(Subcommand::Plan),
         "talk" => Some(Subcommand::Talk),
         "verify" => Some(Subcommand::Verify),
@@ -238,6 +269,20 @@ fn wanted_dump<'a>(found: &ArgMatches<'a>) -> Option<Subcommand<'a>>
             settings,
             unclean: is_given(found, "unclean"),
             json: is_given(found, "json"),
+        }),
+        None => None,
+    }
+}
+
+/// What `serve` is asked to do.
+fn wanted_serve<'a>(found: &ArgMatches<'a>) -> Option<Subcommand<'a>>
+    ensures { IsWanted result (serves (rows_of (found_of found.now))) }
+{
+    match text_of(found, "settings") {
+        Some(settings) => Some(Subcommand::Serve {
+            settings,
+            unclean: is_given(found, "unclean"),
+            verbose: is_given(found, "verbose"),
         }),
         None => None,
     }

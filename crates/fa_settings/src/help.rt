@@ -32,6 +32,9 @@ pub const ABOUT_UNCLEAN: &str =
 /// What help says of `--json`.
 pub const ABOUT_JSON: &str = "Prints one JSON document";
 
+/// What help says of `--verbose`.
+pub const ABOUT_VERBOSE: &str = "Tells of clients that come and go, on standard error";
+
 /// What help says of `--die`.
 pub const ABOUT_DIE: &str = "The one die whose image is made, as a spare's: 0 to 63";
 
@@ -56,6 +59,17 @@ pub const DUMP: Help = Help {
     about: "Reads the images of an array, and lists its written pages",
     usage: "flasharr dump SETTINGS [--unclean] [--json]",
     more: "Printed is, for each written page, its number and the die and slot of each copy. Nothing is written.",
+};
+
+/// The help of `serve`.
+pub const SERVE: Help = Help {
+    about: "Serves an array over NBD, until the line `stop` comes on standard input",
+    usage: "flasharr serve SETTINGS [--unclean] [--verbose]",
+    more: "Printed is first `listening ADDRESS`, where clients can connect. The server also stops where the input ends
+or fails. At the end follow the last 64 faults that took dies out, a line `fault die D cause C round R` for
+each, where C is 1 slot not read, 2 slot not programmed, 3 block not erased, 4 header not read, 5 header not
+written, 6 image not synced, 7 slot with wrong bytes; and then `closed clean`, or `closed unclean: K` with
+status 1, where K is 1 busy, 2 a page is lost, 3 no die live.",
 };
 
 /// The help of `plan`.

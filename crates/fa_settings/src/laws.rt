@@ -2,7 +2,7 @@
 ghost use Rattle.std.specs.Prelude.{◌≡◌, ℕ, List, [], ◌∷◌, Some, None, true, false, codes};
 ghost use Rattle.clap.specs.declared.error.kind.ErrorKind.TheVariants.{DisplayHelp, DisplayVersion, MissingRequiredArgument};
 ghost use Rattle.clap.specs.declared.error.kind.ErrorKind.TheVariants.{MissingSubcommand, UnknownArgument, ValueValidation};
-ghost use Rattle.fa_settings.specs.CommandLine.{found_instead, wanted_in, Formats, Checks, Dumps, Plans, Talks, Verifies};
+ghost use Rattle.fa_settings.specs.CommandLine.{found_instead, wanted_in, Formats, Checks, Dumps, Serves, Plans, Talks, Verifies};
 ghost use Rattle.std.specs.declared.alloc.Global.{Global};
 ghost use Rattle.fa_settings.specs.Settings.{IsSettingsText, IsFault};
 ghost use Rattle.fa_settings.specs.declared.settings.Settings.{Settings};
@@ -29,6 +29,12 @@ pub fn words_of_the_command_line()
         (found_instead words ≡ []) × (wanted_in words ≡ Some (Checks (codes "a.toml") true false)) }
     ensures dump_json { let words = codes "dump" ∷ codes "--json" ∷ codes "a.toml" ∷ [] in
         (found_instead words ≡ []) × (wanted_in words ≡ Some (Dumps (codes "a.toml") false true)) }
+    ensures serve { let words = codes "serve" ∷ codes "a.toml" ∷ [] in
+        (found_instead words ≡ []) × (wanted_in words ≡ Some (Serves (codes "a.toml") false false)) }
+    ensures serve_verbose { let words = codes "serve" ∷ codes "--verbose" ∷ codes "a.toml" ∷ [] in
+        (found_instead words ≡ []) × (wanted_in words ≡ Some (Serves (codes "a.toml") false true)) }
+    ensures serve_both { let words = codes "serve" ∷ codes "a.toml" ∷ codes "--unclean" ∷ codes "--verbose" ∷ [] in
+        (found_instead words ≡ []) × (wanted_in words ≡ Some (Serves (codes "a.toml") true true)) }
     ensures no_settings { found_instead (codes "check" ∷ []) ≡ MissingRequiredArgument ∷ [] }
     ensures die_too_great { found_instead (codes "format" ∷ codes "a.toml" ∷ codes "--die" ∷ codes "64" ∷ []) ≡ ValueValidation ∷ [] }
     ensures plan { (found_instead (codes "plan" ∷ []) ≡ []) × (wanted_in (codes "plan" ∷ []) ≡ Some Plans) }
@@ -37,6 +43,7 @@ pub fn words_of_the_command_line()
     ensures help { (found_instead (codes "--help" ∷ []) ≡ DisplayHelp ∷ [])
         × (found_instead (codes "-h" ∷ []) ≡ DisplayHelp ∷ []) }
     ensures help_of_check { found_instead (codes "check" ∷ codes "--help" ∷ []) ≡ DisplayHelp ∷ [] }
+    ensures help_of_serve { found_instead (codes "serve" ∷ codes "--help" ∷ []) ≡ DisplayHelp ∷ [] }
     ensures help_of_plan { found_instead (codes "plan" ∷ codes "--help" ∷ []) ≡ DisplayHelp ∷ [] }
     ensures help_of_talk { found_instead (codes "talk" ∷ codes "--help" ∷ []) ≡ DisplayHelp ∷ [] }
     ensures help_of_verify { found_instead (codes "verify" ∷ codes "--help" ∷ []) ≡ DisplayHelp ∷ [] }
