@@ -14,3 +14,4 @@ mod telling;
 pub use array::MountedArray;
 pub use closing::{CloseFault, close_clean};
 pub use mounting::{mount, mount_found, mount_found_side_by_side};
+pub use standings::place_of;

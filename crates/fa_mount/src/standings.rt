@@ -14,8 +14,8 @@ pub(crate) fn place_at(dies: &[Standing], die: usize) -> Option<usize>
     }
 }
 
-/// The place of the image of a die that stands so.
-fn place_of(standing: Standing) -> Option<usize>
+/// The place of the image of a die that stands so, from 0 in the list of images. None where it has none.
+pub fn place_of(standing: Standing) -> Option<usize>
     ensures { result ≡ place_by standing }
 {
     match standing {

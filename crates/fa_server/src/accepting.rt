@@ -1,8 +1,8 @@
 //! The one who accepts clients.
 use crate::host::Networked;
-use crate::lobby::Lobby;
+use crate::lobby::{Guest, Lobby};
 use fa_admin::tell;
-use std::net::{SocketAddr, TcpListener};
+use std::net::{SocketAddr, TcpListener, TcpStream};
 use std::thread;
 use std::time::Duration;
 
@@ -21,12 +21,7 @@ pub(crate) fn accept_clients<R: Networked>(rt: &R, listener: &TcpListener, lobby
             break;
         }
         match accepted {
-            Ok((stream, address)) => {
-                let left = lobby.offer(rt, stream, Duration::from_secs(WAIT_SECONDS));
-                if left.is_some() && !lobby.is_closing(rt) {
-                    tell_of_no_session(rt, address);
-                }
-            }
+            Ok((stream, address)) => let_in(rt, lobby, stream, address),
             Err(refused) => {
                 tell(rt, format_args!("a client cannot be accepted: {refused}"));
                 thread::sleep(rt, Duration::from_millis(REST_MILLISECONDS));
@@ -35,10 +30,21 @@ pub(crate) fn accept_clients<R: Networked>(rt: &R, listener: &TcpListener, lobby
     }
 }
 
-/// Tells that a client was sent away.
-fn tell_of_no_session<R: Networked>(rt: &R, address: SocketAddr) {
-    tell(
-        rt,
-        format_args!("{address}: no session is free for this client"),
-    );
+/// Lets a client wait for a session. One that is sent away for want of one is told of, but at the stop.
+fn let_in<R: Networked>(rt: &R, lobby: &Lobby, stream: TcpStream, address: SocketAddr) {
+    match Guest::new(stream) {
+        Ok(guest) => {
+            let is_taken = lobby.offer(rt, guest, Duration::from_secs(WAIT_SECONDS));
+            if !is_taken && !lobby.is_closing(rt) {
+                tell(
+                    rt,
+                    format_args!("{address}: no session is free for this client"),
+                );
+            }
+        }
+        Err(refused) => tell(
+            rt,
+            format_args!("{address}: this client cannot be served: {refused}"),
+        ),
+    }
 }

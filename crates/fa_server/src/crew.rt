@@ -3,10 +3,11 @@ use crate::host::Networked;
 use fa_headers::Standing;
 use fa_image::Image;
 use fa_map::PageMap;
+use fa_mount::place_of;
 use fa_shared::{Seat, Shared};
 use fa_types::Die;
 use fa_workers::{Open, Room, collector_worker, die_worker, rebuild_worker};
-use std::alloc::{AllocError, Global};
+use std::alloc::AllocError;
 use std::sync::ledger::Ledger;
 
 /// What the worker of a die has of its own.
@@ -31,13 +32,13 @@ pub(crate) struct DieDone<L: Ledger + Send, I: Drop> {
     pub(crate) seat: Seat<L>,
 }
 
-/// The tasks of all dies, and the images for which nobody works.
+/// The tasks of all dies, and the places of all images.
 #[derive(Drop)]
 pub(crate) struct Crew<L: Ledger + Send, I: Drop> {
     /// A task for each die that is live or a spare.
     pub(crate) tasks: Vec<DieTask<L, I>>,
-    /// The other images, with their places.
-    pub(crate) idle: Vec<(usize, I)>,
+    /// The places of all images, with the images of the others.
+    pub(crate) places: Places<I>,
 }
 
 /// A task for each image of a die that is live or a spare. The error is out of memory, or of seats.
@@ -49,7 +50,7 @@ pub(crate) fn crew_of<R: Networked, L: Ledger + Send, I: Image + Drop>(
     page_bytes: u32,
 ) -> Result<Crew<L, I>, AllocError> {
     let mut tasks = Vec::with_capacity(rt.alloc(), images.len())?;
-    let mut idle = Vec::with_capacity(rt.alloc(), images.len())?;
+    let mut places = Places::new(rt, images.len())?;
     let mut index = 0usize;
     for image in images {
         match die_at(dies, index) {
@@ -64,11 +65,11 @@ pub(crate) fn crew_of<R: Networked, L: Ledger + Send, I: Image + Drop>(
                     room,
                 })?;
             }
-            None => idle.push((index, image))?,
+            None => places.lay(index, image),
         }
         index = index.saturating_add(1);
     }
-    Ok(Crew { tasks, idle })
+    Ok(Crew { tasks, places })
 }
 
 /// The die, live or a spare, whose image has this place.
@@ -84,14 +85,6 @@ fn die_at(dies: &[Standing], index: usize) -> Option<Die> {
 /// Whether a die that stands so is live or a spare.
 fn is_at_work(standing: Standing) -> bool {
     matches!(standing, Standing::Live(_) | Standing::Spare(_))
-}
-
-/// The place of the image of a die that stands so, among those that were opened.
-pub(crate) fn place_of(standing: Standing) -> Option<usize> {
-    match standing {
-        Standing::Missing => None,
-        Standing::Live(index) | Standing::Spare(index) | Standing::Out(index) => Some(index),
-    }
 }
 
 /// Works for a die until the array is to end, and hands back what it has.
@@ -141,16 +134,41 @@ pub(crate) fn rebuild<R: Networked, L: Ledger + Send>(
     seat
 }
 
-/// The images in the order in which they were opened. The error is out of memory.
-pub(crate) fn in_order<I: Drop>(
-    global: Global,
-    images: Vec<(usize, I)>,
-) -> Result<Vec<I>, AllocError> {
-    let mut images = images;
-    images.sort_by_key(|pair| pair.0)?;
-    let mut ordered = Vec::with_capacity(global, images.len())?;
-    for (_, image) in images {
-        ordered.push(image)?;
+/// A place for each image, by the order in which they were opened.
+#[derive(Drop)]
+pub(crate) struct Places<I: Drop> {
+    /// The images that were laid back.
+    laid: Vec<Option<I>>,
+    /// Room for all of them.
+    images: Vec<I>,
+}
+
+impl<I: Drop> Places<I> {
+    /// Places for so many images. The error is out of memory.
+    pub(crate) fn new<R: Networked>(rt: &R, count: usize) -> Result<Places<I>, AllocError> {
+        let mut laid = Vec::with_capacity(rt.alloc(), count)?;
+        for _ in 0..count {
+            laid.push(None)?;
+        }
+        let images = Vec::with_capacity(rt.alloc(), count)?;
+        Ok(Places { laid, images })
     }
-    Ok(ordered)
+
+    /// Lays an image back in its place.
+    pub(crate) fn lay(&mut self, index: usize, image: I) {
+        if let Some(place) = self.laid.get_mut(index) {
+            *place = Some(image);
+        }
+    }
+
+    /// The images in their order.
+    pub(crate) fn into_images(self) -> Vec<I> {
+        let Places { laid, mut images } = self;
+        for place in laid {
+            if let Some(image) = place {
+                let _ = images.push(image);
+            }
+        }
+        images
+    }
 }

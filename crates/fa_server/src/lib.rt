@@ -11,6 +11,7 @@ mod ready;
 mod serve;
 mod serving;
 mod sessions;
+mod socket;
 mod stop_line;
 mod watching;
 

@@ -1,14 +1,30 @@
 //! The clients between accepting and a session.
 use crate::host::Networked;
 use std::alloc::{AllocError, Global};
+use std::io;
 use std::net::{Shutdown, TcpStream};
 use std::sync::{Condvar, Mutex};
 use std::time::Duration;
 
+/// A client that has come: its socket, with another handle on it.
+#[derive(Drop)]
+pub(crate) struct Guest {
+    stream: TcpStream,
+    handle: TcpStream,
+}
+
+impl Guest {
+    /// The client of this socket. The error is the system's, which gives no other handle.
+    pub(crate) fn new(stream: TcpStream) -> io::Result<Guest> {
+        let handle = stream.try_clone()?;
+        Ok(Guest { stream, handle })
+    }
+}
+
 /// The client that waits for a session, and those that are served.
 #[derive(Drop)]
 struct Door {
-    waiting: Option<TcpStream>,
+    waiting: Option<Guest>,
     /// For each session another handle on its client's socket.
     served: Vec<Option<TcpStream>>,
     is_closing: bool,
@@ -25,21 +41,19 @@ enum Found {
 }
 
 impl Door {
-    /// Takes the client that waits for a session of this number. A socket of which no second handle is to be had is closed.
+    /// Takes the client that waits for a session of this number.
     fn take(&mut self, session: usize) -> Found {
         if self.is_closing {
             return Found::Closing;
         }
-        let Some(stream) = self.waiting.take() else {
+        let Some(place) = self.served.get_mut(session) else {
+            return Found::Closing;
+        };
+        let Some(Guest { stream, handle }) = self.waiting.take() else {
             return Found::Nobody;
         };
-        match (stream.try_clone(), self.served.get_mut(session)) {
-            (Ok(handle), Some(place)) => {
-                *place = Some(handle);
-                Found::Client(stream)
-            }
-            _ => Found::Nobody,
-        }
+        *place = Some(handle);
+        Found::Client(stream)
     }
 
     /// The client of this session has gone.
@@ -112,23 +126,18 @@ impl Lobby {
         self.changed.notify_all();
     }
 
-    /// Lets a client wait for a session, up to the limit. The client comes back where no session took it.
-    pub(crate) fn offer<R: Networked>(
-        &self,
-        rt: &R,
-        stream: TcpStream,
-        limit: Duration,
-    ) -> Option<TcpStream> {
+    /// Lets a client wait for a session, up to the limit. Whether a session took it: one that none took is sent away.
+    pub(crate) fn offer<R: Networked>(&self, rt: &R, guest: Guest, limit: Duration) -> bool {
         let mut door = self.door.lock(rt);
         if door.is_closing {
-            return Some(stream);
+            return false;
         }
-        door.waiting = Some(stream);
+        door.waiting = Some(guest);
         self.changed.notify_all();
         let (mut door, _) = self.changed.wait_timeout_while(rt, door, limit, |door| {
             door.waiting.is_some() && !door.is_closing
         });
-        door.waiting.take()
+        door.waiting.take().is_none()
     }
 
     /// Whether no client is let in any more.

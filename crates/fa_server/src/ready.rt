@@ -2,7 +2,7 @@
 ghost use Rattle.std.specs.Prelude.{◌≡◌, List, ℕ, IfOk, string_bytes};
 ghost use Rattle.fa_server.specs.Serving.{address_line};
 
-use crate::crew::{Crew, crew_of, place_of};
+use crate::crew::{Crew, crew_of};
 use crate::host::Networked;
 use crate::lobby::Lobby;
 use crate::serve::Serve;
@@ -11,6 +11,7 @@ use crate::sessions::Session;
 use fa_headers::Standing;
 use fa_image::Image;
 use fa_map::PageMap;
+use fa_mount::place_of;
 use fa_settings::Settings;
 use fa_shared::Shared;
 use std::alloc::{AllocError, Allocator, Global};

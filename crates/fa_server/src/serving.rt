@@ -3,7 +3,7 @@ ghost use Rattle.std.specs.Prelude.{◌≡◌};
 ghost use Rattle.std.specs.Thread.{IsSend};
 
 use crate::accepting::accept_clients;
-use crate::crew::{Crew, DieDone, collect, in_order, rebuild, work_die};
+use crate::crew::{Crew, DieDone, Places, collect, rebuild, work_die};
 use crate::host::Networked;
 use crate::lobby::Lobby;
 use crate::ready::Ready;
@@ -66,8 +66,8 @@ pub(crate) struct Seats<'a, L: Ledger + Send> {
 struct Back<L: Ledger + Send, I: Drop> {
     /// All seats.
     seats: Vec<Seat<L>>,
-    /// The images, with their places among those that were opened.
-    images: Vec<(usize, I)>,
+    /// The images.
+    images: Places<I>,
     /// Each thread could be started.
     is_served: bool,
 }
@@ -115,8 +115,10 @@ pub(crate) fn serve_ready<R: Networked, L: Ledger + Send, I: Image + Send + Drop
     if shared.gather(rt, seats).is_err() {
         tell(rt, "a seat of the array is missing");
     }
-    let images = in_order(rt.alloc(), images)?;
-    Ok(Ended { images, is_served })
+    Ok(Ended {
+        images: images.into_images(),
+        is_served,
+    })
 }
 
 /// Work that was given to a thread, or that was done here since no thread could be had.
@@ -148,7 +150,10 @@ fn serve_shared<R: Networked, L: Ledger + Send, I: Image + Send + Drop, N: Read>
     seats: Seats<'_, L>,
     input: &mut N,
 ) -> Result<Back<L, I>, AllocError> {
-    let Crew { tasks, idle } = crew;
+    let Crew {
+        tasks,
+        places: mut images,
+    } = crew;
     let Seats {
         collector,
         rebuilder,
@@ -160,9 +165,9 @@ fn serve_shared<R: Networked, L: Ledger + Send, I: Image + Send + Drop, N: Read>
         window_rounds,
         ..
     } = hall;
-    let mut images = idle;
     let mut seats = Vec::with_capacity(rt.alloc(), seat_count(tasks.len(), sessions.len()))?;
     let mut workers = Vec::with_capacity(rt.alloc(), tasks.len())?;
+    let works = Vec::with_capacity(rt.alloc(), sessions.len())?;
     Ok(thread::scope(
         thread::scope_env(),
         rt,
@@ -204,12 +209,12 @@ fn serve_shared<R: Networked, L: Ledger + Send, I: Image + Send + Drop, N: Read>
             {
                 shared.stop(rt);
             }
-            let is_served = serve_sessions(rt, shared, hall, sessions, input, &mut seats);
+            let is_served = serve_sessions(rt, shared, hall, sessions, works, input, &mut seats);
             let_collect(rt, shared);
             shared.stop(rt);
             for work in workers {
                 let DieDone { index, image, seat } = work.end(rt);
-                let _ = images.push((index, image));
+                images.lay(index, image);
                 let _ = seats.push(seat);
             }
             let _ = seats.push(collector.end(rt));
@@ -228,13 +233,14 @@ fn seat_count(dies: usize, sessions: usize) -> usize {
     dies.saturating_add(sessions).saturating_add(2)
 }
 
-/// Serves clients until the input says stop, and then sends them away. The sessions' seats go to the others, for which there is room. Whether
-/// each thread could be started: where one could not, no client is waited for.
+/// Serves clients until the input says stop, and then sends them away. The sessions' seats go to the others, for which there is room, as there
+/// is for their work. Whether each thread could be started: where one could not, no client is waited for.
 fn serve_sessions<R: Networked, L: Ledger + Send, N: Read>(
     rt: &R,
     shared: &Shared<L, PageMap>,
     hall: Hall<'_>,
     sessions: Vec<Session<'_, L>>,
+    works: Vec<Work<Seat<L>>>,
     input: &mut N,
     seats: &mut Vec<Seat<L>>,
 ) -> bool {
@@ -243,9 +249,7 @@ fn serve_sessions<R: Networked, L: Ledger + Send, N: Read>(
         lobby,
         ..
     } = hall;
-    let Ok(mut works) = Vec::with_capacity(rt.alloc(), sessions.len()) else {
-        return false;
-    };
+    let mut works = works;
     let (works, is_served) = thread::scope(thread::scope_env(), rt, |scope| {
         for session in sessions {
             let work = match scope.spawn(move || serve_clients(rt, lobby, shared, session)) {

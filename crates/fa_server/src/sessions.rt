@@ -2,11 +2,13 @@
 use crate::export::Export;
 use crate::host::Networked;
 use crate::lobby::Lobby;
+use crate::socket::prepare;
 use fa_admin::tell;
 use fa_map::PageMap;
 use fa_ops::ArrayBlocks;
 use fa_session::{SessionEnd, serve_stream};
 use fa_shared::{Seat, Shared};
+use std::alloc::Global;
 use std::net::TcpStream;
 use std::sync::ledger::Ledger;
 
@@ -53,11 +55,11 @@ pub(crate) fn serve_clients<R: Networked, L: Ledger + Send>(
 fn serve_client<R: Networked, L: Ledger + Send>(
     rt: &R,
     stream: &TcpStream,
-    blocks: &mut ArrayBlocks<'_, R, L, PageMap, std::alloc::Global>,
+    blocks: &mut ArrayBlocks<'_, R, L, PageMap, Global>,
     export: Export<'_>,
     verbose: bool,
 ) {
-    let _ = stream.set_nodelay(true);
+    prepare(stream);
     tell_of_client(rt, stream, verbose, "a client has come");
     let (mut reader, mut writer) = (stream, stream);
     let end = serve_stream(rt.alloc(), &mut reader, &mut writer, blocks, export.name);

@@ -5,6 +5,11 @@ use fa_core::Array;
 use fa_map::PageMap;
 use fa_shared::{Cause, Fault, Shared};
 use fa_types::Die;
+use log::kv::Source;
+use log::span::Spans;
+use log::{Log, Metadata, Record, warn};
+use std::fmt::Display;
+use std::io::Eprint;
 use std::sync::ledger::Ledger;
 use std::thread;
 use std::time::Duration;
@@ -101,20 +106,37 @@ fn tell_faults<R: Networked, L: Ledger + Send>(
     faults.len()
 }
 
-/// Tells that a die went out.
+/// Where faults are logged: on standard error, as all that is told.
+#[derive(Drop)]
+struct Warnings<'a, R>(&'a R);
+
+impl<R: Eprint> Log for Warnings<'_, R> {
+    fn enabled(&self, _metadata: &Metadata<'_>) -> bool {
+        true
+    }
+
+    fn log<D: Display, K: Source, S: Spans>(&self, record: &Record<'_, D, K, S>) {
+        tell(self.0, format_args!("{}", record.args()));
+    }
+
+    fn flush(&self) {}
+
+    fn target(&self) -> &str {
+        ""
+    }
+}
+
+/// Warns that a die went out.
 fn tell_fault<R: Networked>(rt: &R, paths: &[&str], fault: Fault) {
     let (path, die, round) = (path_of(paths, fault.die), fault.die.0, fault.round.0);
+    let log = Warnings(rt);
     match fault.cause {
-        Cause::Image(cause) => tell(
-            rt,
-            format_args!("{path}: die {die} went out in round {round}: {cause}; replace it"),
-        ),
-        Cause::Wrong => tell(
-            rt,
-            format_args!(
-                "{path}: die {die} went out in round {round}: a slot has other bytes than were written; replace it"
-            ),
-        ),
+        Cause::Image(cause) => {
+            warn!(log; "{path}: die {die} went out in round {round}: {cause}; replace it");
+        }
+        Cause::Wrong => {
+            warn!(log; "{path}: die {die} went out in round {round}: a slot has other bytes than were written; replace it");
+        }
     }
 }
 
