@@ -9,6 +9,7 @@ import time
 import traceback
 from dataclasses import dataclass
 
+from children import CHILDREN
 from images import HEADER_END, TAG_BYTES, slot_bytes
 from nbd_client import Client
 
@@ -98,9 +99,8 @@ class Array:
 
     def run_words(self, *words):
         """The status and the output of the program, which is to end by itself."""
-        done = subprocess.run([self.program, *words], cwd=self.folder, stdin=subprocess.DEVNULL, stdout=subprocess.PIPE,
-                              stderr=subprocess.PIPE, timeout=60)
-        return done.returncode, done.stdout.decode("utf-8", "backslashreplace")
+        status, output = CHILDREN.run([self.program, *words], 60, cwd=self.folder, stderr=subprocess.PIPE)
+        return status, output.decode("utf-8", "backslashreplace")
 
     def run(self, command, *words):
         """The status and the output of a command on the settings."""
@@ -206,8 +206,8 @@ class Server:
     """The program while it serves an array. What it prints is collected as it comes."""
 
     def __init__(self, array, words):
-        self.process = subprocess.Popen([array.program, "serve", SETTINGS, *words], cwd=array.folder, stdin=subprocess.PIPE,
-                                        stdout=subprocess.PIPE, stderr=subprocess.PIPE, bufsize=0)
+        self.process = CHILDREN.start([array.program, "serve", SETTINGS, *words], cwd=array.folder, stdin=subprocess.PIPE,
+                                      stdout=subprocess.PIPE, stderr=subprocess.PIPE, bufsize=0)
         self.output, self.errors = [], []
         self.address = None
         self.readers = [threading.Thread(target=self.collect, args=it, daemon=True)
@@ -301,7 +301,7 @@ def fault_of(program, function):
     """
     arrays = []
 
-    with tempfile.TemporaryDirectory(prefix="flasharr-serve-") as top:
+    with tempfile.TemporaryDirectory(dir=CHILDREN.folder) as top:
         def make(*geometry, **how):
             folder = os.path.join(top, str(len(arrays)))
             os.mkdir(folder)

@@ -1,0 +1,106 @@
+"""The processes that a script starts for its cases, and the folder in which they work. A script that is interrupted leaves neither."""
+import contextlib
+import os
+import shutil
+import signal
+import subprocess
+import sys
+import tempfile
+import threading
+import time
+import traceback
+from concurrent.futures import ThreadPoolExecutor
+
+SIGNALS = signal.SIGINT, signal.SIGTERM, signal.SIGHUP
+
+
+class Interrupted(BaseException):
+    """A signal that ends the script, by its number."""
+
+
+class Ending(Exception):
+    """A process was to be started while the script ends."""
+
+
+class Children:
+    """What a script has started. No process is started once it ends."""
+
+    def __init__(self):
+        self.lock = threading.Lock()
+        self.is_ending = False
+        self.processes = []
+        self.folder = None
+
+    def start(self, words, **how):
+        with self.lock:
+            if self.is_ending:
+                raise Ending("the script ends")
+            process = subprocess.Popen(words, **how)
+            self.processes = [it for it in self.processes if it.returncode is None] + [process]
+        return process
+
+    def run(self, words, seconds, **how):
+        """The status and the output of a process that is to end by itself before so many seconds have passed."""
+        process = self.start(words, stdin=subprocess.DEVNULL, stdout=subprocess.PIPE, **how)
+        try:
+            output, _ = process.communicate(timeout=seconds)
+        except BaseException:
+            process.kill()
+            process.communicate()
+            raise
+        return process.returncode, output
+
+    def end(self):
+        """Kills the processes that still run, and removes the folder."""
+        with self.lock:
+            self.is_ending = True
+        for process in self.processes:
+            process.kill()
+        for process in self.processes:
+            with contextlib.suppress(subprocess.TimeoutExpired):
+                process.wait(5)
+        # A case that has not heard of it yet may make a file meanwhile.
+        for _ in range(5):
+            if not self.folder or not os.path.exists(self.folder):
+                return
+            shutil.rmtree(self.folder, ignore_errors=True)
+            time.sleep(0.1)
+
+
+CHILDREN = Children()
+
+
+def interrupt(number, _):
+    raise Interrupted(number)
+
+
+@contextlib.contextmanager
+def case_threads(count):
+    """Threads for cases, whose folders stand in one of this run. Where the script is interrupted or fails nobody waits for them."""
+    for number in SIGNALS:
+        if signal.getsignal(number) != signal.SIG_IGN:
+            signal.signal(number, interrupt)
+    try:
+        CHILDREN.folder = tempfile.mkdtemp(prefix="flasharr-serve-")
+        pool = ThreadPoolExecutor(count)
+        yield pool
+        pool.shutdown()
+        CHILDREN.end()
+    except BaseException as error:
+        leave(error)
+
+
+def leave(error):
+    """Ends the script at once, for this reason."""
+    for number in SIGNALS:
+        signal.signal(number, signal.SIG_IGN)
+    CHILDREN.end()
+    status = 1
+    with contextlib.suppress(OSError, ValueError):
+        if isinstance(error, Interrupted):
+            status = 128 + error.args[0]
+            print("interrupted", file=sys.stderr, flush=True)
+        else:
+            traceback.print_exception(error)
+    # The threads of cases are left as they are: they wait for processes that are gone.
+    os._exit(status)
