@@ -4,10 +4,13 @@
 
 use fa_prog::Status;
 use std::io::IsTerminal;
+use std::net::{TcpListener, TcpStream};
 use std::{env, io};
 
 fn main(rt: HostRuntime) -> Status {
     let watched = rt.stderr().is_terminal();
+    // The proof of a call over this runtime's sockets wants their types among those of the caller.
+    let _sockets: Option<(TcpListener, TcpStream)> = None;
     fa_prog::start(
         &rt,
         rt.alloc(),

@@ -10,6 +10,11 @@ use std::net::{Net, TcpListener, TcpStream};
 use std::slice;
 use std::test::Fail;
 
+/// No sockets. The proof of a call over a runtime's sockets wants their types among those of the caller.
+fn no_sockets() -> Option<(TcpListener, TcpStream)> {
+    None
+}
+
 /// The status of the program's run. What the run promises is told here alone: a test looks at what it did.
 pub fn status_of<
     H: ServerHost + Net<Listener = TcpListener, Stream = TcpStream>,
@@ -57,6 +62,7 @@ fn fails_at_write(
 
 #[test]
 fn output_that_fails(rt: HostRuntime) -> Result<(), Fail> {
+    let _ = no_sockets();
     let cases = [
         ("talk", "", "4e42444d4147494349484156454f50540003\nend 4\n"),
         (
@@ -75,6 +81,7 @@ fn output_that_fails(rt: HostRuntime) -> Result<(), Fail> {
 
 #[test]
 fn input_that_fails(rt: HostRuntime) -> Result<(), Fail> {
+    let _ = no_sockets();
     for (name, told) in [
         ("talk", "talk: cannot read\n"),
         ("verify", "verify: cannot read\n"),
@@ -104,6 +111,7 @@ fn started(
 
 #[test]
 fn arguments_that_cannot_be_had(rt: HostRuntime) -> Result<(), Fail> {
+    let _ = no_sockets();
     let cases = [
         (ErrorKind::OutOfMemory, 1, "no memory\n"),
         (
@@ -125,6 +133,7 @@ fn arguments_that_cannot_be_had(rt: HostRuntime) -> Result<(), Fail> {
 // a set of the places.
 #[test]
 fn each_allocation_of_verify_fails(rt: HostRuntime) -> Result<(), Fail> {
+    let _ = no_sockets();
     let text = "batch\npage 1 on 0 1\npage 2 on 0\nclosed 1 1 2\nend
 rounds 2\nplace 1 0 2\nplace 2 0 1\nshort 1 2\nend\n";
     let mut refused = 0u32;
