@@ -13,17 +13,24 @@ const WAIT_SECONDS: u64 = 5;
 const REST_MILLISECONDS: u64 = 100;
 
 /// Accepts clients one by one until the lobby is closed. One for whom no session is free in time is sent away, and that is told on
-/// standard error.
+/// standard error, as is the first of some errors in a row.
 pub(crate) fn accept_clients<R: Networked>(rt: &R, listener: &TcpListener, lobby: &Lobby) {
+    let mut is_refused = false;
     for _ in rt.forever() {
         let accepted = listener.accept();
         if lobby.is_closing(rt) {
             break;
         }
         match accepted {
-            Ok((stream, address)) => let_in(rt, lobby, stream, address),
+            Ok((stream, address)) => {
+                is_refused = false;
+                let_in(rt, lobby, stream, address);
+            }
             Err(refused) => {
-                tell(rt, format_args!("a client cannot be accepted: {refused}"));
+                if !is_refused {
+                    tell(rt, format_args!("a client cannot be accepted: {refused}"));
+                }
+                is_refused = true;
                 thread::sleep(rt, Duration::from_millis(REST_MILLISECONDS));
             }
         }

@@ -8,8 +8,9 @@ use crate::host::Networked;
 use crate::lobby::Lobby;
 use crate::ready::Ready;
 use crate::sessions::{Session, serve_clients};
+use crate::socket::stop_accepting;
 use crate::stop_line::wait_for_stop;
-use crate::watching::watch;
+use crate::watching::{sight_of, watch};
 use fa_admin::tell;
 use fa_core::Array;
 use fa_image::Image;
@@ -168,6 +169,7 @@ fn serve_shared<R: Networked, L: Ledger + Send, I: Image + Send + Drop, N: Read>
     let mut seats = Vec::with_capacity(rt.alloc(), seat_count(tasks.len(), sessions.len()))?;
     let mut workers = Vec::with_capacity(rt.alloc(), tasks.len())?;
     let works = Vec::with_capacity(rt.alloc(), sessions.len())?;
+    let seen = sight_of(shared.lock(rt).array(), copies);
     Ok(thread::scope(
         thread::scope_env(),
         rt,
@@ -204,7 +206,7 @@ fn serve_shared<R: Networked, L: Ledger + Send, I: Image + Send + Drop, N: Read>
                 }
             };
             if scope
-                .spawn(move || watch(rt, shared, paths, copies))
+                .spawn(move || watch(rt, shared, paths, copies, seen))
                 .is_err()
             {
                 shared.stop(rt);
@@ -277,10 +279,15 @@ fn serve_sessions<R: Networked, L: Ledger + Send, N: Read>(
     is_served
 }
 
-/// Wakes the one who accepts clients, by a connection of the server's own.
+/// Wakes the one who accepts clients, by a connection of the server's own, or where none can be had by ending what the listener does.
 fn wake<R: Networked>(rt: &R, listener: &TcpListener) {
-    if let Ok(address) = listener.local_addr() {
-        let _ = TcpStream::connect_timeout(rt, &address, Duration::from_secs(WAKE_SECONDS));
+    let limit = Duration::from_secs(WAKE_SECONDS);
+    let is_woken = match listener.local_addr() {
+        Ok(address) => TcpStream::connect_timeout(rt, &address, limit).is_ok(),
+        Err(_) => false,
+    };
+    if !is_woken {
+        stop_accepting(listener);
     }
 }
 

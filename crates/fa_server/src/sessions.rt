@@ -9,7 +9,7 @@ use fa_ops::ArrayBlocks;
 use fa_session::{SessionEnd, serve_stream};
 use fa_shared::{Seat, Shared};
 use std::alloc::Global;
-use std::net::TcpStream;
+use std::net::{SocketAddr, TcpStream};
 use std::sync::ledger::Ledger;
 
 /// What a session has of its own.
@@ -60,20 +60,21 @@ fn serve_client<R: Networked, L: Ledger + Send>(
     verbose: bool,
 ) {
     prepare(stream);
-    tell_of_client(rt, stream, verbose, "a client has come");
+    let address = stream.peer_addr().ok();
+    tell_of_client(rt, address, verbose, "a client has come");
     let (mut reader, mut writer) = (stream, stream);
     let end = serve_stream(rt.alloc(), &mut reader, &mut writer, blocks, export.name);
-    tell_of_client(rt, stream, verbose, words_of(end));
+    tell_of_client(rt, address, verbose, words_of(end));
 }
 
 /// Tells of a client on standard error, where that is wanted.
-fn tell_of_client<R: Networked>(rt: &R, stream: &TcpStream, verbose: bool, words: &str) {
+fn tell_of_client<R: Networked>(rt: &R, address: Option<SocketAddr>, verbose: bool, words: &str) {
     if !verbose {
         return;
     }
-    match stream.peer_addr() {
-        Ok(address) => tell(rt, format_args!("{address}: {words}")),
-        Err(_) => tell(rt, words),
+    match address {
+        Some(address) => tell(rt, format_args!("{address}: {words}")),
+        None => tell(rt, words),
     }
 }
 

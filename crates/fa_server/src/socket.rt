@@ -1,7 +1,7 @@
 //! What a server asks of the system for the socket of a client.
 use libc::net;
+use std::net::{TcpListener, TcpStream};
 use std::os::fd::AsRawFd;
-use std::net::TcpStream;
 use std::time::Duration;
 
 /// How long a client may say nothing before its machine is asked whether it is still there, in seconds.
@@ -40,6 +40,11 @@ fn keep_alive(stream: &TcpStream) {
         net::setsockopt(socket, tcp, net::TCP_KEEPINTVL, &ask, 4);
         net::setsockopt(socket, tcp, net::TCP_KEEPCNT, &asks, 4);
     }
+}
+
+/// Ends what a listener does: whoever waits for a client there is told of an error.
+pub(crate) fn stop_accepting(listener: &TcpListener) {
+    net::shutdown(listener.as_raw_fd(), net::SHUT_RDWR);
 }
 
 /// A number as the value of an option, in its first four bytes.

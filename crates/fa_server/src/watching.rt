@@ -4,7 +4,7 @@ use fa_admin::tell;
 use fa_core::Array;
 use fa_map::PageMap;
 use fa_shared::{Cause, Fault, Shared};
-use fa_types::Die;
+use fa_types::{Die, Page};
 use log::kv::Source;
 use log::span::Spans;
 use log::{Log, Metadata, Record, warn};
@@ -17,9 +17,12 @@ use std::time::Duration;
 /// How long it is between two looks at the array, in milliseconds.
 const LOOK_MILLISECONDS: u64 = 200;
 
+/// How many pages are looked at in one hold of the array's lock.
+const PAGES_A_HOLD: u64 = 1024;
+
 /// How an array stands.
 #[derive(Clone, Copy)]
-struct Sight {
+pub(crate) struct Sight {
     /// Which dies are live, by their numbers.
     live: [bool; 64],
     /// A page has fewer copies than it could have.
@@ -31,14 +34,19 @@ struct Sight {
 }
 
 /// Tells on standard error which dies went out and came in, when all pages have their copies again, and that the array is running full,
-/// until the array is to end. The paths are those of the dies' images, by the dies' numbers.
+/// until the array is to end. The sight is how it stood before anybody worked for it, and the paths are those of the dies' images, by the
+/// dies' numbers.
 pub(crate) fn watch<R: Networked, L: Ledger + Send>(
     rt: &R,
     shared: &Shared<L, PageMap>,
     paths: &[&str],
     copies: u32,
+    seen: Sight,
 ) {
-    let mut seen = sight_of(shared.lock(rt).array(), copies);
+    let mut seen = Sight {
+        is_full: false,
+        ..seen
+    };
     let mut was_thin = seen.is_thin;
     let mut told = 0usize;
     for _ in rt.forever() {
@@ -47,7 +55,7 @@ pub(crate) fn watch<R: Networked, L: Ledger + Send>(
         told = tell_faults(rt, shared, paths, told);
         tell_comers(rt, paths, &seen, &sight);
         if was_thin && sight.is_healed {
-            tell(rt, "all pages have their copies again");
+            tell_healed(rt, count_lost(rt, shared));
         }
         if sight.is_full && !seen.is_full {
             tell(
@@ -64,10 +72,54 @@ pub(crate) fn watch<R: Networked, L: Ledger + Send>(
     }
 }
 
+/// Tells that all pages have their copies again, but for so many.
+fn tell_healed<R: Networked>(rt: &R, lost: u64) {
+    if lost == 0 {
+        tell(rt, "all pages have their copies again");
+    } else {
+        tell(
+            rt,
+            format_args!(
+                "{lost} pages are lost, and all others have their copies again: write or trim them"
+            ),
+        );
+    }
+}
+
+/// How many pages were written and stand on no live die.
+fn count_lost<R: Networked, L: Ledger + Send>(rt: &R, shared: &Shared<L, PageMap>) -> u64 {
+    let pages = shared.lock(rt).array().geometry().pages;
+    let mut lost = 0u64;
+    for hold in 0..pages / PAGES_A_HOLD + 1 {
+        let first = hold.saturating_mul(PAGES_A_HOLD);
+        let held = shared.lock(rt);
+        for page in first..pages.min(first.saturating_add(PAGES_A_HOLD)) {
+            if is_lost(held.array(), Page(page)) {
+                lost = lost.saturating_add(1);
+            }
+        }
+    }
+    lost
+}
+
+/// Whether a page was written and stands on no live die.
+fn is_lost(array: &Array<PageMap>, page: Page) -> bool {
+    if !array.is_page(page) || array.version(page).is_none() {
+        return false;
+    }
+    for number in 0..array.geometry().dies {
+        let die = Die(number as u8);
+        if array.is_live(die) && array.copy_on(page, die).is_some() {
+            return false;
+        }
+    }
+    true
+}
+
 /// How an array stands, each of whose pages is to have this number of copies.
-fn sight_of(array: &Array<PageMap>, copies: u32) -> Sight {
+pub(crate) fn sight_of(array: &Array<PageMap>, copies: u32) -> Sight {
     let mut live = [false; 64];
-    let (mut dies, mut roomy) = (0u32, 0u32);
+    let (mut dies, mut open, mut roomy) = (0u32, 0u32, 0u32);
     for number in 0..array.geometry().dies {
         let die = Die(number as u8);
         if array.is_live(die) {
@@ -75,7 +127,11 @@ fn sight_of(array: &Array<PageMap>, copies: u32) -> Sight {
             if let Some(place) = live.get_mut(number as usize) {
                 *place = true;
             }
-            if array.room(die) > 0 || array.victim(die).is_some() {
+            let has_room = array.room(die) > 0;
+            if has_room {
+                open = open.saturating_add(1);
+            }
+            if has_room || array.victim(die).is_some() {
                 roomy = roomy.saturating_add(1);
             }
         }
@@ -84,8 +140,8 @@ fn sight_of(array: &Array<PageMap>, copies: u32) -> Sight {
     Sight {
         live,
         is_thin,
-        is_healed: !is_thin && roomy == dies,
-        is_full: roomy < copies,
+        is_healed: !is_thin && open == dies,
+        is_full: roomy < copies.min(dies),
     }
 }
 
