@@ -6,6 +6,7 @@ mod events;
 mod gathering;
 mod kinds;
 mod op;
+mod parts;
 mod preparing;
 mod range;
 mod reading;

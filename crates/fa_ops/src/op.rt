@@ -117,6 +117,14 @@ impl<A: Allocator + Copy> Op<A> {
         }
     }
 
+    /// Whether it waits, if it does, for jobs of dies alone.
+    pub(crate) fn is_at_dies(&self) -> bool {
+        matches!(
+            &self.stage,
+            Stage::Reading(..) | Stage::Committing(..) | Stage::Flushing(_)
+        )
+    }
+
     /// The answer of a read, as far as it was made.
     pub fn into_answer(self) -> Vec<u8, A>
         ensures { result.items ≡ answer_of self }

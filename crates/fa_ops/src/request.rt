@@ -1,5 +1,5 @@
 //! Requests, and what each comes to.
-ghost use Rattle.std.specs.Prelude.{◌≡◌, ◌+◌, ◌*◌, ◌^◌, ◌≤◌};
+ghost use Rattle.std.specs.Prelude.{◌≡◌, ℕ, ◌+◌, ◌*◌, ◌^◌, ◌≤◌};
 ghost use Rattle.fa_ops.specs.Ranges.{IsRange};
 ghost use Rattle.fa_ops.specs.Tasks.{bytes_from as range_from, end_of, task_of, whole_range};
 
@@ -71,6 +71,52 @@ pub struct Task {
 }
 
 impl Request {
+    /// Where its range begins, and how many bytes it has.
+    pub(crate) fn extent(self) -> (u64, u64)
+        ensures { result.0 + result.1 ≡ end_of self }
+    {
+        match self {
+            Request::Read { offset, len }
+            | Request::Write { offset, len, .. }
+            | Request::Zero { offset, len, .. }
+            | Request::Trim { offset, len, .. } => (offset, len),
+            Request::Flush => (0, 0),
+        }
+    }
+
+    /// Whether a flush is part of it.
+    pub(crate) fn has_flush(self) -> bool
+        ensures { (page_bytes : ℕ) → result ≡ (task_of page_bytes self).flush }
+    {
+        match self {
+            Request::Read { .. } => false,
+            Request::Write { fua, .. } | Request::Zero { fua, .. } | Request::Trim { fua, .. } =>
+                fua,
+            Request::Flush => true,
+        }
+    }
+
+    /// The same on the bytes from one offset to before another, without a flush.
+    pub(crate) fn within(self, from: u64, to: u64) -> Request
+        requires { from ≤ to }
+        ensures end { end_of result ≤ to }
+        ensures fill { (page_bytes : ℕ) → (task_of page_bytes result).fill ≡ (task_of page_bytes self).fill }
+    {
+        let (offset, len, fua) = (from, to - from, false);
+        match self {
+            Request::Read { .. } => Request::Read { offset, len },
+            Request::Write { .. } => Request::Write { offset, len, fua },
+            Request::Zero { hole, .. } => Request::Zero {
+                offset,
+                len,
+                fua,
+                hole,
+            },
+            Request::Trim { .. } => Request::Trim { offset, len, fua },
+            Request::Flush => Request::Flush,
+        }
+    }
+
     /// What the request comes to, in a store whose pages have so many bytes.
     pub fn task(self, page_bytes: u64) -> Task
         requires some_bytes { 1 ≤ page_bytes }

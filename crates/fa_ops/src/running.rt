@@ -4,9 +4,10 @@ ghost use Rattle.fa_ops.specs.Tasks.{end_of};
 ghost use Rattle.fa_types.specs.declared.blocks.BlockFault.TheVariants.{NoRoom};
 
 use crate::op::{Op, Turn};
+use crate::parts::run_parts;
 use crate::request::Request;
 use fa_map::Map;
-use fa_shared::{Seat, Shared};
+use fa_shared::{Locked, Seat, Shared, Waiter};
 use fa_types::{BlockFault, Geometry};
 use std::alloc::Allocator;
 use std::sync::Wait;
@@ -24,8 +25,8 @@ pub(crate) fn store_bytes(geometry: Geometry) -> (u64, u32)
     (bytes, geometry.page_bytes)
 }
 
-/// A request that answers no bytes.
-pub(crate) fn run<R: Wait, L: Ledger, M: Map + Drop, A: Allocator + Copy>(
+/// A request that answers no bytes, done page by page.
+fn run_whole<R: Wait, L: Ledger, M: Map + Drop, A: Allocator + Copy>(
     rt: &R,
     alloc: A,
     shared: &Shared<L, M, A>,
@@ -46,6 +47,30 @@ pub(crate) fn run<R: Wait, L: Ledger, M: Map + Drop, A: Allocator + Copy>(
         None => Ok(()),
         Some(fault) => Err(fault),
     }
+}
+
+/// A request that answers no bytes. One on several pages is done in parts, side by side, and then flushed, if it is to be.
+pub(crate) fn run<R: Wait, L: Ledger, M: Map + Drop, A: Allocator + Copy>(
+    rt: &R,
+    alloc: A,
+    shared: &Shared<L, M, A>,
+    seat: &mut Seat<L>,
+    page_bytes: u32,
+    request: Request,
+    bytes: &[u8],
+) -> Result<(), BlockFault>
+    requires some { 1 ≤ page_bytes }
+    requires small { page_bytes ≤ 4096 }
+    requires inside { end_of request ≤ 2 ^ 32 }
+{
+    if request.extent().1 <= u64::from(page_bytes) {
+        return run_whole(rt, alloc, shared, seat, page_bytes, request, bytes);
+    }
+    run_parts(rt, alloc, shared, seat, page_bytes, request, bytes)?;
+    if request.has_flush() {
+        return run_whole(rt, alloc, shared, seat, page_bytes, Request::Flush, &[]);
+    }
+    Ok(())
 }
 
 /// A read. It is never refused for want of room.
@@ -132,11 +157,57 @@ fn make_turns<R: Wait, L: Ledger, M: Map + Drop, A: Allocator + Copy>(
 ) {
     let mut guard = shared.lock(rt);
     for _ in rt.forever() {
-        match op.turn(&mut guard, seat) {
-            Turn::More => shared.tell(),
-            Turn::Prepare | Turn::End => break,
-            Turn::Wait => guard = shared.wait(rt, guard),
+        if !matches!(turn_on(rt, op, &mut guard, seat), Turn::Wait) {
+            break;
+        }
+        tell(shared, is_thin(&guard));
+        guard = shared.wait(rt, waiter_of(op), guard);
+    }
+    let is_thin = is_thin(&guard);
+    drop(guard);
+    tell(shared, is_thin);
+}
+
+/// Makes turns of a request while each leads to the next.
+pub(crate) fn turn_on<R: Wait, L: Ledger, M: Map + Drop, A: Allocator + Copy>(
+    rt: &R,
+    op: &mut Op<A>,
+    locked: &mut Locked<L, M, A>,
+    seat: &mut Seat<L>,
+) -> Turn {
+    for _ in rt.forever() {
+        let turn = op.turn(locked, seat);
+        if !matches!(turn, Turn::More) {
+            return turn;
         }
     }
-    shared.tell();
+    unreachable!()
+}
+
+/// How a request waits that is so far.
+fn waiter_of<A: Allocator + Copy>(op: &Op<A>) -> Waiter {
+    if op.is_at_dies() {
+        Waiter::Job
+    } else {
+        Waiter::Request
+    }
+}
+
+/// Whether a page has fewer copies than it could have.
+pub(crate) fn is_thin<L: Ledger, M: Map + Drop, A: Allocator + Copy>(
+    locked: &Locked<L, M, A>,
+) -> bool {
+    locked.array().next_thin().is_some()
+}
+
+/// Tells those who may go on behind events of a request.
+pub(crate) fn tell<L: Ledger, M: Map + Drop, A: Allocator + Copy>(
+    shared: &Shared<L, M, A>,
+    is_thin: bool,
+) {
+    shared.tell(Waiter::Die);
+    shared.tell(Waiter::Request);
+    if is_thin {
+        shared.tell(Waiter::Keeper);
+    }
 }

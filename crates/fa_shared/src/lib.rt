@@ -9,4 +9,4 @@ mod shared;
 pub use faults::{Cause, Fault, Faults, MAX_FAULTS};
 pub use locked::{Gathered, Locked, MAX_SEATS};
 pub use seat::Seat;
-pub use shared::Shared;
+pub use shared::{Shared, Waiter};

@@ -13,13 +13,29 @@ use std::alloc::{AllocError, Allocator, Global};
 use std::sync::ledger::{Blank, Ledger};
 use std::sync::{Condvar, Mutex, MutexGuard, Wait};
 
+/// Who waits for a change of an array.
+#[derive(Clone, Copy, Debug, PartialEq, Eq)]
+pub enum Waiter {
+    /// A die's worker.
+    Die,
+    /// A request whose jobs the dies are at.
+    Job,
+    /// A request that may be held up by others.
+    Request,
+    /// The collector, or the rebuilder.
+    Keeper,
+}
+
 /// An array that threads share, with the faults that took its dies out. Nobody holds its lock but for one event, or for two that belong
 /// together, and no page, image or socket is touched under it. The faults have a lock of their own.
 #[derive(Drop)]
 pub struct Shared<L: Ledger, M: Map + Drop, A: Allocator + Copy = Global> {
     locked: Mutex<Locked<L, M, A>>,
     faults: Mutex<Faults<A>>,
-    changed: Condvar,
+    dies: Condvar,
+    jobs: Condvar,
+    requests: Condvar,
+    keepers: Condvar,
 }
 
 impl<L: Ledger, M: Map + Drop, A: Allocator + Copy> Shared<L, M, A> {
@@ -36,7 +52,10 @@ impl<L: Ledger, M: Map + Drop, A: Allocator + Copy> Shared<L, M, A> {
             Ok(faults) => Ok(Shared {
                 locked: Mutex::new(Locked::new(alloc, blank, array)),
                 faults: Mutex::new(faults),
-                changed: Condvar::new(),
+                dies: Condvar::new(),
+                jobs: Condvar::new(),
+                requests: Condvar::new(),
+                keepers: Condvar::new(),
             }),
             Err(_) => Err(array),
         }
@@ -47,18 +66,29 @@ impl<L: Ledger, M: Map + Drop, A: Allocator + Copy> Shared<L, M, A> {
         self.locked.lock(rt)
     }
 
-    /// Frees the lock until somebody tells of a change, or for no reason, and then takes it again.
+    /// Frees the lock until those who wait so are told of a change, or for no reason, and then takes it again.
     pub fn wait<'a, R: Wait>(
         &'a self,
         rt: &R,
+        waiter: Waiter,
         guard: MutexGuard<'a, Locked<L, M, A>>,
     ) -> MutexGuard<'a, Locked<L, M, A>> {
-        self.changed.wait(rt, guard)
+        self.changes_for(waiter).wait(rt, guard)
     }
 
-    /// Tells all who wait that the array has changed.
-    pub fn tell(&self) {
-        self.changed.notify_all();
+    /// Tells all who wait so that the array has changed.
+    pub fn tell(&self, waiter: Waiter) {
+        self.changes_for(waiter).notify_all();
+    }
+
+    /// Where those wait.
+    fn changes_for(&self, waiter: Waiter) -> &Condvar {
+        match waiter {
+            Waiter::Die => &self.dies,
+            Waiter::Job => &self.jobs,
+            Waiter::Request => &self.requests,
+            Waiter::Keeper => &self.keepers,
+        }
     }
 
     /// One more seat. None where 256 are out.
@@ -71,7 +101,10 @@ impl<L: Ledger, M: Map + Drop, A: Allocator + Copy> Shared<L, M, A> {
     /// Whoever works for the array is to end.
     pub fn stop<R: Wait>(&self, rt: &R) {
         self.locked.lock(rt).stop();
-        self.changed.notify_all();
+        self.dies.notify_all();
+        self.jobs.notify_all();
+        self.requests.notify_all();
+        self.keepers.notify_all();
     }
 
     /// Whether whoever works for the array is to end.

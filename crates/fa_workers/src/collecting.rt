@@ -8,7 +8,7 @@ use crate::events::{make, plain};
 use fa_core::{Answer, Call};
 use fa_machine::WindowRefused;
 use fa_map::Map;
-use fa_shared::{Locked, Seat, Shared};
+use fa_shared::{Locked, Seat, Shared, Waiter};
 use fa_types::{Die, Round};
 use std::alloc::Allocator;
 use std::sync::Wait;
@@ -29,9 +29,9 @@ pub fn collector_worker<R: Wait, L: Ledger, M: Map + Drop, A: Allocator + Copy>(
             break;
         }
         if give_windows(alloc, &mut guard, seat, window_rounds) {
-            shared.tell();
+            shared.tell(Waiter::Die);
         }
-        guard = shared.wait(rt, guard);
+        guard = shared.wait(rt, Waiter::Keeper, guard);
     }
 }
 

@@ -2,7 +2,7 @@
 use crate::rebuild_events::{Came, turn};
 use crate::rebuild_stage::{Stage, ThinPage};
 use fa_map::Map;
-use fa_shared::{Seat, Shared};
+use fa_shared::{Seat, Shared, Waiter};
 use fa_tag::Payload;
 use fa_types::Page;
 use std::alloc::Allocator;
@@ -44,9 +44,13 @@ fn make_turns<R: Wait, L: Ledger, M: Map + Drop, A: Allocator + Copy>(
         let turned = turn(alloc, &mut guard, seat, stage);
         stage = turned.stage;
         match turned.came {
-            Came::Told => shared.tell(),
+            Came::Told => {
+                shared.tell(Waiter::Die);
+                shared.tell(Waiter::Job);
+                shared.tell(Waiter::Request);
+            }
             Came::More => {}
-            Came::Wait => guard = shared.wait(rt, guard),
+            Came::Wait => guard = shared.wait(rt, Waiter::Keeper, guard),
         }
         if matches!(stage, Stage::Read(..) | Stage::Ended) {
             break;

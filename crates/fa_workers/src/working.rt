@@ -3,10 +3,11 @@ use crate::die_events::{Ended, Next, end_job, turn};
 use crate::gate::Gate;
 use crate::order::Order;
 use crate::room::Room;
+use fa_core::Array;
 use fa_ends::Outcome;
 use fa_image::Image;
 use fa_map::Map;
-use fa_shared::{Seat, Shared};
+use fa_shared::{Seat, Shared, Waiter};
 use fa_types::Die;
 use std::alloc::{Allocator, Global};
 use std::sync::Wait;
@@ -79,12 +80,16 @@ fn wait_for_order<R: Wait, L: Ledger, M: Map + Drop, A: Allocator + Copy>(
     for _ in rt.forever() {
         match turn(alloc, &mut guard, seat, die) {
             Next::Run(order) => return Some(order),
-            Next::Again => shared.tell(),
+            Next::Again => {
+                shared.tell(Waiter::Die);
+                shared.tell(Waiter::Job);
+                shared.tell(Waiter::Request);
+            }
             Next::Rest => {
                 if guard.is_stopping() {
                     return None;
                 }
-                guard = shared.wait(rt, guard);
+                guard = shared.wait(rt, Waiter::Die, guard);
             }
         }
     }
@@ -105,11 +110,21 @@ fn finish<R: Wait, L: Ledger, M: Map + Drop, A: Allocator + Copy>(
     let mut guard = shared.lock(rt);
     let Ended { buffer, fault } = end_job(alloc, &mut guard, seat, die, outcome, buffer);
     let mut turned = turn(alloc, &mut guard, seat, die);
-    if matches!(turned, Next::Again) {
+    let has_advanced = matches!(turned, Next::Again);
+    if has_advanced {
         turned = turn(alloc, &mut guard, seat, die);
     }
+    let is_quiet = fault.is_none() && is_of_requests(outcome);
+    let is_keeping = !is_quiet || wants_keeping(guard.array());
     drop(guard);
-    shared.tell();
+    shared.tell(Waiter::Job);
+    shared.tell(Waiter::Request);
+    if has_advanced || !is_quiet {
+        shared.tell(Waiter::Die);
+    }
+    if is_keeping {
+        shared.tell(Waiter::Keeper);
+    }
     if let Some(fault) = fault {
         shared.note_fault(rt, fault);
     }
@@ -118,4 +133,22 @@ fn finish<R: Wait, L: Ledger, M: Map + Drop, A: Allocator + Copy>(
         Next::Again | Next::Rest => None,
     };
     Behind { buffer, next }
+}
+
+/// Whether a job that ended so was one of a request or of a copy, which changes nothing for other dies.
+fn is_of_requests(outcome: Outcome) -> bool {
+    matches!(outcome, Outcome::Read(_) | Outcome::Programmed)
+}
+
+/// Whether the collector or the rebuilder may have something to do.
+fn wants_keeping<M: Map, A: Allocator + Copy>(array: &Array<M, A>) -> bool {
+    if array.copy_open() || array.next_thin().is_some() {
+        return true;
+    }
+    for die in 0..array.geometry().dies {
+        if array.wants_window(Die(die as u8)) {
+            return true;
+        }
+    }
+    false
 }
