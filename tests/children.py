@@ -75,19 +75,26 @@ def interrupt(number, _):
 
 
 @contextlib.contextmanager
-def case_threads(count):
-    """Threads for cases, whose folders stand in one of this run. Where the script is interrupted or fails nobody waits for them."""
+def run_folder(prefix, where=None):
+    """A folder of this run, in a folder that may be given. Where the script is interrupted or fails nobody waits for its threads."""
     for number in SIGNALS:
         if signal.getsignal(number) != signal.SIG_IGN:
             signal.signal(number, interrupt)
     try:
-        CHILDREN.folder = tempfile.mkdtemp(prefix="flasharr-serve-")
-        pool = ThreadPoolExecutor(count)
-        yield pool
-        pool.shutdown()
+        CHILDREN.folder = tempfile.mkdtemp(prefix=prefix, dir=where)
+        yield CHILDREN.folder
         CHILDREN.end()
     except BaseException as error:
         leave(error)
+
+
+@contextlib.contextmanager
+def case_threads(count):
+    """Threads for cases, whose folders stand in one of this run."""
+    with run_folder("flasharr-serve-"):
+        pool = ThreadPoolExecutor(count)
+        yield pool
+        pool.shutdown()
 
 
 def leave(error):

@@ -162,7 +162,12 @@ class Array:
             same_bytes(content[page * page_bytes:(page + 1) * page_bytes], bytes(page_bytes), f"page {page}, never written")
 
     def standing(self):
-        """How many dies are live by the headers of the greatest epoch, and how many pages are thin, as the images stand now.
+        """How many dies are live by the headers of the greatest epoch, and how many pages are thin, as the images stand now."""
+        live, thin = self.thin_pages()
+        return live, len(thin)
+
+    def thin_pages(self):
+        """How many dies are live by the headers of the greatest epoch, and the pages that are thin, each with its sequence number.
 
         Digests are not looked at: it is for waiting while the program writes to the images, and `check` has the last word.
         """
@@ -181,7 +186,7 @@ class Array:
                 best, dies = copies.get(page, (0, set()))
                 copies[page] = (seq, {die}) if seq > best else (best, dies | {die} if seq == best else dies)
         most = min(self.copies, len(live))
-        return len(live), sum(1 for _, dies in copies.values() if len(dies) < most)
+        return len(live), {page: seq for page, (seq, dies) in copies.items() if len(dies) < most}
 
     def tags(self, image, die):
         """The page and the sequence number of each slot whose tag names this die and this slot."""
