@@ -92,14 +92,7 @@ pub fn run<
     R: Read,
     W: Write,
     A: Allocator + Copy,
->(
-    rt: &H,
-    alloc: A,
-    watched: bool,
-    arguments: &[String<A>],
-    input: &mut R,
-    output: &mut W,
-) -> u8
+>(rt: &H, alloc: A, watched: bool, arguments: &[String<A>], input: &mut R, output: &mut W) -> u8
     ensures { let streams = between (R.remaining input.old) (R.remaining input.new) (W.contents output.old) (W.contents output.new) in
         Runs A (map string_bytes arguments.now) streams result }
 {
@@ -152,7 +145,14 @@ pub fn run<
                 },
             ),
         ) => {
-            run_serve(rt, alloc, settings, Serve { unclean, verbose }, input, output)
+            run_serve(
+                rt,
+                alloc,
+                settings,
+                Serve { unclean, verbose },
+                input,
+                output,
+            )
         }
         Ok(Some(Subcommand::Plan)) => run_plan(alloc, input, output),
         Ok(Some(Subcommand::Talk)) => run_talk(alloc, input, output),

@@ -21,13 +21,7 @@ pub fn status_of<
     R: Read,
     W: Write,
     A: Allocator + Copy,
->(
-    rt: &H,
-    alloc: A,
-    arguments: &[String<A>],
-    input: &mut R,
-    output: &mut W,
-) -> u8 {
+>(rt: &H, alloc: A, arguments: &[String<A>], input: &mut R, output: &mut W) -> u8 {
     run(rt, alloc, false, arguments, input, output)
 }
 
