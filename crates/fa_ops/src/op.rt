@@ -7,6 +7,7 @@ use crate::preparing::{fill_page, list, sort_page};
 use crate::request::{Request, Task};
 use crate::stage::{Purpose, Stage};
 use crate::stages::{answer_len, begin, turn_stage};
+use fa_machine::ReadState;
 use fa_map::Map;
 use fa_shared::{Locked, Seat};
 use fa_types::BlockFault;
@@ -117,12 +118,16 @@ impl<A: Allocator + Copy> Op<A> {
         }
     }
 
-    /// Whether it waits, if it does, for jobs of dies alone.
-    pub(crate) fn is_at_dies(&self) -> bool {
-        matches!(
-            &self.stage,
-            Stage::Reading(..) | Stage::Committing(..) | Stage::Flushing(_)
-        )
+    /// Whether it waits, if it does, for jobs of dies alone. A batch that is to be planned anew may wait for other requests.
+    pub(crate) fn is_at_dies<L: Ledger, M: Map + Drop>(&self, locked: &Locked<L, M, A>) -> bool {
+        match &self.stage {
+            Stage::Reading(_, batch) => matches!(
+                locked.array().results(*batch),
+                ReadState::Waiting
+            ),
+            Stage::Committing(..) | Stage::Flushing(_) => true,
+            _ => false,
+        }
     }
 
     /// The answer of a read, as far as it was made.

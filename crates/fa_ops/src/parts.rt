@@ -4,7 +4,7 @@ ghost use Rattle.fa_ops.specs.Tasks.{end_of};
 
 use crate::op::{Op, Turn};
 use crate::request::Request;
-use crate::running::{is_thin, tell, turn_on};
+use crate::running::{tell, turn_on};
 use fa_map::Map;
 use fa_shared::{Locked, Seat, Shared, Waiter};
 use fa_types::BlockFault;
@@ -139,12 +139,12 @@ fn make_turns<R: Wait, L: Ledger, M: Map + Drop, A: Allocator + Copy>(
         if !matches!(turn_all(rt, parts, &mut guard, seat), Turn::Wait) {
             break;
         }
-        tell(shared, is_thin(&guard));
-        guard = shared.wait(rt, waiter_of(parts), guard);
+        tell(shared);
+        let waiter = waiter_of(parts, &guard);
+        guard = shared.wait(rt, waiter, guard);
     }
-    let is_thin = is_thin(&guard);
     drop(guard);
-    tell(shared, is_thin);
+    tell(shared);
 }
 
 /// Makes turns of each part while each leads to the next. What comes of it is to prepare, if a part is to, and else to wait, if a part is
@@ -173,11 +173,11 @@ fn turn_all<R: Wait, L: Ledger, M: Map + Drop, A: Allocator + Copy>(
 }
 
 /// How parts wait that are so far.
-fn waiter_of<A: Allocator + Copy>(parts: &[Part<A>]) -> Waiter {
-    if parts
-        .iter()
-        .all(|part| part.op.is_at_dies() || part.op.ended().is_some())
-    {
+fn waiter_of<L: Ledger, M: Map + Drop, A: Allocator + Copy>(
+    parts: &[Part<A>],
+    locked: &Locked<L, M, A>,
+) -> Waiter {
+    if parts.iter().all(|part| part.op.is_at_dies(locked) || part.op.ended().is_some()) {
         Waiter::Job
     } else {
         Waiter::Request

@@ -160,12 +160,12 @@ fn make_turns<R: Wait, L: Ledger, M: Map + Drop, A: Allocator + Copy>(
         if !matches!(turn_on(rt, op, &mut guard, seat), Turn::Wait) {
             break;
         }
-        tell(shared, is_thin(&guard));
-        guard = shared.wait(rt, waiter_of(op), guard);
+        tell(shared);
+        let waiter = waiter_of(op, &guard);
+        guard = shared.wait(rt, waiter, guard);
     }
-    let is_thin = is_thin(&guard);
     drop(guard);
-    tell(shared, is_thin);
+    tell(shared);
 }
 
 /// Makes turns of a request while each leads to the next.
@@ -185,29 +185,20 @@ pub(crate) fn turn_on<R: Wait, L: Ledger, M: Map + Drop, A: Allocator + Copy>(
 }
 
 /// How a request waits that is so far.
-fn waiter_of<A: Allocator + Copy>(op: &Op<A>) -> Waiter {
-    if op.is_at_dies() {
+fn waiter_of<L: Ledger, M: Map + Drop, A: Allocator + Copy>(
+    op: &Op<A>,
+    locked: &Locked<L, M, A>,
+) -> Waiter {
+    if op.is_at_dies(locked) {
         Waiter::Job
     } else {
         Waiter::Request
     }
 }
 
-/// Whether a page has fewer copies than it could have.
-pub(crate) fn is_thin<L: Ledger, M: Map + Drop, A: Allocator + Copy>(
-    locked: &Locked<L, M, A>,
-) -> bool {
-    locked.array().next_thin().is_some()
-}
-
 /// Tells those who may go on behind events of a request.
-pub(crate) fn tell<L: Ledger, M: Map + Drop, A: Allocator + Copy>(
-    shared: &Shared<L, M, A>,
-    is_thin: bool,
-) {
+pub(crate) fn tell<L: Ledger, M: Map + Drop, A: Allocator + Copy>(shared: &Shared<L, M, A>) {
     shared.tell(Waiter::Die);
     shared.tell(Waiter::Request);
-    if is_thin {
-        shared.tell(Waiter::Keeper);
-    }
+    shared.tell(Waiter::Keeper);
 }

@@ -3,7 +3,6 @@ use crate::die_events::{Ended, Next, end_job, turn};
 use crate::gate::Gate;
 use crate::order::Order;
 use crate::room::Room;
-use fa_core::Array;
 use fa_ends::Outcome;
 use fa_image::Image;
 use fa_map::Map;
@@ -84,6 +83,7 @@ fn wait_for_order<R: Wait, L: Ledger, M: Map + Drop, A: Allocator + Copy>(
                 shared.tell(Waiter::Die);
                 shared.tell(Waiter::Job);
                 shared.tell(Waiter::Request);
+                shared.tell(Waiter::Keeper);
             }
             Next::Rest => {
                 if guard.is_stopping() {
@@ -115,15 +115,12 @@ fn finish<R: Wait, L: Ledger, M: Map + Drop, A: Allocator + Copy>(
         turned = turn(alloc, &mut guard, seat, die);
     }
     let is_quiet = fault.is_none() && is_of_requests(outcome);
-    let is_keeping = !is_quiet || wants_keeping(guard.array());
     drop(guard);
     shared.tell(Waiter::Job);
     shared.tell(Waiter::Request);
+    shared.tell(Waiter::Keeper);
     if has_advanced || !is_quiet {
         shared.tell(Waiter::Die);
-    }
-    if is_keeping {
-        shared.tell(Waiter::Keeper);
     }
     if let Some(fault) = fault {
         shared.note_fault(rt, fault);
@@ -138,17 +135,4 @@ fn finish<R: Wait, L: Ledger, M: Map + Drop, A: Allocator + Copy>(
 /// Whether a job that ended so was one of a request or of a copy, which changes nothing for other dies.
 fn is_of_requests(outcome: Outcome) -> bool {
     matches!(outcome, Outcome::Read(_) | Outcome::Programmed)
-}
-
-/// Whether the collector or the rebuilder may have something to do.
-fn wants_keeping<M: Map, A: Allocator + Copy>(array: &Array<M, A>) -> bool {
-    if array.copy_open() || array.next_thin().is_some() {
-        return true;
-    }
-    for die in 0..array.geometry().dies {
-        if array.wants_window(Die(die as u8)) {
-            return true;
-        }
-    }
-    false
 }
