@@ -1,3 +1,4 @@
 pub mod Batches
+pub mod Counted
 pub mod Pages
 pub mod Whole

@@ -2,10 +2,12 @@
 -- has one, a batch names no page twice, each buffer is as long as a page, and each batch has room for its answers.
 use Rattle.std.specs.Option.{option_map_or}
 use Rattle.std.specs.Prelude.{◌≡◌, ℕ, ◌<◌, ◌≤◌, Bool, false, [], Option, None, Some, is_some, length, true, vec_capacity}
-use Rattle.std.specs.Prelude.{◌++◌, ◌∷◌}
-use Rattle.fa_batches.specs.Pages.{Lists, Pages, list_at, numbers_of, page_at}
+use Rattle.std.specs.Prelude.{◌++◌, ◌+◌, ◌∷◌}
+use Rattle.fa_batches.specs.Counted.{is_open, one}
+use Rattle.fa_batches.specs.Pages.{Lists, Pages, is_torn, list_at, numbers_of, page_at}
 use Rattle.fa_batches.specs.declared.page.BatchList.{BatchList}
 use Rattle.fa_batches.specs.declared.page.BatchPage.{BatchPage}
+use Rattle.fa_batches.specs.declared.page.PageState.{PageState}
 use Rattle.fa_machine.specs.Maps.{is_one_of}
 use Rattle.fa_machine.specs.Step.{is_distinct}
 use Rattle.fa_types.specs.declared.numbers.Page.{Page}
@@ -21,11 +23,12 @@ module _ {A : Type 0} where
     pub room : vec_capacity list.pages ≤ vec_capacity list.answers
     pub none : list.answers.items ≡ []
 
-  -- a list and what it is with one page more; no list is none still
-  abbrev pub IsOneLonger : Page → Option (BatchList A) → Option (BatchList A) → Type 0
-  IsOneLonger page None new = new ≡ None
-  IsOneLonger page (Some old) new = (list : BatchList A) × (new ≡ Some list) × (list.pages.items ≡ old.pages.items ++ page ∷ [])
+  -- a list and what it is with one page more, which stands so; no list is none still
+  abbrev pub IsOneLonger : Page → PageState → Option (BatchList A) → Option (BatchList A) → Type 0
+  IsOneLonger page state None new = new ≡ None
+  IsOneLonger page state (Some old) new = (list : BatchList A) × (new ≡ Some list) × (list.pages.items ≡ old.pages.items ++ page ∷ [])
       × (vec_capacity list.pages ≡ vec_capacity old.pages) × (list.answers ≡ old.answers)
+      × (list.torn ≡ old.torn + one (is_torn state)) × (list.unanswered ≡ old.unanswered + one (is_open state))
 
   pub record IsWhole (page_bytes next : ℕ) (lists : Lists A) (pages : Pages A) : Type 0 where
     pub below : (batch : ℕ) → is_some (list_at lists batch) ≡ true → batch < next

@@ -5,12 +5,13 @@ ghost use Rattle.std.specs.Prelude.{if◌then◌else◌, is_some, length, map, o
 ghost use Rattle.std.specs.FinMap.{contains_key, empty, get, insert, len, remove};
 ghost use Rattle.std.specs.List.{list_all, list_any};
 ghost use Rattle.std.specs.Option.{option_map_or};
+ghost use Rattle.fa_batches.specs.Counted.{AreCounted};
 ghost use Rattle.fa_batches.specs.Pages.{is_answered, is_torn, opened, without_die as rule_without};
 ghost use Rattle.fa_batches.specs.Whole.{IsWhole};
 ghost use Rattle.fa_machine.specs.Maps.{is_one_of};
 ghost use Rattle.fa_machine.specs.Reading.{answered as answered_of};
 
-use crate::lists::{hand_out, insert_list, push_page, take_list};
+use crate::lists::{count_anew, count_change, hand_out, insert_list, push_page, take_list};
 use crate::page::{BatchList, BatchPage, PageState};
 use crate::pages::{insert_page, lose_die, set_answer, set_state};
 use fa_machine::BatchId;
@@ -30,6 +31,7 @@ pub struct Batches<A: Allocator = Global> {
     // By batch and page.
     pages: BTreeMap<(u64, u64), BatchPage<A>, A>,
     ghost whole: { IsWhole page_bytes next lists.entries pages.entries },
+    ghost counted: { AreCounted lists.entries pages.entries },
 }
 
 impl<A: Allocator + Copy> Batches<A> {
@@ -68,6 +70,8 @@ impl<A: Allocator + Copy> Batches<A> {
         let list = BatchList {
             pages: Vec::with_capacity(alloc, pages)?,
             answers: Vec::with_capacity(alloc, pages)?,
+            torn: 0,
+            unanswered: 0,
         };
         let batch = self.next;
         insert_list(&mut self.lists, batch, list)?;
@@ -108,7 +112,7 @@ impl<A: Allocator + Copy> Batches<A> {
             PageState::Torn
         };
         insert_page(&mut self.pages, batch, page, BatchPage { state, buffer })?;
-        push_page(&mut self.lists, batch, page);
+        push_page(&mut self.lists, batch, page, state);
         Ok(())
     }
 }
@@ -169,7 +173,8 @@ impl<A: Allocator + Clone> Batches<A> {
         ensures number { next_of self.new ≡ next_of self.old }
         ensures bytes { bytes_of self.new ≡ bytes_of self.old }
     {
-        set_state(&mut self.pages, batch, page, state);
+        let was = set_state(&mut self.pages, batch, page, state);
+        count_change(&mut self.lists, batch, was, state);
     }
 
     /// The buffer has the answer of a page of a batch. It and the page's buffer change places.
@@ -185,10 +190,11 @@ impl<A: Allocator + Clone> Batches<A> {
         ensures bytes { bytes_of self.new ≡ bytes_of self.old }
         ensures buffer { length buffer.new.items ≡ length buffer.old.items }
     {
-        set_answer(&mut self.pages, batch, page, buffer);
+        let was = set_answer(&mut self.pages, batch, page, buffer);
+        count_change(&mut self.lists, batch, was, PageState::Answered);
     }
 
-    /// A die is out: the reads that were booked or in flight there are lost. It takes a look at each page of each batch.
+    /// A die is out: the reads that were booked or in flight there are lost. It takes two looks at each page of each batch or three.
     pub fn drop_die(&mut self, die: Die)
         ensures batches { batches_of self.new ≡ batches_of self.old }
         ensures states { (b p : ℕ) → state_of self.new b p ≡ option_map (rule_without die.0) (state_of self.old b p) }
@@ -196,6 +202,7 @@ impl<A: Allocator + Clone> Batches<A> {
         ensures bytes { bytes_of self.new ≡ bytes_of self.old }
     {
         lose_die(&mut self.pages, die);
+        count_anew(&mut self.lists, &self.pages);
     }
 
     /// The batch is open no more. Its answers are handed out in the order of its list.
@@ -214,55 +221,27 @@ impl<A: Allocator + Clone> Batches<A> {
         list.answers
     }
 
-    /// Whether a page of the open batch has no answer, and no read that is booked or in flight. It takes a look at each page.
+    /// Whether a page of the open batch has no answer, and no read that is booked or in flight. It takes no look at a page.
     pub fn has_torn(&self, batch: BatchId) -> bool
         requires { contains_key (batches_of self.now) batch.0 ≡ true }
         ensures { result ≡ list_any (λ page. option_map_or is_torn (state_of self.now batch.0 page) false)
             (opened (batches_of self.now) batch.0).pages }
     {
-        self.are_some_torn(batch, self.pages(batch))
+        match self.lists.get(&batch.0) {
+            Some(list) => list.torn != 0,
+            None => false,
+        }
     }
 
-    /// Whether each page of the open batch has an answer. It takes a look at each page.
+    /// Whether each page of the open batch has an answer. It takes no look at a page.
     pub fn are_answered(&self, batch: BatchId) -> bool
         requires { contains_key (batches_of self.now) batch.0 ≡ true }
         ensures { result ≡ list_all (λ page. contains_key (opened (batches_of self.now) batch.0).answers page)
             (opened (batches_of self.now) batch.0).pages }
     {
-        self.are_all_answered(batch, self.pages(batch))
-    }
-
-    /// Whether one of these pages of the batch has no answer, and no read that is booked or in flight.
-    fn are_some_torn(&self, batch: BatchId, pages: &[Page]) -> bool
-        ensures { result ≡ list_any (λ page. option_map_or is_torn (state_of self.now batch.0 page.0) false) pages.now }
-    {
-        pages.iter().any(|page| self.is_torn(batch, *page))
-    }
-
-    /// Whether each of these pages of the batch has an answer.
-    fn are_all_answered(&self, batch: BatchId, pages: &[Page]) -> bool
-        ensures { result ≡ list_all (λ page. contains_key (opened (batches_of self.now) batch.0).answers page.0) pages.now }
-    {
-        pages.iter().all(|page| self.is_answered(batch, *page))
-    }
-
-    /// Whether the batch has this page, with no answer and no read that is booked or in flight.
-    fn is_torn(&self, batch: BatchId, page: Page) -> bool
-        ensures { result ≡ option_map_or is_torn (state_of self.now batch.0 page.0) false }
-    {
-        match self.state(batch, page) {
-            Some(PageState::Torn) => true,
-            _ => false,
-        }
-    }
-
-    /// Whether the page of the batch has an answer.
-    fn is_answered(&self, batch: BatchId, page: Page) -> bool
-        ensures { result ≡ contains_key (opened (batches_of self.now) batch.0).answers page.0 }
-    {
-        match self.state(batch, page) {
-            Some(PageState::Answered) => true,
-            _ => false,
+        match self.lists.get(&batch.0) {
+            Some(list) => list.unanswered == 0,
+            None => true,
         }
     }
 }

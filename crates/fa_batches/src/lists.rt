@@ -1,8 +1,9 @@
 //! Changes of the tree of lists.
 ghost use Rattle.std.specs.Prelude.{◌≡◌, ℕ, ◌+◌, ◌==◌, ◌&&◌, ◌<◌, ◌≤◌, ◌++◌, ◌∷◌, [], true, false, if◌then◌else◌, is_some, Some, None};
-ghost use Rattle.std.specs.Prelude.{OnOk, OnErr};
+ghost use Rattle.std.specs.Prelude.{IfSome, OnOk, OnErr, ◌^◌, ◌-◌, option_map};
 ghost use Rattle.std.specs.Prelude.{length, map, take, vec_capacity, MatchOption};
-ghost use Rattle.fa_batches.specs.Pages.{answers_in, list_at, numbers_of, page_at, room_in};
+ghost use Rattle.fa_batches.specs.Counted.{CanChange, changed_at, count_in, counted_anew, is_open, moved, one, stands, state_at};
+ghost use Rattle.fa_batches.specs.Pages.{answers_in, is_torn, list_at, numbers_of, page_at, room_in};
 ghost use Rattle.fa_batches.specs.Whole.{IsList, IsOneLonger};
 ghost use Rattle.fa_machine.specs.Maps.{is_one_of};
 ghost use Rattle.fa_machine.specs.Step.{is_distinct};
@@ -46,13 +47,123 @@ pub fn push_page<A: Allocator + Clone>(
     lists: &mut BTreeMap<u64, BatchList<A>, A>,
     batch: BatchId,
     page: Page,
+    state: PageState,
 )
-    requires { 0 < option_map_or (λ list. room_in list) (list_at lists.old.entries batch.0) 0 }
+    requires room { 0 < option_map_or (λ list. room_in list) (list_at lists.old.entries batch.0) 0 }
+    requires few { option_map_or (λ list. list.torn) (list_at lists.old.entries batch.0) 0
+        ≤ option_map_or (λ list. length list.pages.items) (list_at lists.old.entries batch.0) 0 }
+    requires open { option_map_or (λ list. list.unanswered) (list_at lists.old.entries batch.0) 0
+        ≤ option_map_or (λ list. length list.pages.items) (list_at lists.old.entries batch.0) 0 }
     ensures others { (b : ℕ) → b == batch.0 ≡ false → list_at lists.new.entries b ≡ list_at lists.old.entries b }
-    ensures longer { IsOneLonger page (list_at lists.old.entries batch.0) (list_at lists.new.entries batch.0) }
+    ensures longer { IsOneLonger page state (list_at lists.old.entries batch.0) (list_at lists.new.entries batch.0) }
 {
     if let Some(list) = lists.get_mut(&batch.0) {
         list.pages.push_reserved(page);
+        list.torn += usize::from(state.is_torn());
+        list.unanswered += usize::from(state.is_open());
+    }
+}
+
+/// One page of the batch, which stood so, stands otherwise from now on.
+pub fn count_change<A: Allocator + Clone>(
+    lists: &mut BTreeMap<u64, BatchList<A>, A>,
+    batch: BatchId,
+    was: Option<PageState>,
+    is: PageState,
+)
+    requires { IfSome (list_at lists.old.entries batch.0) (CanChange was is) }
+    ensures { (b : ℕ) → list_at lists.new.entries b ≡ option_map (changed_at batch.0 was is b) (list_at lists.old.entries b) }
+{
+    if let Some(list) = lists.get_mut(&batch.0) {
+        list.torn = move_count(list.torn, was_torn(was), is.is_torn());
+        list.unanswered = move_count(list.unanswered, was_open(was), is.is_open());
+    }
+}
+
+/// A count, once one of what is counted stands otherwise.
+fn move_count(count: usize, was: bool, is: bool) -> usize
+    requires low { one was ≤ count }
+    requires high { moved count was is < 2 ^ 64 }
+    ensures { result ≡ moved count was is }
+{
+    count - usize::from(was) + usize::from(is)
+}
+
+fn was_torn(was: Option<PageState>) -> bool
+    ensures { result ≡ stands is_torn was }
+{
+    match was {
+        Some(state) => state.is_torn(),
+        None => false,
+    }
+}
+
+fn was_open(was: Option<PageState>) -> bool
+    ensures { result ≡ stands is_open was }
+{
+    match was {
+        Some(state) => state.is_open(),
+        None => false,
+    }
+}
+
+/// The pages of each list are counted anew. It takes a look at each page.
+pub fn count_anew<A: Allocator + Clone>(
+    lists: &mut BTreeMap<u64, BatchList<A>, A>,
+    pages: &BTreeMap<(u64, u64), BatchPage<A>, A>,
+)
+    ensures { (b : ℕ) → list_at lists.new.entries b ≡ option_map (counted_anew pages.now.entries b) (list_at lists.old.entries b) }
+{
+    lists.retain(
+        |batch: &u64, list: &mut BatchList<A>| -> bool
+            ensures kept { result ≡ true }
+            ensures counted { list.new ≡ counted_anew pages.entry.now.entries batch.now list.old }
+            ensures same { pages.exit ≡ pages.entry }
+        {
+            list.torn = count_torn(pages, *batch, &list.pages);
+            list.unanswered = count_open(pages, *batch, &list.pages);
+            true
+        },
+    );
+}
+
+/// How many of these pages of the batch have no answer, and no read that is booked or in flight.
+fn count_torn<A: Allocator + Clone>(
+    pages: &BTreeMap<(u64, u64), BatchPage<A>, A>,
+    batch: u64,
+    list: &[Page],
+) -> usize
+    ensures { result ≡ count_in is_torn (state_at pages.now.entries batch) (map (λ page. page.0) list.now) }
+{
+    list.iter()
+        .filter(|page| was_torn(state_in(pages, batch, **page)))
+        .count()
+}
+
+/// How many of these pages of the batch have no answer.
+fn count_open<A: Allocator + Clone>(
+    pages: &BTreeMap<(u64, u64), BatchPage<A>, A>,
+    batch: u64,
+    list: &[Page],
+) -> usize
+    ensures { result ≡ count_in is_open (state_at pages.now.entries batch) (map (λ page. page.0) list.now) }
+{
+    list.iter()
+        .filter(|page| was_open(state_in(pages, batch, **page)))
+        .count()
+}
+
+/// How a page of the batch stands, if it is there.
+fn state_in<A: Allocator + Clone>(
+    pages: &BTreeMap<(u64, u64), BatchPage<A>, A>,
+    batch: u64,
+    page: Page,
+) -> Option<PageState>
+    ensures { result ≡ state_at pages.now.entries batch page.0 }
+{
+    match pages.get(&(batch, page.0)) {
+        Some(entry) => Some(entry.state),
+        None => None,
     }
 }
 

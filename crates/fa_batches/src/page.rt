@@ -1,6 +1,7 @@
 //! A page of a batch.
 ghost use Rattle.std.specs.Prelude.{◌≡◌};
-ghost use Rattle.fa_batches.specs.Pages.{without_die as rule_without};
+ghost use Rattle.fa_batches.specs.Counted.{is_open as rule_open};
+ghost use Rattle.fa_batches.specs.Pages.{is_torn as rule_torn, without_die as rule_without};
 
 use fa_types::{Die, Page, Round};
 use std::alloc::{Allocator, Global};
@@ -29,6 +30,26 @@ impl PageState {
             _ => self,
         }
     }
+
+    /// Whether the page has no answer, and no read that is booked or in flight.
+    pub(crate) fn is_torn(self) -> bool
+        ensures { result ≡ rule_torn self }
+    {
+        match self {
+            PageState::Torn => true,
+            _ => false,
+        }
+    }
+
+    /// Whether the page has no answer.
+    pub(crate) fn is_open(self) -> bool
+        ensures { result ≡ rule_open self }
+    {
+        match self {
+            PageState::Answered => false,
+            _ => true,
+        }
+    }
 }
 
 /// A page of a batch, with the buffer that has its bytes once it is answered.
@@ -40,11 +61,15 @@ pub struct BatchPage<A: Allocator = Global> {
     pub buffer: Vec<u8, A>,
 }
 
-/// The pages of a batch in the order of its list, and the list in which their answers are handed out.
+/// The pages of a batch in the order of its list, the list in which their answers are handed out, and how many stand in some way.
 #[derive(Drop)]
 pub struct BatchList<A: Allocator = Global> {
     /// The pages.
     pub pages: Vec<Page, A>,
     /// Room for an answer of each page. It is empty until the batch ends.
     pub answers: Vec<(Page, Vec<u8, A>), A>,
+    /// How many of the pages have no answer, and no read that is booked or in flight.
+    pub torn: usize,
+    /// How many of the pages have no answer.
+    pub unanswered: usize,
 }

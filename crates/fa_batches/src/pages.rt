@@ -1,5 +1,6 @@
 //! Changes of the tree of pages.
 ghost use Rattle.std.specs.Prelude.{◌≡◌, ℕ, ◌==◌, ◌&&◌, if◌then◌else◌, true, false, is_some, Some, None, OnOk, OnErr, option_map, length};
+ghost use Rattle.fa_batches.specs.Counted.{state_at};
 ghost use Rattle.fa_batches.specs.Pages.{page_at, with_answer, with_state, with_die_out};
 
 use crate::page::{BatchPage, PageState};
@@ -38,39 +39,44 @@ pub fn take_page<A: Allocator + Clone>(
     pages.remove(&(batch.0, page.0))
 }
 
-/// The page of the batch stands otherwise from now on, if it is there.
+/// The page of the batch stands otherwise from now on, if it is there. How it stood is answered.
 pub fn set_state<A: Allocator + Clone>(
     pages: &mut BTreeMap<(u64, u64), BatchPage<A>, A>,
     batch: BatchId,
     page: Page,
     state: PageState,
-)
-    ensures { (b p : ℕ) → page_at pages.new.entries b p
+) -> Option<PageState>
+    ensures was { result ≡ state_at pages.old.entries batch.0 page.0 }
+    ensures pages { (b p : ℕ) → page_at pages.new.entries b p
         ≡ (if b == batch.0 && p == page.0 then option_map (with_state state) (page_at pages.old.entries b p)
         else page_at pages.old.entries b p) }
 {
-    if let Some(entry) = pages.get_mut(&(batch.0, page.0)) {
-        entry.state = state;
-    }
+    let entry = pages.get_mut(&(batch.0, page.0))?;
+    let was = entry.state;
+    entry.state = state;
+    Some(was)
 }
 
-/// The buffer has the answer of the page of the batch, if it is there. It and the page's buffer change places.
+/// The buffer has the answer of the page of the batch, if it is there. It and the page's buffer change places. How the page stood is
+/// answered.
 pub fn set_answer<A: Allocator + Clone>(
     pages: &mut BTreeMap<(u64, u64), BatchPage<A>, A>,
     batch: BatchId,
     page: Page,
     buffer: &mut Vec<u8, A>,
-)
+) -> Option<PageState>
+    ensures was { result ≡ state_at pages.old.entries batch.0 page.0 }
     ensures pages { (b p : ℕ) → page_at pages.new.entries b p
         ≡ (if b == batch.0 && p == page.0 then option_map (with_answer buffer.old) (page_at pages.old.entries b p)
         else page_at pages.old.entries b p) }
     ensures buffer { option_map (λ p. p.buffer) (page_at pages.old.entries batch.0 page.0)
         ≡ (if is_some (page_at pages.old.entries batch.0 page.0) then Some buffer.new else None) }
 {
-    if let Some(entry) = pages.get_mut(&(batch.0, page.0)) {
-        entry.state = PageState::Answered;
-        std::mem::swap(&mut entry.buffer, buffer);
-    }
+    let entry = pages.get_mut(&(batch.0, page.0))?;
+    let was = entry.state;
+    entry.state = PageState::Answered;
+    std::mem::swap(&mut entry.buffer, buffer);
+    Some(was)
 }
 
 /// A die is out: the reads that were booked or in flight there are lost. It takes a look at each page.

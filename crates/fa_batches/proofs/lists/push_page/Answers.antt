@@ -1,11 +1,23 @@
 use Rattle.fa_batches.specs.Pages.{list_at}
 use Rattle.fa_batches.specs.Whole.{IsOneLonger}
 use Rattle.fa_batches.specs.declared.page.BatchList.{BatchList}
-use Rattle.std.proofs.Common.{refl, rules, subst}
+use Rattle.std.proofs.Common.{refl, rules, subst, ◌+◌}
 use Rattle.fa_batches.proofs.lists.push_page.Goals as goal
 
 pub returns-in-Some-clause-longer : goal.returns-in-Some-clause-longer
 returns-in-Some-clause-longer g c =
-    let list : BatchList g.row.A.Denot = record { pages = c.push_reserved.new.self; answers = c.in-Some.list.now.answers } in
-    subst (λ o. IsOneLonger c.args.page o (list_at (c.get_mut.follows.lender list).entries c.args.batch.0)) c.in-Some.ensures.value
-    (list, ((c.get_mut.follows.holds list).3 (search rules)).1, c.push_reserved.ensures.items, c.push_reserved.ensures.capacity, refl)
+    let list : BatchList g.row.A.Denot = record {
+      pages = c.push_reserved.new.self;
+      answers = c.in-Some.list.now.answers;
+      torn = c.in-Some.list.now.torn + c.from.result;
+      unanswered = c.in-Some.list.now.unanswered + c.from-in-Some.result;
+    } in
+    subst (λ o. IsOneLonger c.args.page c.args.state o (list_at (c.get_mut.follows.lender list).entries c.args.batch.0)) c.in-Some.ensures.value (
+      list,
+      ((c.get_mut.follows.holds list).3 (search rules)).1,
+      c.push_reserved.ensures.items,
+      c.push_reserved.ensures.capacity,
+      refl,
+      search rules,
+      search rules,
+    )

@@ -1,14 +1,14 @@
-use Rattle.fa_batches.specs.Batches.{batches_of}
-use Rattle.fa_batches.specs.Pages.{opened}
-use Rattle.fa_types.specs.declared.numbers.Page.{Page}
-use Rattle.std.proofs.Common.{Bool, ap, sym, ℕ, ◌∙◌}
-use Rattle.std.proofs.lemmas.List.Folds.{list_all-map}
-use Rattle.std.specs.FinMap.{contains_key}
-use Rattle.std.specs.List.{list_all}
+use Rattle.fa_batches.proofs.Counts.{unanswered_is}
+use Rattle.fa_batches.proofs.Opened.{has_list}
+use Rattle.std.proofs.Common.{sym, ◌∙◌}
+use Rattle.std.proofs.lemmas.Option.{none-some}
 use Rattle.fa_batches.proofs.batches.Batches.are_answered.Goals as goal
 
-pub returns : goal.returns
-returns g c =
-    let test : ℕ → Bool = λ page. contains_key (opened (batches_of c.args.self.now) c.args.batch.0).answers page in
-    c.are_all_answered.ensures ∙ sym (list_all-map test (λ (page : Page). page.0) c.pages.result.now)
-    ∙ ap (list_all test) c.pages.ensures.pages
+pub returns-in-Some : goal.returns-in-Some
+returns-in-Some g c =
+    unanswered_is _ _ _ _ c.args.self.now.whole c.args.self.now.counted c.args.batch.0 c.in-Some.list.now (sym c.in-Some.ensures.value)
+
+pub returns-in-None : goal.returns-in-None
+returns-in-None g c =
+    let list = has_list c.args.self.now.lists.entries c.args.self.now.pages.entries c.args.batch.0 c.requires in
+    absurd (none-some list.0 (c.in-None.ensures.value ∙ list.1))

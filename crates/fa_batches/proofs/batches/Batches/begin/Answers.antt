@@ -1,3 +1,4 @@
+use Rattle.fa_batches.proofs.Counts.{begun_counted}
 use Rattle.fa_batches.proofs.Kept.{at_batch, other_batch, whole_begun}
 use Rattle.fa_batches.proofs.Opened.{batch_set, no_pages, none_next}
 use Rattle.fa_batches.specs.Batches.{batches_of}
@@ -23,16 +24,21 @@ pub returns-clause-fresh : goal.returns-clause-fresh
 returns-clause-fresh g c = none_next _ _ _ _ c.args.self.now.whole
 
 pub invariant_of-self-2 : goal.invariant_of-self-2
-invariant_of-self-2 g c = record {
-  whole = whole_begun _ _ _ _ c.args.self.now.whole c.insert_list.new.lists.entries
-      (record { pages = c.in_ok-with_capacity.field-0; answers = c.in_ok-with_capacity-2.field-0 })
-      c.in_ok-with_capacity.ensures.items c.in_ok-with_capacity-2.ensures.items
-      (search rules) c.in_ok-insert_list.ensures.ok;
-}
+invariant_of-self-2 g c =
+    let list : BatchList g.row.A.Denot
+    = record { pages = c.in_ok-with_capacity.field-0; answers = c.in_ok-with_capacity-2.field-0; torn = 0; unanswered = 0 } in
+    record {
+      whole = whole_begun _ _ _ _ c.args.self.now.whole c.insert_list.new.lists.entries list
+          c.in_ok-with_capacity.ensures.items c.in_ok-with_capacity-2.ensures.items
+          (search rules) c.in_ok-insert_list.ensures.ok;
+      counted = begun_counted _ _ _ _ c.args.self.now.whole c.args.self.now.counted c.insert_list.new.lists.entries c.args.self.now.next list
+          c.in_ok-with_capacity.ensures.items refl refl c.in_ok-insert_list.ensures.ok;
+    }
 
 pub returns-clause-begun : goal.returns-clause-begun
 returns-clause-begun g c =
-    let list : BatchList g.row.A.Denot = record { pages = c.in_ok-with_capacity.field-0; answers = c.in_ok-with_capacity-2.field-0 } in
+    let list : BatchList g.row.A.Denot
+    = record { pages = c.in_ok-with_capacity.field-0; answers = c.in_ok-with_capacity-2.field-0; torn = 0; unanswered = 0 } in
     let old = c.args.self.now in
     let begun : (q : ℕ) → (q ≡ old.next → ⊥) → list_at c.insert_list.new.lists.entries q ≡ list_at old.lists.entries q
     = λ q apart. c.in_ok-insert_list.ensures.ok q ∙ other_batch old.next q (Some list) (list_at old.lists.entries q) apart in

@@ -1,4 +1,5 @@
 use Rattle.fa_batches.proofs.Answered.{handed}
+use Rattle.fa_batches.proofs.Counts.{ended_counted}
 use Rattle.fa_batches.proofs.Kept.{gone_here, gone_others, left_others, left_states, whole_ended}
 use Rattle.fa_batches.proofs.Opened.{batch_gone, open_at, opened_is}
 use Rattle.fa_batches.specs.Pages.{answer_at, answers_in, numbers_of, page_at}
@@ -37,12 +38,22 @@ pub invariant_of-self : goal.invariant_of-self
 invariant_of-self g c =
     let old = c.args.self.now in
     let k = c.args.batch.0 in
+    let was = sym c.take_list.ensures.taken ∙ c.in-Some.is in
+    let left : (b p : ℕ) → page_at c.hand_out.new.pages.entries b p
+    ≡ (if b == k && is_one_of (numbers_of c.in-Some.list) p then None else page_at old.pages.entries b p)
+    = λ b p. c.hand_out.ensures.left b p
+    ∙ ap (λ (ps : List Page). if b == k && is_one_of (map (λ (page : Page). page.0) ps) p then None
+    else page_at old.pages.entries b p) c.deref.ensures.value in
     record {
       whole = whole_ended old.page_bytes old.next old.lists.entries old.pages.entries old.whole c.take_list.new.lists.entries
-          c.hand_out.new.pages.entries k c.in-Some.list (sym c.take_list.ensures.taken ∙ c.in-Some.is) c.take_list.ensures.left
-          (λ b p. c.hand_out.ensures.left b p
-          ∙ ap (λ (ps : List Page). if b == k && is_one_of (map (λ (page : Page). page.0) ps) p then None
-          else page_at old.pages.entries b p) c.deref.ensures.value);
+          c.hand_out.new.pages.entries k c.in-Some.list was c.take_list.ensures.left left;
+      counted = ended_counted _ _ _ _ old.whole old.counted c.take_list.new.lists.entries c.hand_out.new.pages.entries k
+          (gone_here old.page_bytes old.next old.lists.entries old.pages.entries old.whole c.take_list.new.lists.entries
+          c.hand_out.new.pages.entries k c.in-Some.list was c.take_list.ensures.left left)
+          (gone_others old.page_bytes old.next old.lists.entries old.pages.entries old.whole c.take_list.new.lists.entries
+          c.hand_out.new.pages.entries k c.in-Some.list was c.take_list.ensures.left left)
+          (left_others old.page_bytes old.next old.lists.entries old.pages.entries old.whole c.take_list.new.lists.entries
+          c.hand_out.new.pages.entries k c.in-Some.list was c.take_list.ensures.left left);
     }
 
 pub returns-clause-answers : goal.returns-clause-answers

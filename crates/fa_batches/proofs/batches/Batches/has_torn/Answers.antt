@@ -1,13 +1,14 @@
-use Rattle.fa_batches.proofs.Answered.{any_mapped}
-use Rattle.fa_batches.specs.Batches.{state_of}
-use Rattle.fa_batches.specs.Pages.{is_torn}
-use Rattle.fa_types.specs.declared.numbers.Page.{Page}
-use Rattle.std.proofs.Common.{Bool, ap, false, sym, ℕ, ◌∙◌}
-use Rattle.std.specs.List.{list_any}
-use Rattle.std.specs.Option.{option_map_or}
+use Rattle.fa_batches.proofs.Counts.{torn_is}
+use Rattle.fa_batches.proofs.Opened.{has_list}
+use Rattle.std.proofs.Common.{sym, ◌∙◌}
+use Rattle.std.proofs.lemmas.Option.{none-some}
 use Rattle.fa_batches.proofs.batches.Batches.has_torn.Goals as goal
 
-pub returns : goal.returns
-returns g c =
-    let test : ℕ → Bool = λ page. option_map_or is_torn (state_of c.args.self.now c.args.batch.0 page) false in
-    c.are_some_torn.ensures ∙ sym (any_mapped test (λ (page : Page). page.0) c.pages.result.now) ∙ ap (list_any test) c.pages.ensures.pages
+pub returns-in-Some : goal.returns-in-Some
+returns-in-Some g c =
+    torn_is _ _ _ _ c.args.self.now.whole c.args.self.now.counted c.args.batch.0 c.in-Some.list.now (sym c.in-Some.ensures.value)
+
+pub returns-in-None : goal.returns-in-None
+returns-in-None g c =
+    let list = has_list c.args.self.now.lists.entries c.args.self.now.pages.entries c.args.batch.0 c.requires in
+    absurd (none-some list.0 (c.in-None.ensures.value ∙ list.1))
