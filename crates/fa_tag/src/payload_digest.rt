@@ -90,7 +90,7 @@ impl PayloadDigest {
     }
 
     /// The digest of the payload and these fields behind it.
-    fn with_fields(&self, fields: &[u8; FIELD_BYTES]) -> [u8; 32]
+    pub(crate) fn with_fields(&self, fields: &[u8; FIELD_BYTES]) -> [u8; 32]
         ensures { result ≡ sha256 (self.now ++ fields.now) }
     {
         match &self.state {

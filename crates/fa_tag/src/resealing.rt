@@ -1,23 +1,50 @@
-//! Another tag behind a payload.
+//! Payloads that are given another tag where they stand, and hashed once for that.
 ghost use Rattle.std.specs.Prelude.{◌≡◌, ◌≤◌, length};
-ghost use Rattle.fa_tag.specs.SlotGrammar.{IsTag, IsPayloadOf, payload_of, slot_2};
+ghost use Rattle.sha2.specs.Sha256.{sha256};
+ghost use Rattle.fa_tag.specs.SlotGrammar.{IsTag, IsOpened, IsPayloadOf, payload_of, sealed_part, slot_2};
 
 use crate::fields::{FIELD_BYTES, newest_fields};
-use crate::numbers::digest_of;
-use crate::tag::Tag;
+use crate::payload_digest::PayloadDigest;
+use crate::tag::{DIGEST_BYTES, Opened, Tag, open_with};
 use fa_types::TAG_BYTES;
 
-/// Gives the payload in a slot's bytes another tag, in version 2. The payload stays where it stands.
-pub fn reseal(tag: Tag, slot: &mut [u8])
+/// What a slot's bytes are, as [`crate::open`] tells it, with the digest of their payload begun: [`reseal`] gives the payload another tag
+/// without hashing it once more.
+pub fn open_begun(slot: &[u8]) -> (Opened, PayloadDigest)
+    requires { 64 ≤ length slot.now }
+    ensures opened { IsOpened slot.now result.0 }
+    ensures begun { result.1 ≡ payload_of slot.now }
+{
+    let digest = PayloadDigest::begin(&slot[..slot.len() - TAG_BYTES]);
+    let made = made_digest(&digest, slot);
+    (open_with(slot, Some(&made)), digest)
+}
+
+/// The digest of the bytes in front of a slot's own, of which the payload was hashed already.
+fn made_digest(digest: &PayloadDigest, slot: &[u8]) -> [u8; DIGEST_BYTES]
+    requires length { 64 ≤ length slot.now }
+    requires begun { digest.now ≡ payload_of slot.now }
+    ensures { result ≡ sha256 (sealed_part slot.now) }
+{
+    let (front, _) = slot.split_at(slot.len() - DIGEST_BYTES);
+    let (_, behind) = front.split_at(front.len() - FIELD_BYTES);
+    let mut fields = [0; FIELD_BYTES];
+    fields.copy_from_slice(behind);
+    digest.with_fields(&fields)
+}
+
+/// Gives the payload in a slot's bytes, whose digest was begun, another tag, in version 2. The payload stays where it stands.
+pub fn reseal(digest: &PayloadDigest, tag: Tag, slot: &mut [u8])
     requires fields { IsTag tag }
     requires length { 64 ≤ length slot.old }
     requires kind { IsPayloadOf tag.kind (payload_of slot.old) }
+    requires begun { digest.now ≡ payload_of slot.old }
     ensures { slot.new ≡ slot_2 tag (payload_of slot.old) }
 {
     let fields = newest_fields(tag);
-    let (payload, tail) = slot.split_at_mut(slot.len() - TAG_BYTES);
-    let digest = digest_of(payload, &fields);
+    let made = digest.with_fields(&fields);
+    let (_, tail) = slot.split_at_mut(slot.len() - TAG_BYTES);
     let (front, back) = tail.split_at_mut(FIELD_BYTES);
     front.copy_from_slice(&fields);
-    back.copy_from_slice(&digest);
+    back.copy_from_slice(&made);
 }

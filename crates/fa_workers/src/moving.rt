@@ -12,7 +12,7 @@ use crate::gate::{Gate, ImageCallKind};
 use fa_ends::Outcome;
 use fa_image::Image;
 use fa_machine::Version;
-use fa_tag::{Opened, Tag, open, reseal};
+use fa_tag::{Opened, PayloadDigest, Tag, open_begun, reseal};
 use fa_types::{Die, Page, Slot};
 
 /// Reads the slot that a copy is in, and programs its payload with a new tag into another. It programs nothing where what it read is
@@ -41,8 +41,9 @@ pub(crate) fn run_move<I: Image, G: Gate>(
     gate.after(die, ImageCallKind::ReadSlot);
     match read {
         Ok(()) => {
-            if is_copy(open(scratch), page, version, die, from) {
-                program_moved(die, image, page, version, to, scratch, gate)
+            let (opened, digest) = open_begun(scratch);
+            if is_copy(opened, page, version, die, from) {
+                program_moved(die, image, page, version, to, &digest, scratch, gate)
             } else {
                 Outcome::Wrong
             }
@@ -68,13 +69,14 @@ fn is_copy(opened: Opened, page: Page, version: Version, die: Die, from: Slot) -
     }
 }
 
-/// Gives the payload that was read its new tag, and programs it.
+/// Gives the payload that was read, whose digest was begun, its new tag, and programs it.
 fn program_moved<I: Image, G: Gate>(
     die: Die,
     image: &mut I,
     page: Page,
     version: Version,
     to: Slot,
+    digest: &PayloadDigest,
     scratch: &mut [u8],
     gate: &G,
 ) -> Outcome
@@ -82,6 +84,7 @@ fn program_moved<I: Image, G: Gate>(
     requires to { to.0 < slot_count (I.view image.old).geometry }
     requires scratch { length scratch.old ≡ slot_bytes (I.view image.old).geometry }
     requires kind { IsPayloadOf version.kind (payload_of scratch.old) }
+    requires begun { digest.now ≡ payload_of scratch.old }
     ensures programmed { (array : List ℕ) → ProgramsMoved I.made (I.view image.old).geometry array die.0 page.0 version to.0
         (payload_of scratch.old) result image.old image.new }
     ensures geometry { (I.view image.new).geometry ≡ (I.view image.old).geometry }
@@ -94,7 +97,7 @@ fn program_moved<I: Image, G: Gate>(
         die,
         slot: to,
     };
-    reseal(tag, scratch);
+    reseal(digest, tag, scratch);
     gate.before(die, ImageCallKind::Program);
     let programmed = image.program(to, scratch);
     gate.after(die, ImageCallKind::Program);

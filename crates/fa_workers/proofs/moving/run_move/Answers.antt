@@ -11,13 +11,13 @@ use Rattle.fa_workers.proofs.moving.run_move.Goals as goal
 
 pub program_moved-requires-clause-kind : goal.program_moved-requires-clause-kind
 program_moved-requires-clause-kind g c =
-    moved_kind c.args.page.0 c.args.version c.args.die.0 c.args.from.0 c.open.result c.read_slot-read.new.into c.open.ensures.opened
+    moved_kind c.args.page.0 c.args.version c.args.die.0 c.args.from.0 c.open_begun-opened.result.0 c.read_slot-read.new.into c.open_begun-opened.ensures.opened
     (sym (c.if-is_copy.ensures (payload_of c.read_slot-read.new.into)))
 
 pub returns-then-is_copy-clause-ran : goal.returns-then-is_copy-clause-ran
 returns-then-is_copy-clause-ran g c array payload bytes =
     let read = payload_of c.read_slot-read.new.into in
-    let cell = cell_of c.open.result read in
+    let cell = cell_of c.open_begun-opened.result.0 read in
     let is = sym (c.if-is_copy.ensures read) in
     let moved = subst (λ geometry. ProgramsMoved g.I.Image.made geometry array c.args.die.0 c.args.page.0 c.args.version c.args.to.0 read
     c.program_moved.result c.read_slot-read.new.self c.program_moved.new.image) c.in-Ok.ensures.geometry
@@ -28,22 +28,22 @@ returns-then-is_copy-clause-ran g c array payload bytes =
       image_call = ReadingSlot c.args.from.0;
       answer = Gave c.read_slot-read.new.into;
       is_it = refl;
-      given = (c.open.result, c.open.ensures.opened, refl);
+      given = (c.open_begun-opened.result.0, c.open_begun-opened.ensures.opened, refl);
       link = c.in-Ok.ensures.gave;
     })
     (ap (option_map (λ payload. ProgramsSlot c.args.to.0 (Sealed c.args.page.0 c.args.version c.args.die.0 c.args.to.0 payload)))
-    (moved_some c.args.page.0 c.args.version c.args.die.0 c.args.from.0 c.open.result read is))
+    (moved_some c.args.page.0 c.args.version c.args.die.0 c.args.from.0 c.open_begun-opened.result.0 read is))
     moved.call (moved.ends cell (Move c.args.page c.args.version c.args.from c.args.to) bytes payload)
 
 pub returns-else-is_copy-clause-ran : goal.returns-else-is_copy-clause-ran
 returns-else-is_copy-clause-ran g c array payload bytes =
     let read = payload_of c.read_slot-read.new.into in
-    ran_once _ _ (ReadsSlot c.args.from.0) (GaveCell (cell_of c.open.result read)) _ _ refl
+    ran_once _ _ (ReadsSlot c.args.from.0) (GaveCell (cell_of c.open_begun-opened.result.0 read)) _ _ refl
     (record {
       image_call = ReadingSlot c.args.from.0;
       answer = Gave c.read_slot-read.new.into;
       is_it = refl;
-      given = (c.open.result, c.open.ensures.opened, refl);
+      given = (c.open_begun-opened.result.0, c.open_begun-opened.ensures.opened, refl);
       link = c.in-Ok.ensures.gave;
     })
     (ap (λ is. cond is None (Some Wrong)) (sym (c.if-is_copy.ensures read)))
