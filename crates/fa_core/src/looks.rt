@@ -1,5 +1,5 @@
 //! What may be asked of the array. Nothing of this is an event.
-ghost use Rattle.std.specs.Prelude.{◌≡◌, ◌<◌, option_map};
+ghost use Rattle.std.specs.Prelude.{◌≡◌, ◌<◌, is_some, option_map};
 ghost use Rattle.std.specs.FinMap.{get};
 ghost use Rattle.fa_machine.specs.Collecting.{victim as rule_victim};
 ghost use Rattle.fa_machine.specs.Conditions.{batch_open as rule_batch, claim_open as rule_claim, copy_open as rule_copy};
@@ -167,6 +167,26 @@ impl<M: Map, A: Allocator + Clone> Array<M, A> {
         ensures { result ≡ rule_busy (state_of M.view self.now) }
     {
         fa_flushes::is_busy(&self.state)
+    }
+
+    /// Whether a Take of the die would hand out a job, or drop a booking. Who looks for work goes by it; which answer it gives is in no
+    /// clause.
+    pub fn has_job(&self, die: Die) -> bool
+        requires { die.0 < (state_of M.view self.now).page_map.geometry.dies }
+    {
+        fa_takes::has_job(&self.state, die)
+    }
+
+    /// Whether what is reserved under the claim waits for a program of a live die.
+    pub fn is_pending(&self, claim: ClaimId) -> bool {
+        fa_writes::is_pending(&self.state, claim)
+    }
+
+    /// Whether the die has a window that has not passed.
+    pub fn has_window(&self, die: Die) -> bool
+        ensures { result ≡ is_some (get (state_of M.view self.now).calendar.windows die.0) }
+    {
+        self.state.bookings.window(die).is_some()
     }
 
     /// The kind of the job that the die is at.

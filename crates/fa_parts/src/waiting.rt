@@ -83,6 +83,14 @@ impl<A: Allocator> Waiting<A> {
         }
     }
 
+    /// Whether a program waits for the die.
+    pub fn has(&self, die: Die) -> bool {
+        match self.queues.get(die.0 as usize) {
+            Some(queue) => !queue.is_empty(),
+            None => false,
+        }
+    }
+
     /// No program waits for the die from now on.
     pub fn drop_die(&mut self, die: Die)
         ensures dies { dies_of self.new ≡ dies_of self.old }

@@ -1,5 +1,5 @@
 //! A page's bytes, shared by the copies that are written of it.
-ghost use Rattle.std.specs.Prelude.{◌≡◌, ◌+◌, length, IfOk};
+ghost use Rattle.std.specs.Prelude.{◌≡◌, ◌+◌, length, map, IfOk};
 ghost use Rattle.fa_tag.specs.SlotGrammar.{IsTag, IsPayloadOf, slot_2};
 
 use crate::payload_digest::PayloadDigest;
@@ -29,10 +29,26 @@ impl<A: Allocator + Clone> Payload<A> {
     pub fn new(bytes: Vec<u8, A>) -> Result<Payload<A>, AllocError>
         ensures { IfOk result (λ payload. payload ≡ bytes.items) }
     {
-        let alloc = bytes.allocator().clone()?;
         let digest = PayloadDigest::begin(bytes.as_slice());
+        Payload::hashed(bytes, digest)
+    }
+
+    /// The same of bytes whose digest was begun already.
+    pub fn hashed(bytes: Vec<u8, A>, digest: PayloadDigest) -> Result<Payload<A>, AllocError>
+        requires { digest ≡ bytes.items }
+        ensures { IfOk result (λ payload. payload ≡ bytes.items) }
+    {
+        let alloc = bytes.allocator().clone()?;
         let hashed = Arc::new(alloc, Hashed { bytes, digest })?;
         Ok(Payload { hashed })
+    }
+
+    /// The same of several lists of bytes, in their order from behind. Those of one length are hashed side by side. The error is out of
+    /// memory.
+    pub fn all(contents: Vec<Vec<u8, A>, A>) -> Result<Vec<Payload<A>, A>, AllocError> {
+        let alloc = contents.allocator().clone()?;
+        let digests = digests_of(alloc.clone()?, contents.as_slice())?;
+        payloads_of(alloc, contents, digests)
     }
 }
 
@@ -61,6 +77,57 @@ impl<A: Allocator> Payload<A> {
         ensures { out.new ≡ slot_2 tag self.now }
     {
         self.hashed.seal(tag, out)
+    }
+}
+
+/// The digests of several lists of bytes, begun. The error is out of memory.
+fn digests_of<A: Allocator + Clone>(
+    alloc: A,
+    contents: &[Vec<u8, A>],
+) -> Result<Vec<PayloadDigest, A>, AllocError>
+    ensures { IfOk result (λ digests. digests.items ≡ map (λ bytes. bytes.items) contents.now) }
+{
+    let mut slices = Vec::with_capacity(alloc.clone()?, contents.len())?;
+    let mut digests = Vec::with_capacity(alloc, contents.len())?;
+    for bytes in contents {
+        slices.push(bytes.as_slice())?;
+        digests.push(PayloadDigest::begin(&[]))?;
+    }
+    PayloadDigest::begin_all(slices.as_slice(), digests.as_mut_slice());
+    Ok(digests)
+}
+
+/// The payloads of these bytes, whose digests were begun, from behind. The error is out of memory.
+fn payloads_of<A: Allocator + Clone>(
+    alloc: A,
+    contents: Vec<Vec<u8, A>, A>,
+    digests: Vec<PayloadDigest, A>,
+) -> Result<Vec<Payload<A>, A>, AllocError>
+    requires { digests.items ≡ map (λ bytes. bytes.items) contents.items }
+{
+    let mut contents = contents;
+    let mut digests = digests;
+    let mut payloads = Vec::with_capacity(alloc, contents.len())?;
+    for _ in 0..contents.len() {
+        let Some(payload) = pop_payload(&mut contents, &mut digests)? else {
+            break;
+        };
+        payloads.push(payload)?;
+    }
+    Ok(payloads)
+}
+
+/// The payload of the last of these bytes, whose digests were begun, if there are any. Both go from their lists. The error is out of memory.
+fn pop_payload<A: Allocator + Clone>(
+    contents: &mut Vec<Vec<u8, A>, A>,
+    digests: &mut Vec<PayloadDigest, A>,
+) -> Result<Option<Payload<A>>, AllocError>
+    requires { digests.old.items ≡ map (λ bytes. bytes.items) contents.old.items }
+    ensures { digests.new.items ≡ map (λ bytes. bytes.items) contents.new.items }
+{
+    match (contents.pop(), digests.pop()) {
+        (Some(bytes), Some(digest)) => Ok(Some(Payload::hashed(bytes, digest)?)),
+        _ => Ok(None),
     }
 }
 

@@ -11,4 +11,4 @@ mod reading;
 mod taking;
 
 pub use job::Job;
-pub use taking::take;
+pub use taking::{has_job, take};

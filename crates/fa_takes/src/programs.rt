@@ -72,7 +72,7 @@ fn begin_sync<M: Map, A: Allocator + Clone>(
 }
 
 /// A sync, where a flush asked for one that was not taken since.
-fn sync_job<M: Map, A: Allocator + Clone>(state: &State<M, A>, die: Die) -> Option<Flight>
+pub fn sync_job<M: Map, A: Allocator + Clone>(state: &State<M, A>, die: Die) -> Option<Flight>
     ensures { result ≡ rule_sync (core_of M.view state.now) die.0 }
 {
     if number_of(&state.synced, die) < number_of(&state.asked, die) {

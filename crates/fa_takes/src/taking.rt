@@ -15,7 +15,7 @@ use crate::collecting::{begin_move, step_job};
 use crate::header::header_job;
 use crate::job::Job;
 use crate::jobs::set_job;
-use crate::programs::begin_other;
+use crate::programs::{begin_other, sync_job};
 use crate::reading::{begin_read, drop_stale_booking, read_job};
 use fa_machine::Flight;
 use fa_map::Map;
@@ -42,6 +42,26 @@ pub fn take<M: Map, A: Allocator + Clone>(
         take_idle(state, die, seat)
     } else {
         None
+    }
+}
+
+/// Whether a Take of the die would hand out a job, or drop a booking. Who looks for work goes by it; which answer it gives is in no
+/// clause.
+pub fn has_job<M: Map, A: Allocator + Clone>(state: &State<M, A>, die: Die) -> bool
+    requires { die.0 < (M.view state.now.page_map).geometry.dies }
+{
+    is_idle(state, die)
+        && (urgent_job(state, die).is_some()
+            || is_booked(state, die)
+            || state.waiting.has(die)
+            || sync_job(state, die).is_some())
+}
+
+/// Whether a read is booked at the die in this round that was not started.
+fn is_booked<M: Map, A: Allocator + Clone>(state: &State<M, A>, die: Die) -> bool {
+    match state.bookings.booking(die, state.bookings.now()) {
+        Some(booking) => !booking.started,
+        None => false,
     }
 }
 

@@ -1,6 +1,7 @@
 //! Writes that become their pages' last.
 ghost use Rattle.std.specs.Prelude.{◌≡◌, ◌<◌, ◌^◌, ◌++◌, [], ◌∷◌, not, true, false, filter, length, None};
 ghost use Rattle.std.specs.List.{list_any};
+ghost use Rattle.std.specs.Option.{option_map_or};
 ghost use Rattle.fa_claims.specs.Claims.{reservation_of};
 ghost use Rattle.fa_machine.specs.Conditions.{claim_open, first_that, history_full, is_reserved, reserved_under};
 ghost use Rattle.fa_machine.specs.State.{is_live};
@@ -47,6 +48,18 @@ pub fn commit<M: Map, A: Allocator + Clone>(
                 Ok(reservation.version.seq)
             }
         },
+    }
+}
+
+/// Whether what is reserved under the claim waits for a program of a live die, as long as which a Commit is refused.
+pub fn is_pending<M: Map, A: Allocator + Clone>(state: &State<M, A>, claim: ClaimId) -> bool
+    ensures { result ≡ option_map_or (λ reserved. list_any (λ slot. not slot.programmed)
+        (filter (λ slot. is_live (M.view state.now.page_map) slot.die.0) reserved.targets))
+        (reserved_under (core_of M.view state.now) claim.0) false }
+{
+    match state.claims.reserved(claim) {
+        None => false,
+        Some(reservation) => are_pending(&state.page_map, reservation.targets.items()),
     }
 }
 

@@ -12,5 +12,5 @@ mod reserving;
 
 pub use abandoning::abandon;
 pub use claiming::{claim, release};
-pub use committing::commit;
+pub use committing::{commit, is_pending};
 pub use reserving::reserve;
