@@ -17,3 +17,4 @@ pub mod Same
 pub mod Spares
 pub mod Taken
 pub mod Tried
+pub mod Worlds

@@ -5,6 +5,7 @@ mod array;
 mod beginning;
 mod closing;
 mod fitting;
+pub mod laws;
 mod losing;
 mod masks;
 mod mounting;
