@@ -1,0 +1,15 @@
+pub mod Sights
+pub mod Owning
+pub mod Reserving
+pub mod Settling
+pub mod Ends
+pub mod Calls
+pub mod Kept
+pub mod Standing
+pub mod Beginnings
+pub mod Mounting
+pub mod Headers
+pub mod Marked
+pub mod Again
+pub mod Accepted
+pub mod Refused

@@ -1,0 +1,3 @@
+pub mod LastCells
+pub mod Mounted
+pub mod Closed
