@@ -142,8 +142,9 @@ class Array:
         """Cuts a die's image behind its header, so that each read of a slot of it fails, or finds what is no slot's."""
         os.truncate(self.image(die), HEADER_END)
 
-    def has_copies_of(self, content):
-        """Asks that each page that was written stands in the images as often as it is to, each time with this content."""
+    def has_copies_of(self, content, version=2):
+        """Asks that each page that was written stands in the images as often as it is to, each time with this content, in slots of
+        this version."""
         size, page_bytes = self.geometry.slot_bytes, self.geometry.page_bytes
         pages = self.dump()
         images = {}
@@ -156,7 +157,7 @@ class Array:
                     with open(self.image(die), "rb") as it:
                         images[die] = it.read()
                 at = HEADER_END + slot * size
-                same_bytes(images[die][at:at + size], slot_bytes(page, seq, die, slot, payload, kind=kind),
+                same_bytes(images[die][at:at + size], slot_bytes(page, seq, die, slot, payload, version=version, kind=kind),
                            f"page {page} at die {die}, slot {slot}")
         for page in set(range(self.geometry.pages)) - set(pages):
             same_bytes(content[page * page_bytes:(page + 1) * page_bytes], bytes(page_bytes), f"page {page}, never written")

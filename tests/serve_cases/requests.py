@@ -116,6 +116,27 @@ def many_requests_before_a_reply_is_read(make):
 
 
 @case
+def replies_come_before_the_next_request_is_whole(make):
+    """Requests come in one piece with the half of another: all that came whole are answered, and the half when the rest has come."""
+    array = make()
+    with array.serve() as server:
+        with server.client() as client:
+            page = os.urandom(512)
+            requests = [request_bytes(WRITE, 512 * at, 512, cookie=at + 1) + page for at in range(24)]
+            requests += [request_bytes(READ, 512 * at, 512, cookie=at + 101) for at in range(24)]
+            last = request_bytes(WRITE, 0, 512, cookie=201) + page
+            for cut in (1, 28, 100):
+                client.send(b"".join(requests) + last[:cut])
+                for at in range(24):
+                    equal(client.end(at + 1), (0, b""), f"the answer to WRITE {at}")
+                for at in range(24):
+                    equal(client.end(at + 101, 512), (0, page), f"the answer to READ {at}")
+                client.send(last[cut:])
+                equal(client.end(201), (0, b""), "the answer to the last WRITE")
+        server.stop()
+
+
+@case
 def a_disk_of_a_mebibyte_at_once(make):
     array = make(Geometry(blocks=8, slots=32, pages=256, page_bytes=4096))
     content = os.urandom(1 << 20)

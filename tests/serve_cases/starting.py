@@ -5,9 +5,10 @@ import random
 import re
 import socket
 
+from images import header_bytes, image_bytes, slot_bytes
 from nbd_client import Client, READ, TRANSMISSION_FLAGS
 from serve_cases import case
-from servers import Geometry, SETTINGS, ensure, equal, same_bytes, wait_until
+from servers import ARRAY, Geometry, SETTINGS, ensure, equal, same_bytes, wait_until
 
 
 def taken_port():
@@ -182,6 +183,44 @@ def after_a_kill(make):
         server.stop()
     array.checked(live=4, written=64, thin=0)
     array.has_copies_of(content)
+
+
+def formats(array):
+    """The format of each image's header, which is its third word."""
+    found = []
+    for die in range(array.geometry.dies):
+        with open(array.image(die), "rb") as image:
+            found.append(int.from_bytes(image.read(12)[8:], "big"))
+    return found
+
+
+@case
+def images_of_format_1(make):
+    """Eight pages in images of the older format are served, and once the array was closed each header is of format 2."""
+    array = make(formatted=False)
+    of = array.geometry
+    pages = [os.urandom(of.page_bytes) for page in range(8)]
+    slots = [{} for die in range(of.dies)]
+    for page, content in enumerate(pages):
+        for die in (page % of.dies, (page + 1) % of.dies):
+            at = len(slots[die])
+            slots[die][at] = slot_bytes(page, page + 1, die, at, content, version=1)
+    for die in range(of.dies):
+        header = header_bytes(die, (of.dies, of.spares, of.blocks, of.slots, of.pages), ARRAY, form=1, mask=(1 << of.dies) - 1)
+        with open(array.image(die), "wb") as image:
+            image.write(image_bytes(header, of.blocks * of.slots, slots[die]))
+    content = b"".join(pages) + bytes(of.size - 8 * of.page_bytes)
+    epochs = [array.checked(live=4, written=8, thin=0)["epoch"]]
+    equal(formats(array), [1] * of.dies, "the formats before")
+    for start in range(2):
+        with array.serve() as server:
+            with server.client() as client:
+                same_bytes(client.read(0, len(content)), content, f"the disk at start {start}")
+            equal(server.stop(), ["closed clean"], "what is printed at the stop")
+        epochs.append(array.checked(live=4, written=8, thin=0)["epoch"])
+        equal(formats(array), [2] * of.dies, f"the formats after start {start}")
+        array.has_copies_of(content, version=1)
+    equal(epochs, sorted(set(epochs)), "the epochs")
 
 
 @case

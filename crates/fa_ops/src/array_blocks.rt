@@ -4,19 +4,29 @@ ghost use Rattle.std.specs.Prelude.{◌≤◌};
 use crate::request::Request;
 use crate::running::{run, run_read, store_bytes};
 use fa_map::Map;
-use fa_shared::{Seat, Shared};
+use fa_shared::{Hands, Seat, Shared};
 use fa_types::{BlockFault, Blocks};
 use std::alloc::Allocator;
 use std::sync::Wait;
 use std::sync::ledger::Ledger;
+use std::time::Clock;
 
-/// A block store over an array that others use too, each by a store of their own. Its calls wait for the dies, which others work for.
+/// A block store over an array that others use too, each by a store of their own. Its calls wait for the dies; meanwhile its hands work for
+/// them, and others do.
 #[derive(Drop)]
-pub struct ArrayBlocks<'a, R: Wait, L: Ledger, M: Map + Drop, A: Allocator + Copy> {
+pub struct ArrayBlocks<
+    'a,
+    R: Wait + Clock,
+    L: Ledger,
+    M: Map + Drop,
+    A: Allocator + Copy,
+    H: Hands<L, M, A> + Drop,
+> {
     rt: &'a R,
     alloc: A,
     shared: &'a Shared<L, M, A>,
     seat: Seat<L>,
+    hands: H,
     bytes: u64,
     page_bytes: u32,
     ghost some_bytes: { 1 ≤ page_bytes },
@@ -24,20 +34,29 @@ pub struct ArrayBlocks<'a, R: Wait, L: Ledger, M: Map + Drop, A: Allocator + Cop
     ghost few_bytes: { bytes ≤ 4294967296 },
 }
 
-impl<'a, R: Wait, L: Ledger, M: Map + Drop, A: Allocator + Copy> ArrayBlocks<'a, R, L, M, A> {
-    /// The store of a seat.
+impl<
+    'a,
+    R: Wait + Clock,
+    L: Ledger,
+    M: Map + Drop,
+    A: Allocator + Copy,
+    H: Hands<L, M, A> + Drop,
+> ArrayBlocks<'a, R, L, M, A, H> {
+    /// The store of a seat. While it waits for dies it makes jobs by these hands.
     pub fn new(
         rt: &'a R,
         alloc: A,
         shared: &'a Shared<L, M, A>,
         seat: Seat<L>,
-    ) -> ArrayBlocks<'a, R, L, M, A> {
+        hands: H,
+    ) -> ArrayBlocks<'a, R, L, M, A, H> {
         let (bytes, page_bytes) = store_bytes(shared.lock(rt).array().geometry());
         ArrayBlocks {
             rt,
             alloc,
             shared,
             seat,
+            hands,
             bytes,
             page_bytes,
         }
@@ -50,8 +69,14 @@ impl<'a, R: Wait, L: Ledger, M: Map + Drop, A: Allocator + Copy> ArrayBlocks<'a,
     }
 }
 
-impl<'a, R: Wait, L: Ledger, M: Map + Drop, A: Allocator + Copy> Blocks
-    for ArrayBlocks<'a, R, L, M, A> {
+impl<
+    'a,
+    R: Wait + Clock,
+    L: Ledger,
+    M: Map + Drop,
+    A: Allocator + Copy,
+    H: Hands<L, M, A> + Drop,
+> Blocks for ArrayBlocks<'a, R, L, M, A, H> {
     ghost use Rattle.std.specs.Prelude.{◌≡◌};
     ghost use Rattle.fa_ops.specs.SharedStore.{shared_meets, shared_view, shared_whole};
     ghost use Rattle.fa_types.specs.Store.{IsAnswer};
@@ -84,6 +109,7 @@ impl<'a, R: Wait, L: Ledger, M: Map + Drop, A: Allocator + Copy> Blocks
             self.alloc,
             self.shared,
             &mut self.seat,
+            &mut self.hands,
             self.page_bytes,
             offset,
             len,
@@ -99,6 +125,7 @@ impl<'a, R: Wait, L: Ledger, M: Map + Drop, A: Allocator + Copy> Blocks
             self.alloc,
             self.shared,
             &mut self.seat,
+            &mut self.hands,
             self.page_bytes,
             request,
             bytes,
@@ -117,6 +144,7 @@ impl<'a, R: Wait, L: Ledger, M: Map + Drop, A: Allocator + Copy> Blocks
             self.alloc,
             self.shared,
             &mut self.seat,
+            &mut self.hands,
             self.page_bytes,
             request,
             &[],
@@ -130,6 +158,7 @@ impl<'a, R: Wait, L: Ledger, M: Map + Drop, A: Allocator + Copy> Blocks
             self.alloc,
             self.shared,
             &mut self.seat,
+            &mut self.hands,
             self.page_bytes,
             request,
             &[],
@@ -142,6 +171,7 @@ impl<'a, R: Wait, L: Ledger, M: Map + Drop, A: Allocator + Copy> Blocks
             self.alloc,
             self.shared,
             &mut self.seat,
+            &mut self.hands,
             self.page_bytes,
             Request::Flush,
             &[],

@@ -15,7 +15,7 @@ use fa_machine::{
 };
 use fa_map::Map;
 use fa_reads::Admitted;
-use fa_shared::{Locked, Seat};
+use fa_shared::{Locked, Seat, plain};
 use fa_tag::Payload;
 use fa_types::{Page, Seq};
 use std::alloc::Allocator;
@@ -236,11 +236,4 @@ pub(crate) fn fold<L: Ledger, M: Map + Drop, A: Allocator + Copy>(
     ensures account { IsAccounted locked.old seat.old locked.new seat.new }
 {
     locked.step(seat, plain(&alloc, Call::Fold));
-}
-
-/// A call that is lent nothing. The lifetime of what it could be lent is that of a borrowed allocator.
-fn plain<'a, A: Allocator>(_alloc: &'a A, call: Call<'a, A>) -> Call<'a, A>
-    ensures { result ≡ call.entry }
-{
-    call
 }

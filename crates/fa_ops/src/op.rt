@@ -3,13 +3,14 @@ ghost use Rattle.fa_ops.specs.Ranges.{IsRange};
 
 use crate::gathering::sort_answer;
 use crate::kinds::{kind_of, turn_from};
-use crate::preparing::{fill_page, list, sort_page};
-use crate::request::{Request, Task};
+use crate::preparing::{content, fill_page, fill_with, list, sort_page};
+use crate::request::{Fill, Request, Task};
 use crate::stage::{Purpose, Stage};
 use crate::stages::{answer_len, begin, turn_stage};
 use fa_machine::ReadState;
 use fa_map::Map;
-use fa_shared::{Locked, Seat};
+use fa_shared::{Awaits, Locked, Seat};
+use fa_tag::Payload;
 use fa_types::BlockFault;
 use std::alloc::{AllocError, Allocator, Global};
 use std::mem::replace;
@@ -108,6 +109,42 @@ impl<A: Allocator + Copy> Op<A> {
         };
     }
 
+    /// Whether bytes of a write are to be hashed next.
+    pub(crate) fn has_content(&self) -> bool {
+        matches!(&self.stage, Stage::Filling(_, _)) && self.task.fill == Some(Fill::Bytes)
+    }
+
+    /// The bytes of a page that are to be hashed next, if there are such and memory for them. The bytes are those of a write.
+    pub(crate) fn next_content(&self, bytes: &[u8]) -> Option<Vec<u8, A>> {
+        match &self.stage {
+            Stage::Filling(held, _) if self.task.fill == Some(Fill::Bytes) => {
+                match content(self.alloc, self.task, bytes, held.page) {
+                    Some(Ok(content)) => Some(content),
+                    Some(Err(_)) | None => None,
+                }
+            }
+            _ => None,
+        }
+    }
+
+    /// Does what [`Op::prepare`] does, with a payload that was made of what [`Op::next_content`] gave.
+    pub(crate) fn prepare_with(&mut self, bytes: &[u8], payload: Payload<A>)
+        ensures prepared { Prepares (task_in self.old) bytes.now (stage_of self.old) (answer_of self.old) (stage_of self.new)
+            (answer_of self.new) }
+        ensures task { task_in self.new ≡ task_in self.old }
+    {
+        let stage = replace(&mut self.stage, Stage::Ended(None));
+        match stage {
+            Stage::Filling(held, fewer) => {
+                self.stage = fill_with(self.alloc, self.task, bytes, held, fewer, payload);
+            }
+            stage => {
+                self.stage = stage;
+                self.prepare(bytes);
+            }
+        }
+    }
+
     /// How the request ended. None where it has not.
     pub fn ended(&self) -> Option<Option<BlockFault>>
         ensures { result ≡ rule_ended (stage_of self.now) }
@@ -118,15 +155,16 @@ impl<A: Allocator + Copy> Op<A> {
         }
     }
 
-    /// Whether it waits, if it does, for jobs of dies alone. A batch that is to be planned anew may wait for other requests.
-    pub(crate) fn is_at_dies<L: Ledger, M: Map + Drop>(&self, locked: &Locked<L, M, A>) -> bool {
+    /// What it waits for, if it does. A batch that is to be planned anew waits for other requests.
+    pub(crate) fn awaits<L: Ledger, M: Map + Drop>(&self, locked: &Locked<L, M, A>) -> Awaits {
         match &self.stage {
-            Stage::Reading(_, batch) => matches!(
-                locked.array().results(*batch),
-                ReadState::Waiting
-            ),
-            Stage::Committing(..) | Stage::Flushing(_) => true,
-            _ => false,
+            Stage::Reading(_, batch) => match locked.array().results(*batch) {
+                ReadState::Waiting => Awaits::Batch(*batch),
+                ReadState::Ready | ReadState::Torn => Awaits::Change,
+            },
+            Stage::Committing(held, _) => Awaits::Programs(held.claim),
+            Stage::Flushing(flush) => Awaits::Flush(*flush),
+            _ => Awaits::Change,
         }
     }
 

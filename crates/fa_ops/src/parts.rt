@@ -4,13 +4,15 @@ ghost use Rattle.fa_ops.specs.Tasks.{end_of};
 
 use crate::op::{Op, Turn};
 use crate::request::Request;
-use crate::running::{tell, turn_on};
+use crate::running::{pass_time, turn_on};
 use fa_map::Map;
-use fa_shared::{Locked, Seat, Shared, Waiter};
+use fa_shared::{Awaits, Hands, Locked, Seat, Shared};
+use fa_tag::Payload;
 use fa_types::BlockFault;
 use std::alloc::{AllocError, Allocator, Global};
 use std::sync::Wait;
 use std::sync::ledger::Ledger;
+use std::time::Clock;
 
 /// How many parts a request has at most.
 const PARTS: u64 = 16;
@@ -25,11 +27,18 @@ struct Part<A: Allocator = Global> {
 }
 
 /// A request that answers no bytes, in parts of whole pages, without its flush. Where parts are refused the fault is the first one's.
-pub(crate) fn run_parts<R: Wait, L: Ledger, M: Map + Drop, A: Allocator + Copy>(
+pub(crate) fn run_parts<
+    R: Wait + Clock,
+    L: Ledger,
+    M: Map + Drop,
+    A: Allocator + Copy,
+    H: Hands<L, M, A>,
+>(
     rt: &R,
     alloc: A,
     shared: &Shared<L, M, A>,
     seat: &mut Seat<L>,
+    hands: &mut H,
     page_bytes: u32,
     request: Request,
     bytes: &[u8],
@@ -45,8 +54,8 @@ pub(crate) fn run_parts<R: Wait, L: Ledger, M: Map + Drop, A: Allocator + Copy>(
         if has_ended(parts.as_slice()) {
             break;
         }
-        prepare(parts.as_mut_slice(), bytes);
-        make_turns(rt, shared, seat, parts.as_mut_slice());
+        prepare(alloc, parts.as_mut_slice(), bytes);
+        make_turns(rt, shared, seat, hands, parts.as_mut_slice());
     }
     fault_of(parts.as_slice())
 }
@@ -119,19 +128,46 @@ fn fault_of<A: Allocator + Copy>(parts: &[Part<A>]) -> Result<(), BlockFault> {
     Ok(())
 }
 
-/// Prepares each part that has something to prepare.
-fn prepare<A: Allocator + Copy>(parts: &mut [Part<A>], bytes: &[u8]) {
+/// Prepares each part that has something to prepare. The pages' bytes are hashed side by side, where there is memory for that.
+fn prepare<A: Allocator + Copy>(alloc: A, parts: &mut [Part<A>], bytes: &[u8]) {
+    let mut payloads = match payloads_of(alloc, parts, bytes) {
+        Ok(payloads) => payloads,
+        Err(_) => Vec::new(alloc),
+    };
     for part in parts {
-        let (from, to) = (part.from, part.to);
-        part.op.prepare(bytes.get(from..to).unwrap_or(&[]));
+        let own = bytes.get(part.from..part.to).unwrap_or(&[]);
+        if !part.op.has_content() {
+            part.op.prepare(own);
+        } else if let Some(payload) = payloads.pop() {
+            part.op.prepare_with(own, payload);
+        } else {
+            part.op.prepare(own);
+        }
     }
 }
 
+/// What the parts are to write next, from behind. The error is out of memory.
+fn payloads_of<A: Allocator + Copy>(
+    alloc: A,
+    parts: &[Part<A>],
+    bytes: &[u8],
+) -> Result<Vec<Payload<A>, A>, AllocError> {
+    let mut contents = Vec::with_capacity(alloc, parts.len())?;
+    for part in parts {
+        let own = bytes.get(part.from..part.to).unwrap_or(&[]);
+        if let Some(content) = part.op.next_content(own) {
+            contents.push(content)?;
+        }
+    }
+    Payload::all(contents)
+}
+
 /// Makes turns until a part has something to prepare, or all have ended. The lock is free while all wait, and behind.
-fn make_turns<R: Wait, L: Ledger, M: Map + Drop, A: Allocator + Copy>(
+fn make_turns<R: Wait + Clock, L: Ledger, M: Map + Drop, A: Allocator + Copy, H: Hands<L, M, A>>(
     rt: &R,
     shared: &Shared<L, M, A>,
     seat: &mut Seat<L>,
+    hands: &mut H,
     parts: &mut [Part<A>],
 ) {
     let mut guard = shared.lock(rt);
@@ -139,12 +175,11 @@ fn make_turns<R: Wait, L: Ledger, M: Map + Drop, A: Allocator + Copy>(
         if !matches!(turn_all(rt, parts, &mut guard, seat), Turn::Wait) {
             break;
         }
-        tell(shared);
-        let waiter = waiter_of(parts, &guard);
-        guard = shared.wait(rt, waiter, guard);
+        let awaits = awaits_of(parts, &guard);
+        guard = pass_time(rt, shared, seat, hands, awaits, guard);
     }
-    drop(guard);
-    tell(shared);
+    shared.release(seat, guard);
+    hands.note();
 }
 
 /// Makes turns of each part while each leads to the next. What comes of it is to prepare, if a part is to, and else to wait, if a part is
@@ -172,14 +207,16 @@ fn turn_all<R: Wait, L: Ledger, M: Map + Drop, A: Allocator + Copy>(
     }
 }
 
-/// How parts wait that are so far.
-fn waiter_of<L: Ledger, M: Map + Drop, A: Allocator + Copy>(
+/// What parts wait for: the programs of the first one that waits for its programs, or else what others hold up.
+fn awaits_of<L: Ledger, M: Map + Drop, A: Allocator + Copy>(
     parts: &[Part<A>],
     locked: &Locked<L, M, A>,
-) -> Waiter {
-    if parts.iter().all(|part| part.op.is_at_dies(locked) || part.op.ended().is_some()) {
-        Waiter::Job
-    } else {
-        Waiter::Request
+) -> Awaits {
+    for part in parts {
+        let awaits = part.op.awaits(locked);
+        if matches!(awaits, Awaits::Programs(_)) {
+            return awaits;
+        }
     }
+    Awaits::Change
 }

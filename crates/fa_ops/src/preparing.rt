@@ -83,6 +83,37 @@ pub(crate) fn fill_page<A: Allocator + Copy>(
     }
 }
 
+/// The same with a payload that may have been made for it: where it has other bytes it is made anew.
+pub(crate) fn fill_with<A: Allocator + Copy>(
+    alloc: A,
+    task: Task,
+    bytes: &[u8],
+    held: Held,
+    fewer: bool,
+    payload: Payload<A>,
+) -> Stage<A>
+    requires { IsRange task.range }
+    ensures { IsFilled task bytes.now held fewer result }
+{
+    if is_content(task, bytes, held.page, payload.bytes()) {
+        Stage::Reserving(held, wish_of(payload, fewer))
+    } else {
+        fill_page(alloc, task, bytes, held, fewer)
+    }
+}
+
+/// Whether these are the bytes of the request that go into a page.
+fn is_content(task: Task, bytes: &[u8], page: Page, filled: &[u8]) -> bool
+    requires { IsRange task.range }
+    ensures { result ≡ true → (task.fill ≡ Some Fill.Bytes) × (filled.now ≡ rule_content task.fill task.range page.0 bytes.now) }
+{
+    let count = task.range.bytes_in(page.0);
+    let offset = task.range.offset_of(page.0);
+    task.fill == Some(Fill::Bytes)
+        && fits(offset, count, bytes.len())
+        && part(bytes, offset, count) == filled
+}
+
 /// A wish for these bytes, on as many dies as are asked for or on fewer.
 fn wish_of<A: Allocator>(payload: Payload<A>, fewer: bool) -> Wish<A>
     ensures { result ≡ (if fewer then Wish.Fewer payload else Wish.Data payload) }
@@ -95,7 +126,7 @@ fn wish_of<A: Allocator>(payload: Payload<A>, fewer: bool) -> Wish<A>
 }
 
 /// What goes into a page, in memory of its own. None where the request has no bytes for it. The error is out of memory.
-fn content<A: Allocator + Copy>(
+pub(crate) fn content<A: Allocator + Copy>(
     alloc: A,
     task: Task,
     bytes: &[u8],

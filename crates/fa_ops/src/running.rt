@@ -7,11 +7,12 @@ use crate::op::{Op, Turn};
 use crate::parts::run_parts;
 use crate::request::Request;
 use fa_map::Map;
-use fa_shared::{Locked, Seat, Shared, Waiter};
+use fa_shared::{Awaits, Hands, Locked, Seat, Shared};
 use fa_types::{BlockFault, Geometry};
 use std::alloc::Allocator;
-use std::sync::Wait;
 use std::sync::ledger::Ledger;
+use std::sync::{MutexGuard, Wait};
+use std::time::Clock;
 
 /// How many bytes the store of an array has, and how many a page of it.
 pub(crate) fn store_bytes(geometry: Geometry) -> (u64, u32)
@@ -26,11 +27,12 @@ pub(crate) fn store_bytes(geometry: Geometry) -> (u64, u32)
 }
 
 /// A request that answers no bytes, done page by page.
-fn run_whole<R: Wait, L: Ledger, M: Map + Drop, A: Allocator + Copy>(
+fn run_whole<R: Wait + Clock, L: Ledger, M: Map + Drop, A: Allocator + Copy, H: Hands<L, M, A>>(
     rt: &R,
     alloc: A,
     shared: &Shared<L, M, A>,
     seat: &mut Seat<L>,
+    hands: &mut H,
     page_bytes: u32,
     request: Request,
     bytes: &[u8],
@@ -43,18 +45,25 @@ fn run_whole<R: Wait, L: Ledger, M: Map + Drop, A: Allocator + Copy>(
         Ok(op) => op,
         Err(_) => return Err(BlockFault::NoMemory),
     };
-    match finish(rt, shared, seat, &mut op, bytes) {
+    match finish(rt, shared, seat, hands, &mut op, bytes) {
         None => Ok(()),
         Some(fault) => Err(fault),
     }
 }
 
 /// A request that answers no bytes. One on several pages is done in parts, side by side, and then flushed, if it is to be.
-pub(crate) fn run<R: Wait, L: Ledger, M: Map + Drop, A: Allocator + Copy>(
+pub(crate) fn run<
+    R: Wait + Clock,
+    L: Ledger,
+    M: Map + Drop,
+    A: Allocator + Copy,
+    H: Hands<L, M, A>,
+>(
     rt: &R,
     alloc: A,
     shared: &Shared<L, M, A>,
     seat: &mut Seat<L>,
+    hands: &mut H,
     page_bytes: u32,
     request: Request,
     bytes: &[u8],
@@ -64,21 +73,38 @@ pub(crate) fn run<R: Wait, L: Ledger, M: Map + Drop, A: Allocator + Copy>(
     requires inside { end_of request ≤ 2 ^ 32 }
 {
     if request.extent().1 <= u64::from(page_bytes) {
-        return run_whole(rt, alloc, shared, seat, page_bytes, request, bytes);
+        return run_whole(rt, alloc, shared, seat, hands, page_bytes, request, bytes);
     }
-    run_parts(rt, alloc, shared, seat, page_bytes, request, bytes)?;
+    run_parts(rt, alloc, shared, seat, hands, page_bytes, request, bytes)?;
     if request.has_flush() {
-        return run_whole(rt, alloc, shared, seat, page_bytes, Request::Flush, &[]);
+        return run_whole(
+            rt,
+            alloc,
+            shared,
+            seat,
+            hands,
+            page_bytes,
+            Request::Flush,
+            &[],
+        );
     }
     Ok(())
 }
 
 /// A read. It is never refused for want of room.
-pub(crate) fn run_read<R: Wait, L: Ledger, M: Map + Drop, A: Allocator + Copy, B: Allocator>(
+pub(crate) fn run_read<
+    R: Wait + Clock,
+    L: Ledger,
+    M: Map + Drop,
+    A: Allocator + Copy,
+    H: Hands<L, M, A>,
+    B: Allocator,
+>(
     rt: &R,
     alloc: A,
     shared: &Shared<L, M, A>,
     seat: &mut Seat<L>,
+    hands: &mut H,
     page_bytes: u32,
     offset: u64,
     len: u64,
@@ -95,7 +121,7 @@ pub(crate) fn run_read<R: Wait, L: Ledger, M: Map + Drop, A: Allocator + Copy, B
         Ok(op) => op,
         Err(_) => return Err(BlockFault::NoMemory),
     };
-    match finish(rt, shared, seat, &mut op, &[]) {
+    match finish(rt, shared, seat, hands, &mut op, &[]) {
         None => handed_out(op, len, into),
         Some(fault) => Err(of_read(fault)),
     }
@@ -131,10 +157,11 @@ fn of_read(fault: BlockFault) -> BlockFault
 }
 
 /// Goes on with a request until it has ended, and tells how.
-fn finish<R: Wait, L: Ledger, M: Map + Drop, A: Allocator + Copy>(
+fn finish<R: Wait + Clock, L: Ledger, M: Map + Drop, A: Allocator + Copy, H: Hands<L, M, A>>(
     rt: &R,
     shared: &Shared<L, M, A>,
     seat: &mut Seat<L>,
+    hands: &mut H,
     op: &mut Op<A>,
     bytes: &[u8],
 ) -> Option<BlockFault> {
@@ -143,16 +170,18 @@ fn finish<R: Wait, L: Ledger, M: Map + Drop, A: Allocator + Copy>(
             return end;
         }
         op.prepare(bytes);
-        make_turns(rt, shared, seat, op);
+        make_turns(rt, shared, seat, hands, op);
     }
     unreachable!()
 }
 
-/// Makes turns until the request has something to prepare, or has ended. The lock is free while it waits, and behind.
-fn make_turns<R: Wait, L: Ledger, M: Map + Drop, A: Allocator + Copy>(
+/// Makes turns until the request has something to prepare, or has ended. The lock is free while it waits, and behind. What it waits for is
+/// made by these hands, as far as they can.
+fn make_turns<R: Wait + Clock, L: Ledger, M: Map + Drop, A: Allocator + Copy, H: Hands<L, M, A>>(
     rt: &R,
     shared: &Shared<L, M, A>,
     seat: &mut Seat<L>,
+    hands: &mut H,
     op: &mut Op<A>,
 ) {
     let mut guard = shared.lock(rt);
@@ -160,12 +189,38 @@ fn make_turns<R: Wait, L: Ledger, M: Map + Drop, A: Allocator + Copy>(
         if !matches!(turn_on(rt, op, &mut guard, seat), Turn::Wait) {
             break;
         }
-        tell(shared);
-        let waiter = waiter_of(op, &guard);
-        guard = shared.wait(rt, waiter, guard);
+        let awaits = op.awaits(&guard);
+        guard = pass_time(rt, shared, seat, hands, awaits, guard);
     }
-    drop(guard);
-    tell(shared);
+    shared.release(seat, guard);
+    hands.note();
+}
+
+/// Does what there is to be done for others, or else sleeps until what is awaited has come.
+pub(crate) fn pass_time<
+    'a,
+    R: Wait + Clock,
+    L: Ledger,
+    M: Map + Drop,
+    A: Allocator + Copy,
+    H: Hands<L, M, A>,
+>(
+    rt: &R,
+    shared: &'a Shared<L, M, A>,
+    seat: &mut Seat<L>,
+    hands: &mut H,
+    awaits: Awaits,
+    guard: MutexGuard<'a, Locked<L, M, A>>,
+) -> MutexGuard<'a, Locked<L, M, A>> {
+    let mut guard = guard;
+    if !hands.take(&mut guard, seat) {
+        return shared.sleep(rt, seat, awaits, guard);
+    }
+    shared.release(seat, guard);
+    hands.work();
+    let mut guard = shared.lock(rt);
+    hands.end(&mut guard, seat);
+    guard
 }
 
 /// Makes turns of a request while each leads to the next.
@@ -175,30 +230,18 @@ pub(crate) fn turn_on<R: Wait, L: Ledger, M: Map + Drop, A: Allocator + Copy>(
     locked: &mut Locked<L, M, A>,
     seat: &mut Seat<L>,
 ) -> Turn {
+    if op.ended().is_some() {
+        return Turn::End;
+    }
     for _ in rt.forever() {
         let turn = op.turn(locked, seat);
+        if matches!(turn, Turn::Wait) {
+            return turn;
+        }
+        locked.note_change();
         if !matches!(turn, Turn::More) {
             return turn;
         }
     }
     unreachable!()
-}
-
-/// How a request waits that is so far.
-fn waiter_of<L: Ledger, M: Map + Drop, A: Allocator + Copy>(
-    op: &Op<A>,
-    locked: &Locked<L, M, A>,
-) -> Waiter {
-    if op.is_at_dies(locked) {
-        Waiter::Job
-    } else {
-        Waiter::Request
-    }
-}
-
-/// Tells those who may go on behind events of a request.
-pub(crate) fn tell<L: Ledger, M: Map + Drop, A: Allocator + Copy>(shared: &Shared<L, M, A>) {
-    shared.tell(Waiter::Die);
-    shared.tell(Waiter::Request);
-    shared.tell(Waiter::Keeper);
 }

@@ -6,37 +6,27 @@ use fa_map::PageMap;
 use fa_mount::place_of;
 use fa_shared::{Seat, Shared};
 use fa_types::Die;
-use fa_workers::{Open, Room, collector_worker, die_worker, rebuild_worker};
+use fa_workers::{Bench, Open, Room, collector_worker, die_worker, rebuild_worker};
 use std::alloc::AllocError;
 use std::sync::ledger::Ledger;
 
 /// What the worker of a die has of its own.
 #[derive(Drop)]
-pub(crate) struct DieTask<L: Ledger + Send, I: Drop> {
-    /// The place of the image among those that were opened.
-    index: usize,
+pub(crate) struct DieTask<L: Ledger + Send> {
     die: Die,
-    image: I,
     seat: Seat<L>,
     room: Room,
-}
-
-/// What a die's worker hands back.
-#[derive(Drop)]
-pub(crate) struct DieDone<L: Ledger + Send, I: Drop> {
-    /// The place of the image among those that were opened.
-    pub(crate) index: usize,
-    /// The image.
-    pub(crate) image: I,
-    /// The seat.
-    pub(crate) seat: Seat<L>,
 }
 
 /// The tasks of all dies, and the places of all images.
 #[derive(Drop)]
 pub(crate) struct Crew<L: Ledger + Send, I: Drop> {
     /// A task for each die that is live or a spare.
-    pub(crate) tasks: Vec<DieTask<L, I>>,
+    pub(crate) tasks: Vec<DieTask<L>>,
+    /// The images of these dies.
+    pub(crate) bench: Bench<I>,
+    /// Where the images of the dies belong among all images, by the dies' numbers.
+    pub(crate) indexes: Vec<Option<usize>>,
     /// The places of all images, with the images of the others.
     pub(crate) places: Places<I>,
 }
@@ -49,68 +39,84 @@ pub(crate) fn crew_of<R: Networked, L: Ledger + Send, I: Image + Drop>(
     images: Vec<I>,
     page_bytes: u32,
 ) -> Result<Crew<L, I>, AllocError> {
-    let mut tasks = Vec::with_capacity(rt.alloc(), images.len())?;
+    let mut tasks = Vec::with_capacity(rt.alloc(), dies.len())?;
     let mut places = Places::new(rt, images.len())?;
     let mut index = 0usize;
     for image in images {
-        match die_at(dies, index) {
-            Some(die) => {
-                let room = Room::new(rt.alloc(), page_bytes)?;
-                let seat = shared.seat(rt).ok_or(AllocError)?;
-                tasks.push(DieTask {
-                    index,
-                    die,
-                    image,
-                    seat,
-                    room,
-                })?;
-            }
-            None => places.lay(index, image),
-        }
+        places.lay(index, image);
         index = index.saturating_add(1);
     }
-    Ok(Crew { tasks, places })
+    let mut indexes = Vec::with_capacity(rt.alloc(), dies.len())?;
+    let mut manned = Vec::with_capacity(rt.alloc(), dies.len())?;
+    for number in 0..dies.len() {
+        let index = index_at_work(dies[number]);
+        indexes.push(index)?;
+        let image = match index {
+            Some(index) => places.lift(index),
+            None => None,
+        };
+        if image.is_some() {
+            tasks.push(DieTask {
+                die: die_of(number),
+                seat: shared.seat(rt).ok_or(AllocError)?,
+                room: Room::new(rt.alloc(), page_bytes)?,
+            })?;
+        }
+        manned.push(image)?;
+    }
+    let bench = Bench::new(rt.alloc(), manned)?;
+    Ok(Crew {
+        tasks,
+        bench,
+        indexes,
+        places,
+    })
 }
 
-/// The die, live or a spare, whose image has this place.
-fn die_at(dies: &[Standing], index: usize) -> Option<Die> {
-    for die in 0..dies.len() {
-        if is_at_work(dies[die]) && place_of(dies[die]) == Some(index) {
-            return u8::try_from(die).ok().map(Die);
+/// The die of this number. An array has no more than 64.
+fn die_of(number: usize) -> Die {
+    match u8::try_from(number) {
+        Ok(number) => Die(number),
+        Err(_) => Die(u8::MAX),
+    }
+}
+
+/// Lays the images of the dies back in their places.
+pub(crate) fn lay_back<I: Drop>(
+    bench: Bench<I>,
+    indexes: &[Option<usize>],
+    places: &mut Places<I>,
+) {
+    let mut bench = bench;
+    for die in 0..indexes.len() {
+        if let (Some(index), Some(image)) = (indexes[die], bench.lift(die_of(die))) {
+            places.lay(index, image);
         }
     }
-    None
 }
 
-/// Whether a die that stands so is live or a spare.
-fn is_at_work(standing: Standing) -> bool {
-    matches!(standing, Standing::Live(_) | Standing::Spare(_))
+/// The place of the image of a die that is live or a spare.
+fn index_at_work(standing: Standing) -> Option<usize> {
+    match standing {
+        Standing::Live(_) | Standing::Spare(_) => place_of(standing),
+        _ => None,
+    }
 }
 
-/// Works for a die until the array is to end, and hands back what it has.
+/// Works for a die until the array is to end, and hands the seat back.
 pub(crate) fn work_die<R: Networked, L: Ledger + Send, I: Image + Drop>(
     rt: &R,
     shared: &Shared<L, PageMap>,
-    task: DieTask<L, I>,
-) -> DieDone<L, I> {
+    bench: &Bench<I>,
+    task: DieTask<L>,
+) -> Seat<L> {
     let DieTask {
-        index,
         die,
-        mut image,
         mut seat,
         room,
     } = task;
-    die_worker(
-        rt,
-        rt.alloc(),
-        shared,
-        &mut seat,
-        die,
-        &mut image,
-        room,
-        &Open,
-    );
-    DieDone { index, image, seat }
+    die_worker(rt, rt.alloc(), shared, &mut seat, die, bench, room, &Open);
+    seat
 }
 
 /// Collects until the array is to end, and hands the seat back.
@@ -158,6 +164,14 @@ impl<I: Drop> Places<I> {
     pub(crate) fn lay(&mut self, index: usize, image: I) {
         if let Some(place) = self.laid.get_mut(index) {
             *place = Some(image);
+        }
+    }
+
+    /// Lifts an image from its place, if it is there.
+    fn lift(&mut self, index: usize) -> Option<I> {
+        match self.laid.get_mut(index) {
+            Some(place) => place.take(),
+            None => None,
         }
     }
 

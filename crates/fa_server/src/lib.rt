@@ -3,6 +3,7 @@
 
 mod accepting;
 mod closing;
+mod connection;
 mod crew;
 mod export;
 mod host;

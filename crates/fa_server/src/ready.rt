@@ -2,18 +2,20 @@
 ghost use Rattle.std.specs.Prelude.{◌≡◌, List, ℕ, IfOk, string_bytes};
 ghost use Rattle.fa_server.specs.Serving.{address_line};
 
+use crate::connection::ConnectionRoom;
 use crate::crew::{Crew, crew_of};
 use crate::host::Networked;
 use crate::lobby::Lobby;
 use crate::serve::Serve;
 use crate::serving::Seats;
-use crate::sessions::Session;
+use crate::sessions::{Service, Session};
 use fa_headers::Standing;
 use fa_image::Image;
 use fa_map::PageMap;
 use fa_mount::place_of;
 use fa_settings::Settings;
 use fa_shared::Shared;
+use fa_workers::HelperRoom;
 use std::alloc::{AllocError, Allocator, Global};
 use std::net::{SocketAddrV4, TcpListener};
 use std::sync::ledger::Ledger;
@@ -98,10 +100,14 @@ fn seats_of<'a, R: Networked, L: Ledger + Send, A: Allocator>(
     let mut sessions = Vec::with_capacity(rt.alloc(), settings.sessions as usize)?;
     for number in 0..settings.sessions as usize {
         sessions.push(Session {
-            number,
-            name: settings.export.as_str(),
-            verbose: serve.verbose,
+            service: Service {
+                number,
+                name: settings.export.as_str(),
+                verbose: serve.verbose,
+            },
             seat: shared.seat(rt).ok_or(AllocError)?,
+            room: HelperRoom::new(rt.alloc(), settings.geometry.page_bytes)?,
+            connection: ConnectionRoom::new(rt.alloc())?,
         })?;
     }
     Ok(Seats {

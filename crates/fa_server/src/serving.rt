@@ -3,7 +3,7 @@ ghost use Rattle.std.specs.Prelude.{◌≡◌};
 ghost use Rattle.std.specs.Thread.{IsSend};
 
 use crate::accepting::accept_clients;
-use crate::crew::{Crew, DieDone, Places, collect, rebuild, work_die};
+use crate::crew::{Crew, DieTask, collect, lay_back, rebuild, work_die};
 use crate::host::Networked;
 use crate::lobby::Lobby;
 use crate::ready::Ready;
@@ -17,6 +17,7 @@ use fa_image::Image;
 use fa_map::PageMap;
 use fa_shared::{Seat, Shared};
 use fa_types::Die;
+use fa_workers::Bench;
 use std::alloc::AllocError;
 use std::io::Read;
 use std::net::{TcpListener, TcpStream};
@@ -64,11 +65,9 @@ pub(crate) struct Seats<'a, L: Ledger + Send> {
 
 /// What comes back when all threads have ended.
 #[derive(Drop)]
-struct Back<L: Ledger + Send, I: Drop> {
+struct Back<L: Ledger + Send> {
     /// All seats.
     seats: Vec<Seat<L>>,
-    /// The images.
-    images: Places<I>,
     /// Each thread could be started.
     is_served: bool,
 }
@@ -107,17 +106,19 @@ pub(crate) fn serve_ready<R: Networked, L: Ledger + Send, I: Image + Send + Drop
         copies,
         window_rounds,
     };
-    let back = serve_shared(rt, shared, hall, crew, seats, input)?;
-    let Back {
-        seats,
-        images,
-        is_served,
-    } = back;
+    let Crew {
+        tasks,
+        bench,
+        indexes,
+        mut places,
+    } = crew;
+    let Back { seats, is_served } = serve_shared(rt, shared, hall, &bench, tasks, seats, input)?;
     if shared.gather(rt, seats).is_err() {
         tell(rt, "a seat of the array is missing");
     }
+    lay_back(bench, indexes.as_slice(), &mut places);
     Ok(Ended {
-        images: images.into_images(),
+        images: places.into_images(),
         is_served,
     })
 }
@@ -147,14 +148,11 @@ fn serve_shared<R: Networked, L: Ledger + Send, I: Image + Send + Drop, N: Read>
     rt: &R,
     shared: &Shared<L, PageMap>,
     hall: Hall<'_>,
-    crew: Crew<L, I>,
+    bench: &Bench<I>,
+    tasks: Vec<DieTask<L>>,
     seats: Seats<'_, L>,
     input: &mut N,
-) -> Result<Back<L, I>, AllocError> {
-    let Crew {
-        tasks,
-        places: mut images,
-    } = crew;
+) -> Result<Back<L>, AllocError> {
     let Seats {
         collector,
         rebuilder,
@@ -173,11 +171,11 @@ fn serve_shared<R: Networked, L: Ledger + Send, I: Image + Send + Drop, N: Read>
     Ok(thread::scope(
         thread::scope_env(),
         rt,
-        |scope| -> Back<L, I>
+        |scope| -> Back<L>
             requires { IsSend I.row }
         {
             for task in tasks {
-                let work = match scope.spawn(move || work_die(rt, shared, task)) {
+                let work = match scope.spawn(move || work_die(rt, shared, bench, task)) {
                     Ok(handle) => Work::Runs(handle),
                     Err(refused) => {
                         shared.stop(rt);
@@ -211,21 +209,17 @@ fn serve_shared<R: Networked, L: Ledger + Send, I: Image + Send + Drop, N: Read>
             {
                 shared.stop(rt);
             }
-            let is_served = serve_sessions(rt, shared, hall, sessions, works, input, &mut seats);
+            let is_served = serve_sessions(
+                rt, shared, hall, bench, sessions, works, input, &mut seats,
+            );
             let_collect(rt, shared);
             shared.stop(rt);
             for work in workers {
-                let DieDone { index, image, seat } = work.end(rt);
-                images.lay(index, image);
-                let _ = seats.push(seat);
+                let _ = seats.push(work.end(rt));
             }
             let _ = seats.push(collector.end(rt));
             let _ = seats.push(rebuilder.end(rt));
-            Back {
-                seats,
-                images,
-                is_served,
-            }
+            Back { seats, is_served }
         },
     ))
 }
@@ -237,10 +231,11 @@ fn seat_count(dies: usize, sessions: usize) -> usize {
 
 /// Serves clients until the input says stop, and then sends them away. The sessions' seats go to the others, for which there is room, as there
 /// is for their work. Whether each thread could be started: where one could not, no client is waited for.
-fn serve_sessions<R: Networked, L: Ledger + Send, N: Read>(
+fn serve_sessions<R: Networked, L: Ledger + Send, I: Image + Send + Drop, N: Read>(
     rt: &R,
     shared: &Shared<L, PageMap>,
     hall: Hall<'_>,
+    bench: &Bench<I>,
     sessions: Vec<Session<'_, L>>,
     works: Vec<Work<Seat<L>>>,
     input: &mut N,
@@ -252,27 +247,35 @@ fn serve_sessions<R: Networked, L: Ledger + Send, N: Read>(
         ..
     } = hall;
     let mut works = works;
-    let (works, is_served) = thread::scope(thread::scope_env(), rt, |scope| {
-        for session in sessions {
-            let work = match scope.spawn(move || serve_clients(rt, lobby, shared, session)) {
-                Ok(handle) => Work::Runs(handle),
-                Err(refused) => {
-                    lobby.close(rt);
-                    Work::Done((refused.value)())
-                }
-            };
-            let _ = works.push(work);
-        }
-        let accepting = scope.spawn(move || accept_clients(rt, listener, lobby));
-        let is_served = accepting.is_ok() && !shared.stopped(rt) && !lobby.is_closing(rt);
-        if is_served {
-            wait_for_stop(input);
-        }
-        lobby.close(rt);
-        wake(rt, listener);
-        lobby.clear(rt, Duration::from_secs(LEAVE_SECONDS));
-        (works, is_served)
-    });
+    let (works, is_served) = thread::scope(
+        thread::scope_env(),
+        rt,
+        |scope| -> (Vec<Work<Seat<L>>>, bool)
+            requires { IsSend I.row }
+        {
+            for session in sessions {
+                let work = match scope.spawn(move || serve_clients(
+                    rt, lobby, shared, bench, session,
+                )) {
+                    Ok(handle) => Work::Runs(handle),
+                    Err(refused) => {
+                        lobby.close(rt);
+                        Work::Done((refused.value)())
+                    }
+                };
+                let _ = works.push(work);
+            }
+            let accepting = scope.spawn(move || accept_clients(rt, listener, lobby));
+            let is_served = accepting.is_ok() && !shared.stopped(rt) && !lobby.is_closing(rt);
+            if is_served {
+                wait_for_stop(input);
+            }
+            lobby.close(rt);
+            wake(rt, listener);
+            lobby.clear(rt, Duration::from_secs(LEAVE_SECONDS));
+            (works, is_served)
+        },
+    );
     for work in works {
         let _ = seats.push(work.end(rt));
     }

@@ -1,69 +1,115 @@
 //! A session of the server: it serves one client after another.
+use crate::connection::{Connection, ConnectionRoom};
 use crate::export::Export;
 use crate::host::Networked;
 use crate::lobby::Lobby;
 use crate::socket::prepare;
 use fa_admin::tell;
+use fa_image::Image;
 use fa_map::PageMap;
 use fa_ops::ArrayBlocks;
 use fa_session::{SessionEnd, serve_stream};
-use fa_shared::{Seat, Shared};
+use fa_shared::{Hands, Seat, Shared};
+use fa_types::Blocks;
+use fa_workers::{Bench, Helper, HelperRoom, Open};
 use std::alloc::Global;
+use std::io::Write;
 use std::net::{SocketAddr, TcpStream};
 use std::sync::ledger::Ledger;
 
 /// What a session has of its own.
 #[derive(Drop)]
 pub(crate) struct Session<'a, L: Ledger + Send> {
-    /// Its number, from 0.
+    /// How it serves clients.
+    pub(crate) service: Service<'a>,
+    /// Its seat at the array.
+    pub(crate) seat: Seat<L>,
+    /// Memory for the jobs that it makes of dies while its requests wait.
+    pub(crate) room: HelperRoom,
+    /// Memory for what its clients say and are told.
+    pub(crate) connection: ConnectionRoom,
+}
+
+/// How a session serves clients.
+#[derive(Clone, Copy)]
+pub(crate) struct Service<'a> {
+    /// The session's number, from 0.
     pub(crate) number: usize,
     /// The export's name.
     pub(crate) name: &'a str,
     /// Clients that come and go are told on standard error.
     pub(crate) verbose: bool,
-    /// Its seat at the array.
-    pub(crate) seat: Seat<L>,
 }
 
 /// Serves one client after another until the lobby is closed, and hands its seat back.
-pub(crate) fn serve_clients<R: Networked, L: Ledger + Send>(
+pub(crate) fn serve_clients<R: Networked, L: Ledger + Send, I: Image + Send + Drop>(
     rt: &R,
     lobby: &Lobby,
     shared: &Shared<L, PageMap>,
+    bench: &Bench<I>,
     session: Session<'_, L>,
 ) -> Seat<L> {
     let Session {
-        number,
-        name,
-        verbose,
+        service,
         seat,
+        room,
+        connection,
     } = session;
-    let mut blocks = ArrayBlocks::new(rt, rt.alloc(), shared, seat);
-    for _ in rt.forever() {
-        let Some(stream) = lobby.next_client(rt, number) else {
-            break;
-        };
-        if let Some(export) = Export::of(name) {
-            serve_client(rt, &stream, &mut blocks, export, verbose);
-        }
-        lobby.leave(rt, number);
-    }
+    let helper = Helper::new(rt, rt.alloc(), shared, bench, &Open, room);
+    serve_with(rt, lobby, shared, service, connection, seat, helper)
+}
+
+/// The same over the shared array, with somebody who makes jobs of its dies while a request waits. It is a function of its own, so that no
+/// type is written that has the helper's inside of the store's.
+fn serve_with<R: Networked, L: Ledger + Send, H: Hands<L, PageMap, Global> + Drop>(
+    rt: &R,
+    lobby: &Lobby,
+    shared: &Shared<L, PageMap>,
+    service: Service<'_>,
+    connection: ConnectionRoom,
+    seat: Seat<L>,
+    hands: H,
+) -> Seat<L> {
+    let mut connection = Connection::new(connection);
+    let mut blocks = ArrayBlocks::new(rt, rt.alloc(), shared, seat, hands);
+    serve_each(rt, lobby, service, &mut connection, &mut blocks);
     blocks.into_seat()
 }
 
+/// Serves a store to one client after another until the lobby is closed.
+fn serve_each<R: Networked, B: Blocks>(
+    rt: &R,
+    lobby: &Lobby,
+    service: Service<'_>,
+    connection: &mut Connection,
+    blocks: &mut B,
+) {
+    for _ in rt.forever() {
+        let Some(stream) = lobby.next_client(rt, service.number) else {
+            break;
+        };
+        if let Some(export) = Export::of(service.name) {
+            serve_client(rt, &stream, connection, blocks, export, service.verbose);
+        }
+        lobby.leave(rt, service.number);
+    }
+}
+
 /// Serves a client to the end of its connection.
-fn serve_client<R: Networked, L: Ledger + Send>(
+fn serve_client<R: Networked, B: Blocks>(
     rt: &R,
     stream: &TcpStream,
-    blocks: &mut ArrayBlocks<'_, R, L, PageMap, Global>,
+    connection: &mut Connection,
+    blocks: &mut B,
     export: Export<'_>,
     verbose: bool,
 ) {
     prepare(stream);
     let address = stream.peer_addr().ok();
     tell_of_client(rt, address, verbose, "a client has come");
-    let (mut reader, mut writer) = (stream, stream);
+    let (mut reader, mut writer) = connection.sides(stream);
     let end = serve_stream(rt.alloc(), &mut reader, &mut writer, blocks, export.name);
+    let _ = writer.flush();
     tell_of_client(rt, address, verbose, words_of(end));
 }
 

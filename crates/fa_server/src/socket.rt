@@ -16,10 +16,14 @@ const ASKS: u32 = 6;
 /// How long a client may take nothing of a reply until its connection is closed, in seconds.
 const TAKE_SECONDS: u64 = 60;
 
+/// How long a client may take to say its first byte, or to go on with what it began to say, until its connection is closed, in seconds.
+const SAY_SECONDS: u64 = 60;
+
 /// Sets the socket of a client up: what is written goes out at once, a client whose machine has vanished is found out, and one that takes
-/// no replies does not hold a session for good. An option that the system does not have is left out.
+/// no replies, or stops in the middle of a message, does not hold a session for good. An option that the system does not have is left out.
 pub(crate) fn prepare(stream: &TcpStream) {
     let _ = stream.set_nodelay(true);
+    let _ = stream.set_read_timeout(Some(Duration::from_secs(SAY_SECONDS)));
     let _ = stream.set_write_timeout(Some(Duration::from_secs(TAKE_SECONDS)));
     keep_alive(stream);
 }

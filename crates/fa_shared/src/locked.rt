@@ -6,6 +6,7 @@ ghost use Rattle.fa_core.specs.Calls.{commits_of_answer};
 ghost use Rattle.fa_shared.specs.Seats.{commits_together};
 
 use crate::seat::Seat;
+use crate::sleepers::{Awaits, SeatSet, Sleepers};
 use fa_core::{Answer, Array, Call};
 use fa_map::Map;
 use std::alloc::{Allocator, Global};
@@ -36,6 +37,8 @@ pub struct Locked<L: Ledger, M: Map + Drop, A: Allocator + Copy = Global> {
     rest: Share<L>,
     out: u32,
     stopping: bool,
+    // Who sleeps is no part of what clauses see.
+    sleepers: Sleepers<A>,
 }
 
 impl<L: Ledger, M: Map + Drop, A: Allocator + Copy> Model for Locked<L, M, A> {
@@ -70,7 +73,12 @@ impl<L: Ledger, M: Map + Drop, A: Allocator + Copy> Locked<L, M, A> {
     ghost use Rattle.fa_shared.specs.Seats.{commits_with, number_of};
 
     /// An array to be shared, of which no Commit was made yet, with a ledger of 257 parts that nothing else names.
-    pub fn new(alloc: A, blank: Blank, array: Array<M, A>) -> Locked<L, M, A>
+    pub(crate) fn new(
+        alloc: A,
+        blank: Blank,
+        array: Array<M, A>,
+        sleepers: Sleepers<A>,
+    ) -> Locked<L, M, A>
         requires name { blank.name ≡ L.name }
         requires parts { (blank.parts ≡ L.parts) × (blank.parts ≡ 257) }
         requires whole { IsWhole M.view array }
@@ -92,6 +100,7 @@ impl<L: Ledger, M: Map + Drop, A: Allocator + Copy> Locked<L, M, A> {
             rest,
             out: 0,
             stopping: false,
+            sleepers,
         }
     }
 
@@ -109,6 +118,60 @@ impl<L: Ledger, M: Map + Drop, A: Allocator + Copy> Locked<L, M, A> {
             self.book.add(&mut seat.share, 1);
         }
         answer
+    }
+
+    /// Lets rounds pass, with a seat of the array, until one is refused.
+    pub fn settle(&mut self, seat: &mut Seat<L>)
+        ensures rest { self.new ≡ record self.old { core = self.new.core } }
+        ensures commits { commits_with seat.new ≡ commits_with seat.old }
+        ensures number { number_of seat.new ≡ number_of seat.old }
+    {
+        for _ in 0..u32::MAX {
+            if !self.pass(seat) {
+                break;
+            }
+        }
+    }
+
+    /// Lets a round pass, if it may. Whether it passed.
+    fn pass(&mut self, seat: &mut Seat<L>) -> bool
+        ensures rest { self.new ≡ record self.old { core = self.new.core } }
+        ensures commits { commits_with seat.new ≡ commits_with seat.old }
+        ensures number { number_of seat.new ≡ number_of seat.old }
+    {
+        let alloc = self.alloc;
+        let Answer::Advance(answer) = self.step(seat, plain(&alloc, Call::Advance)) else {
+            return false;
+        };
+        answer.is_ok()
+    }
+
+    /// Something has changed that others may wait for.
+    pub fn note_change(&mut self)
+        ensures { self.new ≡ self.old }
+    {
+        self.sleepers.note_change();
+    }
+
+    /// Whoever has this seat sleeps until then.
+    pub(crate) fn lie_down(&mut self, seat: u32, awaits: Awaits)
+        ensures { self.new ≡ self.old }
+    {
+        self.sleepers.lie_down(seat, awaits);
+    }
+
+    /// Whoever has this seat sleeps no more.
+    pub(crate) fn get_up(&mut self, seat: u32)
+        ensures { self.new ≡ self.old }
+    {
+        self.sleepers.get_up(seat);
+    }
+
+    /// Those for whom it is time to wake up. They are counted as awake.
+    pub(crate) fn due(&mut self) -> SeatSet
+        ensures { self.new ≡ self.old }
+    {
+        self.sleepers.due(&self.array)
     }
 
     /// What holds of the array whenever the lock is free: its numbers are the replay of its history since the last fold, in which each
@@ -205,4 +268,11 @@ fn is_commit<A: Allocator>(answer: &Answer<A>) -> bool
     ensures no { result ≡ false → commits_of_answer answer.now ≡ 0 }
 {
     matches!(answer, Answer::Commit(Ok(_)))
+}
+
+/// A call that is lent nothing. The lifetime of what it could be lent is that of a borrowed allocator.
+pub fn plain<'a, A: Allocator>(_alloc: &'a A, call: Call<'a, A>) -> Call<'a, A>
+    ensures { result ≡ call.entry }
+{
+    call
 }

@@ -5,26 +5,20 @@ ghost use Rattle.fa_machine.specs.Looks.{counts as rule_counts};
 ghost use Rattle.fa_shared.specs.Seats.{commits_with};
 
 use crate::faults::{Fault, Faults};
-use crate::locked::{Gathered, Locked};
+use crate::locked::{Gathered, Locked, MAX_SEATS};
 use crate::seat::Seat;
+use crate::sleepers::{Awaits, SeatSet, Sleepers};
 use fa_core::Array;
 use fa_map::Map;
 use std::alloc::{AllocError, Allocator, Global};
 use std::sync::ledger::{Blank, Ledger};
-use std::sync::{Condvar, Mutex, MutexGuard, Wait};
+use std::sync::{Condvar, CondvarTimeouts, Mutex, MutexGuard, Wait};
+use std::time::{Clock, Duration};
 
-/// Who waits for a change of an array.
-#[derive(Clone, Copy, Debug, PartialEq, Eq)]
-pub enum Waiter {
-    /// A die's worker.
-    Die,
-    /// A request whose jobs the dies are at.
-    Job,
-    /// A request that may be held up by others.
-    Request,
-    /// The collector, or the rebuilder.
-    Keeper,
-}
+/// How long a request sleeps at most before looking again, in milliseconds, and how long those who work for the array.
+const REQUEST_SLEEP: u64 = 100;
+
+const WORKER_SLEEP: u64 = 1000;
 
 /// An array that threads share, with the faults that took its dies out. Nobody holds its lock but for one event, or for two that belong
 /// together, and no page, image or socket is touched under it. The faults have a lock of their own.
@@ -32,10 +26,8 @@ pub enum Waiter {
 pub struct Shared<L: Ledger, M: Map + Drop, A: Allocator + Copy = Global> {
     locked: Mutex<Locked<L, M, A>>,
     faults: Mutex<Faults<A>>,
-    dies: Condvar,
-    jobs: Condvar,
-    requests: Condvar,
-    keepers: Condvar,
+    // By the numbers of seats: what wakes whoever has the seat.
+    bells: Vec<Condvar, A>,
 }
 
 impl<L: Ledger, M: Map + Drop, A: Allocator + Copy> Shared<L, M, A> {
@@ -48,17 +40,14 @@ impl<L: Ledger, M: Map + Drop, A: Allocator + Copy> Shared<L, M, A> {
         requires fresh { (rule_counts (state_of M.view array)).0 ≡ 0 }
         ensures refused { IfErr result (λ back. back ≡ array) }
     {
-        match Faults::new(alloc) {
-            Ok(faults) => Ok(Shared {
-                locked: Mutex::new(Locked::new(alloc, blank, array)),
-                faults: Mutex::new(faults),
-                dies: Condvar::new(),
-                jobs: Condvar::new(),
-                requests: Condvar::new(),
-                keepers: Condvar::new(),
-            }),
-            Err(_) => Err(array),
-        }
+        let Ok((faults, bells, sleepers)) = make_parts(alloc) else {
+            return Err(array);
+        };
+        Ok(Shared {
+            locked: Mutex::new(Locked::new(alloc, blank, array, sleepers)),
+            faults: Mutex::new(faults),
+            bells,
+        })
     }
 
     /// The array under its lock, which is free again once the guard is dropped.
@@ -66,28 +55,50 @@ impl<L: Ledger, M: Map + Drop, A: Allocator + Copy> Shared<L, M, A> {
         self.locked.lock(rt)
     }
 
-    /// Frees the lock until those who wait so are told of a change, or for no reason, and then takes it again.
-    pub fn wait<'a, R: Wait>(
+    /// Frees the lock, and wakes those for whom it is time. Rounds that may pass have passed before.
+    pub fn release(&self, seat: &mut Seat<L>, guard: MutexGuard<'_, Locked<L, M, A>>) {
+        let mut guard = guard;
+        guard.settle(seat);
+        let due = guard.due();
+        drop(guard);
+        self.wake(due);
+    }
+
+    /// Frees the lock until what is awaited has come, or for no reason, and then takes it again. Rounds that may pass have passed before,
+    /// and those for whom it is time are woken. Nobody sleeps longer than a second, and a request no longer than a tenth of one.
+    pub fn sleep<'a, R: Wait + Clock>(
         &'a self,
         rt: &R,
-        waiter: Waiter,
+        seat: &mut Seat<L>,
+        awaits: Awaits,
         guard: MutexGuard<'a, Locked<L, M, A>>,
     ) -> MutexGuard<'a, Locked<L, M, A>> {
-        self.changes_for(waiter).wait(rt, guard)
+        let number = seat.number;
+        let mut guard = guard;
+        guard.settle(seat);
+        guard.lie_down(number, awaits);
+        let due = guard.due();
+        self.wake(due);
+        let Some(bell) = self.bells.get(number as usize) else {
+            return guard;
+        };
+        if !due.contains(number) {
+            guard = bell.wait_timeout(rt, guard, limit_of(awaits)).0;
+        }
+        guard.get_up(number);
+        guard
     }
 
-    /// Tells all who wait so that the array has changed.
-    pub fn tell(&self, waiter: Waiter) {
-        self.changes_for(waiter).notify_all();
-    }
-
-    /// Where those wait.
-    fn changes_for(&self, waiter: Waiter) -> &Condvar {
-        match waiter {
-            Waiter::Die => &self.dies,
-            Waiter::Job => &self.jobs,
-            Waiter::Request => &self.requests,
-            Waiter::Keeper => &self.keepers,
+    /// Wakes those who have these seats.
+    fn wake(&self, seats: SeatSet) {
+        let mut seats = seats;
+        for _ in 0..MAX_SEATS {
+            let Some(seat) = seats.pop() else {
+                return;
+            };
+            if let Some(bell) = self.bells.get(seat as usize) {
+                bell.notify_one();
+            }
         }
     }
 
@@ -101,10 +112,9 @@ impl<L: Ledger, M: Map + Drop, A: Allocator + Copy> Shared<L, M, A> {
     /// Whoever works for the array is to end.
     pub fn stop<R: Wait>(&self, rt: &R) {
         self.locked.lock(rt).stop();
-        self.dies.notify_all();
-        self.jobs.notify_all();
-        self.requests.notify_all();
-        self.keepers.notify_all();
+        for bell in &self.bells {
+            bell.notify_all();
+        }
     }
 
     /// Whether whoever works for the array is to end.
@@ -144,5 +154,27 @@ impl<L: Ledger, M: Map + Drop, A: Allocator + Copy> Shared<L, M, A> {
     {
         let Shared { locked, .. } = self;
         locked.into_inner().into_array()
+    }
+}
+
+/// What a shared array has besides the array: its faults, what wakes those who sleep, and who they are. The error is out of memory.
+fn make_parts<A: Allocator + Copy>(
+    alloc: A,
+) -> Result<(Faults<A>, Vec<Condvar, A>, Sleepers<A>), AllocError> {
+    let faults = Faults::new(alloc)?;
+    let mut bells = Vec::with_capacity(alloc, MAX_SEATS as usize)?;
+    for _ in 0..MAX_SEATS {
+        bells.push(Condvar::new())?;
+    }
+    Ok((faults, bells, Sleepers::new(alloc)?))
+}
+
+/// How long somebody who waits so sleeps at most.
+fn limit_of(awaits: Awaits) -> Duration {
+    match awaits {
+        Awaits::Job(_) | Awaits::Window | Awaits::ThinPage => Duration::from_millis(WORKER_SLEEP),
+        Awaits::Batch(_) | Awaits::Programs(_) | Awaits::Flush(_) | Awaits::Change => {
+            Duration::from_millis(REQUEST_SLEEP)
+        }
     }
 }

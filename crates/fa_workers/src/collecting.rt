@@ -4,19 +4,20 @@ ghost use Rattle.fa_machine.specs.Step.{Step, Window};
 ghost use Rattle.fa_workers.specs.Held.{LeavesRest};
 ghost use Rattle.fa_workers.specs.Windows.{GivesWindow, GivesWindows};
 
-use crate::events::{make, plain};
+use crate::events::make;
 use fa_core::{Answer, Call};
 use fa_machine::WindowRefused;
 use fa_map::Map;
-use fa_shared::{Locked, Seat, Shared, Waiter};
+use fa_shared::{Awaits, Locked, Seat, Shared, plain};
 use fa_types::{Die, Round};
 use std::alloc::Allocator;
 use std::sync::Wait;
 use std::sync::ledger::Ledger;
+use std::time::Clock;
 
-/// Gives each live die that wants one a window of so many rounds, 1 to 64, until the array is to end. It tells the others of each, and
-/// waits for a change behind each look at the dies. A die that has a window, or may have none now, is asked again then.
-pub fn collector_worker<R: Wait, L: Ledger, M: Map + Drop, A: Allocator + Copy>(
+/// Gives each live die that wants one a window of so many rounds, 1 to 64, until the array is to end. It sleeps
+/// behind each look at the dies until one wants a window. A die that has a window, or may have none now, is asked again then.
+pub fn collector_worker<R: Wait + Clock, L: Ledger, M: Map + Drop, A: Allocator + Copy>(
     rt: &R,
     alloc: A,
     shared: &Shared<L, M, A>,
@@ -28,10 +29,8 @@ pub fn collector_worker<R: Wait, L: Ledger, M: Map + Drop, A: Allocator + Copy>(
         if guard.is_stopping() {
             break;
         }
-        if give_windows(alloc, &mut guard, seat, window_rounds) {
-            shared.tell(Waiter::Die);
-        }
-        guard = shared.wait(rt, Waiter::Keeper, guard);
+        give_windows(alloc, &mut guard, seat, window_rounds);
+        guard = shared.sleep(rt, seat, Awaits::Window, guard);
     }
 }
 

@@ -8,13 +8,13 @@ ghost use Rattle.fa_workers.specs.DieTurns.{Ends, Rests, TakesNext, Turns};
 ghost use Rattle.fa_workers.specs.DieTurns.{after_look as rule_look, cause_of as rule_cause, fault_of, noted};
 ghost use Rattle.fa_workers.specs.Held.{LeavesRest};
 
-use crate::events::{make, make_room, plain};
+use crate::events::{make, make_room};
 use crate::order::{Order, order_of};
-use fa_core::{Answer, Call};
+use fa_core::{Answer, Array, Call};
 use fa_ends::Outcome;
 use fa_machine::AdvanceRefused;
 use fa_map::Map;
-use fa_shared::{Cause, Fault, Locked, Seat};
+use fa_shared::{Cause, Fault, Locked, Seat, plain};
 use fa_types::{Die, Round};
 use std::alloc::{Allocator, Global};
 use std::sync::ledger::Ledger;
@@ -59,6 +59,30 @@ pub(crate) fn turn<L: Ledger, M: Map + Drop, A: Allocator + Copy>(
         Ok(_) => Next::Again,
         Err(refused) => take_next(alloc, locked, seat, die, refused),
     }
+}
+
+/// The next job of a die, if it has one that nobody is at.
+pub(crate) fn take_job<L: Ledger, M: Map + Drop, A: Allocator + Copy>(
+    alloc: A,
+    locked: &mut Locked<L, M, A>,
+    seat: &mut Seat<L>,
+    die: Die,
+) -> Option<Order<A>> {
+    if !has_job(locked.array(), die) {
+        return None;
+    }
+    if !locked.array().is_die(die) {
+        return None;
+    }
+    match take_next(alloc, locked, seat, die, AdvanceRefused::Idle) {
+        Next::Run(order) => Some(order),
+        Next::Again | Next::Rest => None,
+    }
+}
+
+/// Whether the die is one of the array and has a job that nobody is at.
+fn has_job<M: Map, A: Allocator + Copy>(array: &Array<M, A>, die: Die) -> bool {
+    array.is_die(die) && array.has_job(die)
 }
 
 /// The die takes its next job, where the round was refused so.
@@ -160,8 +184,16 @@ pub(crate) fn end_job<L: Ledger, M: Map + Drop, A: Allocator + Copy>(
     let was_live = locked.array().is_live(die);
     let buffer = done(alloc, locked, seat, die, outcome, buffer);
     let is_live = locked.array().is_live(die);
+    if changes_more(outcome) {
+        locked.note_change();
+    }
     let fault = note(was_live, is_live, die, outcome, locked.array().now());
     Ended { buffer, fault }
+}
+
+/// Whether a job that ended so may change more than what waits for it.
+fn changes_more(outcome: Outcome) -> bool {
+    !matches!(outcome, Outcome::Read(_))
 }
 
 /// What is noted of a die that was live and is out.

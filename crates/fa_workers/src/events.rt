@@ -7,7 +7,7 @@ ghost use Rattle.fa_workers.specs.Held.{Folds, IsNoCommit, LeavesRest};
 
 use fa_core::{Answer, Call};
 use fa_map::Map;
-use fa_shared::{Locked, Seat};
+use fa_shared::{Locked, Seat, plain};
 use std::alloc::Allocator;
 use std::sync::ledger::Ledger;
 
@@ -38,11 +38,4 @@ pub(crate) fn make_room<L: Ledger, M: Map + Drop, A: Allocator + Copy>(
     if locked.array().history_full() {
         make(locked, seat, plain(&alloc, Call::Fold));
     }
-}
-
-/// A call that is lent nothing. The lifetime of what it could be lent is that of a borrowed allocator.
-pub(crate) fn plain<'a, A: Allocator>(_alloc: &'a A, call: Call<'a, A>) -> Call<'a, A>
-    ensures { result ≡ call.entry }
-{
-    call
 }

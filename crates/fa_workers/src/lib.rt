@@ -1,11 +1,13 @@
 //! The work on the dies.
 #![tactic(auto)]
 
+mod bench;
 mod collecting;
 mod die_events;
 mod events;
 mod gate;
 mod header;
+mod helping;
 mod moving;
 mod order;
 mod reading;
@@ -18,8 +20,10 @@ mod spares;
 mod working;
 mod writing;
 
+pub use bench::Bench;
 pub use collecting::collector_worker;
 pub use gate::{Gate, ImageCallKind, Open};
+pub use helping::{Helper, HelperRoom};
 pub use rebuilding::rebuild_worker;
 pub use room::Room;
 pub use running::run_job;

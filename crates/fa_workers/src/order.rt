@@ -6,11 +6,12 @@ ghost use Rattle.fa_takes.specs.Handed.{handed_of};
 ghost use Rattle.fa_workers.specs.Made.{Ran};
 ghost use Rattle.fa_workers.specs.Orders.{IsJobFor-prop};
 
-use crate::gate::Gate;
+use crate::gate::{Gate, ImageCallKind};
 use crate::running::run_job;
 use fa_ends::Outcome;
 use fa_image::{Image, ImageFault};
 use fa_machine::Flight;
+use fa_tag::Opened;
 use fa_takes::Job;
 use fa_types::{Die, Geometry, TAG_BYTES};
 use std::alloc::{Allocator, Global};
@@ -48,6 +49,18 @@ pub(crate) fn order_of<A: Allocator>(
 }
 
 impl<A: Allocator> Order<A> {
+    /// The die.
+    pub(crate) fn die(&self) -> Die
+        ensures { result ≡ self.now.die }
+    {
+        self.die
+    }
+
+    /// How the job ends on a die that has no image for it.
+    pub(crate) fn refused(&self) -> Outcome {
+        Outcome::Fault(fault_of(self.job.flight))
+    }
+
     /// Makes the job's calls on the image, if it is one for the array and the memory has the right sizes, and tells how the job ended.
     /// Otherwise the image refuses the job, and none of its calls is made.
     pub(crate) fn run<I: Image, G: Gate>(
@@ -70,7 +83,7 @@ impl<A: Allocator> Order<A> {
             || scratch.len() != page_bytes + TAG_BYTES
             || buffer.len() != page_bytes
         {
-            return Outcome::Fault(fault_of(self.job.flight));
+            return self.refused();
         }
         run_job(
             self.die,
@@ -81,6 +94,40 @@ impl<A: Allocator> Order<A> {
             buffer,
             gate,
         )
+    }
+
+    /// The same, but that a read's slot is only read: it stands as a bad one, and is to be opened.
+    pub(crate) fn begin<I: Image, G: Gate>(
+        &self,
+        image: &mut I,
+        scratch: &mut [u8],
+        buffer: &mut [u8],
+        gate: &G,
+    ) -> Outcome
+        ensures scratch { length scratch.new ≡ length scratch.old }
+        ensures buffer { length buffer.new ≡ length buffer.old }
+    {
+        let Flight::Read { slot, .. } = self.job.flight else {
+            return self.run(image, scratch, buffer, gate);
+        };
+        let geometry = image.geometry();
+        if geometry != self.geometry || scratch.len() != self.slot_len() {
+            return self.refused();
+        }
+        gate.before(self.die, ImageCallKind::ReadSlot);
+        let read = image.read_slot(slot, scratch);
+        gate.after(self.die, ImageCallKind::ReadSlot);
+        match read {
+            Ok(()) => Outcome::Read(Opened::Bad),
+            Err(fault) => Outcome::Fault(fault),
+        }
+    }
+
+    /// How many bytes a slot has.
+    fn slot_len(&self) -> usize
+        ensures { result ≡ self.now.geometry.page_bytes + 64 }
+    {
+        self.geometry.page_bytes as usize + TAG_BYTES
     }
 }
 

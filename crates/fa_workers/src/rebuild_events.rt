@@ -7,13 +7,13 @@ ghost use Rattle.fa_workers.specs.Held.{LeavesRest};
 ghost use Rattle.fa_workers.specs.Rebuilding.{AfterBatch, IsNumbered, Rebuilds, after_admit, after_commit as rule_commit, after_reserve};
 ghost use Rattle.fa_workers.specs.declared.rebuild_stage.Stage.TheVariants.{Looking, Pausing, Reading, Reserving, Copying};
 
-use crate::events::{make, plain};
+use crate::events::make;
 use crate::rebuild_stage::{Stage, ThinPage};
 use crate::spares::bring_in_spare;
 use fa_core::{Admitted, Answer, Call};
 use fa_machine::{AdmitRefused, BatchId, CommitCopyRefused, Copied, ReadState, ReserveCopyRefused};
 use fa_map::Map;
-use fa_shared::{Locked, Seat};
+use fa_shared::{Locked, Seat, plain};
 use fa_tag::Payload;
 use fa_types::Page;
 use std::alloc::{Allocator, Global};

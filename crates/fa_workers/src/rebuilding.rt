@@ -2,19 +2,20 @@
 use crate::rebuild_events::{Came, turn};
 use crate::rebuild_stage::{Stage, ThinPage};
 use fa_map::Map;
-use fa_shared::{Seat, Shared, Waiter};
+use fa_shared::{Awaits, Seat, Shared};
 use fa_tag::Payload;
 use fa_types::Page;
 use std::alloc::Allocator;
 use std::sync::Wait;
 use std::sync::ledger::Ledger;
+use std::time::Clock;
 
 /// Brings in spares while a die is live, and gives each thin page one more copy, until the array is to end.
 ///
 /// It reads a thin page by a batch of its own, hashes what it read with no lock held, reserves one more copy of the write that it saw
 /// before the read, and waits until that copy is current. A batch that is open as the array is to end is ended at once; a copy that is under way
 /// is seen through. Where it has nothing to do, or memory is refused, it waits for a change.
-pub fn rebuild_worker<R: Wait, L: Ledger, M: Map + Drop, A: Allocator + Copy>(
+pub fn rebuild_worker<R: Wait + Clock, L: Ledger, M: Map + Drop, A: Allocator + Copy>(
     rt: &R,
     alloc: A,
     shared: &Shared<L, M, A>,
@@ -31,7 +32,7 @@ pub fn rebuild_worker<R: Wait, L: Ledger, M: Map + Drop, A: Allocator + Copy>(
 }
 
 /// Makes turns until there is a page to be hashed, or the rebuilder has ended. The lock is free while it waits, and behind.
-fn make_turns<R: Wait, L: Ledger, M: Map + Drop, A: Allocator + Copy>(
+fn make_turns<R: Wait + Clock, L: Ledger, M: Map + Drop, A: Allocator + Copy>(
     rt: &R,
     alloc: A,
     shared: &Shared<L, M, A>,
@@ -44,19 +45,28 @@ fn make_turns<R: Wait, L: Ledger, M: Map + Drop, A: Allocator + Copy>(
         let turned = turn(alloc, &mut guard, seat, stage);
         stage = turned.stage;
         match turned.came {
-            Came::Told => {
-                shared.tell(Waiter::Die);
-                shared.tell(Waiter::Job);
-                shared.tell(Waiter::Request);
-            }
+            Came::Told => guard.note_change(),
             Came::More => {}
-            Came::Wait => guard = shared.wait(rt, Waiter::Keeper, guard),
+            Came::Wait => {
+                let awaits = awaits_of(&stage);
+                guard = shared.sleep(rt, seat, awaits, guard);
+            }
         }
         if matches!(stage, Stage::Read(..) | Stage::Ended) {
             break;
         }
     }
+    shared.release(seat, guard);
     stage
+}
+
+/// What the rebuilder waits for, where it is so far.
+fn awaits_of<A: Allocator>(stage: &Stage<A>) -> Awaits {
+    match stage {
+        Stage::Reading(_, batch) => Awaits::Batch(*batch),
+        Stage::Looking | Stage::Pausing => Awaits::ThinPage,
+        _ => Awaits::Change,
+    }
 }
 
 /// Hashes the page that was read. Out of memory, the rebuilder waits for a change.

@@ -5,11 +5,11 @@ ghost use Rattle.fa_machine.specs.Step.{SpareIn, Step};
 ghost use Rattle.fa_workers.specs.Held.{LeavesRest};
 ghost use Rattle.fa_workers.specs.Spares.{BringsIn, BringsInOne, live_below, wants_spare as rule_wants};
 
-use crate::events::{make, plain};
+use crate::events::make;
 use fa_core::{Answer, Array, Call};
 use fa_machine::SpareRefused;
 use fa_map::Map;
-use fa_shared::{Locked, Seat};
+use fa_shared::{Locked, Seat, plain};
 use fa_types::Die;
 use std::alloc::Allocator;
 use std::sync::ledger::Ledger;

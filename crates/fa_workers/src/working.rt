@@ -1,4 +1,5 @@
 //! The worker of a die.
+use crate::bench::Bench;
 use crate::die_events::{Ended, Next, end_job, turn};
 use crate::gate::Gate;
 use crate::order::Order;
@@ -6,11 +7,13 @@ use crate::room::Room;
 use fa_ends::Outcome;
 use fa_image::Image;
 use fa_map::Map;
-use fa_shared::{Seat, Shared, Waiter};
+use fa_shared::{Awaits, Seat, Shared};
 use fa_types::Die;
 use std::alloc::{Allocator, Global};
+use std::mem::replace;
 use std::sync::Wait;
 use std::sync::ledger::Ledger;
+use std::time::Clock;
 
 /// What a die's worker has behind a job.
 #[derive(Drop)]
@@ -21,39 +24,45 @@ struct Behind<A: Allocator = Global> {
 
 /// Works for a die until the array is to end and the die has nothing to do.
 ///
-/// It takes the die's jobs one by one, makes the calls of each on the image with no lock held, and ends it: the end of a job and the Take
-/// of the next are made in one hold of the lock. Where the die has no job it lets the round pass, if it may, and else waits. It tells the
-/// others of each change, and notes why the die went out, if it did; the worker of a die that is out, or of a spare, waits.
+/// It takes the die's jobs one by one, makes the calls of each on the image with the array's lock free, and ends it: the end of a job and the
+/// Take of the next are made in one hold of the lock. Where the die has no job it lets the round pass, if it may, and else waits; others may
+/// take the die's jobs too. It notes why the die went out, if it did; the worker of a die that is out, or of a spare, waits.
 ///
 /// An image of another geometry than the array's refuses each job. A room that was made for pages of another size ends no job.
-pub fn die_worker<R: Wait, L: Ledger, M: Map + Drop, A: Allocator + Copy, I: Image, G: Gate>(
+pub fn die_worker<
+    R: Wait + Clock,
+    L: Ledger,
+    M: Map + Drop,
+    A: Allocator + Copy,
+    I: Image + Drop,
+    B: Allocator,
+    G: Gate,
+>(
     rt: &R,
     alloc: A,
     shared: &Shared<L, M, A>,
     seat: &mut Seat<L>,
     die: Die,
-    image: &mut I,
+    bench: &Bench<I, B>,
     room: Room<A>,
     gate: &G,
 ) {
-    let Room {
-        mut scratch,
-        mut buffer,
-    } = room;
+    let mut room = room;
     let mut next = None;
     for _ in rt.forever() {
         let Some(order) = next_order(rt, alloc, shared, seat, die, next) else {
             break;
         };
-        let outcome = order.run(image, scratch.as_mut_slice(), buffer.as_mut_slice(), gate);
+        let outcome = bench.run(rt, &order, &mut room, gate);
+        let buffer = replace(&mut room.buffer, Vec::new(alloc));
         let behind = finish(rt, alloc, shared, seat, die, outcome, buffer);
-        buffer = behind.buffer;
+        room.buffer = behind.buffer;
         next = behind.next;
     }
 }
 
 /// The job that was taken already, or the next one, which is waited for. None where there is none and the array is to end.
-fn next_order<R: Wait, L: Ledger, M: Map + Drop, A: Allocator + Copy>(
+fn next_order<R: Wait + Clock, L: Ledger, M: Map + Drop, A: Allocator + Copy>(
     rt: &R,
     alloc: A,
     shared: &Shared<L, M, A>,
@@ -68,7 +77,7 @@ fn next_order<R: Wait, L: Ledger, M: Map + Drop, A: Allocator + Copy>(
 }
 
 /// Waits for the die's next job. None where there is none and the array is to end.
-fn wait_for_order<R: Wait, L: Ledger, M: Map + Drop, A: Allocator + Copy>(
+fn wait_for_order<R: Wait + Clock, L: Ledger, M: Map + Drop, A: Allocator + Copy>(
     rt: &R,
     alloc: A,
     shared: &Shared<L, M, A>,
@@ -78,26 +87,25 @@ fn wait_for_order<R: Wait, L: Ledger, M: Map + Drop, A: Allocator + Copy>(
     let mut guard = shared.lock(rt);
     for _ in rt.forever() {
         match turn(alloc, &mut guard, seat, die) {
-            Next::Run(order) => return Some(order),
-            Next::Again => {
-                shared.tell(Waiter::Die);
-                shared.tell(Waiter::Job);
-                shared.tell(Waiter::Request);
-                shared.tell(Waiter::Keeper);
+            Next::Run(order) => {
+                shared.release(seat, guard);
+                return Some(order);
             }
+            Next::Again => guard.note_change(),
             Next::Rest => {
                 if guard.is_stopping() {
+                    shared.release(seat, guard);
                     return None;
                 }
-                guard = shared.wait(rt, Waiter::Die, guard);
+                guard = shared.sleep(rt, seat, Awaits::Job(die), guard);
             }
         }
     }
     unreachable!()
 }
 
-/// Ends a job and makes the die's next turn, and one more where the round has risen, in one hold, and tells the others. Behind the hold it
-/// notes why the die went out, if it did.
+/// Ends a job and makes the die's next turn, and one more where the round has risen, in one hold. Behind the hold it notes why the die went
+/// out, if it did.
 fn finish<R: Wait, L: Ledger, M: Map + Drop, A: Allocator + Copy>(
     rt: &R,
     alloc: A,
@@ -110,18 +118,10 @@ fn finish<R: Wait, L: Ledger, M: Map + Drop, A: Allocator + Copy>(
     let mut guard = shared.lock(rt);
     let Ended { buffer, fault } = end_job(alloc, &mut guard, seat, die, outcome, buffer);
     let mut turned = turn(alloc, &mut guard, seat, die);
-    let has_advanced = matches!(turned, Next::Again);
-    if has_advanced {
+    if matches!(turned, Next::Again) {
         turned = turn(alloc, &mut guard, seat, die);
     }
-    let is_quiet = fault.is_none() && is_of_requests(outcome);
-    drop(guard);
-    shared.tell(Waiter::Job);
-    shared.tell(Waiter::Request);
-    shared.tell(Waiter::Keeper);
-    if has_advanced || !is_quiet {
-        shared.tell(Waiter::Die);
-    }
+    shared.release(seat, guard);
     if let Some(fault) = fault {
         shared.note_fault(rt, fault);
     }
@@ -130,9 +130,4 @@ fn finish<R: Wait, L: Ledger, M: Map + Drop, A: Allocator + Copy>(
         Next::Again | Next::Rest => None,
     };
     Behind { buffer, next }
-}
-
-/// Whether a job that ended so was one of a request or of a copy, which changes nothing for other dies.
-fn is_of_requests(outcome: Outcome) -> bool {
-    matches!(outcome, Outcome::Read(_) | Outcome::Programmed)
 }

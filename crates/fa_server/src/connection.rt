@@ -1,0 +1,252 @@
+//! A client's connection as its session uses it: requests are read ahead, and replies are held until the client has nothing more to say.
+ghost use Rattle.std.specs.Prelude.{◌≤◌, length};
+
+use fa_io::WriteBoth;
+use std::alloc::{AllocError, Global};
+use std::cell::{Cell, RefCell};
+use std::io::{self, ErrorKind, Read, Write};
+use std::net::TcpStream;
+
+/// How many bytes are read ahead at most.
+const AHEAD_BYTES: usize = 8192;
+
+/// How many bytes of replies are held at most.
+const HELD_BYTES: usize = 65_536;
+
+/// Memory for a connection. It is made before the session's thread is started.
+#[derive(Drop)]
+pub(crate) struct ConnectionRoom {
+    ahead: Vec<u8>,
+    held: Vec<u8>,
+}
+
+impl ConnectionRoom {
+    /// Memory for both sides. The error is out of memory.
+    pub(crate) fn new(global: Global) -> Result<ConnectionRoom, AllocError> {
+        Ok(ConnectionRoom {
+            ahead: vec![in global; 0u8; AHEAD_BYTES]?,
+            held: Vec::with_capacity(global, HELD_BYTES)?,
+        })
+    }
+}
+
+/// The two sides of a connection: what was read ahead, and the replies that are held. It is used for one client after another.
+#[derive(Drop)]
+pub(crate) struct Connection {
+    ahead: Ahead,
+    held: Held,
+}
+
+impl Connection {
+    /// A connection in this memory.
+    pub(crate) fn new(room: ConnectionRoom) -> Connection {
+        let ConnectionRoom { ahead, held } = room;
+        Connection {
+            ahead: Ahead {
+                bytes: ahead,
+                from: 0,
+                to: 0,
+            },
+            held: Held {
+                replies: RefCell::new(held),
+                has_last_word: Cell::new(false),
+            },
+        }
+    }
+
+    /// The reader and the writer of a client whose stream this is. Of the client before nothing is left.
+    pub(crate) fn sides<'a>(
+        &'a mut self,
+        stream: &'a TcpStream,
+    ) -> (RequestReader<'a>, ReplyWriter<'a>) {
+        let Connection { ahead, held } = self;
+        ahead.clear();
+        held.clear();
+        let held = &*held;
+        let reader = RequestReader {
+            stream,
+            ahead,
+            held,
+            has_heard: false,
+        };
+        (reader, ReplyWriter { stream, held })
+    }
+}
+
+/// Bytes that were read and not used yet.
+#[derive(Drop)]
+struct Ahead {
+    bytes: Vec<u8>,
+    from: usize,
+    to: usize,
+}
+
+impl Ahead {
+    /// Nothing was read.
+    fn clear(&mut self) {
+        self.from = 0;
+        self.to = 0;
+    }
+
+    /// Whether all that was read is used.
+    fn is_empty(&self) -> bool {
+        self.from >= self.to
+    }
+
+    /// Reads as much as there is, and waits where there is nothing.
+    fn fill(&mut self, stream: &TcpStream) -> io::Result<()> {
+        let mut stream = stream;
+        let count = stream.read(self.bytes.as_mut_slice())?;
+        self.from = 0;
+        self.to = count;
+        Ok(())
+    }
+
+    /// Gives the next bytes, as many as there are and as fit, and answers how many these are.
+    fn give(&mut self, out: &mut [u8]) -> usize
+        ensures { result ≤ length out.old }
+    {
+        let rest = self.bytes.get(self.from..self.to).unwrap_or(&[]);
+        let count = rest.len().min(out.len());
+        out[..count].copy_from_slice(&rest[..count]);
+        self.from = self.from.saturating_add(count);
+        count
+    }
+}
+
+/// Replies that were not sent yet.
+#[derive(Drop)]
+struct Held {
+    // Both sides of a connection use it, and never at once.
+    replies: RefCell<Vec<u8>>,
+    // The session has said something since it used what the client said.
+    has_last_word: Cell<bool>,
+}
+
+impl Held {
+    /// None is held.
+    fn clear(&self) {
+        if let Ok(mut replies) = self.replies.try_borrow_mut() {
+            replies.clear();
+        }
+        self.has_last_word.set(false);
+    }
+
+    /// Holds these bytes, one run behind the other, if there is room.
+    fn push(&self, first: &[u8], second: &[u8]) -> bool {
+        let Ok(mut replies) = self.replies.try_borrow_mut() else {
+            return false;
+        };
+        let room = HELD_BYTES.saturating_sub(replies.len());
+        if first.len() > room || second.len() > room - first.len() {
+            return false;
+        }
+        let len = replies.len();
+        if replies.extend_from_slice(first).is_ok() && replies.extend_from_slice(second).is_ok() {
+            return true;
+        }
+        replies.truncate(len);
+        false
+    }
+
+    /// Sends all that is held. Where it cannot be sent it is given up.
+    fn send(&self, stream: &TcpStream) -> io::Result<()> {
+        let Ok(mut replies) = self.replies.try_borrow_mut() else {
+            return Err(io::Error::from(ErrorKind::Other));
+        };
+        if replies.is_empty() {
+            return Ok(());
+        }
+        let mut stream = stream;
+        let sent = stream.write_all(replies.as_slice());
+        replies.clear();
+        sent
+    }
+}
+
+/// Reads requests, and sends the replies that are held before it waits for a client. Between requests it waits as long as the client likes.
+/// For the first byte of a client, and for the rest of what it began to say, it waits no longer than the socket's limit for reads.
+#[derive(Drop)]
+pub(crate) struct RequestReader<'a> {
+    stream: &'a TcpStream,
+    ahead: &'a mut Ahead,
+    held: &'a Held,
+    // The client has said something.
+    has_heard: bool,
+}
+
+impl<'a> RequestReader<'a> {
+    /// Reads more of what the client says.
+    fn fill(&mut self) -> io::Result<()> {
+        for _ in 0..u64::MAX {
+            match self.ahead.fill(self.stream) {
+                Err(fault) if is_timeout(fault.kind()) && self.is_between_requests() => {}
+                filled => return filled,
+            }
+        }
+        Ok(())
+    }
+
+    /// Whether the client was answered all that it has said.
+    fn is_between_requests(&self) -> bool {
+        self.has_heard && self.held.has_last_word.get()
+    }
+}
+
+impl<'a> Read for RequestReader<'a> {
+    fn read(&mut self, buf: &mut [u8]) -> io::Result<usize> {
+        if self.ahead.is_empty() {
+            self.held.send(self.stream)?;
+            if buf.len() >= AHEAD_BYTES {
+                let mut stream = self.stream;
+                return stream.read(buf);
+            }
+            self.fill()?;
+        }
+        self.has_heard = true;
+        self.held.has_last_word.set(false);
+        Ok(self.ahead.give(buf))
+    }
+}
+
+/// Whether a read has come to the socket's limit of time.
+fn is_timeout(kind: ErrorKind) -> bool {
+    matches!(kind, ErrorKind::WouldBlock | ErrorKind::TimedOut)
+}
+
+/// Holds replies as long as there is room for them, and sends them before what is too long to be held.
+#[derive(Drop)]
+pub(crate) struct ReplyWriter<'a> {
+    stream: &'a TcpStream,
+    held: &'a Held,
+}
+
+impl<'a> Write for ReplyWriter<'a> {
+    fn write(&mut self, buf: &[u8]) -> io::Result<usize> {
+        self.held.has_last_word.set(true);
+        if self.held.push(buf, &[]) {
+            return Ok(buf.len());
+        }
+        self.held.send(self.stream)?;
+        let mut stream = self.stream;
+        stream.write(buf)
+    }
+
+    fn flush(&mut self) -> io::Result<()> {
+        self.held.send(self.stream)
+    }
+}
+
+impl<'a> WriteBoth for ReplyWriter<'a> {
+    fn write_both(&mut self, first: &[u8], second: &[u8]) -> io::Result<usize> {
+        self.held.has_last_word.set(true);
+        if let Some(len) = first.len().checked_add(second.len()) {
+            if self.held.push(first, second) {
+                return Ok(len);
+            }
+        }
+        self.held.send(self.stream)?;
+        let mut stream = self.stream;
+        stream.write_both(first, second)
+    }
+}

@@ -1,0 +1,38 @@
+//! Whoever makes jobs of dies while a request waits for them.
+use crate::locked::Locked;
+use crate::seat::Seat;
+use fa_map::Map;
+use std::alloc::Allocator;
+use std::sync::ledger::Ledger;
+
+/// Somebody who makes jobs of an array's dies. In one hold of the array's lock jobs are taken, behind it their calls are made, and in the
+/// next hold they are ended.
+pub trait Hands<L: Ledger, M: Map + Drop, A: Allocator + Copy> {
+    /// Takes jobs of dies that nobody works for, with the lock held. Whether there are any.
+    fn take(&mut self, locked: &mut Locked<L, M, A>, seat: &mut Seat<L>) -> bool;
+
+    /// Makes the calls of the jobs that were taken, with no lock held.
+    fn work(&mut self);
+
+    /// Ends the jobs whose calls were made, with the lock held.
+    fn end(&mut self, locked: &mut Locked<L, M, A>, seat: &mut Seat<L>);
+
+    /// Notes why dies went out, if some did as their jobs ended, with no lock held.
+    fn note(&mut self);
+}
+
+/// Somebody who makes none.
+#[derive(Clone, Copy, Debug)]
+pub struct NoHands;
+
+impl<L: Ledger, M: Map + Drop, A: Allocator + Copy> Hands<L, M, A> for NoHands {
+    fn take(&mut self, _locked: &mut Locked<L, M, A>, _seat: &mut Seat<L>) -> bool {
+        false
+    }
+
+    fn work(&mut self) {}
+
+    fn end(&mut self, _locked: &mut Locked<L, M, A>, _seat: &mut Seat<L>) {}
+
+    fn note(&mut self) {}
+}

@@ -1,0 +1,89 @@
+//! The images of an array's dies, for all who work for the dies.
+use crate::gate::Gate;
+use crate::order::Order;
+use crate::room::Room;
+use fa_ends::Outcome;
+use fa_image::Image;
+use fa_types::Die;
+use std::alloc::{AllocError, Allocator, Global};
+use std::sync::{Mutex, Wait};
+
+/// The images of an array's dies, each behind a lock of its own. A die has one job at a time, and its image is locked for that job alone, so
+/// nobody waits long for an image.
+#[derive(Drop)]
+pub struct Bench<I: Drop, A: Allocator = Global> {
+    // By the numbers of the dies.
+    images: Vec<Mutex<Option<I>>, A>,
+}
+
+impl<I: Drop, A: Allocator> Bench<I, A> {
+    /// The images, by the numbers of their dies. None where a die has none. The error is out of memory.
+    pub fn new<B: Allocator>(
+        alloc: A,
+        images: Vec<Option<I>, B>,
+    ) -> Result<Bench<I, A>, AllocError> {
+        let mut locks = Vec::with_capacity(alloc, images.len())?;
+        for image in images {
+            locks.push(Mutex::new(image))?;
+        }
+        Ok(Bench { images: locks })
+    }
+
+    /// The image of a die, if it is there. Then it is there no more.
+    pub fn lift(&mut self, die: Die) -> Option<I> {
+        match self.images.get_mut(die.0 as usize) {
+            Some(lock) => lock.get_mut().take(),
+            None => None,
+        }
+    }
+}
+
+impl<I: Image + Drop, A: Allocator> Bench<I, A> {
+    /// Makes the calls of a job on its die's image, which is locked meanwhile, and tells how the job ended. A read's slot is in the room's
+    /// scratch behind it and is not opened: it stands as a bad one.
+    pub(crate) fn begin<R: Wait, B: Allocator, G: Gate>(
+        &self,
+        rt: &R,
+        order: &Order<B>,
+        room: &mut Room<B>,
+        gate: &G,
+    ) -> Outcome {
+        let Some(lock) = self.images.get(order.die().0 as usize) else {
+            return order.refused();
+        };
+        let mut guard = lock.lock(rt);
+        match &mut *guard {
+            Some(image) => order.begin(
+                image,
+                room.scratch.as_mut_slice(),
+                room.buffer.as_mut_slice(),
+                gate,
+            ),
+            None => order.refused(),
+        }
+    }
+
+    /// Makes the calls of a job on its die's image, which is locked meanwhile, and tells how the job ended. Where the die has no image the job
+    /// is refused as the image would refuse it.
+    pub(crate) fn run<R: Wait, B: Allocator, G: Gate>(
+        &self,
+        rt: &R,
+        order: &Order<B>,
+        room: &mut Room<B>,
+        gate: &G,
+    ) -> Outcome {
+        let Some(lock) = self.images.get(order.die().0 as usize) else {
+            return order.refused();
+        };
+        let mut guard = lock.lock(rt);
+        match &mut *guard {
+            Some(image) => order.run(
+                image,
+                room.scratch.as_mut_slice(),
+                room.buffer.as_mut_slice(),
+                gate,
+            ),
+            None => order.refused(),
+        }
+    }
+}

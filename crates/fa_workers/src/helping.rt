@@ -1,0 +1,265 @@
+//! Those who work for dies while they wait for something else.
+use crate::bench::Bench;
+use crate::die_events::{Ended, end_job, take_job};
+use crate::gate::Gate;
+use crate::order::Order;
+use crate::room::Room;
+use fa_ends::Outcome;
+use fa_image::Image;
+use fa_map::Map;
+use fa_shared::{Fault, Hands, Locked, Seat, Shared};
+use fa_tag::{Opened, open, open_all};
+use fa_types::Die;
+use std::alloc::{AllocError, Allocator, Global};
+use std::mem::replace;
+use std::sync::Wait;
+use std::sync::ledger::Ledger;
+use std::time::{Clock, Duration, Instant};
+
+/// How many jobs somebody who helps takes at most in one hold.
+const MAX_JOBS: usize = 8;
+
+/// From how many reads on they are hashed side by side: eight side by side take about the time of three one by one.
+const FEW_READS: usize = 4;
+
+/// How long the calls of a job take at most, in microseconds, that are said to take little time.
+const QUICK_MICROSECONDS: u64 = 50;
+
+/// Memory for the jobs of somebody who helps. It is made before the helper's thread is started.
+#[derive(Drop)]
+pub struct HelperRoom<A: Allocator = Global> {
+    rooms: Vec<Room<A>, A>,
+    orders: Vec<Order<A>, A>,
+    outcomes: Vec<Outcome, A>,
+    faults: Vec<Fault, A>,
+}
+
+impl<A: Allocator + Copy> HelperRoom<A> {
+    /// Memory for the jobs of dies whose pages have so many bytes. The error is out of memory.
+    pub fn new(alloc: A, page_bytes: u32) -> Result<HelperRoom<A>, AllocError> {
+        let mut rooms = Vec::with_capacity(alloc, MAX_JOBS)?;
+        for _ in 0..MAX_JOBS {
+            rooms.push(Room::new(alloc, page_bytes)?)?;
+        }
+        Ok(HelperRoom {
+            rooms,
+            orders: Vec::with_capacity(alloc, MAX_JOBS)?,
+            outcomes: Vec::with_capacity(alloc, MAX_JOBS)?,
+            faults: Vec::with_capacity(alloc, MAX_JOBS)?,
+        })
+    }
+}
+
+/// Somebody who makes jobs of dies while a request waits for them: one at a time where the images are slow, so that others make those of the
+/// other dies beside it, and several in a row where they are quick.
+#[derive(Drop)]
+pub struct Helper<
+    'a,
+    R: Wait + Clock,
+    L: Ledger,
+    M: Map + Drop,
+    A: Allocator + Copy,
+    I: Image + Drop,
+    B: Allocator,
+    G: Gate,
+> {
+    rt: &'a R,
+    alloc: A,
+    shared: &'a Shared<L, M, A>,
+    bench: &'a Bench<I, B>,
+    gate: &'a G,
+    room: HelperRoom<A>,
+    // The last calls of images took little time.
+    is_quick: bool,
+}
+
+impl<
+    'a,
+    R: Wait + Clock,
+    L: Ledger,
+    M: Map + Drop,
+    A: Allocator + Copy,
+    I: Image + Drop,
+    B: Allocator,
+    G: Gate,
+> Helper<'a, R, L, M, A, I, B, G> {
+    /// Somebody who helps at the dies of this array, whose images are these.
+    pub fn new(
+        rt: &'a R,
+        alloc: A,
+        shared: &'a Shared<L, M, A>,
+        bench: &'a Bench<I, B>,
+        gate: &'a G,
+        room: HelperRoom<A>,
+    ) -> Helper<'a, R, L, M, A, I, B, G> {
+        Helper {
+            rt,
+            alloc,
+            shared,
+            bench,
+            gate,
+            room,
+            is_quick: false,
+        }
+    }
+}
+
+impl<
+    'a,
+    R: Wait + Clock,
+    L: Ledger,
+    M: Map + Drop,
+    A: Allocator + Copy,
+    I: Image + Drop,
+    B: Allocator,
+    G: Gate,
+> Hands<L, M, A> for Helper<'a, R, L, M, A, I, B, G> {
+    fn take(&mut self, locked: &mut Locked<L, M, A>, seat: &mut Seat<L>) -> bool {
+        locked.settle(seat);
+        let most = if self.is_quick { MAX_JOBS } else { 1 };
+        take_jobs(self.alloc, locked, seat, most, &mut self.room.orders);
+        !self.room.orders.is_empty()
+    }
+
+    fn work(&mut self) {
+        let HelperRoom {
+            rooms,
+            orders,
+            outcomes,
+            ..
+        } = &mut self.room;
+        let start = Instant::now(self.rt).ok();
+        for (order, room) in orders.iter().zip(rooms.iter_mut()) {
+            let _ = outcomes.push(self.bench.begin(self.rt, order, room, self.gate));
+        }
+        self.is_quick = is_quick(self.rt, start, orders.len());
+        open_reads(rooms.as_mut_slice(), outcomes.as_mut_slice());
+    }
+
+    fn end(&mut self, locked: &mut Locked<L, M, A>, seat: &mut Seat<L>) {
+        let HelperRoom {
+            rooms,
+            orders,
+            outcomes,
+            faults,
+        } = &mut self.room;
+        for ((order, room), outcome) in orders.iter().zip(rooms.iter_mut()).zip(outcomes.iter()) {
+            let buffer = replace(&mut room.buffer, Vec::new(self.alloc));
+            let Ended { buffer, fault } = end_job(
+                self.alloc,
+                locked,
+                seat,
+                order.die(),
+                *outcome,
+                buffer,
+            );
+            room.buffer = buffer;
+            if let Some(fault) = fault {
+                let _ = faults.push(fault);
+            }
+        }
+        orders.clear();
+        outcomes.clear();
+    }
+
+    fn note(&mut self) {
+        for fault in self.room.faults.iter() {
+            self.shared.note_fault(self.rt, *fault);
+        }
+        self.room.faults.clear();
+    }
+}
+
+/// Whether the calls of so many jobs, begun then, took little time.
+fn is_quick<R: Clock>(rt: &R, start: Option<Instant>, jobs: usize) -> bool {
+    let Some(start) = start else {
+        return false;
+    };
+    match start.elapsed(rt) {
+        Ok(took) => took <= Duration::from_micros(QUICK_MICROSECONDS.saturating_mul(jobs as u64)),
+        Err(_) => false,
+    }
+}
+
+/// Takes the next jobs of dies that have one, this many at most, as long as there is room for one more.
+fn take_jobs<L: Ledger, M: Map + Drop, A: Allocator + Copy>(
+    alloc: A,
+    locked: &mut Locked<L, M, A>,
+    seat: &mut Seat<L>,
+    most: usize,
+    orders: &mut Vec<Order<A>, A>,
+) {
+    for number in 0..locked.array().geometry().dies {
+        if orders.len() >= most || orders.len() == orders.capacity() {
+            return;
+        }
+        if let Some(order) = take_job(alloc, locked, seat, Die(number as u8)) {
+            let _ = orders.push(order);
+        }
+    }
+}
+
+/// Opens what reads gave, and hands out the payloads. A read whose slot is not opened yet stands as one of a bad slot. Where several jobs
+/// are reads their slots are hashed side by side.
+fn open_reads<A: Allocator>(rooms: &mut [Room<A>], outcomes: &mut [Outcome]) {
+    let reads = outcomes
+        .iter()
+        .filter(|outcome| matches!(outcome, Outcome::Read(_)))
+        .count();
+    if reads < FEW_READS {
+        open_each(rooms, outcomes);
+        return;
+    }
+    let opened = open_slots(rooms);
+    for ((room, outcome), opened) in rooms.iter_mut().zip(outcomes.iter_mut()).zip(opened.iter()) {
+        if matches!(outcome, Outcome::Read(_)) {
+            *outcome = Outcome::Read(*opened);
+            hand_out(room);
+        }
+    }
+}
+
+/// The same, one by one.
+fn open_each<A: Allocator>(rooms: &mut [Room<A>], outcomes: &mut [Outcome]) {
+    for (room, outcome) in rooms.iter_mut().zip(outcomes.iter_mut()) {
+        if matches!(outcome, Outcome::Read(_)) {
+            *outcome = Outcome::Read(open(room.scratch.as_slice()));
+            hand_out(room);
+        }
+    }
+}
+
+/// What stands in the memory of all rooms, as slots, hashed side by side.
+fn open_slots<A: Allocator>(rooms: &[Room<A>]) -> [Opened; MAX_JOBS] {
+    let mut opened = [Opened::Bad; MAX_JOBS];
+    open_all(
+        &[
+            slot_in(rooms, 0),
+            slot_in(rooms, 1),
+            slot_in(rooms, 2),
+            slot_in(rooms, 3),
+            slot_in(rooms, 4),
+            slot_in(rooms, 5),
+            slot_in(rooms, 6),
+            slot_in(rooms, 7),
+        ],
+        &mut opened,
+    );
+    opened
+}
+
+/// The memory for a slot in the room of this place. None there has no bytes.
+fn slot_in<A: Allocator>(rooms: &[Room<A>], place: usize) -> &[u8] {
+    match rooms.get(place) {
+        Some(room) => room.scratch.as_slice(),
+        None => &[],
+    }
+}
+
+/// The payload of the slot that was read goes to where a read hands it out.
+fn hand_out<A: Allocator>(room: &mut Room<A>) {
+    let len = room.buffer.len();
+    if let Some(front) = room.scratch.get(..len) {
+        room.buffer.copy_from_slice(front);
+    }
+}
