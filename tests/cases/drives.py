@@ -1,5 +1,6 @@
-"""Whole arrays over images that fail, in an order that a seed settles. The program compares each page that is answered with a plain
-array, and checks each certificate. Here it is looked at whether all that can come in so many events did come.
+"""Whole arrays over images that fail and that lie, mounted, closed and mounted again, in an order that a seed settles. The program
+compares each page that is answered with a plain array, and checks each certificate and each clean mark. Here it is looked at whether all
+that can come in so many events did come.
 """
 from cases import Case, Like, Run
 
@@ -7,17 +8,16 @@ PROGRAM = "flasharr_driver"
 EVENTS = 100_000
 SEEDS = (1, 2)
 
-# What no run of so many events comes to: a calendar of a million closed rounds, numbers of rounds and flushes that are spent, and wrong
-# bytes, which these images do not give.
+# What no run of so many events comes to: a calendar of a million closed rounds, and numbers of rounds and flushes that are spent.
 NEVER = {
     "admit refused: calendar full", "admit refused: no rounds left", "replan refused: calendar full", "replan refused: no rounds left",
-    "advance refused: no round left", "flush begin refused: no flush left", "done read of another slot", "done wrong move",
+    "advance refused: no round left", "flush begin refused: no flush left",
 }
 
 # What comes so seldom that a run may be without it.
 SELDOM = {
     "claim refused: out of memory", "reserve refused: out of memory", "replan refused: out of memory", "window refused: out of memory",
-    "reserve copy refused: out of memory", "commit copy refused: failed", "done fault: header",
+    "reserve copy refused: out of memory", "commit copy refused: failed", "done fault: header", "close refused: no die live",
 }
 
 

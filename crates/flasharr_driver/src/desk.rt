@@ -2,7 +2,7 @@
 use crate::random::Random;
 use crate::seen::{Seen, Tally};
 use crate::told::Told;
-use std::alloc::Allocator;
+use std::alloc::{Allocator, Global};
 
 /// The most differences that are told one by one.
 const MAX_TOLD: u64 = 20;
@@ -11,6 +11,8 @@ const MAX_TOLD: u64 = 20;
 #[derive(Drop)]
 pub(crate) struct Desk<B: Allocator> {
     pub(crate) alloc: B,
+    /// Where small heaps come from.
+    pub(crate) global: Global,
     pub(crate) random: Random,
     pub(crate) told: Told<B>,
     /// How many events were made.
@@ -28,9 +30,10 @@ pub(crate) struct Desk<B: Allocator> {
 }
 
 impl<B: Allocator + Copy> Desk<B> {
-    pub(crate) fn new(alloc: B, seed: u64) -> Desk<B> {
+    pub(crate) fn new(alloc: B, global: Global, seed: u64) -> Desk<B> {
         Desk {
             alloc,
+            global,
             random: Random::new(seed),
             told: Told::new(alloc),
             events: 0,

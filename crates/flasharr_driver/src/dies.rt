@@ -37,6 +37,23 @@ pub(crate) fn work<M: Map, A: Allocator + Copy, B: Allocator + Copy>(
     }
 }
 
+/// A die ends its job, if it has one. The error is out of memory.
+pub(crate) fn end_job<M: Map, A: Allocator + Copy, B: Allocator + Copy>(
+    array: &mut Array<M, A>,
+    heap: A,
+    life: &mut Life<A, B>,
+    desk: &mut Desk<B>,
+    die: Die,
+) -> Result<(), AllocError>
+    requires { IsWhole M.view array.old }
+    ensures { IsWhole M.view array.new }
+{
+    match life.land(die) {
+        Some(flying) => finish(array, heap, life, desk, die, flying),
+        None => Ok(()),
+    }
+}
+
 /// A die takes a job, and makes its calls. The error is out of memory.
 fn take<M: Map, A: Allocator + Copy, B: Allocator + Copy>(
     array: &mut Array<M, A>,

@@ -1,47 +1,241 @@
 //! The images of an array's dies.
-use fa_image::{FuseImage, Image, MemImage};
-use fa_types::{Die, Geometry};
+ghost use Rattle.std.specs.Prelude.{◌≡◌, IfOk, length};
+ghost use Rattle.std.specs.List.{AllByRecursion};
+ghost use Rattle.fa_image.specs.Fuse.{fused_view};
+ghost use Rattle.fa_image.specs.Memory.{mem_image_view};
+ghost use Rattle.fa_image.specs.Wrong.{wrong_view};
+
+use crate::life::die_of;
+use fa_headers::{format, format_1};
+use fa_image::{FuseImage, Image, MemImage, WrongImage};
+use fa_map::Map;
+use fa_mount::MountedArray;
+use fa_tag::{Tag, seal};
+use fa_types::{Die, Geometry, HEADER_BYTES, Kind};
 use std::alloc::{AllocError, Allocator};
 
-/// The image of a die, of which one call can be made to fail.
-pub(crate) type DieImage<B> = FuseImage<MemImage<B>>;
+/// The number of each array.
+const ARRAY: [u8; 16] = [7; 16];
 
-/// The images of all dies, spares among them, by their numbers.
+/// The image of a die, of which one call can be made to fail and one read to give wrong bytes.
+pub(crate) type DieImage<B> = FuseImage<WrongImage<MemImage<B>>>;
+
+/// The images of an array's dies, in some order.
 #[derive(Drop)]
 pub(crate) struct Images<B: Allocator> {
     images: Vec<DieImage<B>, B>,
+    // Where the image of each die stands in the list.
+    places: Vec<Option<usize>, B>,
+    // How many programs met a slot that was not erased, on images that are not kept.
+    overwritten: u64,
 }
 
-impl<B: Allocator + Copy> Images<B> {
-    /// An erased image for each die. The error is out of memory.
-    pub(crate) fn new(alloc: B, geometry: Geometry) -> Result<Images<B>, AllocError> {
-        let mut images = Vec::new(alloc);
-        for _ in 0..geometry.dies {
-            images.push(FuseImage::new(MemImage::new(alloc, geometry)?))?;
-        }
-        Ok(Images { images })
+/// The images of a new array, those of spares among them, with headers of the older format or of today's. None where an image refuses.
+/// The error is out of memory.
+pub(crate) fn new_images<B: Allocator + Copy>(
+    alloc: B,
+    geometry: Geometry,
+    is_old: bool,
+) -> Result<Option<Images<B>>, AllocError> {
+    let mut images = erased(alloc, geometry)?;
+    let mut places = Vec::new(alloc);
+    for place in 0..images.len() {
+        places.push(Some(place))?;
     }
+    let formatted = if is_old {
+        format_1(&mut images, geometry, ARRAY)
+    } else {
+        format(&mut images, geometry, ARRAY)
+    };
+    Ok(match formatted {
+        Ok(()) => Some(Images {
+            images,
+            places,
+            overwritten: 0,
+        }),
+        Err(_) => None,
+    })
+}
+
+/// An erased image for each die. The error is out of memory.
+fn erased<B: Allocator + Copy>(
+    alloc: B,
+    geometry: Geometry,
+) -> Result<Vec<DieImage<B>, B>, AllocError>
+    ensures long { IfOk result (λ images. length images.items ≡ geometry.dies) }
+    ensures shape { IfOk result (λ images. AllByRecursion
+        (λ image. (fused_view (wrong_view mem_image_view) image).geometry ≡ geometry) images.items) }
+{
+    let mut images = Vec::new(alloc);
+    for die in 0..geometry.dies {
+        images.push(erased_one(alloc, geometry)?)?;
+    }
+    Ok(images)
+}
+
+/// An erased image. The error is out of memory.
+fn erased_one<B: Allocator + Copy>(alloc: B, geometry: Geometry) -> Result<DieImage<B>, AllocError>
+    ensures { IfOk result (λ image. (fused_view (wrong_view mem_image_view) image).geometry ≡ geometry) }
+{
+    let image = MemImage::new(alloc, geometry)?;
+    Ok(FuseImage::new(WrongImage::new(image)))
 }
 
 impl<B: Allocator> Images<B> {
-    /// The image of a die.
-    pub(crate) fn of(&mut self, die: Die) -> Option<&mut DieImage<B>> {
-        self.images.get_mut(die.0 as usize)
+    /// All images.
+    pub(crate) fn all(&mut self) -> &mut [DieImage<B>] {
+        self.images.as_mut_slice()
     }
 
-    /// The `k`-th call of the die's image from now on fails.
+    /// How many there are.
+    pub(crate) fn len(&self) -> usize {
+        self.images.len()
+    }
+
+    /// The image of a die.
+    pub(crate) fn of(&mut self, die: Die) -> Option<&mut DieImage<B>> {
+        match self.place_of(die) {
+            Some(place) => self.images.get_mut(place),
+            None => None,
+        }
+    }
+
+    /// Where the image of a die stands.
+    pub(crate) fn place_of(&self, die: Die) -> Option<usize> {
+        match self.places.get(die.0 as usize) {
+            Some(place) => *place,
+            None => None,
+        }
+    }
+
+    /// The `k`-th call of the die's image from now on fails, and with 0 none does.
     pub(crate) fn arm(&mut self, die: Die, k: u64) {
-        if let Some(image) = self.images.get_mut(die.0 as usize) {
+        if let Some(image) = self.of(die) {
             image.arm(k);
+        }
+    }
+
+    /// The `k`-th read of a slot of the die's image from now on gives wrong bytes, and with 0 none does. No call fails then. The error is
+    /// out of memory.
+    pub(crate) fn arm_wrong(&mut self, die: Die, k: u64) -> Result<(), AllocError> {
+        let Some(place) = self.place_of(die) else {
+            return Ok(());
+        };
+        if self.images.len() <= place {
+            return Ok(());
+        }
+        let mut image = self.images.remove(place).into_inner();
+        image.arm(k);
+        self.images.insert(place, FuseImage::new(image))?;
+        Ok(())
+    }
+
+    /// From now on no call fails and no read gives wrong bytes. The error is out of memory.
+    pub(crate) fn disarm(&mut self) -> Result<(), AllocError> {
+        for die in 0..self.places.len() {
+            self.arm_wrong(die_of(die as u64), 0)?;
+        }
+        Ok(())
+    }
+
+    /// From now on no call fails.
+    pub(crate) fn disarm_fuses(&mut self) {
+        for image in self.images.iter_mut() {
+            image.arm(0);
+        }
+    }
+
+    /// The headers of all images, of which none fails. The error is out of memory.
+    pub(crate) fn headers(&mut self, alloc: B) -> Result<Vec<[u8; HEADER_BYTES], B>, AllocError> {
+        let mut headers = Vec::new(alloc);
+        for image in self.images.iter_mut() {
+            let mut bytes = [0; HEADER_BYTES];
+            // An image in memory with no fuse that burns refuses nothing.
+            let _ = image.read_header(&mut bytes);
+            headers.push(bytes)?;
+        }
+        Ok(headers)
+    }
+
+    /// All images have these headers again.
+    pub(crate) fn restore(&mut self, headers: &[[u8; HEADER_BYTES]]) {
+        for (image, bytes) in self.images.iter_mut().zip(headers.iter()) {
+            let _ = image.write_header(bytes);
+        }
+    }
+
+    /// Two images change their places in the list. It is to be mounted then.
+    pub(crate) fn swap(&mut self, one: usize, other: usize) {
+        if one < self.images.len() && other < self.images.len() {
+            self.images.swap(one, other);
+        }
+    }
+
+    /// The images of dies stand as they were mounted.
+    pub(crate) fn stand_as<M: Map + Drop, A: Allocator>(&mut self, mounted: &MountedArray<M, A>) {
+        for die in 0..self.places.len() {
+            self.places[die] = mounted.image_of(die_of(die as u64));
+        }
+    }
+
+    /// The image of a die is kept no longer. It is to be mounted then.
+    pub(crate) fn drop_die(&mut self, die: Die) {
+        let Some(place) = self.place_of(die) else {
+            return;
+        };
+        if self.images.len() <= place {
+            return;
+        }
+        let image = self.images.remove(place);
+        self.overwritten = self
+            .overwritten
+            .saturating_add(image.inner().inner().overwrites());
+        for other in self.places.iter_mut() {
+            *other = moved_down(*other, place);
         }
     }
 
     /// How many programs met a slot that was not erased, on all dies.
     pub(crate) fn overwrites(&self) -> u64 {
-        let mut count = 0u64;
+        let mut count = self.overwritten;
         for image in &self.images {
-            count = count.saturating_add(image.inner().overwrites());
+            count = count.saturating_add(image.inner().inner().overwrites());
         }
         count
     }
+}
+
+/// Where an image stands once the one at a place is gone.
+fn moved_down(place: Option<usize>, gone: usize) -> Option<usize> {
+    match place {
+        Some(place) if place == gone => None,
+        Some(place) if gone < place => Some(place.saturating_sub(1)),
+        place => place,
+    }
+}
+
+/// Programs data with its tag into its slot, and tells whether that was possible.
+pub(crate) fn put_copy<I: Image>(
+    image: &mut I,
+    tag: Tag,
+    payload: &[u8],
+    scratch: &mut [u8],
+) -> bool {
+    let geometry = image.geometry();
+    let page_bytes = geometry.page_bytes as usize;
+    if geometry.blocks * geometry.slots <= tag.slot.0
+        || payload.len() != page_bytes
+        || scratch.len() != page_bytes + 64
+        || tag.kind != Kind::Data
+    {
+        return false;
+    }
+    if tag.page.0 >= 1_048_576 || tag.seq.0 < 1 || tag.seq.0 >= 1 << 62 {
+        return false;
+    }
+    if tag.die.0 >= 64 || tag.slot.0 >= 1_048_576 {
+        return false;
+    }
+    seal(tag, payload, scratch);
+    image.program(tag.slot, scratch).is_ok()
 }

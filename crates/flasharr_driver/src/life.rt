@@ -52,10 +52,11 @@ pub(crate) fn die_of(number: u64) -> Die {
 }
 
 impl<A: Allocator + Copy, B: Allocator + Copy> Life<A, B> {
-    /// A life of an array of this geometry. The error is out of memory.
+    /// What is kept beside an array of this geometry, of which no page was written. The error is out of memory.
     pub(crate) fn new(
         alloc: B,
         geometry: Geometry,
+        images: Images<B>,
         fault_every: u64,
     ) -> Result<Life<A, B>, AllocError> {
         let slot_bytes = (geometry.page_bytes as usize).saturating_add(TAG_BYTES);
@@ -65,7 +66,7 @@ impl<A: Allocator + Copy, B: Allocator + Copy> Life<A, B> {
         }
         Ok(Life {
             geometry,
-            images: Images::new(alloc, geometry)?,
+            images,
             plain: Plain::new(alloc, geometry.pages)?,
             claims: Claims::new(alloc),
             batches: Vec::new(alloc),

@@ -5,6 +5,7 @@ mod ballast;
 mod batches;
 mod certified;
 mod claims;
+mod closing;
 mod content;
 mod desk;
 mod dies;
@@ -12,10 +13,12 @@ mod event;
 mod images;
 mod life;
 mod making;
+mod mounting;
 mod plain;
 mod random;
 mod readers;
 mod rebuilder;
+mod resting;
 mod running;
 mod seen;
 mod shape;
@@ -36,8 +39,8 @@ const DIFFERENT: u8 = 1;
 /// The status where the words are none of this program's.
 const FAULTY: u8 = 2;
 
-/// The bytes of the heap that the arrays are in.
-const HEAP_BYTES: usize = 4 * 1024 * 1024;
+/// The bytes of the heap that the arrays are in: enough for two of them, as what was closed is mounted beside it.
+const HEAP_BYTES: usize = 8 * 1024 * 1024;
 
 /// The words: the seed of all choices, and how many events are made.
 #[derive(Drop)]
@@ -53,7 +56,7 @@ fn main(rt: HostRuntime) -> io::Result<ExitCode> {
         return Ok(ExitCode::from(FAULTY));
     };
     let heap = LocalHeap::new(rt.alloc(), HEAP_BYTES)?;
-    let mut desk = Desk::new(rt.alloc(), wanted.seed);
+    let mut desk = Desk::new(rt.alloc(), rt.alloc(), wanted.seed);
     run(&heap, &mut desk, wanted.events)?;
     desk.finish();
     rt.print(desk.told.text())?;

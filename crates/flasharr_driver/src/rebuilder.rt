@@ -38,7 +38,7 @@ pub(crate) fn rebuild<M: Map, A: Allocator + Copy, B: Allocator + Copy>(
 }
 
 /// The copy under way ends, if it was programmed.
-fn commit_copy<M: Map, A: Allocator + Copy, B: Allocator + Copy>(
+pub(crate) fn commit_copy<M: Map, A: Allocator + Copy, B: Allocator + Copy>(
     array: &mut Array<M, A>,
     heap: A,
     desk: &mut Desk<B>,

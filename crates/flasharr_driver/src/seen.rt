@@ -2,7 +2,7 @@
 use crate::told::Told;
 use std::alloc::Allocator;
 
-/// What an event came to.
+/// What an event came to, or mounting, or closing.
 #[derive(Clone, Copy)]
 pub(crate) enum Seen {
     Claim,
@@ -74,10 +74,19 @@ pub(crate) enum Seen {
     FlushNoDie,
     Fold,
     Stranger,
+    Mount,
+    MountUnclean,
+    MountImageFault,
+    MountNoMemory,
+    CloseClean,
+    CloseWithoutDie,
+    CloseBusy,
+    CloseLost,
+    CloseNoDie,
 }
 
 /// How many there are.
-const KINDS: usize = 69;
+const KINDS: usize = 78;
 
 /// What each is called, in the order in which they are printed.
 const NAMES: [&str; KINDS] = [
@@ -150,6 +159,15 @@ const NAMES: [&str; KINDS] = [
     "flush state: no die",
     "fold",
     "stranger",
+    "mount",
+    "mount of an unclean array",
+    "mount refused: image fault",
+    "mount refused: out of memory",
+    "close",
+    "close without a die that refuses",
+    "close refused: busy",
+    "close refused: lost page",
+    "close refused: no die live",
 ];
 
 /// How often each came.

@@ -91,6 +91,24 @@ fn go_on<M: Map, A: Allocator + Copy, B: Allocator + Copy>(
     }
 }
 
+/// A claim goes on towards its end: what is reserved under it is settled, and then it is closed.
+pub(crate) fn end_claim<M: Map, A: Allocator + Copy, B: Allocator + Copy>(
+    array: &mut Array<M, A>,
+    heap: A,
+    life: &mut Life<A, B>,
+    desk: &mut Desk<B>,
+    index: usize,
+    claimed: Claimed,
+)
+    requires { IsWhole M.view array.old }
+    ensures { IsWhole M.view array.new }
+{
+    match claimed.reserved {
+        Some(content) => settle(array, heap, life, desk, index, claimed, content),
+        None => release(array, heap, life, desk, index, claimed.claim),
+    }
+}
+
 /// The claim is closed.
 fn release<M: Map, A: Allocator + Copy, B: Allocator + Copy>(
     array: &mut Array<M, A>,
