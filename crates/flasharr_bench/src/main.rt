@@ -2,13 +2,22 @@
 //! usage.
 #![tactic(auto)]
 
+mod calls;
 mod client;
 mod digests;
+mod jobs;
+mod making;
 mod mount;
 mod plans;
+mod random;
+mod reads;
 mod session;
 mod slots;
+mod spares;
+mod steps;
+mod timings;
 mod words;
+mod writes;
 
 use std::process::ExitCode;
 use std::{env, io};
@@ -19,6 +28,16 @@ const FAULTY: u8 = 2;
 
 fn main(rt: HostRuntime) -> io::Result<ExitCode> {
     let words: Vec<String> = env::args(&rt)?.skip(1).collect(rt.alloc())?;
+    if let [word, more] = words.as_slice() {
+        if word.as_str() == "core" {
+            calls::measure(&rt, more.as_str())?;
+            return Ok(ExitCode::SUCCESS);
+        }
+        if word.as_str() == "jobs" {
+            jobs::measure(&rt, more.as_str())?;
+            return Ok(ExitCode::SUCCESS);
+        }
+    }
     let wanted = match words.as_slice() {
         [] => {
             tell_usage(&rt)?;
@@ -42,5 +61,7 @@ fn main(rt: HostRuntime) -> io::Result<ExitCode> {
 }
 
 fn tell_usage(rt: &impl Print) -> io::Result<()> {
-    println!(rt; "usage: flasharr_bench digests | mount | plan | session | slots")
+    println!(rt;
+        "usage: flasharr_bench core PAGES | digests | jobs FOLDER | mount | plan | session | slots"
+    )
 }

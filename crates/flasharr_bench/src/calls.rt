@@ -1,0 +1,200 @@
+//! How long each call of an array takes, and how many bytes an array has.
+ghost use Rattle.fa_core.specs.Array.{IsWhole};
+
+use crate::making::{PAGE_BYTES, array_of, die_of, geometry_of};
+use crate::random::Random;
+use crate::reads::{MANY, ONE, SOME, flush, fold_from, next_thin, read, time_clock};
+use crate::spares::replace;
+use crate::steps::{Bench, Mode, take, turn};
+use crate::timings::Timings;
+use crate::writes::{give_up, open_windows, write};
+use fa_core::Array;
+use fa_map::Map;
+use fa_tag::Payload;
+use fa_types::{Geometry, Page};
+use linked_list_allocator::LocalHeap;
+use std::alloc::{AllocError, Allocator};
+use std::io::{self, ErrorKind};
+use std::rt::Clock;
+
+/// The seed of all choices.
+const SEED: u64 = 7;
+
+/// The turns that are timed.
+const TURNS: u64 = 16_384;
+
+/// The history is folded at so many entries.
+const FOLDED: usize = 4096;
+
+/// The bytes of the heap on which an array is counted.
+const HEAP_BYTES: usize = 256 * 1024 * 1024;
+
+/// Times the calls of an array of so many pages, all of which were written and some again, while random ones are written again and
+/// again, some are read, and the collector works. Then a die goes out, and the spare comes in. Prints lines that are each a name and a
+/// number: the pages, the slots, and the bytes that the array has as it is new and as all its pages were written. Behind them a line
+/// for each call: its name, how often it was timed, and the median and the 99th percentile of its nanoseconds.
+pub fn measure(rt: &(impl Clock + Print + AllocGlobal), pages: &str) -> io::Result<()> {
+    let Ok(pages) = pages.parse::<u64>() else {
+        return Err(ErrorKind::InvalidInput.into());
+    };
+    let geometry = geometry_of(pages)?;
+    let slots = u64::from(geometry.dies) * u64::from(geometry.blocks * geometry.slots);
+    println!(rt; "pages {pages}")?;
+    println!(rt; "slots {slots}")?;
+    tell_bytes(rt, geometry)?;
+    let mut bench = bench_of(rt.alloc(), rt.alloc())?;
+    let mut array = array_of(rt.alloc(), geometry)?;
+    time_clock(rt, &mut bench, TURNS as u32);
+    fill(rt, &mut array, rt.alloc(), &mut bench);
+    run(rt, &mut array, rt.alloc(), rt.alloc(), &mut bench)?;
+    bench.timings.tell(rt)
+}
+
+/// Prints the bytes that an array has on a heap of its own: as it is new, and as all its pages were written.
+fn tell_bytes(rt: &(impl Clock + Print + AllocGlobal), geometry: Geometry) -> io::Result<()> {
+    let heap = LocalHeap::new(rt.alloc(), HEAP_BYTES)?;
+    let mut bench = bench_of(&heap, rt.alloc())?;
+    let before = heap.used();
+    let mut array = array_of(&heap, geometry)?;
+    let new = heap.used().saturating_sub(before);
+    fill(rt, &mut array, &heap, &mut bench);
+    let full = heap.used().saturating_sub(before);
+    println!(rt; "new_bytes {new}")?;
+    println!(rt; "full_bytes {full}")
+}
+
+/// What is kept beside an array. The error is out of memory.
+fn bench_of<A: Allocator + Copy, B: Allocator + Copy>(
+    heap: A,
+    alloc: B,
+) -> Result<Bench<A, B>, AllocError> {
+    Ok(Bench {
+        mode: Mode::Nothing,
+        random: Random::new(SEED),
+        timings: Timings::new(alloc)?,
+        payload: Payload::new(vec![in heap; 0x5a; PAGE_BYTES as usize]?)?,
+        buffer: Some(vec![in heap; 0; PAGE_BYTES as usize]?),
+    })
+}
+
+/// Each page is written once. Nothing is timed.
+fn fill<M: Map, A: Allocator + Copy, B: Allocator>(
+    rt: &impl Clock,
+    array: &mut Array<M, A>,
+    heap: A,
+    bench: &mut Bench<A, B>,
+)
+    requires { IsWhole M.view array.old }
+    ensures { IsWhole M.view array.new }
+{
+    for page in 0..array.geometry().pages {
+        write(rt, array, heap, bench, Page(page));
+        fold_from(rt, array, heap, bench, FOLDED);
+    }
+}
+
+/// Pages are written again, a quarter of them before anything is timed. The error is out of memory.
+fn run<M: Map, A: Allocator + Copy, B: Allocator + Copy>(
+    rt: &impl Clock,
+    array: &mut Array<M, A>,
+    heap: A,
+    alloc: B,
+    bench: &mut Bench<A, B>,
+) -> Result<(), AllocError>
+    requires { IsWhole M.view array.old }
+    ensures { IsWhole M.view array.new }
+{
+    'again: for _ in 0..array.geometry().pages / 4 {
+        rewrite(rt, array, heap, bench);
+    }
+    'timed: for number in 0..TURNS {
+        bench.mode = if number % 2 == 0 {
+            Mode::Calls
+        } else {
+            Mode::Writes
+        };
+        rewrite(rt, array, heap, bench);
+        bench.mode = Mode::Calls;
+        do_other(rt, array, heap, alloc, bench, number % 64)?;
+    }
+    replace(rt, array, heap, bench);
+    Ok(())
+}
+
+/// A random page is written again, and then a round passes in which windows are kept.
+fn rewrite<M: Map, A: Allocator + Copy, B: Allocator>(
+    rt: &impl Clock,
+    array: &mut Array<M, A>,
+    heap: A,
+    bench: &mut Bench<A, B>,
+)
+    requires { IsWhole M.view array.old }
+    ensures { IsWhole M.view array.new }
+{
+    let page = Page(bench.random.below(array.geometry().pages));
+    write(rt, array, heap, bench, page);
+    open_windows(rt, array, heap, bench);
+    turn(rt, array, heap, bench);
+    fold_from(rt, array, heap, bench, FOLDED);
+}
+
+/// What else is timed at a turn. The error is out of memory.
+fn do_other<M: Map, A: Allocator + Copy, B: Allocator + Copy>(
+    rt: &impl Clock,
+    array: &mut Array<M, A>,
+    heap: A,
+    alloc: B,
+    bench: &mut Bench<A, B>,
+    number: u64,
+) -> Result<(), AllocError>
+    requires { IsWhole M.view array.old }
+    ensures { IsWhole M.view array.new }
+{
+    match number % 16 {
+        0 | 4 | 8 | 12 => read(rt, array, heap, alloc, bench, ONE)?,
+        1 => flush(rt, array, heap, bench),
+        2 | 10 => give_up_some(rt, array, heap, bench),
+        3 => {
+            let _ = next_thin(rt, array, bench);
+        }
+        5 => take_nothing(rt, array, heap, bench),
+        7 => read(rt, array, heap, alloc, bench, SOME)?,
+        9 => {
+            if number == 9 {
+                read(rt, array, heap, alloc, bench, MANY)?;
+            }
+        }
+        _ => {}
+    }
+    Ok(())
+}
+
+/// A write of a random page is reserved and given up.
+fn give_up_some<M: Map, A: Allocator + Copy, B: Allocator>(
+    rt: &impl Clock,
+    array: &mut Array<M, A>,
+    heap: A,
+    bench: &mut Bench<A, B>,
+)
+    requires { IsWhole M.view array.old }
+    ensures { IsWhole M.view array.new }
+{
+    let page = Page(bench.random.below(array.geometry().pages));
+    give_up(rt, array, heap, bench, page);
+}
+
+/// A random die that has no work is asked for some.
+fn take_nothing<M: Map, A: Allocator + Copy, B: Allocator>(
+    rt: &impl Clock,
+    array: &mut Array<M, A>,
+    heap: A,
+    bench: &mut Bench<A, B>,
+)
+    requires { IsWhole M.view array.old }
+    ensures { IsWhole M.view array.new }
+{
+    let die = die_of(bench.random.below(u64::from(array.geometry().dies)));
+    if array.is_die(die) && !array.has_job(die) {
+        let _ = take(rt, array, heap, bench, die);
+    }
+}
