@@ -32,6 +32,8 @@ use Rattle.fa_ops.specs.declared.stage.Stage.TheVariants.{Listing, Asking, Readi
 use Rattle.fa_ops.specs.declared.stage.Stage.TheVariants.{Committing, Abandoning, Releasing, BeginningFlush, Flushing, Ended}
 use Rattle.fa_ops.specs.declared.stage.Wish.{Wish}
 use Rattle.fa_ops.specs.declared.stage.Wish.TheVariants.{Data, Fewer, Hole}
+use Rattle.fa_shared.specs.Seats.{commits_with, number_of}
+use Rattle.fa_shared.specs.declared.seat.Seat.{Seat}
 use Rattle.fa_types.specs.declared.blocks.BlockFault.{BlockFault}
 use Rattle.fa_types.specs.declared.blocks.BlockFault.TheVariants.{Lost, NoRoom, NoMemory, Spent}
 use Rattle.fa_types.specs.declared.numbers.Page.{Page}
@@ -148,10 +150,19 @@ module _ {A : Type 0} where
   Strays old (Releasing held fault) next = (claim_open old held.claim.0 ≡ false) × (next ≡ Ended (Some Lost))
   Strays old stage next = ⊥
 
-  -- A turn: the request waits; or it makes its event; or it makes it after a Fold, where the history is full; or no event can be made.
-  pub data Turned (t : Task) (seat : ℕ) (old : Core) (stage : Stage A) (new : Core) (next : Stage A) : Type 0 where
-    Rested : new ≡ old → next ≡ stage → Turned t seat old stage new next
-    Moved : (act : Act) → Step old act new → Moves t seat stage act next → Turned t seat old stage new next
+-- How many Commits an event accepts: one, where it is a Commit and was accepted.
+abbrev pub commits_in : Act → ℕ
+commits_in (Commit claim seat (Ok seq)) = 1
+commits_in act = 0
+
+module _ {L A : Type 0} where
+  -- A turn with a seat: the request waits; or it makes its event; or it makes it after a Fold, where the history is full; or no event can be
+  -- made. The seat's Commits rise by those of the event.
+  pub data Turned (t : Task) (before after : Seat L) (old : Core) (stage : Stage A) (new : Core) (next : Stage A) : Type 0 where
+    Rested : new ≡ old → commits_with after ≡ commits_with before → next ≡ stage → Turned t before after old stage new next
+    Moved : (act : Act) → Step old act new → commits_with after ≡ commits_with before + commits_in act
+        → Moves t (number_of before) stage act next → Turned t before after old stage new next
     Folded : (between : Core) (act : Act) → history_full old ≡ true → Step old Fold between → Step between act new
-        → Moves t seat stage act next → Turned t seat old stage new next
-    Strayed : new ≡ old → Strays old stage next → Turned t seat old stage new next
+        → commits_with after ≡ commits_with before + commits_in act → Moves t (number_of before) stage act next
+        → Turned t before after old stage new next
+    Strayed : new ≡ old → commits_with after ≡ commits_with before → Strays old stage next → Turned t before after old stage new next

@@ -1,5 +1,5 @@
 -- What a request comes to.
-use Rattle.std.specs.Prelude.{ℕ, ◌+◌, ◌*◌, ◌/◌, Bool, true, false, nat_le, if◌then◌else◌, Some, None}
+use Rattle.std.specs.Prelude.{ℕ, ◌+◌, ◌-◌, ◌*◌, ◌/◌, Bool, true, false, nat_le, if◌then◌else◌, Some, None}
 use Rattle.fa_ops.specs.declared.range.Range.{Range}
 use Rattle.fa_ops.specs.declared.request.Fill.{Fill}
 use Rattle.fa_ops.specs.declared.request.Fill.TheVariants.{Bytes, Zeros, Holes}
@@ -7,6 +7,14 @@ use Rattle.fa_ops.specs.declared.request.Request.{Request}
 use Rattle.fa_ops.specs.declared.request.Request.TheVariants.{Read, Write, Zero, Trim, Flush}
 use Rattle.fa_ops.specs.declared.request.Task.{Task}
 use Rattle.fa_types.specs.Store.{whole_offset}
+
+-- the offset of the first byte of a request's range
+abbrev pub begin_of : Request → ℕ
+begin_of (Read offset len) = offset
+begin_of (Write offset len fua) = offset
+begin_of (Zero offset len fua hole) = offset
+begin_of (Trim offset len fua) = offset
+begin_of Flush = 0
 
 -- the offset behind the last byte of a request's range
 abbrev pub end_of : Request → ℕ
@@ -34,3 +42,11 @@ task_of page_bytes (Write offset len fua) = record { range = bytes_from page_byt
 task_of page_bytes (Zero offset len fua hole) = record { range = bytes_from page_bytes offset len; fill = Some (zeros_as hole); flush = fua }
 task_of page_bytes (Trim offset len fua) = record { range = whole_range page_bytes offset len; fill = Some Holes; flush = fua }
 task_of page_bytes Flush = record { range = bytes_from page_bytes 0 0; fill = None; flush = true }
+
+-- the same on the bytes from one offset to before another, without a flush
+abbrev pub within : Request → ℕ → ℕ → Request
+within (Read offset len) from to = Read from (to - from)
+within (Write offset len fua) from to = Write from (to - from) false
+within (Zero offset len fua hole) from to = Zero from (to - from) false hole
+within (Trim offset len fua) from to = Trim from (to - from) false
+within Flush from to = Flush

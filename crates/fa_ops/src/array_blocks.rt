@@ -1,8 +1,9 @@
 //! The store that an array is to one of those who share it.
 ghost use Rattle.std.specs.Prelude.{◌≤◌};
 
+use crate::op::Op;
 use crate::request::Request;
-use crate::running::{run, run_read, store_bytes};
+use crate::running::{finish, run, run_read, store_bytes};
 use fa_map::Map;
 use fa_shared::{Hands, Seat, Shared};
 use fa_types::{BlockFault, Blocks};
@@ -42,6 +43,10 @@ impl<
     A: Allocator + Copy,
     H: Hands<L, M, A> + Drop,
 > ArrayBlocks<'a, R, L, M, A, H> {
+    ghost use Rattle.std.specs.Prelude.{◌≡◌, true, is_none, is_some, unwrap_or};
+    ghost use Rattle.fa_ops.specs.Counts.{IsMade, is_served, pages_in};
+    ghost use Rattle.fa_ops.specs.Ops.{beginning, ended, stage_of, task_in};
+
     /// The store of a seat. While it waits for dies it makes jobs by these hands.
     pub fn new(
         rt: &'a R,
@@ -49,7 +54,9 @@ impl<
         shared: &'a Shared<L, M, A>,
         seat: Seat<L>,
         hands: H,
-    ) -> ArrayBlocks<'a, R, L, M, A, H> {
+    ) -> ArrayBlocks<'a, R, L, M, A, H>
+        ensures { result.seat ≡ seat }
+    {
         let (bytes, page_bytes) = store_bytes(shared.lock(rt).array().geometry());
         ArrayBlocks {
             rt,
@@ -62,8 +69,30 @@ impl<
         }
     }
 
+    /// Goes on with a request until it has ended, and hands it back. No turn of it was made before. The bytes are those of a write. Each
+    /// page that it writes is committed with the seat, once, if it isn't refused.
+    pub fn run(&mut self, op: Op<A>, bytes: &[u8]) -> Op<A>
+        requires { stage_of op ≡ beginning (task_in op) }
+        ensures task { task_in result ≡ task_in op }
+        ensures ended { is_some (ended (stage_of result)) ≡ true }
+        ensures made { IsMade (pages_in (task_in op)) self.old.seat (is_served (stage_of result)) self.new.seat }
+    {
+        let mut op = op;
+        let _end = finish(
+            self.rt,
+            self.shared,
+            &mut self.seat,
+            &mut self.hands,
+            &mut op,
+            bytes,
+        );
+        op
+    }
+
     /// The seat, to be gathered.
-    pub fn into_seat(self) -> Seat<L> {
+    pub fn into_seat(self) -> Seat<L>
+        ensures { result ≡ self.entry.seat }
+    {
         let ArrayBlocks { seat, .. } = self;
         seat
     }
@@ -78,12 +107,14 @@ impl<
     H: Hands<L, M, A> + Drop,
 > Blocks for ArrayBlocks<'a, R, L, M, A, H> {
     ghost use Rattle.std.specs.Prelude.{◌≡◌};
+    ghost use Rattle.fa_ops.specs.Counts.{IsMade, is_accepted, pages_of};
     ghost use Rattle.fa_ops.specs.SharedStore.{shared_meets, shared_view, shared_whole};
     ghost use Rattle.fa_types.specs.Store.{IsAnswer};
 
     ghost view = { λ store. shared_view store.bytes store.page_bytes };
 
-    ghost made = { λ before call answer after. (after.bytes ≡ before.bytes) × (after.page_bytes ≡ before.page_bytes) × IsAnswer call answer };
+    ghost made = { λ before call answer after. (after.bytes ≡ before.bytes) × (after.page_bytes ≡ before.page_bytes) × IsAnswer call answer
+        × IsMade (pages_of before.page_bytes call) before.seat (is_accepted answer) after.seat };
 
     ghost meets = { λ before after call answer made.
         shared_meets before.bytes before.page_bytes after.bytes after.page_bytes call answer made.0 made.1 made.2 };

@@ -1,12 +1,13 @@
 //! The events that requests make, each with its answer, or None where a condition of it does not hold.
-ghost use Rattle.std.specs.Prelude.{◌≡◌, ℕ, ◌&&◌, not, false, IfNone, IfSome, List, map};
+ghost use Rattle.std.specs.Prelude.{◌≡◌, ℕ, ◌+◌, ◌&&◌, not, false, IfNone, IfSome, List, map};
 ghost use Rattle.fa_machine.specs.Conditions.{batch_open, claim_open, history_full, is_reserved};
 ghost use Rattle.fa_machine.specs.Step.{Step, is_page};
 ghost use Rattle.fa_machine.specs.Step.{Abandon, Admit, Claim, Commit, EndBatch, FlushBegin, FlushState as StateFlush, Fold, Release, Replan};
 ghost use Rattle.fa_machine.specs.Step.{Reserve, ReserveFewer, ReserveHole};
 ghost use Rattle.fa_ops.specs.Accounts.{IsAccounted};
+ghost use Rattle.fa_ops.specs.Moves.{commits_in};
 ghost use Rattle.fa_reads.specs.Answers.{admit_answer, plan_answer};
-ghost use Rattle.fa_shared.specs.Seats.{number_of};
+ghost use Rattle.fa_shared.specs.Seats.{commits_with, number_of};
 
 use fa_core::{Answer, Call, Planned};
 use fa_machine::{
@@ -30,6 +31,7 @@ pub(crate) fn claim<L: Ledger, M: Map + Drop, A: Allocator + Copy>(
 ) -> Option<Result<ClaimId, ClaimRefused>>
     ensures some { IfSome result (λ answer. Step locked.old.core (Claim page.0 answer) locked.new.core) }
     ensures none { IfNone result ((is_page locked.old.core page.0 ≡ false) × (locked.new.core ≡ locked.old.core)) }
+    ensures commits { commits_with seat.new ≡ commits_with seat.old }
     ensures account { IsAccounted locked.old seat.old locked.new seat.new }
 {
     let Answer::Claim(answer) = locked.step(seat, plain(&alloc, Call::Claim(page))) else {
@@ -48,6 +50,7 @@ pub(crate) fn release<L: Ledger, M: Map + Drop, A: Allocator + Copy>(
     ensures some { IfSome result (λ answer. Step locked.old.core (Release claim.0) locked.new.core) }
     ensures none { IfNone result (((claim_open locked.old.core claim.0 && not (is_reserved locked.old.core claim.0)) ≡ false)
         × (locked.new.core ≡ locked.old.core)) }
+    ensures commits { commits_with seat.new ≡ commits_with seat.old }
     ensures account { IsAccounted locked.old seat.old locked.new seat.new }
 {
     let Answer::Release = locked.step(seat, plain(&alloc, Call::Release(claim))) else {
@@ -65,6 +68,7 @@ pub(crate) fn reserve<L: Ledger, M: Map + Drop, A: Allocator + Copy>(
 ) -> Option<Result<Seq, ReserveRefused>>
     ensures some { IfSome result (λ answer. Step locked.old.core (Reserve claim.0 payload.now answer) locked.new.core) }
     ensures none { IfNone result (locked.new.core ≡ locked.old.core) }
+    ensures commits { commits_with seat.new ≡ commits_with seat.old }
     ensures account { IsAccounted locked.old seat.old locked.new seat.new }
 {
     let Answer::Reserve(answer) = locked.step(seat, Call::Reserve(claim, payload)) else {
@@ -82,6 +86,7 @@ pub(crate) fn reserve_fewer<L: Ledger, M: Map + Drop, A: Allocator + Copy>(
 ) -> Option<Result<Seq, ReserveRefused>>
     ensures some { IfSome result (λ answer. Step locked.old.core (ReserveFewer claim.0 payload.now answer) locked.new.core) }
     ensures none { IfNone result (locked.new.core ≡ locked.old.core) }
+    ensures commits { commits_with seat.new ≡ commits_with seat.old }
     ensures account { IsAccounted locked.old seat.old locked.new seat.new }
 {
     let Answer::Reserve(answer) = locked.step(seat, Call::ReserveFewer(claim, payload)) else {
@@ -99,6 +104,7 @@ pub(crate) fn reserve_hole<L: Ledger, M: Map + Drop, A: Allocator + Copy>(
 ) -> Option<Result<Seq, ReserveRefused>>
     ensures some { IfSome result (λ answer. Step locked.old.core (ReserveHole claim.0 answer) locked.new.core) }
     ensures none { IfNone result (locked.new.core ≡ locked.old.core) }
+    ensures commits { commits_with seat.new ≡ commits_with seat.old }
     ensures account { IsAccounted locked.old seat.old locked.new seat.new }
 {
     let Answer::Reserve(answer) = locked.step(seat, plain(&alloc, Call::ReserveHole(claim))) else {
@@ -117,6 +123,9 @@ pub(crate) fn commit<L: Ledger, M: Map + Drop, A: Allocator + Copy>(
     requires { history_full locked.old.core ≡ false }
     ensures some { IfSome result (λ answer. Step locked.old.core (Commit claim.0 (number_of seat.old) answer) locked.new.core) }
     ensures none { IfNone result ((is_reserved locked.old.core claim.0 ≡ false) × (locked.new.core ≡ locked.old.core)) }
+    ensures made { IfSome result (λ answer. commits_with seat.new
+        ≡ commits_with seat.old + commits_in (Commit claim.0 (number_of seat.old) answer)) }
+    ensures kept { IfNone result (commits_with seat.new ≡ commits_with seat.old) }
     ensures account { IsAccounted locked.old seat.old locked.new seat.new }
 {
     let Answer::Commit(answer) = locked.step(seat, plain(&alloc, Call::Commit(claim))) else {
@@ -134,6 +143,7 @@ pub(crate) fn abandon<L: Ledger, M: Map + Drop, A: Allocator + Copy>(
 ) -> Option<Result<(), AbandonRefused>>
     ensures some { IfSome result (λ answer. Step locked.old.core (Abandon claim.0 answer) locked.new.core) }
     ensures none { IfNone result ((is_reserved locked.old.core claim.0 ≡ false) × (locked.new.core ≡ locked.old.core)) }
+    ensures commits { commits_with seat.new ≡ commits_with seat.old }
     ensures account { IsAccounted locked.old seat.old locked.new seat.new }
 {
     let Answer::Abandon(answer) = locked.step(seat, plain(&alloc, Call::Abandon(claim))) else {
@@ -151,6 +161,7 @@ pub(crate) fn admit<L: Ledger, M: Map + Drop, A: Allocator + Copy>(
     ensures some { IfSome result (λ answer. Step locked.old.core (Admit (map (λ page. page.0) pages.now) (admit_answer answer))
         locked.new.core) }
     ensures none { IfNone result (locked.new.core ≡ locked.old.core) }
+    ensures commits { commits_with seat.new ≡ commits_with seat.old }
     ensures account { IsAccounted locked.old seat.old locked.new seat.new }
 {
     let Answer::Admit(answer) = locked.step(seat, Call::Admit(pages)) else {
@@ -168,6 +179,7 @@ pub(crate) fn replan<L: Ledger, M: Map + Drop, A: Allocator + Copy>(
 ) -> Option<Result<Planned<A>, AdmitRefused>>
     ensures some { IfSome result (λ answer. Step locked.old.core (Replan batch.0 (plan_answer answer)) locked.new.core) }
     ensures none { IfNone result ((batch_open locked.old.core batch.0 ≡ false) × (locked.new.core ≡ locked.old.core)) }
+    ensures commits { commits_with seat.new ≡ commits_with seat.old }
     ensures account { IsAccounted locked.old seat.old locked.new seat.new }
 {
     let Answer::Replan(answer) = locked.step(seat, plain(&alloc, Call::Replan(batch))) else {
@@ -186,6 +198,7 @@ pub(crate) fn end_batch<L: Ledger, M: Map + Drop, A: Allocator + Copy>(
     ensures some { IfSome result (λ answers. Step locked.old.core (EndBatch batch.0 (map (λ e. (e.0.0, e.1.items)) answers.items))
         locked.new.core) }
     ensures none { IfNone result ((batch_open locked.old.core batch.0 ≡ false) × (locked.new.core ≡ locked.old.core)) }
+    ensures commits { commits_with seat.new ≡ commits_with seat.old }
     ensures account { IsAccounted locked.old seat.old locked.new seat.new }
 {
     let Answer::EndBatch(answers) = locked.step(seat, plain(&alloc, Call::EndBatch(batch))) else {
@@ -201,6 +214,7 @@ pub(crate) fn flush_begin<L: Ledger, M: Map + Drop, A: Allocator + Copy>(
     seat: &mut Seat<L>,
 ) -> Result<Flush, FlushRefused>
     ensures event { Step locked.old.core (FlushBegin result) locked.new.core }
+    ensures commits { commits_with seat.new ≡ commits_with seat.old }
     ensures account { IsAccounted locked.old seat.old locked.new seat.new }
 {
     let Answer::FlushBegin(answer) = locked.step(seat, plain(&alloc, Call::FlushBegin)) else {
@@ -217,6 +231,7 @@ pub(crate) fn flush_state<L: Ledger, M: Map + Drop, A: Allocator + Copy>(
     flush: Flush,
 ) -> FlushState
     ensures event { Step locked.old.core (StateFlush flush result) locked.new.core }
+    ensures commits { commits_with seat.new ≡ commits_with seat.old }
     ensures account { IsAccounted locked.old seat.old locked.new seat.new }
 {
     let Answer::FlushState(answer) = locked.step(seat, plain(&alloc, Call::FlushState(flush)))
@@ -233,6 +248,7 @@ pub(crate) fn fold<L: Ledger, M: Map + Drop, A: Allocator + Copy>(
     seat: &mut Seat<L>,
 )
     ensures event { Step locked.old.core Fold locked.new.core }
+    ensures commits { commits_with seat.new ≡ commits_with seat.old }
     ensures account { IsAccounted locked.old seat.old locked.new seat.new }
 {
     locked.step(seat, plain(&alloc, Call::Fold));

@@ -41,12 +41,12 @@ pub struct Op<A: Allocator = Global> {
 }
 
 impl<A: Allocator + Copy> Op<A> {
-    ghost use Rattle.std.specs.Prelude.{◌≡◌, ◌^◌, ◌≤◌, [], IfOk};
+    ghost use Rattle.std.specs.Prelude.{◌≡◌, ℕ, ◌^◌, ◌≤◌, [], IfOk};
     ghost use Rattle.fa_ops.specs.Accounts.{IsAccounted};
+    ghost use Rattle.fa_ops.specs.Counts.{pages_in, tally_of};
     ghost use Rattle.fa_ops.specs.Moves.{Turned};
     ghost use Rattle.fa_ops.specs.Ops.{Prepares, answer_of, beginning, ended as rule_ended, stage_of, task_in};
     ghost use Rattle.fa_ops.specs.Tasks.{end_of, task_of};
-    ghost use Rattle.fa_shared.specs.Seats.{number_of};
 
     /// A request of a store whose pages have so many bytes, of which no turn was made. A read has all memory for its answer from the
     /// beginning. The error is out of memory.
@@ -57,6 +57,8 @@ impl<A: Allocator + Copy> Op<A> {
         ensures task { IfOk result (λ op. task_in op ≡ task_of page_bytes request) }
         ensures stage { IfOk result (λ op. stage_of op ≡ beginning (task_of page_bytes request)) }
         ensures answer { IfOk result (λ op. answer_of op ≡ []) }
+        ensures tally { IfOk result (λ op. (commits : ℕ) → tally_of commits op
+            ≡ record { commits = commits; left = pages_in (task_of page_bytes request); refused = 0 }) }
     {
         let task = request.task(page_bytes);
         let stage = begin(task);
@@ -76,7 +78,7 @@ impl<A: Allocator + Copy> Op<A> {
         locked: &mut Locked<L, M, A>,
         seat: &mut Seat<L>,
     ) -> Turn
-        ensures turned { Turned (task_in self.old) (number_of seat.old) locked.old.core (stage_of self.old) locked.new.core
+        ensures turned { Turned (task_in self.old) seat.old seat.new locked.old.core (stage_of self.old) locked.new.core
             (stage_of self.new) }
         ensures task { task_in self.new ≡ task_in self.old }
         ensures answer { answer_of self.new ≡ answer_of self.old }

@@ -1,6 +1,9 @@
 //! A request on several pages, done in parts side by side.
-ghost use Rattle.std.specs.Prelude.{◌≤◌, ◌^◌};
-ghost use Rattle.fa_ops.specs.Tasks.{end_of};
+ghost use Rattle.std.specs.Prelude.{◌≡◌, ℕ, ◌+◌, ◌≤◌, ◌^◌, true, is_ok, IfOk, OnOk};
+ghost use Rattle.std.specs.List.{list_all, sum_by};
+ghost use Rattle.fa_ops.specs.Counts.{Counts, IsMade, PartsGoOn, has_ended as rule_ended, left_in, pages_between, pages_in, refusals_in};
+ghost use Rattle.fa_ops.specs.Counts.{tally_of, tally_of_parts};
+ghost use Rattle.fa_ops.specs.Tasks.{end_of, task_of};
 
 use crate::op::{Op, Turn};
 use crate::request::Request;
@@ -46,18 +49,36 @@ pub(crate) fn run_parts<
     requires some { 1 ≤ page_bytes }
     requires small { page_bytes ≤ 4096 }
     requires inside { end_of request ≤ 2 ^ 32 }
+    ensures { IsMade (pages_in (task_of page_bytes request)) seat.old (is_ok result) seat.new }
 {
     let Ok(mut parts) = parts_of(alloc, u64::from(page_bytes), request) else {
         return Err(BlockFault::NoMemory);
     };
+    finish_parts(rt, alloc, shared, seat, hands, parts.as_mut_slice(), bytes)
+}
+
+/// Goes on with parts until all have ended. The fault is that of the first one that was refused.
+fn finish_parts<R: Wait + Clock, L: Ledger, M: Map + Drop, A: Allocator + Copy, H: Hands<L, M, A>>(
+    rt: &R,
+    alloc: A,
+    shared: &Shared<L, M, A>,
+    seat: &mut Seat<L>,
+    hands: &mut H,
+    parts: &mut [Part<A>],
+    bytes: &[u8],
+) -> Result<(), BlockFault>
+    ensures goes_on { PartsGoOn seat.old parts.old seat.new parts.new }
+    ensures ended { list_all rule_ended parts.new ≡ true }
+    ensures well { OnOk result (sum_by refusals_in parts.new ≡ 0) }
+{
     for _ in rt.forever() {
-        if has_ended(parts.as_slice()) {
-            break;
+        if has_ended(parts) {
+            return fault_of(parts);
         }
-        prepare(alloc, parts.as_mut_slice(), bytes);
-        make_turns(rt, shared, seat, hands, parts.as_mut_slice());
+        prepare(alloc, parts, bytes);
+        make_turns(rt, shared, seat, hands, parts);
     }
-    fault_of(parts.as_slice())
+    unreachable!()
 }
 
 /// The parts of a request: each begins where the one before it ends, and the last has what is left. The error is out of memory.
@@ -69,6 +90,8 @@ fn parts_of<A: Allocator + Copy>(
     requires some { 1 ≤ page_bytes }
     requires small { page_bytes ≤ 4096 }
     requires inside { end_of request ≤ 2 ^ 32 }
+    ensures left { IfOk result (λ parts. sum_by left_in parts.items ≡ pages_in (task_of page_bytes request)) }
+    ensures begun { IfOk result (λ parts. sum_by refusals_in parts.items ≡ 0) }
 {
     let (offset, len) = request.extent();
     let end = offset + len;
@@ -99,6 +122,9 @@ fn push_part<A: Allocator + Copy>(
     requires small { page_bytes ≤ 4096 }
     requires order { from ≤ to }
     requires inside { to ≤ 2 ^ 32 }
+    ensures left { OnOk result (sum_by left_in parts.new.items
+        ≡ sum_by left_in parts.old.items + pages_between page_bytes request from to) }
+    ensures begun { OnOk result (sum_by refusals_in parts.new.items ≡ sum_by refusals_in parts.old.items) }
 {
     if from == to {
         return Ok(());
@@ -114,12 +140,17 @@ fn push_part<A: Allocator + Copy>(
 }
 
 /// Whether all parts have ended.
-fn has_ended<A: Allocator + Copy>(parts: &[Part<A>]) -> bool {
+fn has_ended<A: Allocator + Copy>(parts: &[Part<A>]) -> bool
+    ensures { result ≡ list_all rule_ended parts.now }
+{
     parts.iter().all(|part| part.op.ended().is_some())
 }
 
-/// The fault of the first part that was refused.
-fn fault_of<A: Allocator + Copy>(parts: &[Part<A>]) -> Result<(), BlockFault> {
+/// The fault of the first part that was refused, where all have ended.
+fn fault_of<A: Allocator + Copy>(parts: &[Part<A>]) -> Result<(), BlockFault>
+    requires { list_all rule_ended parts.now ≡ true }
+    ensures { OnOk result (sum_by refusals_in parts.now ≡ 0) }
+{
     for part in parts {
         if let Some(Some(fault)) = part.op.ended() {
             return Err(fault);
@@ -129,20 +160,33 @@ fn fault_of<A: Allocator + Copy>(parts: &[Part<A>]) -> Result<(), BlockFault> {
 }
 
 /// Prepares each part that has something to prepare. The pages' bytes are hashed side by side, where there is memory for that.
-fn prepare<A: Allocator + Copy>(alloc: A, parts: &mut [Part<A>], bytes: &[u8]) {
+fn prepare<A: Allocator + Copy>(alloc: A, parts: &mut [Part<A>], bytes: &[u8])
+    ensures { (commits : ℕ) → Counts (tally_of_parts commits parts.old) (tally_of_parts commits parts.new) }
+{
     let mut payloads = match payloads_of(alloc, parts, bytes) {
         Ok(payloads) => payloads,
         Err(_) => Vec::new(alloc),
     };
     for part in parts {
-        let own = bytes.get(part.from..part.to).unwrap_or(&[]);
-        if !part.op.has_content() {
-            part.op.prepare(own);
-        } else if let Some(payload) = payloads.pop() {
-            part.op.prepare_with(own, payload);
-        } else {
-            part.op.prepare(own);
-        }
+        prepare_part(part, bytes, &mut payloads);
+    }
+}
+
+/// Prepares a part, if it has something to prepare, with the payload that was made for it, if there is one.
+fn prepare_part<A: Allocator + Copy>(
+    part: &mut Part<A>,
+    bytes: &[u8],
+    payloads: &mut Vec<Payload<A>, A>,
+)
+    ensures { (commits : ℕ) → Counts (tally_of commits part.old.op) (tally_of commits part.new.op) }
+{
+    let own = bytes.get(part.from..part.to).unwrap_or(&[]);
+    if !part.op.has_content() {
+        part.op.prepare(own);
+    } else if let Some(payload) = payloads.pop() {
+        part.op.prepare_with(own, payload);
+    } else {
+        part.op.prepare(own);
     }
 }
 
@@ -169,7 +213,9 @@ fn make_turns<R: Wait + Clock, L: Ledger, M: Map + Drop, A: Allocator + Copy, H:
     seat: &mut Seat<L>,
     hands: &mut H,
     parts: &mut [Part<A>],
-) {
+)
+    ensures { PartsGoOn seat.old parts.old seat.new parts.new }
+{
     let mut guard = shared.lock(rt);
     for _ in rt.forever() {
         if !matches!(turn_all(rt, parts, &mut guard, seat), Turn::Wait) {
@@ -189,7 +235,9 @@ fn turn_all<R: Wait, L: Ledger, M: Map + Drop, A: Allocator + Copy>(
     parts: &mut [Part<A>],
     locked: &mut Locked<L, M, A>,
     seat: &mut Seat<L>,
-) -> Turn {
+) -> Turn
+    ensures { PartsGoOn seat.old parts.old seat.new parts.new }
+{
     let (mut prepares, mut waits) = (false, false);
     for part in parts {
         match turn_on(rt, &mut part.op, locked, seat) {

@@ -5,7 +5,6 @@ ghost use Rattle.fa_ops.specs.Moves.{AfterAdmit, AfterPlanned, Turned, stopped a
 ghost use Rattle.fa_reads.specs.Answers.{admit_answer, plan_answer};
 ghost use Rattle.fa_ops.specs.declared.request.Task.{Task};
 ghost use Rattle.fa_ops.specs.declared.stage.Stage.TheVariants.{Asking, Leaving, Reading};
-ghost use Rattle.fa_shared.specs.Seats.{number_of};
 
 use crate::events::{admit, end_batch, replan};
 use crate::stage::{Purpose, Stage};
@@ -35,7 +34,7 @@ pub(crate) fn ask<L: Ledger, M: Map + Drop, A: Allocator + Copy>(
     purpose: Purpose,
     pages: Vec<Page, A>,
 ) -> Stage<A>
-    ensures turned { (t : Task) → Turned t (number_of seat.old) locked.old.core (Asking purpose pages) locked.new.core result }
+    ensures turned { (t : Task) → Turned t seat.old seat.new locked.old.core (Asking purpose pages) locked.new.core result }
     ensures account { IsAccounted locked.old seat.old locked.new seat.new }
 {
     let waits = locked.array().copy_open();
@@ -77,7 +76,7 @@ pub(crate) fn read<L: Ledger, M: Map + Drop, A: Allocator + Copy>(
     purpose: Purpose,
     batch: BatchId,
 ) -> Stage<A>
-    ensures turned { (t : Task) → Turned t (number_of seat.old) locked.old.core (Reading purpose batch) locked.new.core result }
+    ensures turned { (t : Task) → Turned t seat.old seat.new locked.old.core (Reading purpose batch) locked.new.core result }
     ensures account { IsAccounted locked.old seat.old locked.new seat.new }
 {
     match locked.array().results(batch) {
@@ -95,7 +94,7 @@ fn end<L: Ledger, M: Map + Drop, A: Allocator + Copy>(
     purpose: Purpose,
     batch: BatchId,
 ) -> Stage<A>
-    ensures turned { (t : Task) → Turned t (number_of seat.old) locked.old.core (Reading purpose batch) locked.new.core result }
+    ensures turned { (t : Task) → Turned t seat.old seat.new locked.old.core (Reading purpose batch) locked.new.core result }
     ensures account { IsAccounted locked.old seat.old locked.new seat.new }
 {
     match end_batch(alloc, locked, seat, batch) {
@@ -112,7 +111,7 @@ fn plan_anew<L: Ledger, M: Map + Drop, A: Allocator + Copy>(
     purpose: Purpose,
     batch: BatchId,
 ) -> Stage<A>
-    ensures turned { (t : Task) → Turned t (number_of seat.old) locked.old.core (Reading purpose batch) locked.new.core result }
+    ensures turned { (t : Task) → Turned t seat.old seat.new locked.old.core (Reading purpose batch) locked.new.core result }
     ensures account { IsAccounted locked.old seat.old locked.new seat.new }
 {
     let waits = locked.array().copy_open();
@@ -155,7 +154,7 @@ pub(crate) fn leave<L: Ledger, M: Map + Drop, A: Allocator + Copy>(
     batch: BatchId,
     fault: BlockFault,
 ) -> Stage<A>
-    ensures turned { (t : Task) → Turned t (number_of seat.old) locked.old.core (Leaving purpose batch fault) locked.new.core result }
+    ensures turned { (t : Task) → Turned t seat.old seat.new locked.old.core (Leaving purpose batch fault) locked.new.core result }
     ensures account { IsAccounted locked.old seat.old locked.new seat.new }
 {
     let _answers = end_batch(alloc, locked, seat, batch);

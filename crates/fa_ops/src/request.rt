@@ -1,7 +1,7 @@
 //! Requests, and what each comes to.
 ghost use Rattle.std.specs.Prelude.{◌≡◌, ℕ, ◌+◌, ◌*◌, ◌^◌, ◌≤◌};
 ghost use Rattle.fa_ops.specs.Ranges.{IsRange};
-ghost use Rattle.fa_ops.specs.Tasks.{bytes_from as range_from, end_of, task_of, whole_range};
+ghost use Rattle.fa_ops.specs.Tasks.{begin_of, bytes_from as range_from, end_of, task_of, whole_range, within as rule_within};
 
 use crate::range::Range;
 
@@ -73,7 +73,8 @@ pub struct Task {
 impl Request {
     /// Where its range begins, and how many bytes it has.
     pub(crate) fn extent(self) -> (u64, u64)
-        ensures { result.0 + result.1 ≡ end_of self }
+        ensures begin { result.0 ≡ begin_of self }
+        ensures end { result.0 + result.1 ≡ end_of self }
     {
         match self {
             Request::Read { offset, len }
@@ -100,7 +101,7 @@ impl Request {
     pub(crate) fn within(self, from: u64, to: u64) -> Request
         requires { from ≤ to }
         ensures end { end_of result ≤ to }
-        ensures fill { (page_bytes : ℕ) → (task_of page_bytes result).fill ≡ (task_of page_bytes self).fill }
+        ensures within { result ≡ rule_within self from to }
     {
         let (offset, len, fua) = (from, to - from, false);
         match self {

@@ -1,6 +1,9 @@
 //! Requests over an array that is shared, from their beginning to their end.
-ghost use Rattle.std.specs.Prelude.{◌≡◌, ◌+◌, ◌*◌, ◌^◌, ◌≤◌, length, IfOk, IfErr};
-ghost use Rattle.fa_ops.specs.Tasks.{end_of};
+ghost use Rattle.std.specs.Prelude.{◌≡◌, ◌+◌, ◌*◌, ◌^◌, ◌≤◌, length, is_ok, IfOk, IfErr};
+ghost use Rattle.fa_ops.specs.Counts.{GoesOn, IsMade, pages_in};
+ghost use Rattle.fa_ops.specs.Ops.{ended, stage_of};
+ghost use Rattle.fa_ops.specs.Tasks.{end_of, task_of};
+ghost use Rattle.fa_shared.specs.Seats.{commits_with, number_of};
 ghost use Rattle.fa_types.specs.declared.blocks.BlockFault.TheVariants.{NoRoom};
 
 use crate::op::{Op, Turn};
@@ -40,6 +43,7 @@ fn run_whole<R: Wait + Clock, L: Ledger, M: Map + Drop, A: Allocator + Copy, H: 
     requires some { 1 ≤ page_bytes }
     requires small { page_bytes ≤ 4096 }
     requires inside { end_of request ≤ 2 ^ 32 }
+    ensures { IsMade (pages_in (task_of page_bytes request)) seat.old (is_ok result) seat.new }
 {
     let mut op = match Op::new(alloc, request, u64::from(page_bytes)) {
         Ok(op) => op,
@@ -71,6 +75,7 @@ pub(crate) fn run<
     requires some { 1 ≤ page_bytes }
     requires small { page_bytes ≤ 4096 }
     requires inside { end_of request ≤ 2 ^ 32 }
+    ensures { IsMade (pages_in (task_of page_bytes request)) seat.old (is_ok result) seat.new }
 {
     if request.extent().1 <= u64::from(page_bytes) {
         return run_whole(rt, alloc, shared, seat, hands, page_bytes, request, bytes);
@@ -115,6 +120,7 @@ pub(crate) fn run_read<
     requires inside { offset + len ≤ 2 ^ 32 }
     ensures length { IfOk result (λ answer. length answer.items ≡ len) }
     ensures room { IfErr result (λ fault. fault ≡ NoRoom → ⊥) }
+    ensures made { IsMade 0 seat.old (is_ok result) seat.new }
 {
     let request = Request::Read { offset, len };
     let mut op = match Op::new(alloc, request, u64::from(page_bytes)) {
@@ -157,14 +163,23 @@ fn of_read(fault: BlockFault) -> BlockFault
 }
 
 /// Goes on with a request until it has ended, and tells how.
-fn finish<R: Wait + Clock, L: Ledger, M: Map + Drop, A: Allocator + Copy, H: Hands<L, M, A>>(
+pub(crate) fn finish<
+    R: Wait + Clock,
+    L: Ledger,
+    M: Map + Drop,
+    A: Allocator + Copy,
+    H: Hands<L, M, A>,
+>(
     rt: &R,
     shared: &Shared<L, M, A>,
     seat: &mut Seat<L>,
     hands: &mut H,
     op: &mut Op<A>,
     bytes: &[u8],
-) -> Option<BlockFault> {
+) -> Option<BlockFault>
+    ensures goes_on { GoesOn seat.old op.old seat.new op.new }
+    ensures ended { ended (stage_of op.new) ≡ Some result }
+{
     for _ in rt.forever() {
         if let Some(end) = op.ended() {
             return end;
@@ -183,7 +198,9 @@ fn make_turns<R: Wait + Clock, L: Ledger, M: Map + Drop, A: Allocator + Copy, H:
     seat: &mut Seat<L>,
     hands: &mut H,
     op: &mut Op<A>,
-) {
+)
+    ensures { GoesOn seat.old op.old seat.new op.new }
+{
     let mut guard = shared.lock(rt);
     for _ in rt.forever() {
         if !matches!(turn_on(rt, op, &mut guard, seat), Turn::Wait) {
@@ -211,7 +228,10 @@ pub(crate) fn pass_time<
     hands: &mut H,
     awaits: Awaits,
     guard: MutexGuard<'a, Locked<L, M, A>>,
-) -> MutexGuard<'a, Locked<L, M, A>> {
+) -> MutexGuard<'a, Locked<L, M, A>>
+    ensures commits { commits_with seat.new ≡ commits_with seat.old }
+    ensures number { number_of seat.new ≡ number_of seat.old }
+{
     let mut guard = guard;
     if !hands.take(&mut guard, seat) {
         return shared.sleep(rt, seat, awaits, guard);
@@ -229,7 +249,9 @@ pub(crate) fn turn_on<R: Wait, L: Ledger, M: Map + Drop, A: Allocator + Copy>(
     op: &mut Op<A>,
     locked: &mut Locked<L, M, A>,
     seat: &mut Seat<L>,
-) -> Turn {
+) -> Turn
+    ensures { GoesOn seat.old op.old seat.new op.new }
+{
     if op.ended().is_some() {
         return Turn::End;
     }

@@ -4,7 +4,6 @@ ghost use Rattle.fa_ops.specs.Accounts.{IsAccounted};
 ghost use Rattle.fa_ops.specs.Moves.{Turned};
 ghost use Rattle.fa_ops.specs.Ops.{beginning};
 ghost use Rattle.fa_ops.specs.Ranges.{IsRange};
-ghost use Rattle.fa_shared.specs.Seats.{number_of};
 
 use crate::reading::{ask, leave, read};
 use crate::request::Task;
@@ -27,7 +26,7 @@ pub(crate) fn turn_stage<L: Ledger, M: Map + Drop, A: Allocator + Copy>(
     stage: Stage<A>,
 ) -> Stage<A>
     requires { IsRange task.range }
-    ensures turned { Turned task (number_of seat.old) locked.old.core stage locked.new.core result }
+    ensures turned { Turned task seat.old seat.new locked.old.core stage locked.new.core result }
     ensures account { IsAccounted locked.old seat.old locked.new seat.new }
 {
     match stage {

@@ -4,7 +4,6 @@ ghost use Rattle.fa_ops.specs.Accounts.{IsAccounted};
 ghost use Rattle.fa_ops.specs.Moves.{Turned, after_begin, after_state};
 ghost use Rattle.fa_ops.specs.declared.request.Task.{Task};
 ghost use Rattle.fa_ops.specs.declared.stage.Stage.TheVariants.{BeginningFlush, Flushing};
-ghost use Rattle.fa_shared.specs.Seats.{number_of};
 
 use crate::events::{flush_begin, flush_state};
 use crate::stage::Stage;
@@ -21,7 +20,7 @@ pub(crate) fn begin_flush<L: Ledger, M: Map + Drop, A: Allocator + Copy>(
     locked: &mut Locked<L, M, A>,
     seat: &mut Seat<L>,
 ) -> Stage<A>
-    ensures turned { (t : Task) → Turned t (number_of seat.old) locked.old.core BeginningFlush locked.new.core result }
+    ensures turned { (t : Task) → Turned t seat.old seat.new locked.old.core BeginningFlush locked.new.core result }
     ensures account { IsAccounted locked.old seat.old locked.new seat.new }
 {
     begun(flush_begin(alloc, locked, seat))
@@ -44,7 +43,7 @@ pub(crate) fn flush<L: Ledger, M: Map + Drop, A: Allocator + Copy>(
     seat: &mut Seat<L>,
     asked: Flush,
 ) -> Stage<A>
-    ensures turned { (t : Task) → Turned t (number_of seat.old) locked.old.core (Flushing asked) locked.new.core result }
+    ensures turned { (t : Task) → Turned t seat.old seat.new locked.old.core (Flushing asked) locked.new.core result }
     ensures account { IsAccounted locked.old seat.old locked.new seat.new }
 {
     flushed(asked, flush_state(alloc, locked, seat, asked))

@@ -6,7 +6,6 @@ ghost use Rattle.fa_ops.specs.Moves.{Turned, after_pages as rule_after, from_pag
 ghost use Rattle.fa_ops.specs.Moves.{AfterReserve, after_abandon, after_claim, after_commit, after_release, with_fewer as rule_fewer};
 ghost use Rattle.fa_ops.specs.Ranges.{IsRange};
 ghost use Rattle.fa_ops.specs.declared.stage.Stage.TheVariants.{Abandoning, Claiming, Committing, Releasing, Reserving};
-ghost use Rattle.fa_shared.specs.Seats.{number_of};
 
 use crate::events::{abandon, claim, commit, fold, release, reserve, reserve_fewer, reserve_hole};
 use crate::request::Task;
@@ -64,7 +63,7 @@ pub(crate) fn claim_page<L: Ledger, M: Map + Drop, A: Allocator + Copy>(
     page: Page,
 ) -> Stage<A>
     requires { IsRange task.range }
-    ensures turned { Turned task (number_of seat.old) locked.old.core (Claiming page) locked.new.core result }
+    ensures turned { Turned task seat.old seat.new locked.old.core (Claiming page) locked.new.core result }
     ensures account { IsAccounted locked.old seat.old locked.new seat.new }
 {
     match claim(alloc, locked, seat, page) {
@@ -93,7 +92,7 @@ pub(crate) fn reserve_wish<L: Ledger, M: Map + Drop, A: Allocator + Copy>(
     held: Held,
     wish: Wish<A>,
 ) -> Stage<A>
-    ensures turned { (t : Task) → Turned t (number_of seat.old) locked.old.core (Reserving held wish) locked.new.core result }
+    ensures turned { (t : Task) → Turned t seat.old seat.new locked.old.core (Reserving held wish) locked.new.core result }
     ensures account { IsAccounted locked.old seat.old locked.new seat.new }
 {
     match wish {
@@ -110,7 +109,7 @@ fn reserve_data<L: Ledger, M: Map + Drop, A: Allocator + Copy>(
     held: Held,
     payload: Payload<A>,
 ) -> Stage<A>
-    ensures turned { (t : Task) → Turned t (number_of seat.old) locked.old.core (Reserving held (Wish.Data payload)) locked.new.core result }
+    ensures turned { (t : Task) → Turned t seat.old seat.new locked.old.core (Reserving held (Wish.Data payload)) locked.new.core result }
     ensures account { IsAccounted locked.old seat.old locked.new seat.new }
 {
     let waits = may_get_room(locked.array());
@@ -127,7 +126,7 @@ fn reserve_on_fewer<L: Ledger, M: Map + Drop, A: Allocator + Copy>(
     held: Held,
     payload: Payload<A>,
 ) -> Stage<A>
-    ensures turned { (t : Task) → Turned t (number_of seat.old) locked.old.core (Reserving held (Wish.Fewer payload)) locked.new.core result }
+    ensures turned { (t : Task) → Turned t seat.old seat.new locked.old.core (Reserving held (Wish.Fewer payload)) locked.new.core result }
     ensures account { IsAccounted locked.old seat.old locked.new seat.new }
 {
     let waits = may_get_room(locked.array());
@@ -144,7 +143,7 @@ fn reserve_no_data<L: Ledger, M: Map + Drop, A: Allocator + Copy>(
     seat: &mut Seat<L>,
     held: Held,
 ) -> Stage<A>
-    ensures turned { (t : Task) → Turned t (number_of seat.old) locked.old.core (Reserving held Wish.Hole) locked.new.core result }
+    ensures turned { (t : Task) → Turned t seat.old seat.new locked.old.core (Reserving held Wish.Hole) locked.new.core result }
     ensures account { IsAccounted locked.old seat.old locked.new seat.new }
 {
     let waits = may_get_room(locked.array());
@@ -197,7 +196,7 @@ pub(crate) fn commit_wish<L: Ledger, M: Map + Drop, A: Allocator + Copy>(
     held: Held,
     wish: Wish<A>,
 ) -> Stage<A>
-    ensures turned { (t : Task) → Turned t (number_of seat.old) locked.old.core (Committing held wish) locked.new.core result }
+    ensures turned { (t : Task) → Turned t seat.old seat.new locked.old.core (Committing held wish) locked.new.core result }
     ensures account { IsAccounted locked.old seat.old locked.new seat.new }
 {
     if !locked.array().is_reserved(held.claim) {
@@ -219,7 +218,7 @@ fn commit_now<L: Ledger, M: Map + Drop, A: Allocator + Copy>(
     wish: Wish<A>,
 ) -> Stage<A>
     requires { history_full locked.old.core ≡ false }
-    ensures turned { (t : Task) → Turned t (number_of seat.old) locked.old.core (Committing held wish) locked.new.core result }
+    ensures turned { (t : Task) → Turned t seat.old seat.new locked.old.core (Committing held wish) locked.new.core result }
     ensures account { IsAccounted locked.old seat.old locked.new seat.new }
 {
     match commit(alloc, locked, seat, held.claim) {
@@ -238,7 +237,7 @@ fn commit_folded<L: Ledger, M: Map + Drop, A: Allocator + Copy>(
 ) -> Stage<A>
     requires full { history_full locked.old.core ≡ true }
     requires reserved { is_reserved locked.old.core held.claim.0 ≡ true }
-    ensures turned { (t : Task) → Turned t (number_of seat.old) locked.old.core (Committing held wish) locked.new.core result }
+    ensures turned { (t : Task) → Turned t seat.old seat.new locked.old.core (Committing held wish) locked.new.core result }
     ensures account { IsAccounted locked.old seat.old locked.new seat.new }
 {
     fold(alloc, locked, seat);
@@ -271,7 +270,7 @@ pub(crate) fn abandon_wish<L: Ledger, M: Map + Drop, A: Allocator + Copy>(
     held: Held,
     wish: Wish<A>,
 ) -> Stage<A>
-    ensures turned { (t : Task) → Turned t (number_of seat.old) locked.old.core (Abandoning held wish) locked.new.core result }
+    ensures turned { (t : Task) → Turned t seat.old seat.new locked.old.core (Abandoning held wish) locked.new.core result }
     ensures account { IsAccounted locked.old seat.old locked.new seat.new }
 {
     match abandon(alloc, locked, seat, held.claim) {
@@ -305,7 +304,7 @@ pub(crate) fn release_page<L: Ledger, M: Map + Drop, A: Allocator + Copy>(
     fault: Option<BlockFault>,
 ) -> Stage<A>
     requires { IsRange task.range }
-    ensures turned { Turned task (number_of seat.old) locked.old.core (Releasing held fault) locked.new.core result }
+    ensures turned { Turned task seat.old seat.new locked.old.core (Releasing held fault) locked.new.core result }
     ensures account { IsAccounted locked.old seat.old locked.new seat.new }
 {
     if !locked.array().claim_open(held.claim) {
@@ -328,7 +327,7 @@ fn give_up<L: Ledger, M: Map + Drop, A: Allocator + Copy>(
     held: Held,
     fault: Option<BlockFault>,
 ) -> Stage<A>
-    ensures turned { (t : Task) → Turned t (number_of seat.old) locked.old.core (Releasing held fault) locked.new.core result }
+    ensures turned { (t : Task) → Turned t seat.old seat.new locked.old.core (Releasing held fault) locked.new.core result }
     ensures account { IsAccounted locked.old seat.old locked.new seat.new }
 {
     let _answer = abandon(alloc, locked, seat, held.claim);

@@ -1,4 +1,7 @@
 //! Whoever makes jobs of dies while a request waits for them.
+ghost use Rattle.std.specs.Prelude.{◌≡◌};
+ghost use Rattle.fa_shared.specs.Seats.{commits_with, number_of};
+
 use crate::locked::Locked;
 use crate::seat::Seat;
 use fa_map::Map;
@@ -6,16 +9,20 @@ use std::alloc::Allocator;
 use std::sync::ledger::Ledger;
 
 /// Somebody who makes jobs of an array's dies. In one hold of the array's lock jobs are taken, behind it their calls are made, and in the
-/// next hold they are ended.
+/// next hold they are ended. Whose seat that is makes no Commit by it.
 pub trait Hands<L: Ledger, M: Map + Drop, A: Allocator + Copy> {
     /// Takes jobs of dies that nobody works for, with the lock held. Whether there are any.
-    fn take(&mut self, locked: &mut Locked<L, M, A>, seat: &mut Seat<L>) -> bool;
+    fn take(&mut self, locked: &mut Locked<L, M, A>, seat: &mut Seat<L>) -> bool
+        ensures commits { commits_with seat.new ≡ commits_with seat.old }
+        ensures number { number_of seat.new ≡ number_of seat.old };
 
     /// Makes the calls of the jobs that were taken, with no lock held.
     fn work(&mut self);
 
     /// Ends the jobs whose calls were made, with the lock held.
-    fn end(&mut self, locked: &mut Locked<L, M, A>, seat: &mut Seat<L>);
+    fn end(&mut self, locked: &mut Locked<L, M, A>, seat: &mut Seat<L>)
+        ensures commits { commits_with seat.new ≡ commits_with seat.old }
+        ensures number { number_of seat.new ≡ number_of seat.old };
 
     /// Notes why dies went out, if some did as their jobs ended, with no lock held.
     fn note(&mut self);

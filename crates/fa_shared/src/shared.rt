@@ -2,7 +2,7 @@
 ghost use Rattle.std.specs.Prelude.{◌≡◌, IfErr, IfSome};
 ghost use Rattle.fa_core.specs.Array.{IsWhole, state_of};
 ghost use Rattle.fa_machine.specs.Looks.{counts as rule_counts};
-ghost use Rattle.fa_shared.specs.Seats.{commits_with};
+ghost use Rattle.fa_shared.specs.Seats.{commits_with, number_of};
 
 use crate::faults::{Fault, Faults};
 use crate::locked::{Gathered, Locked, MAX_SEATS};
@@ -56,7 +56,10 @@ impl<L: Ledger, M: Map + Drop, A: Allocator + Copy> Shared<L, M, A> {
     }
 
     /// Frees the lock, and wakes those for whom it is time. Rounds that may pass have passed before.
-    pub fn release(&self, seat: &mut Seat<L>, guard: MutexGuard<'_, Locked<L, M, A>>) {
+    pub fn release(&self, seat: &mut Seat<L>, guard: MutexGuard<'_, Locked<L, M, A>>)
+        ensures commits { commits_with seat.new ≡ commits_with seat.old }
+        ensures number { number_of seat.new ≡ number_of seat.old }
+    {
         let mut guard = guard;
         guard.settle(seat);
         let due = guard.due();
@@ -72,7 +75,10 @@ impl<L: Ledger, M: Map + Drop, A: Allocator + Copy> Shared<L, M, A> {
         seat: &mut Seat<L>,
         awaits: Awaits,
         guard: MutexGuard<'a, Locked<L, M, A>>,
-    ) -> MutexGuard<'a, Locked<L, M, A>> {
+    ) -> MutexGuard<'a, Locked<L, M, A>>
+        ensures commits { commits_with seat.new ≡ commits_with seat.old }
+        ensures number { number_of seat.new ≡ number_of seat.old }
+    {
         let number = seat.number;
         let mut guard = guard;
         guard.settle(seat);

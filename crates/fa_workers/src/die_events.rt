@@ -67,7 +67,9 @@ pub(crate) fn take_job<L: Ledger, M: Map + Drop, A: Allocator + Copy>(
     locked: &mut Locked<L, M, A>,
     seat: &mut Seat<L>,
     die: Die,
-) -> Option<Order<A>> {
+) -> Option<Order<A>>
+    ensures { LeavesRest locked.old seat.old locked.new seat.new }
+{
     if !has_job(locked.array(), die) {
         return None;
     }

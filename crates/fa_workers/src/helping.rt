@@ -1,4 +1,6 @@
 //! Those who work for dies while they wait for something else.
+ghost use Rattle.fa_workers.specs.Held.{LeavesRest};
+
 use crate::bench::Bench;
 use crate::die_events::{Ended, end_job, take_job};
 use crate::gate::Gate;
@@ -188,7 +190,9 @@ fn take_jobs<L: Ledger, M: Map + Drop, A: Allocator + Copy>(
     seat: &mut Seat<L>,
     most: usize,
     orders: &mut Vec<Order<A>, A>,
-) {
+)
+    ensures { LeavesRest locked.old seat.old locked.new seat.new }
+{
     for number in 0..locked.array().geometry().dies {
         if orders.len() >= most || orders.len() == orders.capacity() {
             return;

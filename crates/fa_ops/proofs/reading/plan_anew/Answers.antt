@@ -2,8 +2,10 @@ use Rattle.std.proofs.Common.{refl}
 use Rattle.fa_machine.specs.Step.{Replan}
 use Rattle.fa_ops.specs.Moves.{Moved}
 use Rattle.fa_reads.specs.Answers.{plan_answer}
+use Rattle.fa_ops.proofs.Turns.{no_rise}
 use Rattle.fa_ops.proofs.reading.plan_anew.Goals as goal
 
 pub returns-in-Some-clause-turned : goal.returns-in-Some-clause-turned
 returns-in-Some-clause-turned g c =
-    λ t. Moved (Replan c.args.batch.0 (plan_answer c.in-Some.answer)) c.in-Some.ensures.some (refl, c.planned_anew.ensures)
+    λ t. Moved (Replan c.args.batch.0 (plan_answer c.in-Some.answer)) c.in-Some.ensures.some (no_rise c.in-Some.ensures.commits)
+    (refl, c.planned_anew.ensures)
