@@ -1,0 +1,4 @@
+pub mod Images
+pub mod Drives
+pub mod Mounted
+pub mod Closed
