@@ -97,6 +97,16 @@ PLACES = {0: ((0, 0), (1, 0)), 1: ((1, 1), (2, 0)), 2: ((2, 1), (0, 1)), 3: ((0,
 EIGHT = [step for page, places in PLACES.items() for step in write(page, page + 1, 10 + page, *places)]
 
 
+def filled_dies():
+    """Two dies of four blocks of four slots are filled: one current and three stale slots, four stale ones, four current ones, four
+    erased ones."""
+    both = lambda page, seq, byte, slot: write(page, seq, byte, *(((0, slot), (1, slot)) if page % 2 == 0 else ((1, slot), (0, slot))))
+    filled = headers(2, 0, 1) + both(0, 1, 10, 0)
+    for slot in range(1, 9):
+        filled = filled + both(1, slot + 1, 20 + slot, slot)
+    return filled + both(2, 10, 12, 9) + both(3, 11, 13, 10) + both(4, 12, 14, 11)
+
+
 def pages_at(places, seqs=None):
     """A look at each page: where it is, dies rising."""
     looks = []
@@ -566,13 +576,7 @@ def windows():
         closed 2 4 -> closed 2 2
     """), ("claim", "reserve", "admit", "window"))
 
-    # Two dies of four blocks of four slots: one current and three stale slots, four stale ones, four current ones, four erased ones.
-    small = shape(2, blocks=4, slots=4, pages=8)
-    both = lambda page, seq, byte, slot: write(page, seq, byte, *(((0, slot), (1, slot)) if page % 2 == 0 else ((1, slot), (0, slot))))
-    filled = headers(2, 0, 1) + both(0, 1, 10, 0)
-    for slot in range(1, 9):
-        filled = filled + both(1, slot + 1, 20 + slot, slot)
-    filled = filled + both(2, 10, 12, 9) + both(3, 11, 13, 10) + both(4, 12, 14, 11)
+    small, filled = shape(2, blocks=4, slots=4, pages=8), filled_dies()
     yield case("two_blocks_are_collected", small, filled + pairs("""
         die 0 -> die 0 live room 0 victim 1 wants a window
         die 1 -> die 1 live room 0 victim 1 wants a window

@@ -160,15 +160,16 @@ fn show_pages<A: Allocator, B: Allocator>(pages: &[(Page, Vec<u8, A>)], told: &m
     told.pair("pages", pages.len() as u64);
     for page in pages {
         told.pair("page", page.0.0);
-        show_bytes(page.1.as_slice(), told);
+        show_bytes("of", page.1.as_slice(), told);
     }
 }
 
-/// Bytes of a page: the one that all of them are.
-fn show_bytes<B: Allocator>(bytes: &[u8], told: &mut Told<B>) {
+/// Bytes of a page behind a word: the one that all of them are.
+pub(crate) fn show_bytes<B: Allocator>(word: &str, bytes: &[u8], told: &mut Told<B>) {
+    told.word(word);
     let first = bytes.first().copied().unwrap_or(0);
     if bytes.iter().all(|byte| *byte == first) {
-        told.pair("of", u64::from(first));
+        told.number(u64::from(first));
     } else {
         told.word("mixed");
     }
@@ -180,7 +181,7 @@ fn show_job<A: Allocator + Clone, B: Allocator>(job: &Option<Job<A>>, told: &mut
         Some(job) => {
             show_flight(job.flight, told);
             if let Some(payload) = &job.payload {
-                show_bytes(payload.bytes(), told);
+                show_bytes("of", payload.bytes(), told);
             }
         }
         None => told.word("no job"),
@@ -232,9 +233,14 @@ fn show_slot<B: Allocator>(
 /// A header's epoch, and its live dies.
 fn show_header<B: Allocator>(epoch: u64, live: u64, told: &mut Told<B>) {
     told.pair("header epoch", epoch);
+    show_live(live, told);
+}
+
+/// The live dies of a mask.
+pub(crate) fn show_live<B: Allocator>(mask: u64, told: &mut Told<B>) {
     told.word("live");
     for die in 0..64u32 {
-        if live >> die & 1 == 1 {
+        if mask >> die & 1 == 1 {
             told.number(u64::from(die));
         }
     }

@@ -46,6 +46,12 @@ impl<A: Allocator> Desk<A> {
         BatchId(u64::MAX)
     }
 
+    /// An array is mounted, of which nothing was asked yet.
+    pub(crate) fn begin_anew(&mut self) {
+        self.flushes.clear();
+        self.batches.clear();
+    }
+
     /// The last line where memory is to be refused.
     pub(crate) fn finish(&mut self) {
         if let Some(tally) = &self.tally {
@@ -133,7 +139,8 @@ fn slot_read(die: Die, flight: Option<Flight>, further: u64) -> Opened {
     }
 }
 
-fn tag_of(die: Die, page: Page, version: Version, slot: Slot) -> Tag {
+/// The tag of a page's copy.
+pub(crate) fn tag_of(die: Die, page: Page, version: Version, slot: Slot) -> Tag {
     Tag {
         page,
         seq: version.seq,

@@ -7,6 +7,14 @@ pub(crate) enum Wish {
     Make(Event),
     /// A look at the array, which changes nothing.
     Show(Look),
+    /// What is done to an image, or a look at it.
+    Touch(Deed),
+    /// The images are mounted, also where the array was not closed if it is unclean.
+    Mount { unclean: bool },
+    /// The calls of a die's job are made, and it ends.
+    Run,
+    /// The array is closed.
+    Close,
 }
 
 /// An event.
@@ -32,6 +40,23 @@ pub(crate) enum Event {
     FlushBegin,
     FlushState,
     Fold,
+}
+
+/// What is done to images.
+#[derive(Clone, Copy, Debug, PartialEq, Eq)]
+pub(crate) enum Deed {
+    /// A call is to fail.
+    Arm,
+    /// A read is to give wrong bytes.
+    Lie,
+    /// A slot is written in version 1.
+    OldSlot,
+    /// A look at a header.
+    Header,
+    /// A look at a slot.
+    Slot,
+    /// A look at how many programs met a slot that was not erased.
+    Overwrites,
 }
 
 /// How a job ended.

@@ -3,16 +3,23 @@
 
 mod answers;
 mod ballast;
+mod bank;
 mod certified;
 mod desk;
 mod event;
+mod images;
+mod imaging;
+mod jobs;
 mod looks;
 mod making;
+mod mounting;
 mod naming;
 mod running;
 mod shape;
+mod taken;
 mod tally;
 mod told;
+mod touching;
 mod words;
 
 use crate::desk::Desk;

@@ -17,7 +17,7 @@ use fa_types::{Die, Page, Seq};
 use std::alloc::{AllocError, Allocator};
 
 /// Who makes all events.
-const SEAT: u32 = 0;
+pub(crate) const SEAT: u32 = 0;
 
 /// An event with its numbers, and what it lends the array.
 #[derive(Drop)]
@@ -98,7 +98,7 @@ impl<A: Allocator, B: Allocator> Asked<'_, A, B> {
 }
 
 /// A page full of the last of these numbers. The error is out of memory.
-fn full_page<A: Allocator>(
+pub(crate) fn full_page<A: Allocator>(
     heap: A,
     numbers: &[u64],
     page_bytes: u32,

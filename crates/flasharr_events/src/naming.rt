@@ -1,5 +1,5 @@
 //! The names of events and looks.
-use crate::event::{Ending, Event, Look, Wish};
+use crate::event::{Deed, Ending, Event, Look, Wish};
 use crate::words::Words;
 use std::alloc::Allocator;
 
@@ -7,7 +7,7 @@ use std::alloc::Allocator;
 const ANY: usize = usize::MAX;
 
 /// The names, each with how many numbers stand in its line.
-const NAMES: [(&str, usize, Wish); 36] = [
+const NAMES: [(&str, usize, Wish); 46] = [
     ("claim", 1, Wish::Make(Event::Claim)),
     ("release", 1, Wish::Make(Event::Release)),
     ("reserve", 2, Wish::Make(Event::Reserve)),
@@ -44,6 +44,16 @@ const NAMES: [(&str, usize, Wish); 36] = [
     ("closed without", 3, Wish::Show(Look::ClosedWithout)),
     ("counts", 0, Wish::Show(Look::Counts)),
     ("history", 0, Wish::Show(Look::History)),
+    ("arm", 2, Wish::Touch(Deed::Arm)),
+    ("lie", 2, Wish::Touch(Deed::Lie)),
+    ("old slot", 5, Wish::Touch(Deed::OldSlot)),
+    ("header", 1, Wish::Touch(Deed::Header)),
+    ("slot", 2, Wish::Touch(Deed::Slot)),
+    ("overwrites", 0, Wish::Touch(Deed::Overwrites)),
+    ("mount", 1, Wish::Mount { unclean: false }),
+    ("mount unclean", 1, Wish::Mount { unclean: true }),
+    ("run", 1, Wish::Run),
+    ("close", 0, Wish::Close),
 ];
 
 /// What the words ask for. None where they are no line of a text.

@@ -4,10 +4,11 @@ ghost use Rattle.fa_core.specs.Array.{IsWhole};
 use crate::answers::show_answer;
 use crate::desk::Desk;
 use crate::event::{Event, Wish};
+use crate::imaging::run_over_images;
 use crate::looks::show;
 use crate::making::{Asked, make};
 use crate::naming::wish_of;
-use crate::shape::{Shape, array_of, shape_of};
+use crate::shape::{First, array_of, first_of};
 use crate::words::Words;
 use fa_core::Array;
 use fa_map::Map;
@@ -21,18 +22,23 @@ pub(crate) fn run<A: Allocator + Copy, B: Allocator + Copy>(
     text: &str,
     desk: &mut Desk<B>,
 ) -> Result<bool, AllocError> {
-    let Some(shape) = first_shape(alloc, text)? else {
-        tell_wrong(0, desk);
-        return Ok(false);
-    };
-    let mut array = array_of(heap, shape)?;
-    run_events(&mut array, heap, alloc, text, desk)
+    match first_line(alloc, text)? {
+        Some(First::Alone(shape)) => {
+            let mut array = array_of(heap, shape)?;
+            run_events(&mut array, heap, alloc, text, desk)
+        }
+        Some(First::OverImages(wanted)) => run_over_images(heap, alloc, text, wanted, desk),
+        None => {
+            tell_wrong(0, desk);
+            Ok(false)
+        }
+    }
 }
 
-/// The array of which the first line speaks. The error is out of memory.
-fn first_shape<B: Allocator + Copy>(alloc: B, text: &str) -> Result<Option<Shape>, AllocError> {
+/// What the first line asks for. The error is out of memory.
+fn first_line<B: Allocator + Copy>(alloc: B, text: &str) -> Result<Option<First>, AllocError> {
     match text.lines().next() {
-        Some(line) => Ok(shape_of(&Words::of(alloc, line)?)),
+        Some(line) => Ok(first_of(&Words::of(alloc, line)?)),
         None => Ok(None),
     }
 }
@@ -72,13 +78,13 @@ fn run_line<M: Map, A: Allocator + Copy, B: Allocator + Copy>(
     match wish_of(&words) {
         Some(Wish::Make(event)) => run_event(array, heap, alloc, event, numbers, desk)?,
         Some(Wish::Show(look)) => show(array, heap, look, numbers, desk)?,
-        None => return Ok(false),
+        _ => return Ok(false),
     }
     Ok(true)
 }
 
-/// An event, and its answer.
-fn run_event<M: Map, A: Allocator + Copy, B: Allocator + Copy>(
+/// An event, and its answer. The error is out of memory.
+pub(crate) fn run_event<M: Map, A: Allocator + Copy, B: Allocator + Copy>(
     array: &mut Array<M, A>,
     heap: A,
     alloc: B,
@@ -96,7 +102,7 @@ fn run_event<M: Map, A: Allocator + Copy, B: Allocator + Copy>(
 }
 
 /// A line that is none of a text's, by its index.
-fn tell_wrong<B: Allocator>(index: usize, desk: &mut Desk<B>) {
+pub(crate) fn tell_wrong<B: Allocator>(index: usize, desk: &mut Desk<B>) {
     desk.told
         .pair("no line of a text:", (index as u64).saturating_add(1));
     desk.told.end();

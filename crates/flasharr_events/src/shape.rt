@@ -17,10 +17,32 @@ use std::alloc::{AllocError, Allocator};
 /// The names of the numbers of an array, in their order.
 const NAME: &str = "dies spares blocks slots bytes pages copies epoch last";
 
+/// The names of the numbers of images, in their order.
+const IMAGES: &str = "images dies spares blocks slots bytes pages";
+
+const OLD_IMAGES: &str = "images old dies spares blocks slots bytes pages";
+
 /// The greatest epoch and the greatest sequence number that an array may begin with. The least epoch is 1.
 const MAX_EPOCH: u64 = 1 << 61;
 
 const MAX_LAST: u64 = (1 << 62) - 1;
+
+/// What a text's first line asks for.
+#[derive(Clone, Copy)]
+pub(crate) enum First {
+    /// An array without images.
+    Alone(Shape),
+    /// The images of an array.
+    OverImages(Images),
+}
+
+/// The images of an array that is yet to be mounted.
+#[derive(Clone, Copy)]
+pub(crate) struct Images {
+    pub(crate) geometry: Geometry,
+    /// Whether their headers are of format 1.
+    pub(crate) is_old: bool,
+}
 
 /// What an array begins with.
 #[derive(Clone, Copy)]
@@ -34,8 +56,21 @@ pub(crate) struct Shape {
     ghost enough: { copies.number ≤ geometry.dies - geometry.spares },
 }
 
+/// What a line asks for as the first of a text. None where there is no such array.
+pub(crate) fn first_of<A: Allocator>(words: &Words<A>) -> Option<First> {
+    let is_old = words.name.as_str() == OLD_IMAGES;
+    if !is_old && words.name.as_str() != IMAGES {
+        return Some(First::Alone(shape_of(words)?));
+    }
+    if words.numbers.len() != 6 {
+        return None;
+    }
+    let geometry = geometry_of(words.numbers.as_slice())?;
+    Some(First::OverImages(Images { geometry, is_old }))
+}
+
 /// The shape of which a line speaks. None where it speaks of none that an array may have.
-pub(crate) fn shape_of<A: Allocator>(words: &Words<A>) -> Option<Shape> {
+fn shape_of<A: Allocator>(words: &Words<A>) -> Option<Shape> {
     if words.name.as_str() != NAME || words.numbers.len() != 9 {
         return None;
     }
