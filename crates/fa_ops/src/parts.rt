@@ -20,6 +20,9 @@ use std::time::Clock;
 /// How many parts a request has at most.
 const PARTS: u64 = 16;
 
+/// How many pages are hashed at once.
+const SIDE_BY_SIDE: usize = 8;
+
 /// A part of a request.
 #[derive(Drop)]
 struct Part<A: Allocator = Global> {
@@ -27,6 +30,36 @@ struct Part<A: Allocator = Global> {
     /// Which of the request's bytes are its own.
     from: usize,
     to: usize,
+}
+
+/// How the parts of a request stand behind their turns.
+#[derive(Clone, Copy, Debug)]
+struct Stand {
+    /// How many have something to prepare.
+    prepares: usize,
+    /// Some wait for what dies do.
+    works: bool,
+    /// Some wait for what others hold up.
+    waits: bool,
+}
+
+impl Stand {
+    /// One part more, whose last turn came to this.
+    fn count<L: Ledger, M: Map + Drop, A: Allocator + Copy>(
+        &mut self,
+        turn: Turn,
+        op: &Op<A>,
+        locked: &Locked<L, M, A>,
+    ) {
+        match turn {
+            Turn::Prepare => self.prepares = self.prepares.saturating_add(1),
+            Turn::Wait => match op.awaits(locked) {
+                Awaits::Change => self.waits = true,
+                _ => self.works = true,
+            },
+            Turn::More | Turn::End => {}
+        }
+    }
 }
 
 /// A request that answers no bytes, in parts of whole pages, without its flush. Where parts are refused the fault is the first one's.
@@ -95,7 +128,7 @@ fn parts_of<A: Allocator + Copy>(
 {
     let (offset, len) = request.extent();
     let end = offset + len;
-    let step = (len / page_bytes / PARTS + 1).saturating_mul(page_bytes);
+    let step = pages_of_part(len / page_bytes).saturating_mul(page_bytes);
     let mut parts = Vec::with_capacity(alloc, PARTS as usize)?;
     let mut edge = offset / page_bytes * page_bytes;
     let mut from = offset;
@@ -107,6 +140,11 @@ fn parts_of<A: Allocator + Copy>(
     }
     push_part(&mut parts, alloc, page_bytes, request, from, end)?;
     Ok(parts)
+}
+
+/// How many pages a part has of a request on so many whole ones: the fewest with which there are no more parts than there may be.
+fn pages_of_part(pages: u64) -> u64 {
+    pages.saturating_sub(1) / PARTS + 1
 }
 
 /// Adds the part from one offset to before another, if it has a byte.
@@ -228,8 +266,7 @@ fn make_turns<R: Wait + Clock, L: Ledger, M: Map + Drop, A: Allocator + Copy, H:
     hands.note();
 }
 
-/// Makes turns of each part while each leads to the next. What comes of it is to prepare, if a part is to, and else to wait, if a part is
-/// to.
+/// Makes turns of each part while each leads to the next, and answers what is next for them together.
 fn turn_all<R: Wait, L: Ledger, M: Map + Drop, A: Allocator + Copy>(
     rt: &R,
     parts: &mut [Part<A>],
@@ -238,31 +275,45 @@ fn turn_all<R: Wait, L: Ledger, M: Map + Drop, A: Allocator + Copy>(
 ) -> Turn
     ensures { PartsGoOn seat.old parts.old seat.new parts.new }
 {
-    let (mut prepares, mut waits) = (false, false);
+    let mut stand = Stand {
+        prepares: 0,
+        works: false,
+        waits: false,
+    };
     for part in parts {
-        match turn_on(rt, &mut part.op, locked, seat) {
-            Turn::Prepare => prepares = true,
-            Turn::Wait => waits = true,
-            Turn::More | Turn::End => {}
-        }
+        let turn = turn_on(rt, &mut part.op, locked, seat);
+        stand.count(turn, &part.op, locked);
     }
-    if prepares {
+    next_for(stand)
+}
+
+/// What is next for parts that stand so: to prepare, to wait, or nothing, where all have ended.
+///
+/// What is to be hashed waits until it can be hashed side by side, while dies work for other parts. It never does while a part waits for
+/// others, since these may wait for the page that it has claimed.
+fn next_for(stand: Stand) -> Turn {
+    let Stand {
+        prepares,
+        works,
+        waits,
+    } = stand;
+    if prepares >= SIDE_BY_SIDE || (prepares > 0 && (waits || !works)) {
         Turn::Prepare
-    } else if waits {
+    } else if works || waits {
         Turn::Wait
     } else {
         Turn::End
     }
 }
 
-/// What parts wait for: the programs of the first one that waits for its programs, or else what others hold up.
+/// What parts wait for: what dies do for the first one that waits for that, or else what others hold up.
 fn awaits_of<L: Ledger, M: Map + Drop, A: Allocator + Copy>(
     parts: &[Part<A>],
     locked: &Locked<L, M, A>,
 ) -> Awaits {
     for part in parts {
         let awaits = part.op.awaits(locked);
-        if matches!(awaits, Awaits::Programs(_)) {
+        if !matches!(awaits, Awaits::Change) {
             return awaits;
         }
     }

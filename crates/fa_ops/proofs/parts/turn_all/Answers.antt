@@ -6,4 +6,4 @@ pub loop-part-preserved : goal.loop-part-preserved
 loop-part-preserved g c =
     parts_further _ _ _ _ _ _ c.loop-part.invariant
     (part_went _ _ c.loop-part.part-items c.loop-part.part-index _ c.part-item.result
-    (omega (arith, c.loop-part-test.true, c.loop-part.auto.part-items)) c.turn_on.ensures)
+    (omega (arith, c.loop-part-test.true, c.loop-part.auto.part-items)) c.turn_on-turn.ensures)
