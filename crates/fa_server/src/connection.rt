@@ -1,14 +1,23 @@
 //! A client's connection as its session uses it: requests are read ahead, and replies are held until the client has nothing more to say.
 ghost use Rattle.std.specs.Prelude.{◌≤◌, length};
 
+use crate::lobby::Lobby;
+use crate::socket::receive;
 use fa_io::WriteBoth;
 use std::alloc::{AllocError, Global};
 use std::cell::{Cell, RefCell};
 use std::io::{self, ErrorKind, Read, Write};
 use std::net::TcpStream;
+use std::time::{Clock, Duration, Instant};
 
 /// How many bytes are read ahead at most.
 const AHEAD_BYTES: usize = 8192;
+
+/// How long a socket is looked at again and again before it is waited for, in microseconds.
+const LOOK_MICROSECONDS: u64 = 50;
+
+/// How often a socket is looked at before it is waited for, at most.
+const MOST_LOOKS: u32 = 1000;
 
 /// How many bytes of replies are held at most.
 const HELD_BYTES: usize = 65_536;
@@ -54,16 +63,20 @@ impl Connection {
         }
     }
 
-    /// The reader and the writer of a client whose stream this is. Of the client before nothing is left.
-    pub(crate) fn sides<'a>(
+    /// The reader and the writer of a client whose stream this is, among those who were let in here. Of the client before nothing is left.
+    pub(crate) fn sides<'a, R: Clock>(
         &'a mut self,
+        rt: &'a R,
+        lobby: &'a Lobby,
         stream: &'a TcpStream,
-    ) -> (RequestReader<'a>, ReplyWriter<'a>) {
+    ) -> (RequestReader<'a, R>, ReplyWriter<'a>) {
         let Connection { ahead, held } = self;
         ahead.clear();
         held.clear();
         let held = &*held;
         let reader = RequestReader {
+            rt,
+            lobby,
             stream,
             ahead,
             held,
@@ -102,6 +115,24 @@ impl Ahead {
         Ok(())
     }
 
+    /// Reads as much as there is, for which it looks for a while. Whether the client has said something, or nothing more is to come.
+    fn look<R: Clock>(&mut self, rt: &R, stream: &TcpStream) -> bool {
+        let Ok(start) = Instant::now(rt) else {
+            return false;
+        };
+        for _ in 0..MOST_LOOKS {
+            if let Some(count) = receive(stream, self.bytes.as_mut_slice()) {
+                self.from = 0;
+                self.to = count;
+                return true;
+            }
+            if has_passed(rt, start) {
+                return false;
+            }
+        }
+        false
+    }
+
     /// Gives the next bytes, as many as there are and as fit, and answers how many these are.
     fn give(&mut self, out: &mut [u8]) -> usize
         ensures { result ≤ length out.old }
@@ -111,6 +142,14 @@ impl Ahead {
         out[..count].copy_from_slice(&rest[..count]);
         self.from = self.from.saturating_add(count);
         count
+    }
+}
+
+/// Whether a socket was looked at long enough since then.
+fn has_passed<R: Clock>(rt: &R, start: Instant) -> bool {
+    match start.elapsed(rt) {
+        Ok(took) => took >= Duration::from_micros(LOOK_MICROSECONDS),
+        Err(_) => true,
     }
 }
 
@@ -166,8 +205,13 @@ impl Held {
 
 /// Reads requests, and sends the replies that are held before it waits for a client. Between requests it waits as long as the client likes.
 /// For the first byte of a client, and for the rest of what it began to say, it waits no longer than the socket's limit for reads.
+///
+/// Where few clients are served it looks at the socket for a while before it waits, since a client that was just answered often has more to
+/// say at once, and it takes longer to be woken than to look.
 #[derive(Drop)]
-pub(crate) struct RequestReader<'a> {
+pub(crate) struct RequestReader<'a, R: Clock> {
+    rt: &'a R,
+    lobby: &'a Lobby,
     stream: &'a TcpStream,
     ahead: &'a mut Ahead,
     held: &'a Held,
@@ -175,9 +219,12 @@ pub(crate) struct RequestReader<'a> {
     has_heard: bool,
 }
 
-impl<'a> RequestReader<'a> {
+impl<'a, R: Clock> RequestReader<'a, R> {
     /// Reads more of what the client says.
     fn fill(&mut self) -> io::Result<()> {
+        if self.lobby.has_few_clients() && self.ahead.look(self.rt, self.stream) {
+            return Ok(());
+        }
         for _ in 0..u64::MAX {
             match self.ahead.fill(self.stream) {
                 Err(fault) if is_timeout(fault.kind()) && self.is_between_requests() => {}
@@ -193,7 +240,7 @@ impl<'a> RequestReader<'a> {
     }
 }
 
-impl<'a> Read for RequestReader<'a> {
+impl<'a, R: Clock> Read for RequestReader<'a, R> {
     fn read(&mut self, buf: &mut [u8]) -> io::Result<usize> {
         if self.ahead.is_empty() {
             self.held.send(self.stream)?;

@@ -3,8 +3,12 @@ use crate::host::Networked;
 use std::alloc::{AllocError, Global};
 use std::io;
 use std::net::{Shutdown, TcpStream};
+use std::sync::atomic::{AtomicU64, Ordering};
 use std::sync::{Condvar, Mutex};
 use std::time::Duration;
+
+/// How many clients are few.
+const FEW_CLIENTS: u64 = 2;
 
 /// A client that has come: its socket, with another handle on it.
 #[derive(Drop)]
@@ -84,6 +88,8 @@ impl Door {
 pub(crate) struct Lobby {
     door: Mutex<Door>,
     changed: Condvar,
+    // How many clients are served.
+    clients: AtomicU64,
 }
 
 impl Lobby {
@@ -101,6 +107,7 @@ impl Lobby {
         Ok(Lobby {
             door: Mutex::new(door),
             changed: Condvar::new(),
+            clients: AtomicU64::new(0),
         })
     }
 
@@ -110,6 +117,7 @@ impl Lobby {
         for _ in rt.forever() {
             match door.take(session) {
                 Found::Client(stream) => {
+                    self.clients.fetch_add(1, Ordering::SeqCst);
                     self.changed.notify_all();
                     return Some(stream);
                 }
@@ -123,7 +131,13 @@ impl Lobby {
     /// The client of this session has gone.
     pub(crate) fn leave<R: Networked>(&self, rt: &R, session: usize) {
         self.door.lock(rt).leave(session);
+        self.clients.fetch_sub(1, Ordering::SeqCst);
         self.changed.notify_all();
+    }
+
+    /// Whether so few clients are served that each may have a core of its own.
+    pub(crate) fn has_few_clients(&self) -> bool {
+        self.clients.load(Ordering::SeqCst) <= FEW_CLIENTS
     }
 
     /// Lets a client wait for a session, up to the limit. Whether a session took it: one that none took is sent away.

@@ -89,7 +89,15 @@ fn serve_each<R: Networked, B: Blocks>(
             break;
         };
         if let Some(export) = Export::of(service.name) {
-            serve_client(rt, &stream, connection, blocks, export, service.verbose);
+            serve_client(
+                rt,
+                lobby,
+                &stream,
+                connection,
+                blocks,
+                export,
+                service.verbose,
+            );
         }
         lobby.leave(rt, service.number);
     }
@@ -98,6 +106,7 @@ fn serve_each<R: Networked, B: Blocks>(
 /// Serves a client to the end of its connection.
 fn serve_client<R: Networked, B: Blocks>(
     rt: &R,
+    lobby: &Lobby,
     stream: &TcpStream,
     connection: &mut Connection,
     blocks: &mut B,
@@ -107,7 +116,7 @@ fn serve_client<R: Networked, B: Blocks>(
     prepare(stream);
     let address = stream.peer_addr().ok();
     tell_of_client(rt, address, verbose, "a client has come");
-    let (mut reader, mut writer) = connection.sides(stream);
+    let (mut reader, mut writer) = connection.sides(rt, lobby, stream);
     let end = serve_stream(rt.alloc(), &mut reader, &mut writer, blocks, export.name);
     let _ = writer.flush();
     tell_of_client(rt, address, verbose, words_of(end));

@@ -46,6 +46,13 @@ fn keep_alive(stream: &TcpStream) {
     }
 }
 
+/// Reads what a client has said, if it has said something, and does not wait for it. The answer is how many bytes that is: none where
+/// nothing more is to come. Where the system has an error it is as if nothing was said.
+pub(crate) fn receive(stream: &TcpStream, into: &mut [u8]) -> Option<usize> {
+    let count = unsafe { net::recv(stream.as_raw_fd(), into, net::MSG_DONTWAIT) };
+    usize::try_from(count).ok()
+}
+
 /// Ends what a listener does: whoever waits for a client there is told of an error.
 pub(crate) fn stop_accepting(listener: &TcpListener) {
     net::shutdown(listener.as_raw_fd(), net::SHUT_RDWR);
