@@ -223,7 +223,10 @@ fn lifted<R: Machine>(
     let mut bench = bench;
     let mut images = Vec::with_capacity(rt.alloc(), count).ok()?;
     for number in 0..dies {
-        if let Some(image) = bench.lift(Die(number as u8)) {
+        let Ok(die) = u8::try_from(number) else {
+            break;
+        };
+        if let Some(image) = bench.lift(Die(die)) {
             images.push(image).ok()?;
         }
     }
@@ -243,10 +246,13 @@ fn tasks_of<L: Ledger + Send, R: Machine>(
 ) -> Option<Vec<Task<L>>> {
     let mut tasks = Vec::with_capacity(rt.alloc(), dies.len()).ok()?;
     for number in 0..dies.len() {
+        let Ok(die) = u8::try_from(number) else {
+            break;
+        };
         if is_live(dies[number]) {
             tasks
                 .push(Task {
-                    die: Die(number as u8),
+                    die: Die(die),
                     seat: shared.seat(rt)?,
                     room: Room::new(rt.alloc(), page_bytes).ok()?,
                 })
