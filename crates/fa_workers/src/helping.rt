@@ -21,9 +21,8 @@ use std::time::{Clock, Duration, Instant};
 /// How many jobs somebody who helps takes at most in one hold.
 const MAX_JOBS: usize = 8;
 
-/// From how many reads on they are hashed side by side. Built for AVX2 eight side by side take less time than two one by one, and else that
-/// of four.
-const FEW_READS: usize = 2;
+/// From how many reads on they are hashed side by side: eight side by side take about the time of three one by one.
+const FEW_READS: usize = 4;
 
 /// How long the calls of a job take at most, in microseconds, that are said to take little time.
 const QUICK_MICROSECONDS: u64 = 50;
