@@ -104,6 +104,44 @@ impl<L: Ledger, M: Map + Drop, A: Allocator + Copy> Locked<L, M, A> {
         }
     }
 
+    /// An array for somebody who is alone with it and takes no lock, with a ledger of 257 parts that nothing else names. The book begins with
+    /// the Commits that were made before. Where memory is refused, or so many Commits were made that a count of 64 bits does not tell them, the
+    /// array is handed back.
+    pub fn alone(alloc: A, blank: Blank, array: Array<M, A>) -> Result<Locked<L, M, A>, Array<M, A>>
+        requires name { blank.name ≡ L.name }
+        requires parts { (blank.parts ≡ L.parts) × (blank.parts ≡ 257) }
+        requires whole { IsWhole M.view array }
+        ensures alone { IfOk result (λ locked. locked ≡ record {
+          core = state_of M.view array;
+          number = array_number array;
+          book = (rule_counts (state_of M.view array)).0;
+          out = 0;
+          gathered = (rule_counts (state_of M.view array)).0;
+          stopping = false;
+        }) }
+        ensures refused { IfErr result (λ back. back ≡ array) }
+    {
+        let commits = array.counts().0;
+        if commits == u64::MAX {
+            return Err(array);
+        }
+        let sleepers = match Sleepers::new(alloc) {
+            Ok(sleepers) => sleepers,
+            Err(_) => return Err(array),
+        };
+        let (mut book, mut rest) = blank.open::<L>();
+        book.add(&mut rest, commits);
+        Ok(Locked {
+            array,
+            alloc,
+            book,
+            rest,
+            out: 0,
+            stopping: false,
+            sleepers,
+        })
+    }
+
     /// One event of the array with its answer, made with a seat. Where a condition of the event does not hold of the array as it is now,
     /// the answer is Stranger and nothing has changed.
     pub fn step(&mut self, seat: &mut Seat<L>, call: Call<'_, A>) -> Answer<A>
