@@ -1,6 +1,3 @@
-pub mod Counts
-pub mod Sizes
+pub mod Begun
 pub mod Sorting
-pub mod Tallies
-pub mod Tiles
 pub mod Turns

@@ -43,9 +43,9 @@ pub struct Op<A: Allocator = Global> {
 impl<A: Allocator + Copy> Op<A> {
     ghost use Rattle.std.specs.Prelude.{◌≡◌, ℕ, ◌^◌, ◌≤◌, [], IfOk};
     ghost use Rattle.fa_ops.specs.Accounts.{IsAccounted};
-    ghost use Rattle.fa_ops.specs.Counts.{pages_in, tally_of};
     ghost use Rattle.fa_ops.specs.Moves.{Turned};
     ghost use Rattle.fa_ops.specs.Ops.{Prepares, answer_of, beginning, ended as rule_ended, stage_of, task_in};
+    ghost use Rattle.fa_ops.specs.Tallies.{pages_in, tally_of};
     ghost use Rattle.fa_ops.specs.Tasks.{end_of, task_of};
 
     /// A request of a store whose pages have so many bytes, of which no turn was made. A read has all memory for its answer from the
@@ -111,13 +111,16 @@ impl<A: Allocator + Copy> Op<A> {
         };
     }
 
-    /// Whether bytes of a write are to be hashed next.
-    pub(crate) fn has_content(&self) -> bool {
+    /// Whether the bytes of a page are to be hashed next. [`Op::next_content`] gives them, and [`Op::prepare_with`] takes what is made of them.
+    /// Which call is made then is a matter of speed alone, so what is answered is in no clause.
+    pub fn has_content(&self) -> bool {
         matches!(&self.stage, Stage::Filling(_, _)) && self.task.fill == Some(Fill::Bytes)
     }
 
-    /// The bytes of a page that are to be hashed next, if there are such and memory for them. The bytes are those of a write.
-    pub(crate) fn next_content(&self, bytes: &[u8]) -> Option<Vec<u8, A>> {
+    /// The bytes of a page that are to be hashed next, in memory of their own, for whoever hashes those of several requests side by side. The
+    /// bytes that are passed are those of a write. None where there are no such bytes, or for want of memory. What is given is in no clause:
+    /// [`Op::prepare_with`] looks at it.
+    pub fn next_content(&self, bytes: &[u8]) -> Option<Vec<u8, A>> {
         match &self.stage {
             Stage::Filling(held, _) if self.task.fill == Some(Fill::Bytes) => {
                 match content(self.alloc, self.task, bytes, held.page) {
@@ -129,8 +132,9 @@ impl<A: Allocator + Copy> Op<A> {
         }
     }
 
-    /// Does what [`Op::prepare`] does, with a payload that was made of what [`Op::next_content`] gave.
-    pub(crate) fn prepare_with(&mut self, bytes: &[u8], payload: Payload<A>)
+    /// Does what [`Op::prepare`] does, with a payload that was made of what [`Op::next_content`] gave. Where the page's bytes are others, or no
+    /// bytes are to be hashed, the payload is dropped, and all is made as there.
+    pub fn prepare_with(&mut self, bytes: &[u8], payload: Payload<A>)
         ensures prepared { Prepares (task_in self.old) bytes.now (stage_of self.old) (answer_of self.old) (stage_of self.new)
             (answer_of self.new) }
         ensures task { task_in self.new ≡ task_in self.old }
@@ -157,8 +161,9 @@ impl<A: Allocator + Copy> Op<A> {
         }
     }
 
-    /// What it waits for, if it does. A batch that is to be planned anew waits for other requests.
-    pub(crate) fn awaits<L: Ledger, M: Map + Drop>(&self, locked: &Locked<L, M, A>) -> Awaits {
+    /// What it waits for, where its last turn came to [`Turn::Wait`]: its batch, the programs of its claim, its flush, or any change. A batch
+    /// that is to be planned anew waits for other requests. What is answered settles who is woken when, and is in no clause.
+    pub fn awaits<L: Ledger, M: Map + Drop>(&self, locked: &Locked<L, M, A>) -> Awaits {
         match &self.stage {
             Stage::Reading(_, batch) => match locked.array().results(*batch) {
                 ReadState::Waiting => Awaits::Batch(*batch),

@@ -71,8 +71,8 @@ pub struct Task {
 }
 
 impl Request {
-    /// Where its range begins, and how many bytes it has.
-    pub(crate) fn extent(self) -> (u64, u64)
+    /// The offset of the first byte of its range, and how many bytes the range has. A flush has none, at 0.
+    pub fn extent(self) -> (u64, u64)
         ensures begin { result.0 ≡ begin_of self }
         ensures end { result.0 + result.1 ≡ end_of self }
     {
@@ -86,7 +86,7 @@ impl Request {
     }
 
     /// Whether a flush is part of it.
-    pub(crate) fn has_flush(self) -> bool
+    pub fn has_flush(self) -> bool
         ensures { (page_bytes : ℕ) → result ≡ (task_of page_bytes self).flush }
     {
         match self {
@@ -97,8 +97,8 @@ impl Request {
         }
     }
 
-    /// The same on the bytes from one offset to before another, without a flush.
-    pub(crate) fn within(self, from: u64, to: u64) -> Request
+    /// The same on the bytes from one offset to before another, without a flush. A flush stays what it is.
+    pub fn within(self, from: u64, to: u64) -> Request
         requires { from ≤ to }
         ensures end { end_of result ≤ to }
         ensures within { result ≡ rule_within self from to }

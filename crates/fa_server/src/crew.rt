@@ -1,5 +1,5 @@
 //! Those who work for the dies of the array.
-use crate::host::Networked;
+use fa_clients::Networked;
 use fa_headers::Standing;
 use fa_image::Image;
 use fa_map::PageMap;

@@ -2,20 +2,16 @@
 ghost use Rattle.std.specs.Prelude.{◌≡◌, List, ℕ, IfOk, string_bytes};
 ghost use Rattle.fa_server.specs.Serving.{address_line};
 
-use crate::connection::ConnectionRoom;
 use crate::crew::{Crew, crew_of};
-use crate::host::Networked;
-use crate::lobby::Lobby;
 use crate::serve::Serve;
 use crate::serving::Seats;
-use crate::sessions::{Service, Session};
+use fa_clients::{Lobby, Networked, Service, Session};
 use fa_headers::Standing;
 use fa_image::Image;
 use fa_map::PageMap;
 use fa_mount::place_of;
 use fa_settings::Settings;
 use fa_shared::Shared;
-use fa_workers::HelperRoom;
 use std::alloc::{AllocError, Allocator, Global};
 use std::net::{SocketAddrV4, TcpListener};
 use std::sync::ledger::Ledger;
@@ -99,16 +95,14 @@ fn seats_of<'a, R: Networked, L: Ledger + Send, A: Allocator>(
     let rebuilder = shared.seat(rt).ok_or(AllocError)?;
     let mut sessions = Vec::with_capacity(rt.alloc(), settings.sessions as usize)?;
     for number in 0..settings.sessions as usize {
-        sessions.push(Session {
-            service: Service {
-                number,
-                name: settings.export.as_str(),
-                verbose: serve.verbose,
-            },
-            seat: shared.seat(rt).ok_or(AllocError)?,
-            room: HelperRoom::new(rt.alloc(), settings.geometry.page_bytes)?,
-            connection: ConnectionRoom::new(rt.alloc())?,
-        })?;
+        let service = Service {
+            number,
+            name: settings.export.as_str(),
+            verbose: serve.verbose,
+        };
+        let seat = shared.seat(rt).ok_or(AllocError)?;
+        let session = Session::new(rt.alloc(), service, seat, settings.geometry.page_bytes)?;
+        sessions.push(session)?;
     }
     Ok(Seats {
         collector,

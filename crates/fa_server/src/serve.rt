@@ -7,13 +7,14 @@ ghost use Rattle.fa_admin.specs.Printing.{Prints};
 ghost use Rattle.fa_server.specs.Serving.{TellsEnd, TellsOn, TellsServe};
 
 use crate::closing::{close, print_end};
-use crate::host::{Networked, ServerHost};
+use crate::host::ServerHost;
 use crate::ready::{listening_text, ready_of};
 use crate::serving::{Ended, serve_ready};
 use fa_admin::printing::{DONE, REFUSED, print, refuse_for_memory};
 use fa_admin::{
     NotOpened, OpenImages, explain, mount_line, open_images, refuse_settings, settings_at, tell,
 };
+use fa_clients::Networked;
 use fa_headers::{MountFault, MountRefused, expect, read_headers};
 use fa_image::Image;
 use fa_map::PageMap;

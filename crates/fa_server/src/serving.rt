@@ -2,16 +2,12 @@
 ghost use Rattle.std.specs.Prelude.{◌≡◌};
 ghost use Rattle.std.specs.Thread.{IsSend};
 
-use crate::accepting::accept_clients;
 use crate::crew::{Crew, DieTask, collect, lay_back, rebuild, work_die};
-use crate::host::Networked;
-use crate::lobby::Lobby;
 use crate::ready::Ready;
-use crate::sessions::{Session, serve_clients};
-use crate::socket::stop_accepting;
 use crate::stop_line::wait_for_stop;
 use crate::watching::{sight_of, watch};
 use fa_admin::tell;
+use fa_clients::{Lobby, Networked, Session, accept_clients, serve_clients, stop_accepting};
 use fa_core::Array;
 use fa_image::Image;
 use fa_map::PageMap;

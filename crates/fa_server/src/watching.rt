@@ -1,6 +1,6 @@
 //! What is told of the array while it is served.
-use crate::host::Networked;
 use fa_admin::tell;
+use fa_clients::Networked;
 use fa_core::Array;
 use fa_map::PageMap;
 use fa_shared::{Cause, Fault, Shared};

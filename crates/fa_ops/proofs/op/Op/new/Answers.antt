@@ -1,4 +1,4 @@
-use Rattle.fa_ops.proofs.Counts.{begun}
+use Rattle.fa_ops.proofs.Begun.{begun}
 use Rattle.fa_ops.proofs.op.Op.new.Goals as goal
 
 pub returns-clause-tally : goal.returns-clause-tally

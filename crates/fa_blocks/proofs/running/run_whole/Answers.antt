@@ -1,0 +1,7 @@
+use Rattle.fa_blocks.proofs.Counts.{made_new}
+use Rattle.fa_blocks.proofs.running.run_whole.Goals as goal
+
+pub returns-in-None : goal.returns-in-None
+returns-in-None g c =
+    made_new _ _ _ _ c.args.request _ _ _ _ c.from.ensures c.in-Ok.ensures.tally c.finish.ensures.goes_on c.finish.ensures.ended
+    (λ _. c.in-None.is)

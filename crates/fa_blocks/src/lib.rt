@@ -1,0 +1,8 @@
+//! Whole requests over an array that is shared, and the block store that it is to one of those who share it.
+#![tactic(auto)]
+
+mod array_blocks;
+mod parts;
+mod running;
+
+pub use array_blocks::ArrayBlocks;

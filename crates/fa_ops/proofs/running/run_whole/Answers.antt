@@ -1,7 +1,0 @@
-use Rattle.fa_ops.proofs.Counts.{made_new}
-use Rattle.fa_ops.proofs.running.run_whole.Goals as goal
-
-pub returns-in-None : goal.returns-in-None
-returns-in-None g c =
-    made_new _ _ _ _ c.args.request _ _ _ _ c.from.ensures c.in-Ok.ensures.tally c.finish.ensures.goes_on c.finish.ensures.ended
-    (λ _. c.in-None.is)

@@ -1,0 +1,327 @@
+//! The scenarios.
+use crate::arrays::{DieImage, Shape, Start, formatted, report};
+use crate::clients::{Guest, Session};
+use crate::crew::{Left, Meanwhile, run, syncs_of};
+use crate::gate::{Held, Holding};
+use crate::host::Machine;
+use crate::loopback::{Served, serve_client};
+use crate::pages::{Pages, Step};
+use crate::turns::{Desk, InTurn};
+use crate::wrong::{Came, Wrong};
+use fa_server::ServerHost;
+use fa_shared::Cause;
+use fa_types::Die;
+use std::alloc::{AllocError, Global};
+
+/// The scenario of a name.
+pub(crate) fn play<R: ServerHost>(rt: &R, name: &str) -> Option<Came> {
+    match name {
+        "two_sessions_read_back" => Some(two_sessions_read_back(rt)),
+        "two_dies_read_in_one_round" => Some(two_dies_read_in_one_round(rt)),
+        "admit_page_by_page" => Some(admit_page_by_page(rt)),
+        "flush_without_sync" => Some(flush_without_sync(rt)),
+        "workers_collect_and_rebuild" => Some(workers_collect_and_rebuild(rt)),
+        "vanished_client_leaves_nothing" => Some(vanished_client_leaves_nothing(rt)),
+        "wrong_bytes_take_the_die_out" => Some(wrong_bytes_take_the_die_out(rt)),
+        "serve_over_loopback" => Some(serve_over_loopback(rt)),
+        _ => None,
+    }
+}
+
+/// The names of all scenarios, in their order.
+pub(crate) const NAMES: [&str; 8] = [
+    "two_sessions_read_back",
+    "two_dies_read_in_one_round",
+    "admit_page_by_page",
+    "flush_without_sync",
+    "workers_collect_and_rebuild",
+    "vanished_client_leaves_nothing",
+    "wrong_bytes_take_the_die_out",
+    "serve_over_loopback",
+];
+
+/// Two sessions make calls in turn, and each is answered as a plain store answers it.
+fn two_sessions_read_back<R: Machine>(rt: &R) -> Came {
+    for meanwhile in [Meanwhile::Help, Meanwhile::Sleep] {
+        take_turns(rt, meanwhile)?;
+    }
+    Ok(())
+}
+
+/// The same with sessions that do this while they wait.
+fn take_turns<R: Machine>(rt: &R, meanwhile: Meanwhile) -> Came {
+    let start = new_array(rt, Shape::of(3))?;
+    let desk = Desk::new(rt.alloc())?;
+    let gate = Holding::new(rt, Held::Reads, 0);
+    let users = turns_of(rt.alloc(), &desk)?;
+    let left = run(rt, start, &gate, meanwhile, users).ok_or(Wrong::NoThreads)?;
+    if !desk.is_right(rt) {
+        return Err(Wrong::Answer);
+    }
+    closed(left)?;
+    Ok(())
+}
+
+/// The two who make calls in turn. The error is out of memory.
+fn turns_of(alloc: Global, desk: &Desk) -> Result<Vec<InTurn<'_>>, AllocError> {
+    let mut users = Vec::new(alloc);
+    users.push(InTurn::new(desk, 0))?;
+    users.push(InTurn::new(desk, 1))?;
+    Ok(users)
+}
+
+/// A read of two pages on two dies is at both dies at once.
+fn two_dies_read_in_one_round<R: Machine>(rt: &R) -> Came {
+    let steps = [Step::Write(0), Step::Write(1), Step::Shut, Step::Read(0, 2)];
+    let gate = Holding::new(rt, Held::ReadsOf(Die(0)), 2);
+    let start = new_array(rt, Shape::of(2))?;
+    close_by_steps(rt, start, &gate, Meanwhile::Sleep, &steps, 0)?;
+    Ok(())
+}
+
+/// A read of nine pages, of which three were written, is at all dies at once, whichever they are.
+fn admit_page_by_page<R: Machine>(rt: &R) -> Came {
+    for pages in [[1, 2, 6], [0, 2, 7], [0, 5, 8], [0, 3, 5]] {
+        admit(rt, pages)?;
+    }
+    Ok(())
+}
+
+/// The same where these pages were written.
+fn admit<R: Machine>(rt: &R, pages: [u64; 3]) -> Came {
+    let [first, second, third] = pages;
+    let steps = [
+        Step::Write(first),
+        Step::Write(second),
+        Step::Write(third),
+        Step::Shut,
+        Step::Read(0, 9),
+    ];
+    let gate = Holding::new(rt, Held::Reads, 3);
+    let start = new_array(rt, Shape::of(3))?;
+    close_by_steps(rt, start, &gate, Meanwhile::Sleep, &steps, 0)?;
+    Ok(())
+}
+
+/// A flush syncs each image.
+fn flush_without_sync<R: Machine>(rt: &R) -> Came {
+    let gate = Holding::new(rt, Held::Reads, 0);
+    let start = new_array(rt, Shape::of(3))?;
+    let before = syncs_of(rt.alloc(), start.images.as_slice())?;
+    let left = by_steps(rt, start, &gate, Meanwhile::Help, &[Step::Flush], 0)?;
+    for die in 0..3usize {
+        if before.get(die) == left.syncs.get(die) {
+            return Err(Wrong::NotSynced);
+        }
+    }
+    closed(left)?;
+    Ok(())
+}
+
+/// Four dies of 16 slots each, for 8 pages.
+const SMALL: Shape = Shape {
+    dies: 4,
+    blocks: 4,
+    slots: 4,
+    pages: 8,
+};
+
+/// The pages from 0 to 7, each written by a write of its own.
+const ALL: [Step; 8] = [
+    Step::Write(0),
+    Step::Write(1),
+    Step::Write(2),
+    Step::Write(3),
+    Step::Write(4),
+    Step::Write(5),
+    Step::Write(6),
+    Step::Write(7),
+];
+
+/// The rebuilder gives each page of a die that is missing another copy, and the collector makes room for many writes of one page.
+fn workers_collect_and_rebuild<R: Machine>(rt: &R) -> Came {
+    let mut images = written(rt, SMALL)?;
+    if images.len() < 2 {
+        return Err(Wrong::NoArray);
+    }
+    let _missing = images.remove(1);
+    let gate = Holding::new(rt, Held::Reads, 0);
+    let start = Start {
+        images,
+        unclean: true,
+        wrong: None,
+    };
+    let mut images = close_by_steps(
+        rt,
+        start,
+        &gate,
+        Meanwhile::Help,
+        &[Step::AwaitPrograms(4)],
+        8,
+    )?;
+    let told = report(rt.alloc(), images.as_mut_slice()).ok_or(Wrong::NoArray)?;
+    if told.thin != 0 || told.written != 8 {
+        return Err(Wrong::Thin);
+    }
+    collect(rt)
+}
+
+/// Many writes of one page, on whole images.
+fn collect<R: Machine>(rt: &R) -> Came {
+    let images = written(rt, SMALL)?;
+    let gate = Holding::new(rt, Held::Reads, 0);
+    let steps = [Step::WriteOften(6, 40), Step::Read(0, 8)];
+    close_by_steps(rt, Start::of(images), &gate, Meanwhile::Help, &steps, 8)?;
+    Ok(())
+}
+
+/// Clients that vanish before a reply or inside a request leave nothing open.
+fn vanished_client_leaves_nothing<R: Machine>(rt: &R) -> Came {
+    let images = written(rt, Shape::of(3))?;
+    let gate = Holding::new(rt, Held::Slots, 1);
+    gate.shut();
+    let mut images = with_guests(rt, Start::of(images), &gate)?;
+    let told = report(rt.alloc(), images.as_mut_slice()).ok_or(Wrong::NoArray)?;
+    if told.written != 9 {
+        return Err(Wrong::Written);
+    }
+    Ok(())
+}
+
+/// Has clients vanish while the gate is shut, and closes the array.
+fn with_guests<R: Machine>(
+    rt: &R,
+    start: Start,
+    gate: &Holding<'_, R>,
+) -> Result<Vec<DieImage>, Wrong> {
+    let users = guests_of(rt.alloc(), gate)?;
+    let left = run(rt, start, gate, Meanwhile::Help, users).ok_or(Wrong::NoThreads)?;
+    if left.users.len() != 3 || left.users.iter().any(|user| !user.is_right()) {
+        return Err(Wrong::Answer);
+    }
+    closed(left)
+}
+
+/// A client that reads pages 0 to 2, one that writes page 9 and begins to write the next, and who opens the gate. The error is out of memory.
+fn guests_of<'a, R: Machine>(
+    alloc: Global,
+    gate: &'a Holding<'a, R>,
+) -> Result<Vec<Guest<'a, R>>, AllocError> {
+    let mut users = Vec::new(alloc);
+    users.push(Guest::Client(Session::reading(alloc, 3)?))?;
+    users.push(Guest::Client(Session::writing(alloc, 9)?))?;
+    users.push(Guest::Porter(gate))?;
+    Ok(users)
+}
+
+/// A die whose image gives wrong bytes goes out, and what is read is right.
+fn wrong_bytes_take_the_die_out<R: Machine>(rt: &R) -> Came {
+    let images = written(rt, Shape::of(4))?;
+    let start = Start {
+        images,
+        unclean: false,
+        wrong: Some(1),
+    };
+    let gate = Holding::new(rt, Held::Reads, 0);
+    let left = by_steps(rt, start, &gate, Meanwhile::Help, &[Step::Read(0, 8)], 8)?;
+    let is_told = match left.faults.as_slice() {
+        [fault] => fault.die == Die(1) && fault.cause == Cause::Wrong,
+        _ => false,
+    };
+    closed(left)?;
+    if is_told { Ok(()) } else { Err(Wrong::Fault) }
+}
+
+/// A server serves a client over a socket, and closes the array when it is stopped.
+fn serve_over_loopback<R: ServerHost>(rt: &R) -> Came {
+    let mut images = formatted(rt.alloc(), Shape::of(4)).ok_or(Wrong::NoArray)?;
+    let served = served(rt, images.as_mut_slice())?;
+    if !served.is_answered {
+        return Err(Wrong::Answer);
+    }
+    if !served.is_told {
+        return Err(Wrong::Printed);
+    }
+    let told = report(rt.alloc(), images.as_mut_slice()).ok_or(Wrong::NoArray)?;
+    let is_right = told.dies == 4 && told.live == 4 && told.spares == 0;
+    if !is_right || told.epoch != 2 || !told.clean || told.written != 1 || told.thin != 0 {
+        return Err(Wrong::Written);
+    }
+    Ok(())
+}
+
+/// What came of a server and its client over these images.
+fn served<R: ServerHost>(rt: &R, images: &mut [DieImage]) -> Result<Served, Wrong> {
+    match serve_client(rt, images) {
+        Ok(served) => Ok(served),
+        Err(_) => Err(Wrong::NoSocket),
+    }
+}
+
+/// A new array of this shape.
+fn new_array<R: Machine>(rt: &R, shape: Shape) -> Result<Start, Wrong> {
+    let images = formatted(rt.alloc(), shape).ok_or(Wrong::NoArray)?;
+    Ok(Start::of(images))
+}
+
+/// The images of an array of this shape whose pages 0 to 7 were written, and which was closed.
+fn written<R: Machine>(rt: &R, shape: Shape) -> Result<Vec<DieImage>, Wrong> {
+    let gate = Holding::new(rt, Held::Reads, 0);
+    let start = new_array(rt, shape)?;
+    close_by_steps(rt, start, &gate, Meanwhile::Help, &ALL, 0)
+}
+
+/// Has one user make these steps, over an array whose pages below a number were written. Each has to be answered right, and in time.
+fn by_steps<'a, R: Machine>(
+    rt: &R,
+    start: Start,
+    gate: &'a Holding<'a, R>,
+    meanwhile: Meanwhile,
+    steps: &'a [Step],
+    below: u64,
+) -> Result<Left<Pages<'a, R>>, Wrong> {
+    let users = only(rt.alloc(), Pages::new(gate, steps, below))?;
+    let left = run(rt, start, gate, meanwhile, users).ok_or(Wrong::NoThreads)?;
+    if gate.is_late() {
+        return Err(Wrong::Late);
+    }
+    if left.users.len() != 1 || left.users.iter().any(|user| !user.is_right) {
+        return Err(Wrong::Answer);
+    }
+    Ok(left)
+}
+
+/// A list of one user. The error is out of memory.
+fn only<'a, R: Machine>(
+    alloc: Global,
+    user: Pages<'a, R>,
+) -> Result<Vec<Pages<'a, R>>, AllocError> {
+    let mut users = Vec::new(alloc);
+    users.push(user)?;
+    Ok(users)
+}
+
+/// The same, and what is left of the images of an array that was closed.
+fn close_by_steps<R: Machine>(
+    rt: &R,
+    start: Start,
+    gate: &Holding<'_, R>,
+    meanwhile: Meanwhile,
+    steps: &[Step],
+    below: u64,
+) -> Result<Vec<DieImage>, Wrong> {
+    closed(by_steps(rt, start, gate, meanwhile, steps, below)?)
+}
+
+/// The images of an array that was closed.
+fn closed<U: Drop>(left: Left<U>) -> Result<Vec<DieImage>, Wrong> {
+    let Left {
+        images,
+        refused,
+        ..
+    } = left;
+    match refused {
+        None => Ok(images),
+        Some(_) => Err(Wrong::NotClosed),
+    }
+}
