@@ -160,7 +160,7 @@ fn a_window_of_an_open_die(rt: HostRuntime) -> Result<(), Fail> {
 }
 
 fn moves_and_releases<A: Allocator>(calendar: &mut Calendar<A>) -> Result<(), Fail> {
-    book_all(calendar, 3, &[4, 6, 5])?;
+    book_all(calendar, 3, &[4, 6, 5, 7])?;
     release(calendar, 3, 5)?;
     ensure!(is_open(calendar, 3, 5) && is_booked(calendar, 3, 4));
     rebook(calendar, (3, 6), (2, 6))??;
