@@ -457,6 +457,20 @@ def reads():
         closed 0 4 -> closed 0
     """), ("claim", "reserve", "admit"))
 
+    # Ten batches read page 0 of die 0 alone, a round each. The second, fourth, sixth and eighth end, which takes no memory, and the
+    # rounds beside theirs stay booked.
+    tenfold = [("admit 0", f"batch {batch} rounds {batch + 1} least {batch + 1} place 0 0 {batch + 1} short 0") for batch in range(10)]
+    yield case("rounds_are_released_amid_others", THREE, alone + tenfold + pairs("""
+        closed 0 11 -> closed 0 1 2 3 4 5 6 7 8 9 10
+        closed without 3 0 11 -> closed 0 1 2 3 5 6 7 8 9 10
+        end 1 -> pages 0
+        closed 0 11 -> closed 0 1 3 4 5 6 7 8 9 10
+        end 3 -> pages 0
+        end 5 -> pages 0
+        end 7 -> pages 0
+        closed 0 11 -> closed 0 1 3 5 7 9 10
+    """), ("claim", "reserve", "admit"))
+
     # The pages of dies 0 and 1 are lost. A write of the whole page repairs one.
     yield case("lost_pages", THREE, MOUNTED + EIGHT + out_by_sync(0, 1, live=(2,)) + pairs("""
         admit 7 4 0 1 -> refused: a page is lost 4
