@@ -327,16 +327,10 @@ fn sessions_of<L: Ledger + Send, R: Machine, U: User>(
 }
 
 /// Starts all threads, and takes them in once the users have done what they do. Where a thread cannot be had the array is stopped.
-fn run_threads<
-    L: Ledger + Send,
-    R: Machine,
-    I: Image + Send + Drop,
-    G: Gate + Sync,
-    U: User + Send,
->(
+fn run_threads<L: Ledger + Send, R: Machine, G: Gate + Sync, U: User + Send>(
     rt: &R,
     shared: &Shared<L, PageMap>,
-    bench: &Bench<I>,
+    bench: &Bench<DieImage>,
     tasks: Vec<Task<L>>,
     gate: &G,
     sessions: Vec<Session<L, U>>,
@@ -352,7 +346,7 @@ fn run_threads<
         thread::scope_env(),
         rt,
         |scope| -> Back<L, U>
-            requires { IsSend U.row × (IsSend I.row × IsSync G.row) }
+            requires { IsSend U.row × IsSync G.row }
         {
             for task in tasks {
                 let work = match scope.spawn(move || work_die(rt, shared, bench, gate, task)) {
@@ -391,10 +385,10 @@ fn run_threads<
 }
 
 /// Has all users do what they do, each in a thread, and takes them in.
-fn use_all<L: Ledger + Send, R: Machine, I: Image + Send + Drop, G: Gate + Sync, U: User + Send>(
+fn use_all<L: Ledger + Send, R: Machine, G: Gate + Sync, U: User + Send>(
     rt: &R,
     shared: &Shared<L, PageMap>,
-    bench: &Bench<I>,
+    bench: &Bench<DieImage>,
     gate: &G,
     sessions: Vec<Session<L, U>>,
     back: &mut Back<L, U>,
@@ -406,7 +400,7 @@ fn use_all<L: Ledger + Send, R: Machine, I: Image + Send + Drop, G: Gate + Sync,
         thread::scope_env(),
         rt,
         |scope| -> Vec<Work<(U, Seat<L>)>>
-            requires { IsSend U.row × (IsSend I.row × IsSync G.row) }
+            requires { IsSend U.row × IsSync G.row }
         {
             for session in sessions {
                 let work = match scope.spawn(move || use_store(rt, shared, bench, gate, session)) {
