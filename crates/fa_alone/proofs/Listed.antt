@@ -89,7 +89,7 @@ module _ (batch : ℕ) (pages : List ℕ) where
       next_open None c = absurd c
       next_open (Some call) c = subst (λ (v : World). IsOpen batch pages v.core.batches) (sym c.2) k
 
-  run_open : (w : World) (happenings : List Happening) (last : World) → IsOpen batch pages w.core.batches → Run w happenings last
+  pub run_open : (w : World) (happenings : List Happening) (last : World) → IsOpen batch pages w.core.batches → Run w happenings last
       → AllByRecursion (EndsNoBatch batch) happenings → IsOpen batch pages last.core.batches
   run_open w [] last k run none = subst (λ (v : World). IsOpen batch pages v.core.batches) (sym run) k
   run_open w (Event act ∷ happenings) last k run none =
@@ -99,7 +99,7 @@ module _ (batch : ℕ) (pages : List ℕ) where
   run_open w (ImageCall die gave ∷ happenings) last k run none =
       run_open run.0 happenings last (call_open w run.0 die (w.works die) gave run.1 k) run.2 none.1
 
-admitted_open : (w opened : World) (pages : List ℕ) (admitted : Admitted) → HappensEvent w (Admit pages (Ok admitted)) opened
+pub admitted_open : (w opened : World) (pages : List ℕ) (admitted : Admitted) → HappensEvent w (Admit pages (Ok admitted)) opened
     → IsOpen admitted.batch.0 pages opened.core.batches
 admitted_open w opened pages admitted opens =
     subst (IsOpen admitted.batch.0 pages) (sym (batches_are w.core (Admit pages (Ok admitted)) opened.core opens.step.does))

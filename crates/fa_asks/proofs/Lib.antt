@@ -1,0 +1,2 @@
+pub mod PlainBytes
+pub mod RangePages
