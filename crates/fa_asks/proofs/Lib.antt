@@ -1,2 +1,4 @@
+pub mod Changed
+pub mod Gone
 pub mod PlainBytes
 pub mod RangePages
