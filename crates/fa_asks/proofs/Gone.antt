@@ -1,5 +1,7 @@
 -- A page that is lost stays lost while nobody writes it and no copy of it is under way.
+use Rattle.fa_alone.proofs.ReadBack.{reached_on}
 use Rattle.fa_asks.proofs.Changed.{Change, Changes, Copies, Why, Writes, event_changes}
+use Rattle.fa_laws.proofs.Answering.{reached_holds}
 use Rattle.fa_laws.proofs.Failing.{LiveLaw}
 use Rattle.fa_laws.proofs.Handing.{holds_held}
 use Rattle.fa_laws.proofs.Invariant.{Holds}
@@ -8,7 +10,7 @@ use Rattle.fa_laws.proofs.Returning.{SparesLaw, finished_live}
 use Rattle.fa_laws.proofs.Runs.{run_keeps}
 use Rattle.fa_laws.proofs.Within.{GeometryLaw, reached_inside}
 use Rattle.fa_laws.specs.Kept.{KeepsNumbers}
-use Rattle.fa_laws.specs.Leaving.{LeavesPage}
+use Rattle.fa_laws.specs.Leaving.{LeavesPage, RunLeaving}
 use Rattle.fa_laws.specs.Reached.{IsReached}
 use Rattle.fa_machine.proofs.Lists.{among-range, among_low, found_passes, none_passes}
 use Rattle.fa_machine.proofs.Maps.{get-insert_other, get-remove_some, has_some}
@@ -298,3 +300,10 @@ module _ (lives : LiveLaw) (spares : SparesLaw) (numbers : NumbersLaw) (page : �
   happens_gone before h gone (Event act) after happens leaves = event_gone before h gone act after happens leaves
   happens_gone before h gone (ImageCall die gave) after happens leaves =
       subst (IsGone page) (sym (calls_core before after die (before.works die) gave happens)) gone
+
+  pub run_gone : (before : World) → IsReached before → IsGone page before.core → (happenings : List Happening) (after : World)
+      → RunLeaving page before happenings after → IsGone page after.core
+  run_gone before reached gone [] after run = subst (λ (v : World). IsGone page v.core) (sym run) gone
+  run_gone before reached gone (happening ∷ happenings) after run =
+      run_gone run.0 (reached_on before reached (happening ∷ []) run.0 (run.0, run.1, refl))
+      (happens_gone before (reached_holds before reached) gone happening run.0 run.1 run.2) happenings after run.3

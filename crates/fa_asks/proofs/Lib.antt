@@ -1,4 +1,5 @@
 pub mod Changed
+pub mod Going
 pub mod Gone
 pub mod PlainBytes
 pub mod RangePages
