@@ -6,7 +6,7 @@ use Rattle.fa_types.specs.Plain.{HasPages, export}
 use Rattle.fa_types.specs.Store.{IsMet, bytes_at}
 use Rattle.std.proofs.Common.{Bool, List, [], ap, arith, cond, eq-eqb, false, inl, inr, length, map, refl, subst, suc, sym, true, zero, ℕ, ◌*◌, ◌+◌, ◌++◌}
 use Rattle.std.proofs.Common.{◌-◌, ◌/◌, ◌<◌, ◌∙◌, ◌∷◌, ◌≡◌, ◌≤◌, ◌⊎◌}
-use Rattle.std.proofs.Math.Nat.{div-mul-le_self, lt-div-mul-add, mul-le-mul_right, suc-mul}
+use Rattle.std.proofs.Math.Nat.{div-lt_iff_lt-mul, div-mul-le_self, le-div_iff_mul-le, lt-div-mul-add, mul-le-mul_right, suc-mul}
 use Rattle.std.proofs.lemmas.Bool.{cases_eq, cases_lt, ne_eqb}
 use Rattle.std.proofs.lemmas.List.{append-nil, append_assoc}
 use Rattle.std.proofs.lemmas.Nat.{div-mul-add}
@@ -59,6 +59,24 @@ module _ (pages : ℕ) (r : Range) (h : IsInside pages r) where
           some = let order = h.ordered in let apart = past.0 in omega (arith, order, apart);
         }
       ]
+
+  pub of_front : (page : ℕ) → IsOf r page → first_page r ≤ page
+  of_front page of_range =
+      let size : ℕ = r.page_bytes in
+      let some : 0 < size = let n = h.some_bytes in omega (arith, n) in
+      let ends = of_range.ends in
+      let low : r.from < suc page * size = let next = suc-mul page size in omega (arith, ends, next) in
+      let below : r.from / size < suc page = (div-lt_iff_lt-mul some).1 low in omega (arith, below)
+
+  pub of_back : (page : ℕ) → IsOf r page → page < past_page r
+  of_back page of_range =
+      let size : ℕ = r.page_bytes in
+      let some : 0 < size = let n = h.some_bytes in omega (arith, n) in
+      let begins = of_range.begins in
+      let high : page * size ≤ r.to - 1 = omega (arith, begins) in
+      let below : page ≤ (r.to - 1) / size = (le-div_iff_mul-le some).1 high in
+      let apart : r.from ≡ r.to → ⊥ = λ same. let less = of_range.some in absurd (omega (arith, same, less)) in
+      subst (λ b. page < cond b (r.from / size) ((r.to - 1) / size + 1)) (sym (ne_eqb r.from r.to apart)) (let low : page < (r.to - 1) / size + 1 = omega (arith, below) in low)
 
   -- a page of the range is one of the array
   pub page_low : (page : ℕ) → IsOf r page → page < pages
