@@ -3,6 +3,7 @@ use Rattle.fa_alone.proofs.Due.{happens_plain}
 use Rattle.fa_alone.proofs.ReadBack.{reached_on}
 use Rattle.fa_alone.specs.Unwritten.{WritesNothing}
 use Rattle.fa_asks.proofs.Gone.{IsGone, NumbersLaw, gone_lost, happens_gone, lost_gone}
+use Rattle.fa_asks.specs.Begun.{IsCalm}
 use Rattle.fa_asks.specs.Shown.{may_collect, roomy, store_of}
 use Rattle.fa_laws.proofs.Answering.{reached_holds}
 use Rattle.fa_laws.proofs.Failing.{LiveLaw}
@@ -17,7 +18,6 @@ use Rattle.fa_machine.specs.Run.{Event, Happening, Happens, HappensEvent, ImageC
 use Rattle.fa_machine.specs.State.{Core, MapState}
 use Rattle.fa_machine.specs.Step.{Act, Commit, Step}
 use Rattle.fa_machine.specs.World.{World}
-use Rattle.fa_machine.specs.declared.places.Copying.{Copying}
 use Rattle.fa_types.specs.Store.{HasCause, IsMet}
 use Rattle.fa_types.specs.declared.blocks.BlockFault.{BlockFault}
 use Rattle.fa_types.specs.declared.blocks.BlockFault.TheVariants.{Lost, NoMemory, NoRoom, Spent}
@@ -39,10 +39,6 @@ pub record Goes (first w : World) : Type 0 where
   pub plain : w.plain ≡ first.plain
   pub geometry : w.core.page_map.geometry ≡ first.core.page_map.geometry
   pub gone : (page : ℕ) → is_lost first.core.page_map page ≡ true → IsGone page w.core
-
--- no copy of a page that is lost is under way
-abbrev pub IsCalm : World → Type 0
-IsCalm w = (c : Copying) → w.core.copying ≡ Some c → is_lost w.core.page_map c.page.0 ≡ true → ⊥
 
 pub goes_first : Laws → (first : World) → IsReached first → IsCalm first → Goes first first
 goes_first laws first reached calm = record {

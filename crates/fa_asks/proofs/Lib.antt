@@ -3,5 +3,7 @@ pub mod Going
 pub mod Gone
 pub mod Pages
 pub mod PlainBytes
+pub mod PutBytes
 pub mod RangePages
+pub mod ReadServes
 pub mod ReadStages

@@ -377,7 +377,7 @@ module _ (A : Type 0) (laws : Laws) (t : Task) (seat : ℕ) (bytes : List ℕ) (
   ready w answer after stage next g k made = absurd k
 
   -- a request strays nowhere
-  no_stray : (w : World) (answer : List ℕ) (stage next : Stage A) → Goes first w → At w stage answer → IsBarred w.core stage
+  pub no_stray : (w : World) (answer : List ℕ) (stage next : Stage A) → Goes first w → At w stage answer → IsBarred w.core stage
       → Strays w.core stage next → ⊥
   no_stray w answer (Asking (Answer n) pages) next g k barred strays =
       let b = bounds k.0 n answer k.1 in let sum = b.0 in

@@ -3,3 +3,4 @@
 #![tactic(auto)]
 
 pub mod lost;
+pub mod reads;
