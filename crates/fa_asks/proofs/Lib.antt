@@ -1,9 +1,11 @@
 pub mod Changed
 pub mod Going
 pub mod Gone
+pub mod Owned
 pub mod Pages
 pub mod PlainBytes
 pub mod PutBytes
+pub mod PutPage
 pub mod RangePages
 pub mod ReadServes
 pub mod ReadStages
