@@ -22,7 +22,7 @@ use Rattle.fa_types.specs.Store.{HasCause, IsMet}
 use Rattle.fa_types.specs.declared.blocks.BlockFault.{BlockFault}
 use Rattle.fa_types.specs.declared.blocks.BlockFault.TheVariants.{Lost, NoMemory, NoRoom, Spent}
 use Rattle.fa_types.specs.declared.geometry.Geometry.{Geometry}
-use Rattle.std.proofs.Common.{List, Some, [], ap, inl, inr, not, refl, subst, sym, true, ℕ, ◌-◌, ◌^◌, ◌∙◌, ◌∷◌, ◌≡◌, ◌⊎◌}
+use Rattle.std.proofs.Common.{List, Some, [], ap, inl, inr, not, refl, subst, sym, true, ℕ, ◌-◌, ◌^◌, ◌∙◌, ◌∷◌, ◌≡◌, ◌≤◌, ◌⊎◌}
 use Rattle.std.specs.FinMap.{len}
 use Rattle.std.specs.Prelude.{Err, Ok, nat_lt, ◌&&◌, ◌==◌, ◌||◌}
 
@@ -32,6 +32,7 @@ pub record Laws : Type 0 where
   pub spares : SparesLaw
   pub numbers : NumbersLaw
   pub geometry : GeometryLaw
+  pub falls : (old new : Core) (act : Act) → Step old act new → old.last ≤ new.last
 
 -- a world behind another in which the plain array is the same, and each page that was lost is lost
 pub record Goes (first w : World) : Type 0 where

@@ -9,3 +9,4 @@ pub mod PutPage
 pub mod RangePages
 pub mod ReadServes
 pub mod ReadStages
+pub mod WriteStages

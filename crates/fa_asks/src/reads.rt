@@ -9,7 +9,10 @@ ghost use Rattle.fa_ops.specs.declared.stage.Stage.TheVariants.{Ended};
 ghost use Rattle.fa_types.specs.Store.{Gave, IsMet, Reading, Refused, Serves, bytes_at};
 ghost use Rattle.fa_types.specs.declared.blocks.BlockFault.{BlockFault};
 
-use fa_laws::steps::{live_dies_are_kept, numbers_are_kept, spares_are_kept, the_geometry_is_kept};
+use fa_laws::steps::{
+    live_dies_are_kept, numbers_are_kept, spares_are_kept, the_geometry_is_kept,
+    the_last_number_never_falls,
+};
 
 /// A read that nobody else writes meanwhile gives the bytes of its range, of which no page was lost as it began, or is refused for a cause.
 /// Nothing is written.
@@ -31,6 +34,7 @@ pub fn a_read_serves<A>()
     spares_are_kept();
     numbers_are_kept();
     the_geometry_is_kept();
+    the_last_number_never_falls();
 }
 
 /// No read ends with other bytes than those of its range, or without a fault where a page of the range was lost as it began, or strays.
@@ -52,4 +56,5 @@ pub fn wrong_reads_are_none<A>()
     spares_are_kept();
     numbers_are_kept();
     the_geometry_is_kept();
+    the_last_number_never_falls();
 }

@@ -9,6 +9,7 @@ returns g c =
       spares = c.spares_are_kept.ensures;
       numbers = c.numbers_are_kept.ensures;
       geometry = c.the_geometry_is_kept.ensures;
+      falls = c.the_last_number_never_falls.ensures;
     } in
     record {
       gave = λ offset count seat bytes before after turns h asked ended. read_gives g.row.A.Denot laws offset count before h seat bytes turns after asked ended;

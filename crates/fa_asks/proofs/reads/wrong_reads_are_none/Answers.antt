@@ -12,6 +12,7 @@ returns g c =
       spares = c.spares_are_kept.ensures;
       numbers = c.numbers_are_kept.ensures;
       geometry = c.the_geometry_is_kept.ensures;
+      falls = c.the_last_number_never_falls.ensures;
     } in
     record {
       bytes = λ offset count seat bytes before after turns h other ended asked.

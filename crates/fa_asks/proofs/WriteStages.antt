@@ -1,0 +1,309 @@
+-- What becomes of a write, stage by stage.
+use Rattle.fa_alone.proofs.Changes.{claims_are, reservation_for}
+use Rattle.fa_alone.proofs.Due.{happens_plain}
+use Rattle.fa_alone.proofs.Given.{Gives, fresh_gives, run_gives}
+use Rattle.fa_alone.proofs.Listed.{IsOpen, admitted_open, open_gives, run_open}
+use Rattle.fa_alone.proofs.ReadBack.{reached_on}
+use Rattle.fa_alone.proofs.Reserved.{IsReservedFor, commit_writes, reserved_now, run_reserved}
+use Rattle.fa_alone.specs.Claimed.{KeepsClaim}
+use Rattle.fa_alone.specs.Unwritten.{EndsNoBatch, WritesNothing}
+use Rattle.fa_asks.proofs.Going.{Laws, SameCause, geometry_kept, leaves_all}
+use Rattle.fa_asks.proofs.Gone.{IsGone, gone_lost, happens_gone}
+use Rattle.fa_asks.proofs.Owned.{IsOwned, claimed_now, keeps_claim, owned_on, owned_page, owned_same}
+use Rattle.fa_asks.proofs.Pages.{range_allowed}
+use Rattle.fa_asks.proofs.PlainBytes.{export_long, page_long}
+use Rattle.fa_asks.proofs.PutBytes.{put_sized, with_none}
+use Rattle.fa_asks.proofs.PutPage.{bytes_for, content_is, covered_whole, new_covered, new_long, part_long, written_on}
+use Rattle.fa_asks.proofs.RangePages.{IsInside, IsOf, page_low, page_of, part_begins, part_ends, part_fits, upto}
+use Rattle.fa_asks.proofs.ReadStages.{Fits}
+use Rattle.fa_asks.specs.Asked.{Asked, BringsNoSpare, IsAnothers, IsBarred, IsFounded, LeavesClaim, Makes, Meanwhile, Moment, Readies, Strayed, Turn}
+use Rattle.fa_asks.specs.Asked.{TurnsTo, fits}
+use Rattle.fa_asks.specs.Shown.{may_collect}
+use Rattle.fa_laws.proofs.Answering.{reached_holds}
+use Rattle.fa_laws.proofs.Ranged.{calls_core}
+use Rattle.fa_laws.specs.Reached.{IsReached}
+use Rattle.fa_machine.proofs.Lists.{among-filter, found_passes, none_passes}
+use Rattle.fa_machine.specs.Among.{Among}
+use Rattle.fa_machine.specs.Flushing.{flush_state}
+use Rattle.fa_machine.specs.Conditions.{claim_open, is_reserved, reserved_under}
+use Rattle.fa_machine.specs.Copies.{is_lost}
+use Rattle.fa_machine.specs.Placement.{copies_asked, targets}
+use Rattle.fa_machine.specs.Reading.{Admitted, batch_at as entry_at, is_late, left_of, results, zeros}
+use Rattle.fa_machine.specs.Run.{Event, Happening, Happens, HappensEvent, ImageCall}
+use Rattle.fa_machine.specs.State.{Core, OpenBatch, OpenClaim, Reservation, is_live}
+use Rattle.fa_machine.specs.Step.{Abandon, Act, Admit, Claim, Commit, EndBatch, FlushBegin, FlushState, Fold, Release, Replan, Reserve, ReserveFewer}
+use Rattle.fa_machine.specs.Step.{ReserveHole, is_distinct, is_page, is_sized}
+use Rattle.fa_machine.specs.World.{World, plain_page}
+use Rattle.fa_machine.specs.Writing.{claimed_page, reserve_refusal}
+use Rattle.fa_machine.specs.declared.answers.Flush.{Flush}
+use Rattle.fa_machine.specs.declared.answers.FlushState.TheVariants.{NoDie as FlushNoDie, Synced, Waiting}
+use Rattle.fa_machine.specs.declared.answers.ReadState.TheVariants.{Ready}
+use Rattle.fa_machine.specs.declared.ids.BatchId.{BatchId}
+use Rattle.fa_machine.specs.declared.ids.ClaimId.{ClaimId}
+use Rattle.fa_machine.specs.declared.refusals.AbandonRefused.TheVariants.{Pending as AbandonPending, Programmed}
+use Rattle.fa_machine.specs.declared.refusals.AdmitRefused.TheVariants.{CalendarFull, Lost as PageLost, NoMemory as AdmitNoMemory, Spent as RoundsSpent}
+use Rattle.fa_machine.specs.declared.refusals.ClaimRefused.TheVariants.{Claimed, NoMemory as ClaimNoMemory}
+use Rattle.fa_machine.specs.declared.refusals.CommitRefused.TheVariants.{Failed, Pending as CommitPending}
+use Rattle.fa_machine.specs.declared.refusals.FlushRefused.TheVariants.{Spent as FlushesSpent}
+use Rattle.fa_machine.specs.declared.refusals.ReserveRefused.{ReserveRefused}
+use Rattle.fa_machine.specs.declared.refusals.ReserveRefused.TheVariants.{NoDie as ReserveNoDie, NoMemory as ReserveNoMemory, NoRoom as ReserveNoRoom}
+use Rattle.fa_machine.specs.declared.refusals.ReserveRefused.TheVariants.{Spent as NumbersSpent}
+use Rattle.fa_ops.specs.Moves.{AfterReserve, Moves, Strays, after_pages, from_page, with_fewer}
+use Rattle.fa_ops.specs.Ops.{Prepares}
+use Rattle.fa_ops.specs.Prepared.{IsMerged, IsWish, SortsPage, content, has_content, has_part}
+use Rattle.fa_ops.specs.Ranges.{begins_at, bytes_in, covers, first_page, past_page}
+use Rattle.fa_ops.specs.declared.range.Range.{Range}
+use Rattle.fa_ops.specs.declared.request.Fill.{Fill}
+use Rattle.fa_ops.specs.declared.request.Fill.TheVariants.{Bytes, Holes, Zeros}
+use Rattle.fa_ops.specs.declared.request.Task.{Task}
+use Rattle.fa_ops.specs.declared.stage.Held.{Held}
+use Rattle.fa_ops.specs.declared.stage.Purpose.TheVariants.{Answer, Merge}
+use Rattle.fa_ops.specs.declared.stage.Stage.{Stage}
+use Rattle.fa_ops.specs.declared.stage.Stage.TheVariants.{Abandoning, Asking, BeginningFlush, Claiming, Committing, Ended, Filling, Flushing, Leaving}
+use Rattle.fa_ops.specs.declared.stage.Stage.TheVariants.{Listing, Reading, Releasing, Reserving, Sorting}
+use Rattle.fa_ops.specs.declared.stage.Wish.{Wish}
+use Rattle.fa_ops.specs.declared.stage.Wish.TheVariants.{Data, Fewer, Hole}
+use Rattle.fa_types.specs.Plain.{HasPages, export, put}
+use Rattle.fa_types.specs.Store.{bytes_at, with_bytes}
+use Rattle.fa_types.specs.declared.blocks.BlockFault.{BlockFault}
+use Rattle.fa_types.specs.declared.blocks.BlockFault.TheVariants.{Lost, NoMemory, NoRoom, Spent}
+use Rattle.fa_types.specs.declared.geometry.Geometry.{Geometry}
+use Rattle.fa_types.specs.declared.kind.Kind.TheVariants.{Data as DataKind, Hole as HoleKind}
+use Rattle.fa_types.specs.declared.numbers.Page.{Page}
+use Rattle.fa_types.specs.declared.numbers.Seq.{Seq}
+use Rattle.std.proofs.Common.{Bool, List, None, Option, Some, [], ap, arith, cond, eq-eqb, false, inl, inr, length, map, not, refl, replicate, subst, sym}
+use Rattle.std.proofs.Common.{take, true, ℕ, ◌*◌, ◌+◌, ◌-◌, ◌^◌, ◌<◌, ◌∙◌, ◌∷◌, ◌≡◌, ◌≤◌, ◌⊎◌}
+use Rattle.std.proofs.lemmas.Bool.{and_from, cases_eq, false_from_ne_true, false≢true, le-leb, lt-ltb, ltb-false, ltb-true, true≢false}
+use Rattle.std.proofs.lemmas.Option.{none-some, same_Some}
+use Rattle.std.specs.FinMap.{contains_key, empty, get, insert}
+use Rattle.std.specs.List.{list_all, range_with_len}
+use Rattle.std.specs.Prelude.{Err, Ok, Result, find, if◌then◌else◌, is_some, min, nat_le, nat_lt, option_and_then, option_map, slice_index_or, unwrap_or}
+use Rattle.std.specs.Prelude.{◌&&◌, ◌==◌}
+
+module _ (r : Range) (first : World) (all : List ℕ) where
+  -- a world in which the pages of the range before this one are written, and nothing else
+  pub record Wrote (page : ℕ) (w : World) : Type 0 where
+    pub reached : IsReached w
+    pub geometry : w.core.page_map.geometry ≡ first.core.page_map.geometry
+    pub sized : HasPages r.page_bytes w.plain
+    pub plain : export w.plain ≡ with_bytes r.from (take (upto r page) all) (export first.plain)
+    pub gone : (p : ℕ) → is_lost first.core.page_map p ≡ true → (IsOf r p × (p < page) × (covers r p ≡ true)) ⊎ IsGone p w.core
+    pub whole : (p : ℕ) → is_lost first.core.page_map p ≡ true → IsOf r p → p < page → covers r p ≡ true
+
+  pub wrote_on : Laws → (page : ℕ) (w after : World) → Wrote page w → (happening : Happening) → Happens w happening after → WritesNothing happening
+      → Wrote page after
+  wrote_on laws page w after k happening happens none =
+      let same = happens_plain w after happening none happens in
+      record {
+        reached = reached_on w k.reached (happening ∷ []) after (after, happens, refl);
+        geometry = geometry_kept laws.geometry w after happening happens ∙ k.geometry;
+        sized = subst (HasPages r.page_bytes) (sym same) k.sized;
+        plain = ap export same ∙ k.plain;
+        gone = λ p lost. elim (k.gone p lost) [
+          | inl written ↦ inl written
+          | inr gone ↦ inr (happens_gone laws.lives laws.spares laws.numbers p w (reached_holds w k.reached) gone happening after happens
+              (leaves_all w happening none p))
+        ];
+        whole = k.whole;
+      }
+
+  -- a page of the range
+  pub record IsAt (page : ℕ) : Type 0 where
+    pub from : first_page r ≤ page
+    pub past : page < past_page r
+
+  -- the request has a claim of its page, with nothing reserved under it
+  pub record Has (held : Held) (w : World) : Type 0 where
+    pub at : IsAt held.page.0
+    pub wrote : Wrote held.page.0 w
+    pub owned : IsOwned held.claim.0 held.page.0 w.core.claims
+
+  pub record IsMerging (page batch : ℕ) (w : World) : Type 0 where
+    pub gives : Gives batch w.plain w
+    pub opened : IsOpen batch (page ∷ []) w.core.batches
+    pub there : is_lost first.core.page_map page ≡ false
+
+  -- these bytes are what the page is to hold, and it is covered or was not lost at the beginning
+  pub record IsFor (page : ℕ) (plain : List (List ℕ)) (payload : List ℕ) : Type 0 where
+    pub is : payload ≡ with_bytes (begins_at r page) (bytes_at (upto r page) (bytes_in r page) all) (slice_index_or plain page [])
+    pub fit : (covers r page ≡ true) ⊎ (is_lost first.core.page_map page ≡ false)
+
+  module _ {A : Type 0} where
+    abbrev pub payload_in : World → Wish A → List ℕ
+    payload_in w (Data payload) = payload
+    payload_in w (Fewer payload) = payload
+    payload_in w Hole = zeros w.core.page_map
+
+    abbrev pub CoversHole : ℕ → Wish A → Type 0
+    CoversHole page Hole = covers r page ≡ true
+    CoversHole page wish = Unit {0}
+
+    pub record IsWishFor (page : ℕ) (w : World) (wish : Wish A) : Type 0 where
+      pub for_page : IsFor page w.plain (payload_in w wish)
+      pub hole : CoversHole page wish
+
+    pub record IsReserving (held : Held) (w : World) (wish : Wish A) : Type 0 where
+      pub at : IsAt held.page.0
+      pub wrote : Wrote held.page.0 w
+      pub seq : Seq
+      pub reserved : IsReservedFor held.claim.0 held.page.0 seq (payload_in w wish) w
+      pub wished : IsWishFor held.page.0 w wish
+
+-- What a refusal rests on, of whatever is to be told of it.
+pub record Founds (r : Range) (first : World) (Cause : World → BlockFault → Type 0) (Knows : Flush → World → Type 0) : Type 0 where
+  pub no_memory : (w : World) → Cause w NoMemory
+  pub kept : (w after : World) → SameCause w after → (fault : BlockFault) → Cause w fault → Cause after fault
+  pub lost_page : (w : World) → w.core.page_map.geometry ≡ first.core.page_map.geometry → (page : ℕ) → IsOf r page → is_lost w.core.page_map page ≡ true
+      → Cause w Lost
+  pub late : (w : World) → is_late w.core.calendar ≡ true → Cause w Spent
+  pub no_number : (w : World) → (w.core.last == 2 ^ 62 - 1) ≡ true → Cause w Spent
+  pub no_flush : (w : World) → (w.core.flushes == 2 ^ 62) ≡ true → Cause w Spent
+  pub no_room : (w : World) → IsReached w → (page : ℕ) → reserve_refusal w.core page (min 1 (copies_asked w.core.copies w.core.page_map)) ≡ Some ReserveNoRoom
+      → may_collect w.core.page_map ≡ false → Cause w NoRoom
+  pub no_die : (w : World) → IsReached w → (copies_asked w.core.copies w.core.page_map == 0) ≡ true → Cause w Lost
+  pub begun : (w after : World) (flush : Flush) → IsReached w → HappensEvent w (FlushBegin (Ok flush)) after → Knows flush after
+  pub knows : (w after : World) (flush : Flush) (happening : Happening) → IsReached w → Happens w happening after
+      → BringsNoSpare {A = Unit {0}} (Flushing flush) happening → Knows flush w → Knows flush after
+  pub no_synced : (w : World) (flush : Flush) → IsReached w → Knows flush w → flush_state w.core flush ≡ FlushNoDie → Cause w Lost
+
+-- a refusal of a Reserve is the first that applies, where it is none for want of memory
+refused_first : (why : Option ReserveRefused) (refused : ReserveRefused) → refused ≡ unwrap_or why ReserveNoMemory → (refused ≡ ReserveNoMemory → ⊥)
+    → why ≡ Some refused
+refused_first None refused e other = absurd (other e)
+refused_first (Some why) refused e other = ap Some (sym e)
+
+abbrev room_number : ReserveRefused → ℕ
+room_number ReserveNoRoom = 0
+room_number ReserveNoDie = 1
+room_number NumbersSpent = 2
+room_number ReserveNoMemory = 3
+
+other_refusal : (refused : ReserveRefused) → room_number refused < 3 → refused ≡ ReserveNoMemory → ⊥
+other_refusal refused low same = let n = ap room_number same in absurd (omega (arith, low, n))
+
+three_cases : (a b c : Bool) (refused : ReserveRefused)
+    → cond a (Some ReserveNoRoom) (cond b (Some ReserveNoDie) (cond c (Some NumbersSpent) None)) ≡ Some refused
+    → (room_number refused ≡ 1 → b ≡ true) × (room_number refused ≡ 2 → c ≡ true)
+three_cases true b c refused e =
+    let n : 0 ≡ room_number refused = ap room_number (same_Some _ refused e) in (λ one. absurd (omega (arith, n, one)), λ two. absurd (omega (arith, n, two)))
+three_cases false true c refused e =
+    let n : 1 ≡ room_number refused = ap room_number (same_Some _ refused e) in (λ one. refl, λ two. absurd (omega (arith, n, two)))
+three_cases false false true refused e =
+    let n : 2 ≡ room_number refused = ap room_number (same_Some _ refused e) in (λ one. absurd (omega (arith, n, one)), λ two. refl)
+three_cases false false false refused e = absurd (none-some refused e)
+
+module _ (A : Type 0) (laws : Laws) (t : Task) (seat : ℕ) (bytes : List ℕ) (first : World) (f : Fits first t.range)
+    (long : length (bytes_for t.fill t.range bytes) ≡ t.range.to - t.range.from) (Cause : World → BlockFault → Type 0) (Knows : Flush → World → Type 0)
+    (founds : Founds t.range first Cause Knows) where
+  abbrev all : List ℕ
+  all = bytes_for t.fill t.range bytes
+
+  abbrev Done : ℕ → World → Type 0
+  Done = Wrote t.range first all
+
+  abbrev Own : Held → World → Type 0
+  Own = Has t.range first all
+
+  -- behind the last page only a flush is refused
+  abbrev pub EndsAt : ℕ → BlockFault → Type 0
+  EndsAt page fault = IsAt t.range first all page ⊎ ((page ≡ past_page t.range) × (t.flush ≡ true) × ((fault ≡ Lost) ⊎ (fault ≡ Spent)))
+
+  abbrev pub WritesAt : World → Stage A → Type 0
+  WritesAt w (Claiming page) = IsAt t.range first all page.0 × Done page.0 w
+  WritesAt w (Filling held fewer) = Own held w × (covers t.range held.page.0 ≡ true)
+  WritesAt w (Listing (Merge held)) = Own held w
+  WritesAt w (Asking (Merge held) pages) = Own held w × (map (λ (p : Page). p.0) pages.items ≡ held.page.0 ∷ [])
+  WritesAt w (Reading (Merge held) batch) = Own held w × IsMerging t.range first all held.page.0 batch.0 w
+  WritesAt w (Leaving (Merge held) batch fault) = Own held w × ((pages : List ℕ) × IsOpen batch.0 pages w.core.batches) × Cause w fault
+  WritesAt w (Sorting (Merge held) answers) =
+      Own held w × (is_lost first.core.page_map held.page.0 ≡ false)
+      × (map {B = ℕ × List ℕ} (λ e. (e.0.0, e.1.items)) answers.items ≡ (held.page.0, plain_page w held.page.0) ∷ [])
+  WritesAt w (Reserving held wish) = Own held w × IsWishFor t.range first all held.page.0 w wish
+  WritesAt w (Committing held wish) = IsReserving t.range first all held w wish
+  WritesAt w (Abandoning held wish) = IsReserving t.range first all held w wish
+  WritesAt w (Releasing held None) =
+      IsAt t.range first all held.page.0 × Done (held.page.0 + 1) w × IsOwned held.claim.0 held.page.0 w.core.claims
+  WritesAt w (Releasing held (Some fault)) = Own held w × Cause w fault
+  WritesAt w BeginningFlush = Done (past_page t.range) w × (t.flush ≡ true)
+  WritesAt w (Flushing flush) = Done (past_page t.range) w × (t.flush ≡ true) × Knows flush w
+  WritesAt w (Ended None) = Done (past_page t.range) w
+  WritesAt w (Ended (Some fault)) = Cause w fault × ((page : ℕ) × Done page w × EndsAt page fault)
+  WritesAt w stage = ⊥
+
+  many : (w : World) (page : ℕ) → Done page w → length w.plain ≡ first.core.page_map.geometry.pages
+  many w page k = (reached_holds w k.reached).plain ∙ ap (λ (geometry : Geometry). geometry.pages) k.geometry
+
+  of_range : (page : ℕ) → IsAt t.range first all page → IsOf t.range page
+  of_range page at = page_of first.core.page_map.geometry.pages t.range f.inside page at.from at.past
+
+  done_on : (page : ℕ) (w after : World) → Done page w → (happening : Happening) → Happens w happening after → WritesNothing happening → Done page after
+  done_on = wrote_on t.range first all laws
+
+  own_on : (held : Held) (w after : World) → Own held w → (happening : Happening) → Happens w happening after → WritesNothing happening
+      → LeavesClaim held.claim.0 happening → Own held after
+  own_on held w after k happening happens none leaves = record {
+    at = k.at;
+    wrote = done_on held.page.0 w after k.wrote happening happens none;
+    owned = owned_on held.claim.0 held.page.0 w after happening k.owned happens leaves;
+  }
+
+  -- a page that is not lost now was not at the beginning
+  there_at : (w : World) (page : ℕ) → Done page w → is_lost w.core.page_map page ≡ false → is_lost first.core.page_map page ≡ false
+  there_at w page k there = false_from_ne_true _ (λ lost. elim (k.gone page lost) [
+    | inl written ↦ absurd (let low = written.1 in omega (arith, low))
+    | inr gone ↦ true≢false (sym (gone_lost page w.core gone) ∙ there)
+  ])
+
+  -- behind the pages of the range
+  behind : (w : World) → Done (past_page t.range) w → WritesAt w (after_pages t)
+  behind w k = by_flush t.flush refl
+    where
+      by_flush : (b : Bool) → t.flush ≡ b → WritesAt w (if b then BeginningFlush else Ended None)
+      by_flush true is = (k, is)
+      by_flush false is = k
+
+  from_on : (w : World) (page : ℕ) → first_page t.range ≤ page → page ≤ past_page t.range → Done page w → WritesAt w (from_page t page)
+  from_on w page low high k = by_past (nat_lt page (past_page t.range)) refl
+    where
+      by_past : (b : Bool) → nat_lt page (past_page t.range) ≡ b → WritesAt w (if b then Claiming (record { 0 = page }) else after_pages t)
+      by_past true is = (record { from = low; past = ltb-true page (past_page t.range) is }, k)
+      by_past false is =
+          let past = ltb-false page (past_page t.range) is in
+          behind w (subst (λ n. Done n w) (let same : page ≡ past_page t.range = omega (arith, past, high) in same) k)
+
+  -- what a page is to hold stays so while nothing is written
+  wish_on : (page : ℕ) (w after : World) (wish : Wish A) → Done page w → after.plain ≡ w.plain
+      → after.core.page_map.geometry ≡ w.core.page_map.geometry → IsWishFor t.range first all page w wish → IsWishFor t.range first all page after wish
+  wish_on page w after wish k same geometry is = record {
+    for_page = record {
+      is = payload_same wish ∙ is.for_page.is
+          ∙ ap (λ (plain : List (List ℕ)). with_bytes (begins_at t.range page) (bytes_at (upto t.range page) (bytes_in t.range page) all) (slice_index_or plain page [])) (sym same);
+      fit = is.for_page.fit;
+    };
+    hole = is.hole;
+  }
+    where
+      payload_same : (wish : Wish A) → payload_in t.range first all after wish ≡ payload_in t.range first all w wish
+      payload_same (Data payload) = refl
+      payload_same (Fewer payload) = refl
+      payload_same Hole = ap (λ (g : Geometry). replicate g.page_bytes 0) geometry
+
+  payload_on : (w after : World) (wish : Wish A) → after.core.page_map.geometry ≡ w.core.page_map.geometry
+      → payload_in t.range first all after wish ≡ payload_in t.range first all w wish
+  payload_on w after (Data payload) same = refl
+  payload_on w after (Fewer payload) same = refl
+  payload_on w after Hole same = ap (λ (g : Geometry). replicate g.page_bytes 0) same
+
+  reserving_on : (held : Held) (w after : World) (wish : Wish A) → IsReserving t.range first all held w wish → (happening : Happening)
+      → Happens w happening after → WritesNothing happening → KeepsClaim held.claim.0 happening → IsReserving t.range first all held after wish
+  reserving_on held w after wish k happening happens none keeps =
+      let geometry = geometry_kept laws.geometry w after happening happens in
+      record {
+        at = k.at;
+        wrote = done_on held.page.0 w after k.wrote happening happens none;
+        seq = k.seq;
+        reserved = subst (λ payload. IsReservedFor held.claim.0 held.page.0 k.seq payload after) (sym (payload_on w after wish geometry))
+            (run_reserved laws.falls held.claim.0 held.page.0 k.seq (payload_in t.range first all w wish) w (happening ∷ []) after k.reserved
+            (after, happens, refl) (keeps, tt));
+        wished = wish_on held.page.0 w after wish k.wrote (happens_plain w after happening none happens) geometry k.wished;
+      }
