@@ -1,5 +1,5 @@
 -- What becomes of a write, stage by stage.
-use Rattle.fa_alone.proofs.Changes.{claims_are, reservation_for}
+use Rattle.fa_alone.proofs.Changes.{claims_after, claims_are, reservation_for}
 use Rattle.fa_alone.proofs.Due.{happens_plain}
 use Rattle.fa_alone.proofs.Given.{Gives, fresh_gives, run_gives}
 use Rattle.fa_alone.proofs.Listed.{IsOpen, admitted_open, open_gives, run_open}
@@ -48,7 +48,7 @@ use Rattle.fa_machine.specs.declared.refusals.FlushRefused.TheVariants.{Spent as
 use Rattle.fa_machine.specs.declared.refusals.ReserveRefused.{ReserveRefused}
 use Rattle.fa_machine.specs.declared.refusals.ReserveRefused.TheVariants.{NoDie as ReserveNoDie, NoMemory as ReserveNoMemory, NoRoom as ReserveNoRoom}
 use Rattle.fa_machine.specs.declared.refusals.ReserveRefused.TheVariants.{Spent as NumbersSpent}
-use Rattle.fa_ops.specs.Moves.{AfterReserve, Moves, Strays, after_pages, from_page, with_fewer}
+use Rattle.fa_ops.specs.Moves.{AfterReserve, Moves, Strays, after_pages, from_page, opened, with_fewer}
 use Rattle.fa_ops.specs.Ops.{Prepares}
 use Rattle.fa_ops.specs.Prepared.{IsMerged, IsWish, SortsPage, content, has_content, has_part}
 use Rattle.fa_ops.specs.Ranges.{begins_at, bytes_in, covers, first_page, past_page}
@@ -307,3 +307,172 @@ module _ (A : Type 0) (laws : Laws) (t : Task) (seat : ℕ) (bytes : List ℕ) (
             (after, happens, refl) (keeps, tt));
         wished = wish_on held.page.0 w after wish k.wrote (happens_plain w after happening none happens) geometry k.wished;
       }
+
+  same_cause : (w after : World) → after.core ≡ w.core → SameCause w after
+  same_cause w after same = record {
+    page_map = ap (λ (c : Core). c.page_map) same;
+    copies = ap (λ (c : Core). c.copies) same;
+    last = ap (λ (c : Core). c.last) same;
+    round = ap (λ (c : Core). c.calendar.round) same;
+    flushes = ap (λ (c : Core). c.flushes) same;
+  }
+
+  opened_at : (w : World) (held : Held) → Own held w → WritesAt w (opened t held)
+  opened_at w held k = by_covers (covers t.range held.page.0) refl
+    where
+      by_covers : (b : Bool) → covers t.range held.page.0 ≡ b → WritesAt w (if b then Filling held false else Listing (Merge held))
+      by_covers true is = (k, is)
+      by_covers false is = k
+
+  merging_on : (held : Held) (batch : ℕ) (w after : World) → Own held w → IsMerging t.range first all held.page.0 batch w → (happening : Happening)
+      → Happens w happening after → WritesNothing happening → EndsNoBatch batch happening → IsMerging t.range first all held.page.0 batch after
+  merging_on held batch w after k m happening happens none unended = record {
+    gives = subst (λ plain. Gives batch plain after) (sym (happens_plain w after happening none happens))
+        (run_gives batch w.plain w (reached_holds w k.wrote.reached) (happening ∷ []) after m.gives (after, happens, refl) (none, tt)).1;
+    opened = run_open batch (held.page.0 ∷ []) w (happening ∷ []) after m.opened (after, happens, refl) (unended, tt);
+    there = m.there;
+  }
+
+  admitted_at : (held : Held) (w after : World) (asked : List ℕ) (made : Admitted) → Own held w → asked ≡ held.page.0 ∷ []
+      → HappensEvent w (Admit asked (Ok made)) after → IsMerging t.range first all held.page.0 made.batch.0 after
+  admitted_at held w after asked made k same e =
+      let h = reached_holds w k.wrote.reached in
+      let fresh = fresh_gives w h made.batch.0 e.step.does.1 in
+      record {
+        gives = subst (λ plain. Gives made.batch.0 plain after) (sym (happens_plain w after (Event (Admit asked (Ok made))) tt e))
+            (run_gives made.batch.0 w.plain w h (Event (Admit asked (Ok made)) ∷ []) after fresh (after, e, refl) (tt, tt)).1;
+        opened = subst (λ pages. IsOpen made.batch.0 pages after.core.batches) same (admitted_open w after asked made e);
+        there = there_at w held.page.0 k.wrote
+            (none_passes (is_lost w.core.page_map) asked e.step.does.0.0 held.page.0 (subst (Among held.page.0) (sym same) (inl refl)));
+      }
+
+  one_page : (page p : ℕ) → Among p (page ∷ []) → page ≡ p
+  one_page page p (inl same) = same
+  one_page page p (inr rest) = absurd rest
+
+  -- the page is lost, so that the write of it is refused
+  lost_at : (held : Held) (w after : World) → Own held after → after.core ≡ w.core → (p : ℕ) → Among p (held.page.0 ∷ []) → is_lost w.core.page_map p ≡ true
+      → WritesAt after (Releasing held (Some Lost))
+  lost_at held w after k same p i lost = (
+    k,
+    founds.lost_page after k.wrote.geometry held.page.0 (of_range held.page.0 k.at)
+        (ap (λ (c : Core). is_lost c.page_map held.page.0) same ∙ ap (is_lost w.core.page_map) (one_page held.page.0 p i) ∙ lost),
+  )
+
+  left_page : (held : Held) (batch : ℕ) (w : World) → IsMerging t.range first all held.page.0 batch w → (p : ℕ) → Among p (left_of w.core batch)
+      → Among p (held.page.0 ∷ [])
+  left_page held batch w m p i =
+      subst (Among p) (ap (λ (o : Option OpenBatch). (unwrap_or o (record { pages = []; answers = empty })).pages) m.opened.found ∙ m.opened.lists)
+      (among-filter _ p (entry_at w.core batch).pages i).0
+
+  -- a Reserve that is refused
+  refused_at : (held : Held) (wish : Wish A) (w : World) (next : Stage A) (page least : ℕ) (refused : ReserveRefused) → WritesAt w (Reserving held wish)
+      → refused ≡ unwrap_or (reserve_refusal w.core page least) ReserveNoMemory → AfterReserve held wish (Err refused) next
+      → (refused ≡ ReserveNoRoom → next ≡ with_fewer held wish → WritesAt w (with_fewer held wish)) → WritesAt w next
+  refused_at held wish w next page least ReserveNoRoom k why m fewer =
+      elim m [
+        | inl less ↦ subst (WritesAt w) (sym less) (fewer refl less)
+        | inr stays ↦ subst (WritesAt w) (sym stays) k
+      ]
+  refused_at held wish w next page least ReserveNoDie k why m fewer =
+      subst (WritesAt w) (sym m) (k.0, founds.no_die w k.0.wrote.reached
+      ((three_cases _ _ _ ReserveNoDie (refused_first (reserve_refusal w.core page least) ReserveNoDie why (other_refusal ReserveNoDie (omega arith)))).0 refl))
+  refused_at held wish w next page least NumbersSpent k why m fewer =
+      subst (WritesAt w) (sym m) (k.0, founds.no_number w
+      ((three_cases _ _ _ NumbersSpent (refused_first (reserve_refusal w.core page least) NumbersSpent why (other_refusal NumbersSpent (omega arith)))).1 refl))
+  refused_at held wish w next page least ReserveNoMemory k why m fewer = subst (WritesAt w) (sym m) (k.0, founds.no_memory w)
+
+  -- the state is the same where a Reserve was refused
+  reserving_same : (held : Held) (wish : Wish A) (w after : World) (act : Act) → WritesAt w (Reserving held wish) → HappensEvent w act after
+      → WritesNothing (Event act) → claims_after w.core act ≡ w.core.claims → WritesAt after (Reserving held wish)
+  reserving_same held wish w after act k e none same = (
+    record {
+      at = k.0.at;
+      wrote = done_on held.page.0 w after k.0.wrote (Event act) e none;
+      owned = owned_same held.claim.0 held.page.0 w after act k.0.owned e.step.does same;
+    },
+    wish_on held.page.0 w after wish k.0.wrote (happens_plain w after (Event act) none e) (geometry_kept laws.geometry w after (Event act) e) k.1,
+  )
+
+  reserved_at : (held : Held) (wish : Wish A) (w after : World) (act : Act) (seq : Seq) → WritesAt w (Reserving held wish) → HappensEvent w act after
+      → WritesNothing (Event act) → IsReservedFor held.claim.0 (claimed_page w.core held.claim.0) seq (payload_in t.range first all w wish) after
+      → WritesAt after (Committing held wish)
+  reserved_at held wish w after act seq k e none reserved =
+      let geometry = geometry_kept laws.geometry w after (Event act) e in
+      record {
+        at = k.0.at;
+        wrote = done_on held.page.0 w after k.0.wrote (Event act) e none;
+        seq = seq;
+        reserved = subst (λ payload. IsReservedFor held.claim.0 held.page.0 seq payload after) (sym (payload_on w after wish geometry))
+            (subst (λ page. IsReservedFor held.claim.0 page seq (payload_in t.range first all w wish) after)
+            (owned_page held.claim.0 held.page.0 w.core k.0.owned) reserved);
+        wished = wish_on held.page.0 w after wish k.0.wrote (happens_plain w after (Event act) none e) geometry k.1;
+      }
+
+  -- a page is committed
+  committed_at : (held : Held) (wish : Wish A) (w after : World) (by : ℕ) (given : Seq) → IsReserving t.range first all held w wish
+      → HappensEvent w (Commit held.claim.0 by (Ok given)) after → WritesAt after (Releasing held None)
+  committed_at held wish w after by given k e =
+      let page : ℕ = held.page.0 in
+      let here = of_range page k.at in
+      let payload : List ℕ = payload_in t.range first all w wish in
+      let puts = (commit_writes laws.falls held.claim.0 page k.seq payload w after by given k.reserved e).1 in
+      let count = many w page k.wrote in
+      let pages : ℕ = first.core.page_map.geometry.pages in
+      let size = new_long pages t.range f.inside all long w.plain k.wrote.sized count page here in
+      let on_page : claimed_page w.core held.claim.0 ≡ page =
+      ap (λ (o : Option OpenClaim). unwrap_or (option_map {T = OpenClaim} (λ c. c.page) o) 0) k.reserved.under.found ∙ k.reserved.under.is_for.on_page in
+      let exported = export_long t.range.page_bytes first.plain f.sized in
+      let same_many = ap (λ n. n * t.range.page_bytes) f.many in
+      let order = f.inside.ordered in let inside = f.inside.inside in (
+        k.at,
+        record {
+          reached = reached_on w k.wrote.reached (Event (Commit held.claim.0 by (Ok given)) ∷ []) after (after, e, refl);
+          geometry = geometry_kept laws.geometry w after (Event (Commit held.claim.0 by (Ok given))) e ∙ k.wrote.geometry;
+          sized = subst (HasPages t.range.page_bytes) (sym puts)
+              (put_sized t.range.page_bytes w.plain k.wrote.sized page payload (ap length k.wished.for_page.is ∙ size));
+          plain = ap export puts ∙ ap (λ x. export (put page x w.plain)) k.wished.for_page.is
+              ∙ written_on pages t.range f.inside all long w.plain k.wrote.sized count (export first.plain) (omega (arith, exported, same_many, order, inside)) page here k.wrote.plain;
+          gone = λ p lost. elim (cases_eq p page) [
+            | inl same ↦ elim (k.wished.for_page.fit) [
+              | inl covered ↦ inl (subst (IsOf t.range) (sym same) here, omega (arith, same), ap (covers t.range) same ∙ covered)
+              | inr there ↦ absurd (true≢false (sym lost ∙ ap (is_lost first.core.page_map) same ∙ there))
+            ]
+            | inr apart ↦ elim (k.wrote.gone p lost) [
+              | inl written ↦ inl (written.0, let low = written.1 in omega (arith, low), written.2)
+              | inr gone ↦ inr (happens_gone laws.lives laws.spares laws.numbers p w (reached_holds w k.wrote.reached) gone
+                  (Event (Commit held.claim.0 by (Ok given))) after e (λ same. apart (sym same ∙ on_page)))
+            ]
+          ];
+          whole = λ p lost of_p low. elim (cases_eq p page) [
+            | inl same ↦ elim (k.wished.for_page.fit) [
+              | inl covered ↦ ap (covers t.range) same ∙ covered
+              | inr there ↦ absurd (true≢false (sym lost ∙ ap (is_lost first.core.page_map) same ∙ there))
+            ]
+            | inr apart ↦ k.wrote.whole p lost of_p (omega (arith, low, apart))
+          ];
+        },
+        subst (λ n. IsOwned held.claim.0 n after.core.claims) on_page
+            (claimed_now w.core after.core (claimed_page w.core held.claim.0) held.claim.0
+            (claims_are w.core (Commit held.claim.0 by (Ok given)) after.core e.step.does)),
+      )
+
+  abandoned_at : (held : Held) (wish : Wish A) (w after : World) (done : Unit {0}) → IsReserving t.range first all held w wish
+      → HappensEvent w (Abandon held.claim.0 (Ok done)) after → WritesAt after (Reserving held wish)
+  abandoned_at held wish w after done k e =
+      let on_page : claimed_page w.core held.claim.0 ≡ held.page.0 =
+      ap (λ (o : Option OpenClaim). unwrap_or (option_map {T = OpenClaim} (λ c. c.page) o) 0) k.reserved.under.found ∙ k.reserved.under.is_for.on_page in (
+        record {
+          at = k.at;
+          wrote = done_on held.page.0 w after k.wrote (Event (Abandon held.claim.0 (Ok done))) e tt;
+          owned = subst (λ n. IsOwned held.claim.0 n after.core.claims) on_page
+              (claimed_now w.core after.core (claimed_page w.core held.claim.0) held.claim.0
+              (claims_are w.core (Abandon held.claim.0 (Ok done)) after.core e.step.does));
+        },
+        wish_on held.page.0 w after wish k.wrote (happens_plain w after (Event (Abandon held.claim.0 (Ok done))) tt e)
+            (geometry_kept laws.geometry w after (Event (Abandon held.claim.0 (Ok done))) e) k.wished,
+      )
+
+  -- with fewer copies
+  fewer_at : (held : Held) (payload : List ℕ) (w : World) → WritesAt w (Reserving held (Data payload)) → WritesAt w (Reserving held (Fewer payload))
+  fewer_at held payload w k = (k.0, record { for_page = k.1.for_page; hole = tt })
