@@ -16,7 +16,7 @@ use Rattle.fa_asks.proofs.PutBytes.{put_sized, with_none}
 use Rattle.fa_asks.proofs.PutPage.{bytes_for, content_is, covered_whole, new_covered, new_long, part_long, written_on}
 use Rattle.fa_asks.proofs.RangePages.{IsInside, IsOf, page_low, page_of, part_begins, part_ends, part_fits, upto}
 use Rattle.fa_asks.proofs.ReadStages.{Fits}
-use Rattle.fa_asks.specs.Asked.{Asked, BringsNoSpare, IsAnothers, IsBarred, IsFounded, LeavesClaim, Makes, Meanwhile, Moment, Readies, Strayed, Turn}
+use Rattle.fa_asks.specs.Asked.{Asked, IsAnothers, IsBarred, IsFounded, IsNoSpare, LeavesClaim, Makes, Meanwhile, Moment, Readies, Strayed, Turn}
 use Rattle.fa_asks.specs.Asked.{TurnsTo, fits}
 use Rattle.fa_asks.specs.Shown.{may_collect}
 use Rattle.fa_laws.proofs.Answering.{reached_holds}
@@ -163,7 +163,7 @@ pub record Founds (r : Range) (first : World) (Cause : World → BlockFault → 
   pub no_die : (w : World) → IsReached w → (copies_asked w.core.copies w.core.page_map == 0) ≡ true → Cause w Lost
   pub begun : (w after : World) (flush : Flush) → IsReached w → HappensEvent w (FlushBegin (Ok flush)) after → Knows flush after
   pub knows : (w after : World) (flush : Flush) (happening : Happening) → IsReached w → Happens w happening after
-      → BringsNoSpare {A = Unit {0}} (Flushing flush) happening → Knows flush w → Knows flush after
+      → IsNoSpare happening → Knows flush w → Knows flush after
   pub no_synced : (w : World) (flush : Flush) → IsReached w → Knows flush w → flush_state w.core flush ≡ FlushNoDie → Cause w Lost
 
 -- a refusal of a Reserve is the first that applies, where it is none for want of memory
@@ -476,3 +476,215 @@ module _ (A : Type 0) (laws : Laws) (t : Task) (seat : ℕ) (bytes : List ℕ) (
   -- with fewer copies
   fewer_at : (held : Held) (payload : List ℕ) (w : World) → WritesAt w (Reserving held (Data payload)) → WritesAt w (Reserving held (Fewer payload))
   fewer_at held payload w k = (k.0, record { for_page = k.1.for_page; hole = tt })
+
+  -- nothing is reserved under a claim of which nothing is
+  not_reserved : (held : Held) (w : World) → IsOwned held.claim.0 held.page.0 w.core.claims → is_reserved w.core held.claim.0 ≡ false
+  not_reserved held w k = ap is_some (ap (option_and_then {T = OpenClaim} (λ c. c.reserved)) k.found ∙ k.free)
+
+  -- the request makes its event
+  own : (w after : World) (stage : Stage A) (act : Act) (next : Stage A) → WritesAt w stage → HappensEvent w act after → Moves t seat stage act next
+      → IsFounded w.core stage act next → WritesAt after next
+  own w after (Claiming page) (Claim p (Ok id)) next k e m founded =
+      subst (WritesAt after) (sym m.1) (opened_at after (record { page = page; claim = id }) (record {
+        at = k.0;
+        wrote = done_on page.0 w after k.1 (Event (Claim p (Ok id))) e tt;
+        owned = subst (λ n. IsOwned id.0 n after.core.claims) m.0
+            (claimed_now w.core after.core p id.0 (ap (λ (c : Core). c.claims) e.step.does.2));
+      }))
+  own w after (Claiming page) (Claim p (Err Claimed)) next k e m founded =
+      subst (WritesAt after) (sym m.1) (k.0, done_on page.0 w after k.1 (Event (Claim p (Err Claimed))) e tt)
+  own w after (Claiming page) (Claim p (Err ClaimNoMemory)) next k e m founded =
+      subst (WritesAt after) (sym m.1)
+      (founds.no_memory after, (page.0, done_on page.0 w after k.1 (Event (Claim p (Err ClaimNoMemory))) e tt, inl k.0))
+  own w after (Claiming page) act next k e m founded = absurd m
+  own w after (Asking (Merge held) pages) (Admit asked (Ok made)) next k e m founded =
+      subst (WritesAt after) (sym m.1)
+      (own_on held w after k.0 (Event (Admit asked (Ok made))) e tt tt, admitted_at held w after asked made k.0 (m.0 ∙ k.1) e)
+  own w after (Asking (Merge held) pages) (Admit asked (Err (PageLost page))) next k e m founded =
+      let still = own_on held w after k.0 (Event (Admit asked (Err (PageLost page)))) e tt tt in
+      elim (m.1) [
+        | inr stays ↦ subst (WritesAt after) (sym stays) (still, k.1)
+        | inl stops ↦
+            let found = found_passes (is_lost w.core.page_map) asked page.0 e.step.does.0 in
+            subst (WritesAt after) (sym stops) (lost_at held w after still e.step.does.1 page.0 (subst (Among page.0) (m.0 ∙ k.1) found.1) found.0)
+      ]
+  own w after (Asking (Merge held) pages) (Admit asked (Err CalendarFull)) next k e m founded =
+      subst (WritesAt after) (sym m.1) (own_on held w after k.0 (Event (Admit asked (Err CalendarFull))) e tt tt, k.1)
+  own w after (Asking (Merge held) pages) (Admit asked (Err RoundsSpent)) next k e m founded =
+      subst (WritesAt after) (sym m.1) (
+        own_on held w after k.0 (Event (Admit asked (Err RoundsSpent))) e tt tt,
+        founds.late after (ap (λ (c : Core). is_late c.calendar) e.step.does.1 ∙ e.step.does.0.1),
+      )
+  own w after (Asking (Merge held) pages) (Admit asked (Err AdmitNoMemory)) next k e m founded =
+      subst (WritesAt after) (sym m.1) (own_on held w after k.0 (Event (Admit asked (Err AdmitNoMemory))) e tt tt, founds.no_memory after)
+  own w after (Asking (Merge held) pages) act next k e m founded = absurd m
+  own w after (Reading (Merge held) batch) (Replan b (Ok planned)) next k e m founded =
+      subst (WritesAt after) (sym m.1) (
+        own_on held w after k.0 (Event (Replan b (Ok planned))) e tt tt,
+        merging_on held batch.0 w after k.0 k.1 (Event (Replan b (Ok planned))) e tt tt,
+      )
+  own w after (Reading (Merge held) batch) (Replan b (Err (PageLost page))) next k e m founded =
+      let still = own_on held w after k.0 (Event (Replan b (Err (PageLost page)))) e tt tt in
+      let merging = merging_on held batch.0 w after k.0 k.1 (Event (Replan b (Err (PageLost page)))) e tt tt in
+      elim (m.1) [
+        | inr stays ↦ subst (WritesAt after) (sym stays) (still, merging)
+        | inl stops ↦
+            let found = found_passes (is_lost w.core.page_map) (left_of w.core b) page.0 e.step.does.0 in
+            let lost = lost_at held w after still e.step.does.1 page.0
+            (left_page held batch.0 w k.1 page.0 (subst (λ x. Among page.0 (left_of w.core x)) m.0 found.1)) found.0 in
+            subst (WritesAt after) (sym stops) (still, (held.page.0 ∷ [], merging.opened), lost.1)
+      ]
+  own w after (Reading (Merge held) batch) (Replan b (Err CalendarFull)) next k e m founded =
+      subst (WritesAt after) (sym m.1) (
+        own_on held w after k.0 (Event (Replan b (Err CalendarFull))) e tt tt,
+        merging_on held batch.0 w after k.0 k.1 (Event (Replan b (Err CalendarFull))) e tt tt,
+      )
+  own w after (Reading (Merge held) batch) (Replan b (Err RoundsSpent)) next k e m founded =
+      subst (WritesAt after) (sym m.1) (
+        own_on held w after k.0 (Event (Replan b (Err RoundsSpent))) e tt tt,
+        (held.page.0 ∷ [], (merging_on held batch.0 w after k.0 k.1 (Event (Replan b (Err RoundsSpent))) e tt tt).opened),
+        founds.late after (ap (λ (c : Core). is_late c.calendar) e.step.does.1 ∙ e.step.does.0.1),
+      )
+  own w after (Reading (Merge held) batch) (Replan b (Err AdmitNoMemory)) next k e m founded =
+      subst (WritesAt after) (sym m.1) (
+        own_on held w after k.0 (Event (Replan b (Err AdmitNoMemory))) e tt tt,
+        (held.page.0 ∷ [], (merging_on held batch.0 w after k.0 k.1 (Event (Replan b (Err AdmitNoMemory))) e tt tt).opened),
+        founds.no_memory after,
+      )
+  own w after (Reading (Merge held) batch) (EndBatch b answers) (Sorting p given) k e m founded =
+      subst (λ q. WritesAt after (Sorting q given)) (sym m.1.0) (
+        own_on held w after k.0 (Event (EndBatch b answers)) e tt tt,
+        k.1.there,
+        sym m.1.1 ∙ open_gives batch.0 (held.page.0 ∷ []) w.plain w after answers (reached_holds w k.0.wrote.reached) k.1.gives k.1.opened
+            (subst (λ x. results w.core x ≡ Ready) m.0 founded) (subst (λ x. HappensEvent w (EndBatch x answers) after) m.0 e)
+            ∙ ap (λ (plain : List (List ℕ)). (held.page.0, slice_index_or plain held.page.0 []) ∷ []) (sym (happens_plain w after (Event (EndBatch b answers)) tt e)),
+      )
+  own w after (Reading (Merge held) batch) (EndBatch b answers) next k e m founded = absurd m.1
+  own w after (Reading (Merge held) batch) act next k e m founded = absurd m
+  own w after (Leaving (Merge held) batch fault) (EndBatch b answers) next k e m founded =
+      subst (WritesAt after) (sym m.1) (own_on held w after k.0 (Event (EndBatch b answers)) e tt tt, founds.kept w after (record {
+        page_map = ap (λ (c : Core). c.page_map) e.step.does.1;
+        copies = ap (λ (c : Core). c.copies) e.step.does.1;
+        last = ap (λ (c : Core). c.last) e.step.does.1;
+        round = ap (λ (c : Core). c.calendar.round) e.step.does.1;
+        flushes = ap (λ (c : Core). c.flushes) e.step.does.1;
+      }) fault k.2)
+  own w after (Leaving (Merge held) batch fault) act next k e m founded = absurd m
+  own w after (Reserving held (Data payload)) (Reserve claim b (Ok seq)) next k e m founded =
+      let at : HappensEvent w (Reserve held.claim.0 payload (Ok seq)) after =
+      subst (λ (z : ℕ × List ℕ). HappensEvent w (Reserve z.0 z.1 (Ok seq)) after) (λ i. (m.0 i, m.1 i)) e in
+      subst (WritesAt after) (sym m.2) (reserved_at held (Data payload) w after (Reserve held.claim.0 payload (Ok seq)) seq k at tt
+      (reserved_now w after held.claim.0 seq payload (reservation_for w.core held.claim.0 DataKind) at.step.does.1 refl
+      (ap (λ (c : Core). c.last) at.step.does.2) (claims_are w.core (Reserve held.claim.0 payload (Ok seq)) after.core at.step.does)
+      (ap (λ (v : World). v.payloads) at.follows)))
+  own w after (Reserving held (Data payload)) (Reserve claim b (Err refused)) next k e m founded =
+      let here = reserving_same held (Data payload) w after (Reserve claim b (Err refused)) k e tt refl in
+      refused_at held (Data payload) after next (claimed_page w.core claim) (copies_asked w.core.copies w.core.page_map) refused here
+      (subst (λ (c : Core). refused ≡ unwrap_or (reserve_refusal c (claimed_page w.core claim) (copies_asked w.core.copies w.core.page_map)) ReserveNoMemory)
+      (sym e.step.does.1) e.step.does.0) m.2 (λ is less. fewer_at held payload after here)
+  own w after (Reserving held (Data payload)) act next k e m founded = absurd m
+  own w after (Reserving held (Fewer payload)) (ReserveFewer claim b (Ok seq)) next k e m founded =
+      let at : HappensEvent w (ReserveFewer held.claim.0 payload (Ok seq)) after =
+      subst (λ (z : ℕ × List ℕ). HappensEvent w (ReserveFewer z.0 z.1 (Ok seq)) after) (λ i. (m.0 i, m.1 i)) e in
+      subst (WritesAt after) (sym m.2) (reserved_at held (Fewer payload) w after (ReserveFewer held.claim.0 payload (Ok seq)) seq k at tt
+      (reserved_now w after held.claim.0 seq payload (reservation_for w.core held.claim.0 DataKind) at.step.does.1 refl
+      (ap (λ (c : Core). c.last) at.step.does.2) (claims_are w.core (ReserveFewer held.claim.0 payload (Ok seq)) after.core at.step.does)
+      (ap (λ (v : World). v.payloads) at.follows)))
+  own w after (Reserving held (Fewer payload)) (ReserveFewer claim b (Err ReserveNoRoom)) next k e m founded =
+      let here = reserving_same held (Fewer payload) w after (ReserveFewer claim b (Err ReserveNoRoom)) k e tt refl in
+      elim (m.2) [
+        | inr stays ↦ subst (WritesAt after) (sym stays) here
+        | inl less ↦
+            let none = subst (IsFounded w.core (Reserving held (Fewer payload)) (ReserveFewer claim b (Err ReserveNoRoom))) less founded in
+            let why = subst (λ (c : Core). ReserveNoRoom ≡ unwrap_or (reserve_refusal c (claimed_page w.core claim) (min 1 (copies_asked c.copies c.page_map))) ReserveNoMemory)
+            (sym e.step.does.1) e.step.does.0 in
+            subst (WritesAt after) (sym less) (
+              here.0,
+              founds.no_room after here.0.wrote.reached (claimed_page w.core claim)
+                  (refused_first (reserve_refusal after.core (claimed_page w.core claim) (min 1 (copies_asked after.core.copies after.core.page_map))) ReserveNoRoom why
+                  (other_refusal ReserveNoRoom (omega arith)))
+                  (ap (λ (c : Core). may_collect c.page_map) e.step.does.1 ∙ none),
+            )
+      ]
+  own w after (Reserving held (Fewer payload)) (ReserveFewer claim b (Err refused)) next k e m founded =
+      let here = reserving_same held (Fewer payload) w after (ReserveFewer claim b (Err refused)) k e tt refl in
+      refused_at held (Fewer payload) after next (claimed_page w.core claim) (min 1 (copies_asked w.core.copies w.core.page_map)) refused here
+      (subst (λ (c : Core). refused ≡ unwrap_or (reserve_refusal c (claimed_page w.core claim) (min 1 (copies_asked w.core.copies w.core.page_map))) ReserveNoMemory)
+      (sym e.step.does.1) e.step.does.0) m.2 (λ is less. absurd (let n = ap room_number is in omega (arith, n)))
+  own w after (Reserving held (Fewer payload)) act next k e m founded = absurd m
+  own w after (Reserving held Hole) (ReserveHole claim (Ok seq)) next k e m founded =
+      let at : HappensEvent w (ReserveHole held.claim.0 (Ok seq)) after = subst (λ c. HappensEvent w (ReserveHole c (Ok seq)) after) m.0 e in
+      subst (WritesAt after) (sym m.1) (reserved_at held Hole w after (ReserveHole held.claim.0 (Ok seq)) seq k at tt
+      (reserved_now w after held.claim.0 seq (zeros w.core.page_map) (reservation_for w.core held.claim.0 HoleKind) at.step.does.1 refl
+      (ap (λ (c : Core). c.last) at.step.does.2) (claims_are w.core (ReserveHole held.claim.0 (Ok seq)) after.core at.step.does)
+      (ap (λ (v : World). v.payloads) at.follows)))
+  own w after (Reserving held Hole) (ReserveHole claim (Err refused)) next k e m founded =
+      let here = reserving_same held Hole w after (ReserveHole claim (Err refused)) k e tt refl in
+      refused_at held Hole after next (claimed_page w.core claim) (copies_asked w.core.copies w.core.page_map) refused here
+      (subst (λ (c : Core). refused ≡ unwrap_or (reserve_refusal c (claimed_page w.core claim) (copies_asked w.core.copies w.core.page_map)) ReserveNoMemory)
+      (sym e.step.does.1) e.step.does.0) m.1 (λ is less. (here.0, k.1.hole))
+  own w after (Reserving held Hole) act next k e m founded = absurd m
+  own w after (Committing held wish) (Commit claim by (Ok given)) next k e m founded =
+      subst (WritesAt after) (sym m.2) (committed_at held wish w after by given k (subst (λ c. HappensEvent w (Commit c by (Ok given)) after) m.0 e))
+  own w after (Committing held wish) (Commit claim by (Err CommitPending)) next k e m founded =
+      subst (WritesAt after) (sym m.2) (reserving_on held w after wish k (Event (Commit claim by (Err CommitPending))) e tt tt)
+  own w after (Committing held wish) (Commit claim by (Err Failed)) next k e m founded =
+      subst (WritesAt after) (sym m.2) (reserving_on held w after wish k (Event (Commit claim by (Err Failed))) e tt tt)
+  own w after (Committing held wish) act next k e m founded = absurd m
+  own w after (Abandoning held wish) (Abandon claim (Ok made)) next k e m founded =
+      subst (WritesAt after) (sym m.1) (abandoned_at held wish w after made k (subst (λ c. HappensEvent w (Abandon c (Ok made)) after) m.0 e))
+  own w after (Abandoning held wish) (Abandon claim (Err AbandonPending)) next k e m founded =
+      subst (WritesAt after) (sym m.1) (reserving_on held w after wish k (Event (Abandon claim (Err AbandonPending))) e tt tt)
+  own w after (Abandoning held wish) (Abandon claim (Err Programmed)) next k e m founded =
+      subst (WritesAt after) (sym m.1) (reserving_on held w after wish k (Event (Abandon claim (Err Programmed))) e tt tt)
+  own w after (Abandoning held wish) act next k e m founded = absurd m
+  own w after (Releasing held None) (Release claim) next k e m founded =
+      let from = k.0.from in let past = k.0.past in
+      subst (WritesAt after) (sym m.1) (from_on after (held.page.0 + 1) (omega (arith, from)) (omega (arith, past))
+      (done_on (held.page.0 + 1) w after k.1 (Event (Release claim)) e tt))
+  own w after (Releasing held None) (Abandon claim answer) next k e m founded =
+      absurd (false≢true (sym (not_reserved held w k.2) ∙ ap (is_reserved w.core) (sym m.0) ∙ e.step.allows))
+  own w after (Releasing held (Some fault)) (Release claim) next k e m founded =
+      subst (WritesAt after) (sym m.1) (
+        founds.kept w after (record {
+          page_map = ap (λ (c : Core). c.page_map) e.step.does;
+          copies = ap (λ (c : Core). c.copies) e.step.does;
+          last = ap (λ (c : Core). c.last) e.step.does;
+          round = ap (λ (c : Core). c.calendar.round) e.step.does;
+          flushes = ap (λ (c : Core). c.flushes) e.step.does;
+        }) fault k.1,
+        (held.page.0, done_on held.page.0 w after k.0.wrote (Event (Release claim)) e tt, inl k.0.at),
+      )
+  own w after (Releasing held (Some fault)) (Abandon claim answer) next k e m founded =
+      absurd (false≢true (sym (not_reserved held w k.0.owned) ∙ ap (is_reserved w.core) (sym m.0) ∙ e.step.allows))
+  own w after (Releasing held fault) act next k e m founded = absurd m
+  own w after BeginningFlush (FlushBegin (Ok flush)) next k e m founded =
+      subst (WritesAt after) (sym m)
+      (done_on (past_page t.range) w after k.0 (Event (FlushBegin (Ok flush))) e tt, k.1, founds.begun w after flush k.0.reached e)
+  own w after BeginningFlush (FlushBegin (Err FlushesSpent)) next k e m founded =
+      subst (WritesAt after) (sym m) (
+        founds.no_flush after (ap (λ (c : Core). c.flushes == 2 ^ 62) e.step.does.1 ∙ e.step.does.0),
+        (past_page t.range, done_on (past_page t.range) w after k.0 (Event (FlushBegin (Err FlushesSpent))) e tt, inr (refl, k.1, inr refl)),
+      )
+  own w after BeginningFlush act next k e m founded = absurd m
+  own w after (Flushing flush) (FlushState b Waiting) next k e m founded =
+      subst (WritesAt after) (sym m.1) (
+        done_on (past_page t.range) w after k.0 (Event (FlushState b Waiting)) e tt,
+        k.1,
+        founds.knows w after flush (Event (FlushState b Waiting)) k.0.reached e tt k.2,
+      )
+  own w after (Flushing flush) (FlushState b Synced) next k e m founded =
+      subst (WritesAt after) (sym m.1) (done_on (past_page t.range) w after k.0 (Event (FlushState b Synced)) e tt)
+  own w after (Flushing flush) (FlushState b FlushNoDie) next k e m founded =
+      let done = done_on (past_page t.range) w after k.0 (Event (FlushState b FlushNoDie)) e tt in
+      subst (WritesAt after) (sym m.1) (
+        founds.no_synced after flush done.reached (founds.knows w after flush (Event (FlushState b FlushNoDie)) k.0.reached e tt k.2)
+            (ap (λ (c : Core). flush_state c flush) e.step.does.1 ∙ ap (flush_state w.core) (sym m.0) ∙ sym e.step.does.0),
+        (past_page t.range, done, inr (refl, k.1, inl refl)),
+      )
+  own w after (Flushing flush) act next k e m founded = absurd m
+  own w after (Filling held less) act next k e m founded = absurd m
+  own w after (Listing (Merge held)) act next k e m founded = absurd m
+  own w after (Sorting (Merge held) answers) act next k e m founded = absurd m
+  own w after (Ended fault) act next k e m founded = absurd m
+  own w after stage act next k e m founded = absurd k

@@ -55,6 +55,11 @@ abbrev pub OfOne : (ℕ → Happening → Type 0) → Option ℕ → Happening �
 OfOne says None happening = Unit {0}
 OfOne says (Some id) happening = says id happening
 
+-- no spare is brought in
+abbrev pub IsNoSpare : Happening → Type 0
+IsNoSpare (Event (SpareIn die (Ok made))) = ⊥
+IsNoSpare happening = Unit {0}
+
 abbrev pub claim_for : Purpose → Option ℕ
 claim_for (Answer page) = None
 claim_for (Merge held) = Some held.claim.0
@@ -97,7 +102,7 @@ module _ {A : Type 0} where
 
   -- no spare is brought in while a flush is waited for
   abbrev pub BringsNoSpare : Stage A → Happening → Type 0
-  BringsNoSpare (Flushing flush) (Event (SpareIn die (Ok made))) = ⊥
+  BringsNoSpare (Flushing flush) happening = IsNoSpare happening
   BringsNoSpare stage happening = Unit {0}
 
   -- What happens is none of the request's: nothing is written, and its batch and its claim are left alone.
