@@ -1,4 +1,5 @@
 pub mod Changed
+pub mod CopiesKept
 pub mod Going
 pub mod Gone
 pub mod Owned
@@ -9,4 +10,5 @@ pub mod PutPage
 pub mod RangePages
 pub mod ReadServes
 pub mod ReadStages
+pub mod WriteServes
 pub mod WriteStages
