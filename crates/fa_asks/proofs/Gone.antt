@@ -101,7 +101,7 @@ module _ (lives : LiveLaw) (spares : SparesLaw) where
   was_there : (live : Numbers) (out d : ℕ) → contains_key (remove live out) d ≡ true → contains_key live d ≡ true
   was_there live out d is = let some = has_some (get (remove live out) d) is in ap is_some (get-remove_some live out d some.0 some.1).0
 
-  done_live : (old new : Core) (out : ℕ) (flight : Option Flight) (outcome : Outcome) → EndsJob old out flight outcome new
+  pub done_live : (old new : Core) (out : ℕ) (flight : Option Flight) (outcome : Outcome) → EndsJob old out flight outcome new
       → (d : ℕ) → is_live new.page_map d ≡ true → is_live old.page_map d ≡ true
   done_live old new out None outcome ends d is = absurd ends
   done_live old new out (Some flight) outcome ends d is =

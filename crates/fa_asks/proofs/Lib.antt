@@ -1,3 +1,4 @@
+pub mod Causes
 pub mod Changed
 pub mod CopiesKept
 pub mod Going
