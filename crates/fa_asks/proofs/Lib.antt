@@ -11,5 +11,6 @@ pub mod PutPage
 pub mod RangePages
 pub mod ReadServes
 pub mod ReadStages
+pub mod Serving
 pub mod WriteServes
 pub mod WriteStages

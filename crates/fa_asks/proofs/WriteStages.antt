@@ -262,7 +262,7 @@ module _ (A : Type 0) (laws : Laws) (t : Task) (seat : ℕ) (bytes : List ℕ) (
       by_flush true is = (k, is)
       by_flush false is = k
 
-  from_on : (w : World) (page : ℕ) → first_page t.range ≤ page → page ≤ past_page t.range → Done page w → WritesAt w (from_page t page)
+  pub from_on : (w : World) (page : ℕ) → first_page t.range ≤ page → page ≤ past_page t.range → Done page w → WritesAt w (from_page t page)
   from_on w page low high k = by_past (nat_lt page (past_page t.range)) refl
     where
       by_past : (b : Bool) → nat_lt page (past_page t.range) ≡ b → WritesAt w (if b then Claiming (record { 0 = page }) else after_pages t)

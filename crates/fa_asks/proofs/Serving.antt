@@ -1,0 +1,140 @@
+-- Each request serves, from its beginning to its end.
+use Rattle.fa_asks.proofs.Causes.{Cause, KnowsLive, cause_founds}
+use Rattle.fa_asks.proofs.Going.{Laws}
+use Rattle.fa_asks.proofs.PutBytes.{with_none}
+use Rattle.fa_asks.proofs.PutPage.{bytes_for}
+use Rattle.fa_asks.proofs.RangePages.{IsOf, of_back, page_of, upto, upto_first, upto_past}
+use Rattle.fa_asks.proofs.ReadServes.{read_gives, read_refused}
+use Rattle.fa_asks.proofs.ReadStages.{Fits}
+use Rattle.fa_asks.proofs.WriteServes.{begins, first_past, wrote_all, wrote_is, wrote_none}
+use Rattle.fa_asks.proofs.WriteStages.{EndsAt, IsAt, WritesAt, Wrote, from_on, writes_on}
+use Rattle.fa_asks.specs.Asked.{Asked, Moment, Turn}
+use Rattle.fa_asks.specs.Begun.{HasBegun}
+use Rattle.fa_asks.specs.Calls.{HasBytes, answer_of, call_of}
+use Rattle.fa_asks.specs.Shown.{store_of}
+use Rattle.fa_laws.proofs.Answering.{reached_holds}
+use Rattle.fa_machine.specs.World.{World}
+use Rattle.fa_ops.specs.Moves.{from_page}
+use Rattle.fa_ops.specs.Ops.{beginning}
+use Rattle.fa_ops.specs.Ranges.{first_page, past_page}
+use Rattle.fa_ops.specs.Tasks.{end_of, task_of, whole_range, zeros_as}
+use Rattle.fa_ops.specs.declared.range.Range.{Range}
+use Rattle.fa_ops.specs.declared.request.Fill.{Fill}
+use Rattle.fa_ops.specs.declared.request.Fill.TheVariants.{Holes, Zeros}
+use Rattle.fa_ops.specs.declared.request.Request.{Request}
+use Rattle.fa_ops.specs.declared.request.Request.TheVariants.{Flush, Read, Trim, Write, Zero}
+use Rattle.fa_ops.specs.declared.request.Task.{Task}
+use Rattle.fa_ops.specs.declared.stage.Stage.{Stage}
+use Rattle.fa_ops.specs.declared.stage.Stage.TheVariants.{BeginningFlush, Ended}
+use Rattle.fa_types.specs.Plain.{HasPages, export}
+use Rattle.fa_types.specs.Store.{Answer, Done, HasCause, InRange, IsCovered, IsCutShort, IsMet, IsUnwritten, IsWritten, IsZeroed, Refused, Serves}
+use Rattle.fa_types.specs.Store.{StopsAfter, Store, first_whole, whole_length, whole_offset, with_bytes}
+use Rattle.fa_types.specs.declared.blocks.BlockFault.{BlockFault}
+use Rattle.fa_types.specs.declared.blocks.BlockFault.TheVariants.{Lost, NoMemory, NoRoom, Spent}
+use Rattle.std.proofs.Common.{Bool, List, None, Option, Some, [], ap, arith, cond, false, inl, inr, length, refl, replicate, subst, suc, sym, take, true, ℕ}
+use Rattle.std.proofs.Common.{◌*◌, ◌+◌, ◌-◌, ◌/◌, ◌<◌, ◌∙◌, ◌∷◌, ◌≡◌, ◌≤◌, ◌⊎◌}
+use Rattle.std.proofs.Math.Nat.{add-mul, div-mul-le_self, lt-div-mul-add, mul-le-mul_right, mul-mod_left, suc-mul, zero-mul}
+use Rattle.std.proofs.lemmas.Bool.{cases_Bool, cases_eq, cases_lt, leb-false, leb-true}
+use Rattle.std.proofs.lemmas.List.{length-replicate}
+use Rattle.std.specs.Prelude.{if◌then◌else◌, nat_le, slice_index, ◌%◌}
+
+module _ (A : Type 0) (laws : Laws) (t : Task) (seat : ℕ) (bytes : List ℕ) (first : World) (f : Fits first t.range)
+    (long : length (bytes_for t.fill t.range bytes) ≡ t.range.to - t.range.from) where
+  abbrev all : List ℕ
+  all = bytes_for t.fill t.range bytes
+
+  abbrev pub At : World → Stage A → Type 0
+  At = WritesAt A laws t seat bytes first f long (Cause laws first t.range f) KnowsLive (cause_founds laws first t.range f)
+
+  -- where a request that is refused stops
+  stops : (page : ℕ) (fault : BlockFault)
+      → EndsAt A laws t seat bytes first f long (Cause laws first t.range f) KnowsLive (cause_founds laws first t.range f) page fault
+      → StopsAfter first.core.page_map.geometry.page_bytes t.range.from (length all) t.flush fault (upto t.range page)
+  stops page fault (inr behind) = inr (inr (
+    ap (upto t.range) behind.0 ∙ upto_past first.core.page_map.geometry.pages t.range f.inside (past_page t.range) (omega arith) ∙ sym long,
+    behind.1,
+    behind.2,
+  ))
+  stops page fault (inl at) =
+      let size : ℕ = t.range.page_bytes in
+      let some : 0 < size = let n = f.inside.some_bytes in omega (arith, n) in
+      elim (cases_eq page (first_page t.range)) [
+        | inl same ↦ inl (ap (upto t.range) same ∙ upto_first first.core.page_map.geometry.pages t.range f.inside)
+        | inr apart ↦
+            let from = at.from in
+            let up : t.range.from < t.range.from / size * size + size = lt-div-mul-add some in
+            let next = suc-mul (t.range.from / size) size in
+            let further : suc (t.range.from / size) * size ≤ page * size =
+            mul-le-mul_right size (let above : suc (t.range.from / size) ≤ page = omega (arith, from, apart) in above) in
+            let below = before page at in
+            let whole : t.range.from + upto t.range page ≡ page * size = omega (arith, up, next, further, below) in
+            inr (inl (
+              omega (arith, up, next, further, below, long),
+              ap (λ n. (t.range.from + upto t.range page) % n) (sym f.same) ∙ ap (λ n. n % size) whole ∙ mul-mod_left page size,
+            ))
+      ]
+    where
+      before : (page : ℕ) → IsAt t.range first all page → page * t.range.page_bytes < t.range.to
+      before page at = (page_of first.core.page_map.geometry.pages t.range f.inside page at.from at.past).begins
+
+  -- a write that was refused was cut short for a cause
+  pub cut_short : (w : World) (fault : BlockFault) → At w (Ended (Some fault)) → IsCutShort (store_of first) t.range.from all t.flush fault (store_of w)
+  cut_short w fault k = (
+    subst (λ n. HasCause (store_of w) t.range.from n fault) (sym long) k.0,
+    (
+        upto t.range k.1.0,
+        stops k.1.0 fault k.1.2,
+        wrote_is t.range first f all long k.1.0 w k.1.1,
+      ),
+  )
+
+  pub done : (w : World) → At w (Ended None) → IsWritten (store_of first) (store_of w) t.range.from all
+  done w k = wrote_all t.range first f all long w k
+
+-- nothing is written where no byte is
+unwritten_none : (before after : Store) (offset : ℕ) → IsUnwritten before after → IsWritten before after offset []
+unwritten_none before after offset u = record {
+  content = λ i low lost. u.content i low lost ∙ ap (λ bytes. slice_index bytes i) (sym (with_none offset before.content));
+  lost = λ page was. inl (u.lost page was);
+  whole = λ page was met. absurd (let from = met.2.0 in let to = met.2.1 in omega (arith, from, to));
+}
+
+-- of no bytes none is met
+no_bytes_cause : (after : Store) (one two : ℕ) (fault : BlockFault) → HasCause after one 0 fault → HasCause after two 0 fault
+no_bytes_cause after one two Lost (inl none) = inl none
+no_bytes_cause after one two Lost (inr lost) = absurd (let from = lost.2.2.0 in let to = lost.2.2.1 in omega (arith, from, to))
+no_bytes_cause after one two NoRoom cause = cause
+no_bytes_cause after one two NoMemory cause = tt
+no_bytes_cause after one two Spent cause = cause
+
+zeros_for : (hole : Bool) (r : Range) (bytes : List ℕ) → bytes_for (Some (zeros_as hole)) r bytes ≡ replicate (r.to - r.from) 0
+zeros_for true r bytes = refl
+zeros_for false r bytes = refl
+
+-- the whole pages of a range that has one
+whole_from : (page_bytes offset count : ℕ) → nat_le (whole_offset page_bytes offset) ((offset + count) / page_bytes * page_bytes) ≡ true
+    → (whole_range page_bytes offset count).from ≡ whole_offset page_bytes offset
+whole_from page_bytes offset count is =
+    ap (λ b. if b then whole_offset page_bytes offset else (offset + count) / page_bytes * page_bytes) is
+
+whole_empty : (page_bytes offset count : ℕ) → nat_le (whole_offset page_bytes offset) ((offset + count) / page_bytes * page_bytes) ≡ false
+    → (whole_range page_bytes offset count).from ≡ (offset + count) / page_bytes * page_bytes
+whole_empty page_bytes offset count is =
+    ap (λ b. if b then whole_offset page_bytes offset else (offset + count) / page_bytes * page_bytes) is
+
+sub-mul : (a b n : ℕ) → (a - b) * n ≡ a * n - b * n
+sub-mul a b n =
+    elim (cases_le b a) [
+      | inl low ↦
+          let sum = add-mul (a - b) b n in let same : a - b + b ≡ a = omega (arith, low) in
+          let whole : (a - b + b) * n ≡ a * n = ap (λ k. k * n) same in omega (arith, sum, whole)
+      | inr high ↦
+          let none : (a - b) * n ≡ 0 = ap (λ k. k * n) (let zero_is : a - b ≡ 0 = omega (arith, high) in zero_is) ∙ zero-mul n in
+          let more : a * n ≤ b * n = mul-le-mul_right n high in omega (arith, none, more)
+    ]
+  where
+    cases_le : (x y : ℕ) → (x ≤ y) ⊎ (y ≤ x)
+    cases_le x y = elim (cases_lt x y) [ inl low ↦ inl (omega (arith, low)) | inr high ↦ inr high ]
+
+whole_count : (page_bytes offset count : ℕ) → (offset + count) / page_bytes * page_bytes - whole_offset page_bytes offset ≡ whole_length page_bytes offset count
+whole_count page_bytes offset count = sym (sub-mul ((offset + count) / page_bytes) (first_whole page_bytes offset) page_bytes)
