@@ -9,10 +9,11 @@ use Rattle.fa_asks.proofs.ReadStages.{Fits}
 use Rattle.fa_asks.proofs.WriteServes.{begins, first_past, wrote_all, wrote_is, wrote_none}
 use Rattle.fa_asks.proofs.WriteStages.{EndsAt, IsAt, WritesAt, Wrote, from_on, writes_on}
 use Rattle.fa_asks.specs.Asked.{Asked, Moment, Turn}
-use Rattle.fa_asks.specs.Begun.{HasBegun}
+use Rattle.fa_asks.specs.Begun.{HasBegun, IsCalm}
 use Rattle.fa_asks.specs.Calls.{HasBytes, answer_of, call_of}
 use Rattle.fa_asks.specs.Shown.{store_of}
 use Rattle.fa_laws.proofs.Answering.{reached_holds}
+use Rattle.fa_laws.specs.Reached.{IsReached}
 use Rattle.fa_machine.specs.World.{World}
 use Rattle.fa_ops.specs.Moves.{from_page}
 use Rattle.fa_ops.specs.Ops.{beginning}
@@ -111,6 +112,10 @@ zeros_for : (hole : Bool) (r : Range) (bytes : List ℕ) → bytes_for (Some (ze
 zeros_for true r bytes = refl
 zeros_for false r bytes = refl
 
+abbrev pub zero_answer : Option BlockFault → Answer
+zero_answer None = Done
+zero_answer (Some fault) = Refused fault
+
 -- the whole pages of a range that has one
 whole_from : (page_bytes offset count : ℕ) → nat_le (whole_offset page_bytes offset) ((offset + count) / page_bytes * page_bytes) ≡ true
     → (whole_range page_bytes offset count).from ≡ whole_offset page_bytes offset
@@ -138,3 +143,155 @@ sub-mul a b n =
 
 whole_count : (page_bytes offset count : ℕ) → (offset + count) / page_bytes * page_bytes - whole_offset page_bytes offset ≡ whole_length page_bytes offset count
 whole_count page_bytes offset count = sym (sub-mul ((offset + count) / page_bytes) (first_whole page_bytes offset) page_bytes)
+
+module _ (A : Type 0) (laws : Laws) (before : Moment A) where
+  abbrev start : World
+  start = before.world
+
+  abbrev size : ℕ
+  size = start.core.page_map.geometry.page_bytes
+
+  -- a request that writes, from its first page on
+  ends_at : (t : Task) (f : Fits start t.range) (seat : ℕ) (bytes : List ℕ) (long : length (bytes_for t.fill t.range bytes) ≡ t.range.to - t.range.from)
+      → IsReached start → IsCalm start → before.stage ≡ from_page t (first_page t.range) → (turns : List Turn) (after : Moment A)
+      → Asked t seat bytes before turns after → (end : Option BlockFault) → after.stage ≡ Ended end → At A laws t seat bytes start f long after.world (Ended end)
+  ends_at t f seat bytes long reached calm begun turns after asked end ended =
+      subst (At A laws t seat bytes start f long after.world) ended
+      (writes_on A laws t seat bytes start f long (Cause laws start t.range f) KnowsLive (cause_founds laws start t.range f) before turns after
+      (subst (At A laws t seat bytes start f long start) (sym begun)
+      (from_on A laws t seat bytes start f long (Cause laws start t.range f) KnowsLive (cause_founds laws start t.range f) start (first_page t.range) (omega arith)
+      (first_past t.range start f (bytes_for t.fill t.range bytes) long) (begins t.range start f (bytes_for t.fill t.range bytes) long laws reached calm))) asked)
+
+  write_fits : (offset count : ℕ) (fua : Bool) → HasBegun (Write offset count fua) before → Fits start (task_of size (Write offset count fua)).range
+  write_fits offset count fua h = record {
+    same = refl;
+    inside = record { some_bytes = h.some_bytes; ordered = omega arith; inside = h.inside };
+    sized = h.sized;
+    many = (reached_holds start h.reached).plain;
+  }
+
+  write_long : (offset count : ℕ) (bytes : List ℕ) → length bytes ≡ count → length bytes ≡ offset + count - offset
+  write_long offset count bytes many = omega (arith, many)
+
+  pub write_serves : (offset count : ℕ) (fua : Bool) → HasBegun (Write offset count fua) before → (seat : ℕ) (bytes : List ℕ) → length bytes ≡ count
+      → (turns : List Turn) (after : Moment A) → Asked (task_of size (Write offset count fua)) seat bytes before turns after
+      → (end : Option BlockFault) → after.stage ≡ Ended end
+      → Serves (store_of start) (call_of (Write offset count fua) bytes) (answer_of (Write offset count fua) end after.answer) (store_of after.world)
+  write_serves offset count fua h seat bytes many turns after asked end ended =
+      by_end end (ends_at (task_of size (Write offset count fua)) (write_fits offset count fua h) seat bytes (write_long offset count bytes many)
+      h.reached h.calm h.stage turns after asked end ended)
+    where
+      by_end : (end : Option BlockFault)
+          → At A laws (task_of size (Write offset count fua)) seat bytes start (write_fits offset count fua h) (write_long offset count bytes many) after.world (Ended end)
+          → Serves (store_of start) (call_of (Write offset count fua) bytes) (answer_of (Write offset count fua) end after.answer) (store_of after.world)
+      by_end None k =
+          done A laws (task_of size (Write offset count fua)) seat bytes start (write_fits offset count fua h) (write_long offset count bytes many) after.world k
+      by_end (Some fault) k =
+          cut_short A laws (task_of size (Write offset count fua)) seat bytes start (write_fits offset count fua h) (write_long offset count bytes many) after.world fault k
+
+  -- zeros over a range of bytes
+  zeroed : (t : Task) (f : Fits start t.range) (seat : ℕ) (bytes : List ℕ) (long : length (bytes_for t.fill t.range bytes) ≡ t.range.to - t.range.from)
+      → bytes_for t.fill t.range bytes ≡ replicate (t.range.to - t.range.from) 0 → (w : World) (end : Option BlockFault)
+      → At A laws t seat bytes start f long w (Ended end)
+      → IsZeroed (store_of start) t.range.from (t.range.to - t.range.from) t.flush (zero_answer end) (store_of w)
+  zeroed t f seat bytes long zeros w None k =
+      subst (IsWritten (store_of start) (store_of w) t.range.from) zeros (done A laws t seat bytes start f long w k)
+  zeroed t f seat bytes long zeros w (Some fault) k =
+      subst (λ all. IsCutShort (store_of start) t.range.from all t.flush fault (store_of w)) zeros (cut_short A laws t seat bytes start f long w fault k)
+
+  zero_fits : (offset count : ℕ) (fua hole : Bool) → HasBegun (Zero offset count fua hole) before → Fits start (task_of size (Zero offset count fua hole)).range
+  zero_fits offset count fua hole h = record {
+    same = refl;
+    inside = record { some_bytes = h.some_bytes; ordered = omega arith; inside = h.inside };
+    sized = h.sized;
+    many = (reached_holds start h.reached).plain;
+  }
+
+  zero_long : (r : Range) (hole : Bool) (bytes : List ℕ) → length (bytes_for (Some (zeros_as hole)) r bytes) ≡ r.to - r.from
+  zero_long r hole bytes = ap length (zeros_for hole r bytes) ∙ length-replicate (r.to - r.from) 0
+
+  pub zero_serves : (offset count : ℕ) (fua hole : Bool) → HasBegun (Zero offset count fua hole) before → (seat : ℕ) (bytes : List ℕ)
+      → (turns : List Turn) (after : Moment A) → Asked (task_of size (Zero offset count fua hole)) seat bytes before turns after
+      → (end : Option BlockFault) → after.stage ≡ Ended end
+      → IsZeroed (store_of start) offset count fua (zero_answer end) (store_of after.world)
+  zero_serves offset count fua hole h seat bytes turns after asked end ended =
+      let t = task_of size (Zero offset count fua hole) in
+      let long = zero_long t.range hole bytes in
+      subst (λ n. IsZeroed (store_of start) offset n fua (zero_answer end) (store_of after.world)) (let same : offset + count - offset ≡ count = omega arith in same)
+      (zeroed t (zero_fits offset count fua hole h) seat bytes long (zeros_for hole t.range bytes) after.world end
+      (ends_at t (zero_fits offset count fua hole h) seat bytes long h.reached h.calm h.stage turns after asked end ended))
+
+  trim_fits : (offset count : ℕ) (fua : Bool) → HasBegun (Trim offset count fua) before → Fits start (task_of size (Trim offset count fua)).range
+  trim_fits offset count fua h = record {
+    same = refl;
+    inside = record {
+      some_bytes = h.some_bytes;
+      ordered = elim (cases_Bool (nat_le (whole_offset size offset) ((offset + count) / size * size))) [
+        | inl is ↦ let from = whole_from size offset count is in let low = leb-true _ _ is in omega (arith, from, low)
+        | inr is ↦ let from = whole_empty size offset count is in omega (arith, from)
+      ];
+      inside = let down : (offset + count) / size * size ≤ offset + count = div-mul-le_self (offset + count) size in let inside = h.inside in omega (arith, down, inside);
+    };
+    sized = h.sized;
+    many = (reached_holds start h.reached).plain;
+  }
+
+  -- of no bytes the zeros are nowhere
+  no_zeros : (t : Task) (f : Fits start t.range) (seat : ℕ) (bytes : List ℕ) (long : length (bytes_for t.fill t.range bytes) ≡ t.range.to - t.range.from)
+      → t.range.from ≡ t.range.to → (offset : ℕ) (w : World) (end : Option BlockFault) → At A laws t seat bytes start f long w (Ended end)
+      → IsZeroed (store_of start) offset 0 t.flush (zero_answer end) (store_of w)
+  no_zeros t f seat bytes long empty offset w None k =
+      unwritten_none (store_of start) (store_of w) offset (wrote_none t.range start f (bytes_for t.fill t.range bytes) long (past_page t.range) w k empty)
+  no_zeros t f seat bytes long empty offset w (Some fault) k = (
+    no_bytes_cause (store_of w) t.range.from offset fault
+        (subst (λ n. HasCause (store_of w) t.range.from n fault) (let none : t.range.to - t.range.from ≡ 0 = omega (arith, empty) in none) k.0),
+    (0, inl refl, unwritten_none (store_of start) (store_of w) offset (wrote_none t.range start f (bytes_for t.fill t.range bytes) long k.1.0 w k.1.1 empty)),
+  )
+
+  pub trim_serves : (offset count : ℕ) (fua : Bool) → HasBegun (Trim offset count fua) before → (seat : ℕ) (bytes : List ℕ)
+      → (turns : List Turn) (after : Moment A) → Asked (task_of size (Trim offset count fua)) seat bytes before turns after
+      → (end : Option BlockFault) → after.stage ≡ Ended end
+      → IsZeroed (store_of start) (whole_offset size offset) (whole_length size offset count) fua (zero_answer end) (store_of after.world)
+  trim_serves offset count fua h seat bytes turns after asked end ended =
+      let t = task_of size (Trim offset count fua) in
+      let f = trim_fits offset count fua h in
+      let long : length (bytes_for t.fill t.range bytes) ≡ t.range.to - t.range.from = length-replicate (t.range.to - t.range.from) 0 in
+      let k = ends_at t f seat bytes long h.reached h.calm h.stage turns after asked end ended in
+      elim (cases_Bool (nat_le (whole_offset size offset) ((offset + count) / size * size))) [
+        | inl is ↦
+            let from = whole_from size offset count is in
+            subst (λ n. IsZeroed (store_of start) (whole_offset size offset) n fua (zero_answer end) (store_of after.world)) (whole_count size offset count)
+            (subst (λ o. IsZeroed (store_of start) o ((offset + count) / size * size - o) fua (zero_answer end) (store_of after.world)) from
+            (zeroed t f seat bytes long refl after.world end k))
+        | inr is ↦
+            let high = leb-false _ _ is in
+            subst (λ n. IsZeroed (store_of start) (whole_offset size offset) n fua (zero_answer end) (store_of after.world))
+            (let same : (offset + count) / size * size - whole_offset size offset ≡ 0 = omega (arith, high) in sym same ∙ whole_count size offset count)
+            (no_zeros t f seat bytes long (whole_empty size offset count is) (whole_offset size offset) after.world end k)
+      ]
+
+  flush_fits : HasBegun Flush before → Fits start (task_of size Flush).range
+  flush_fits h = record {
+    same = refl;
+    inside = record { some_bytes = h.some_bytes; ordered = omega arith; inside = omega arith };
+    sized = h.sized;
+    many = (reached_holds start h.reached).plain;
+  }
+
+  flush_long : (bytes : List ℕ) → length (bytes_for None (task_of size Flush).range bytes) ≡ 0
+  flush_long bytes = refl
+
+  pub flush_serves : HasBegun Flush before → (seat : ℕ) (bytes : List ℕ) (turns : List Turn) (after : Moment A)
+      → Asked (task_of size Flush) seat bytes before turns after → (end : Option BlockFault) → after.stage ≡ Ended end
+      → Serves (store_of start) (call_of Flush bytes) (answer_of Flush end after.answer) (store_of after.world)
+  flush_serves h seat bytes turns after asked end ended =
+      by_end end (subst (At A laws (task_of size Flush) seat bytes start (flush_fits h) (flush_long bytes) after.world) ended
+      (writes_on A laws (task_of size Flush) seat bytes start (flush_fits h) (flush_long bytes) (Cause laws start (task_of size Flush).range (flush_fits h)) KnowsLive
+      (cause_founds laws start (task_of size Flush).range (flush_fits h)) before turns after
+      (subst (At A laws (task_of size Flush) seat bytes start (flush_fits h) (flush_long bytes) start) (sym h.stage)
+      (begins (task_of size Flush).range start (flush_fits h) [] (flush_long bytes) laws h.reached h.calm, refl)) asked))
+    where
+      by_end : (end : Option BlockFault) → At A laws (task_of size Flush) seat bytes start (flush_fits h) (flush_long bytes) after.world (Ended end)
+          → Serves (store_of start) (call_of Flush bytes) (answer_of Flush end after.answer) (store_of after.world)
+      by_end None k = wrote_none (task_of size Flush).range start (flush_fits h) [] (flush_long bytes) (past_page (task_of size Flush).range) after.world k refl
+      by_end (Some fault) k = (k.0, wrote_none (task_of size Flush).range start (flush_fits h) [] (flush_long bytes) k.1.0 after.world k.1.1 refl)
