@@ -29,7 +29,7 @@ use Rattle.fa_ops.specs.declared.stage.Stage.{Stage}
 use Rattle.fa_ops.specs.declared.stage.Stage.TheVariants.{BeginningFlush, Ended}
 use Rattle.fa_types.specs.Plain.{HasPages, export}
 use Rattle.fa_types.specs.Store.{Answer, Done, HasCause, InRange, IsCovered, IsCutShort, IsMet, IsUnwritten, IsWritten, IsZeroed, Refused, Serves}
-use Rattle.fa_types.specs.Store.{StopsAfter, Store, first_whole, whole_length, whole_offset, with_bytes}
+use Rattle.fa_types.specs.Store.{StopsAfter, Store, Trimming, Zeroing, first_whole, whole_length, whole_offset, with_bytes}
 use Rattle.fa_types.specs.declared.blocks.BlockFault.{BlockFault}
 use Rattle.fa_types.specs.declared.blocks.BlockFault.TheVariants.{Lost, NoMemory, NoRoom, Spent}
 use Rattle.std.proofs.Common.{Bool, List, None, Option, Some, [], ap, arith, cond, false, inl, inr, length, refl, replicate, subst, suc, sym, take, true, ℕ}
@@ -295,3 +295,29 @@ module _ (A : Type 0) (laws : Laws) (before : Moment A) where
           → Serves (store_of start) (call_of Flush bytes) (answer_of Flush end after.answer) (store_of after.world)
       by_end None k = wrote_none (task_of size Flush).range start (flush_fits h) [] (flush_long bytes) (past_page (task_of size Flush).range) after.world k refl
       by_end (Some fault) k = (k.0, wrote_none (task_of size Flush).range start (flush_fits h) [] (flush_long bytes) k.1.0 after.world k.1.1 refl)
+
+  zero_answers : (request : Request) (end : Option BlockFault) (given : List ℕ) → answer_of request None given ≡ Done → answer_of request end given ≡ zero_answer end
+  zero_answers request None given none = none
+  zero_answers request (Some fault) given none = refl
+
+  read_serves : (offset count : ℕ) → HasBegun (Read offset count) before → (seat : ℕ) (bytes : List ℕ) (turns : List Turn) (after : Moment A)
+      → Asked (task_of size (Read offset count)) seat bytes before turns after → (end : Option BlockFault) → after.stage ≡ Ended end
+      → Serves (store_of start) (call_of (Read offset count) bytes) (answer_of (Read offset count) end after.answer) (store_of after.world)
+  read_serves offset count h seat bytes turns after asked None ended = read_gives A laws offset count before h seat bytes turns after asked ended
+  read_serves offset count h seat bytes turns after asked (Some fault) ended =
+      read_refused A laws offset count before h seat bytes turns after asked fault ended
+
+  -- each request serves
+  pub request_serves : (request : Request) → HasBegun request before → (seat : ℕ) (bytes : List ℕ) → HasBytes request bytes → (turns : List Turn)
+      (after : Moment A) → Asked (task_of size request) seat bytes before turns after → (end : Option BlockFault) → after.stage ≡ Ended end
+      → Serves (store_of start) (call_of request bytes) (answer_of request end after.answer) (store_of after.world)
+  request_serves (Read offset count) h seat bytes many turns after asked end ended = read_serves offset count h seat bytes turns after asked end ended
+  request_serves (Write offset count fua) h seat bytes many turns after asked end ended =
+      write_serves offset count fua h seat bytes many turns after asked end ended
+  request_serves (Zero offset count fua hole) h seat bytes many turns after asked end ended =
+      subst (λ answer. Serves (store_of start) (Zeroing offset count fua hole) answer (store_of after.world))
+      (sym (zero_answers (Zero offset count fua hole) end after.answer refl)) (zero_serves offset count fua hole h seat bytes turns after asked end ended)
+  request_serves (Trim offset count fua) h seat bytes many turns after asked end ended =
+      subst (λ answer. Serves (store_of start) (Trimming offset count fua) answer (store_of after.world))
+      (sym (zero_answers (Trim offset count fua) end after.answer refl)) (trim_serves offset count fua h seat bytes turns after asked end ended)
+  request_serves Flush h seat bytes many turns after asked end ended = flush_serves h seat bytes turns after asked end ended

@@ -4,3 +4,4 @@
 
 pub mod lost;
 pub mod reads;
+pub mod requests;
