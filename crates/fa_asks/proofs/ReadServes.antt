@@ -2,7 +2,7 @@
 use Rattle.fa_asks.proofs.Going.{Goes, Laws, goes_first}
 use Rattle.fa_asks.proofs.Gone.{gone_lost}
 use Rattle.fa_asks.proofs.RangePages.{IsOf, met_page, of_back, upto, upto_first}
-use Rattle.fa_asks.proofs.ReadStages.{Fits, IsReading, ReadsAt, reads_on}
+use Rattle.fa_asks.proofs.ReadStages.{Fits, IsReading, MayRead, ReadsAt, reads_on}
 use Rattle.fa_asks.specs.Asked.{Asked, Moment, Turn}
 use Rattle.fa_asks.specs.Begun.{HasBegun}
 use Rattle.fa_asks.specs.Shown.{store_of}
@@ -95,10 +95,13 @@ module _ (A : Type 0) (laws : Laws) (offset count : ℕ) (before : Moment A) (h 
           unwritten,
         )
 
+    pub read_may : (fault : BlockFault) → after.stage ≡ Ended (Some fault) → MayRead fault
+    read_may fault ended = (subst (λ (s : Stage A). ReadsAt task.range first after.world s after.answer) ended read_on_end.at).1
+
     pub read_refused : (fault : BlockFault) → after.stage ≡ Ended (Some fault)
         → Serves (store_of first) (Reading offset count) (Refused fault) (store_of after.world)
     read_refused fault ended = (
       subst (λ n. HasCause (store_of after.world) offset n fault) count_is
-          (subst (λ (s : Stage A). ReadsAt task.range first after.world s after.answer) ended read_on_end.at),
+          (subst (λ (s : Stage A). ReadsAt task.range first after.world s after.answer) ended read_on_end.at).0,
       unwritten,
     )

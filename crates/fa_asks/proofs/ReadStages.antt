@@ -36,7 +36,7 @@ use Rattle.fa_types.specs.MemoryMeets.{length-bytes_at}
 use Rattle.fa_types.specs.Plain.{HasPages, export}
 use Rattle.fa_types.specs.Store.{HasCause, IsMet, bytes_at}
 use Rattle.fa_types.specs.declared.blocks.BlockFault.{BlockFault}
-use Rattle.fa_types.specs.declared.blocks.BlockFault.TheVariants.{Lost, NoMemory, Spent}
+use Rattle.fa_types.specs.declared.blocks.BlockFault.TheVariants.{Lost, NoMemory, NoRoom, Spent}
 use Rattle.fa_types.specs.declared.geometry.Geometry.{Geometry}
 use Rattle.fa_types.specs.declared.numbers.Page.{Page}
 use Rattle.std.proofs.Common.{Bool, List, None, Option, Some, [], ap, arith, cond, eq-eqb, false, inl, inr, length, map, refl, subst, sym, true, ℕ}
@@ -52,6 +52,11 @@ pub record Fits (first : World) (r : Range) : Type 0 where
   pub inside : IsInside first.core.page_map.geometry.pages r
   pub sized : HasPages r.page_bytes first.plain
   pub many : length first.plain ≡ first.core.page_map.geometry.pages
+
+-- a read wants no room
+abbrev pub MayRead : BlockFault → Type 0
+MayRead NoRoom = ⊥
+MayRead fault = Unit {0}
 
 module _ (r : Range) (first : World) where
   -- none of these pages was lost at the beginning
@@ -77,7 +82,7 @@ module _ (r : Range) (first : World) where
     pub there : AreThere page next
 
   abbrev pub Cause : World → BlockFault → Type 0
-  Cause w fault = HasCause (store_of w) r.from (r.to - r.from) fault
+  Cause w fault = HasCause (store_of w) r.from (r.to - r.from) fault × MayRead fault
 
   module _ {A : Type 0} where
     abbrev pub ReadsAt : World → Stage A → List ℕ → Type 0
@@ -124,14 +129,17 @@ module _ (A : Type 0) (laws : Laws) (t : Task) (seat : ℕ) (bytes : List ℕ) (
 
   -- a page of the range that is lost now
   lost_cause : (w : World) → Goes first w → (p : ℕ) → IsOf t.range p → is_lost w.core.page_map p ≡ true → Cause t.range first w Lost
-  lost_cause w g p of_range lost = inr (
-    p,
-    lost,
-    subst (λ size. IsMet size t.range.from (t.range.to - t.range.from) p) (size_is w g) (page_met first.core.page_map.geometry.pages t.range f.inside p of_range),
+  lost_cause w g p of_range lost = (
+    inr (
+        p,
+        lost,
+        subst (λ size. IsMet size t.range.from (t.range.to - t.range.from) p) (size_is w g) (page_met first.core.page_map.geometry.pages t.range f.inside p of_range),
+      ),
+    tt,
   )
 
   late_cause : (w after : World) → after.core ≡ w.core → is_late w.core.calendar ≡ true → Cause t.range first after Spent
-  late_cause w after same late = or_left _ _ (or_right _ _ (ap (λ (c : Core). is_late c.calendar) same ∙ late))
+  late_cause w after same late = (or_left _ _ (or_right _ _ (ap (λ (c : Core). is_late c.calendar) same ∙ late)), tt)
 
   -- a page that is not lost now was not at the beginning
   was_there : (w : World) → Goes first w → (p : ℕ) → is_lost w.core.page_map p ≡ false → is_lost first.core.page_map p ≡ false
@@ -280,7 +288,7 @@ module _ (A : Type 0) (laws : Laws) (t : Task) (seat : ℕ) (bytes : List ℕ) (
   own w after answer (Asking (Answer n) pages) (Admit asked (Err RoundsSpent)) next g ga k e m founded =
       subst (λ s. At after s answer) (sym m.1) (late_cause w after e.step.does.1 e.step.does.0.1)
   own w after answer (Asking (Answer n) pages) (Admit asked (Err AdmitNoMemory)) next g ga k e m founded =
-      subst (λ s. At after s answer) (sym m.1) tt
+      subst (λ s. At after s answer) (sym m.1) (tt, tt)
   own w after answer (Asking (Answer n) pages) act next g ga k e m founded = absurd m
   own w after answer (Reading (Answer n) batch) (Replan b (Ok planned)) next g ga k e m founded =
       subst (λ s. At after s answer) (sym m.1) (k.0, k.1, read_on batch.0 k.0 n w after g k.2 (Event (Replan b (Ok planned))) e tt tt)
@@ -309,7 +317,7 @@ module _ (A : Type 0) (laws : Laws) (t : Task) (seat : ℕ) (bytes : List ℕ) (
       subst (λ s. At after s answer) (sym m.1) (
         range_with_len k.0 (n - k.0),
         (read_on batch.0 k.0 n w after g k.2 (Event (Replan b (Err AdmitNoMemory))) e tt tt).opened,
-        tt,
+        (tt, tt),
       )
   own w after answer (Reading (Answer n) batch) (EndBatch b answers) (Sorting p given) g ga k e m founded =
       subst (λ q. At after (Sorting q given) answer) (sym m.1.0) (
@@ -322,7 +330,7 @@ module _ (A : Type 0) (laws : Laws) (t : Task) (seat : ℕ) (bytes : List ℕ) (
   own w after answer (Reading (Answer n) batch) (EndBatch b answers) next g ga k e m founded = absurd m.1
   own w after answer (Reading (Answer n) batch) act next g ga k e m founded = absurd m
   own w after answer (Leaving (Answer n) batch fault) (EndBatch b answers) next g ga k e m founded =
-      subst (λ s. At after s answer) (sym m.1) (cause_kept w after (ended_cause w after b answers e) t.range.from (t.range.to - t.range.from) fault k.2)
+      subst (λ s. At after s answer) (sym m.1) (cause_kept w after (ended_cause w after b answers e) t.range.from (t.range.to - t.range.from) fault k.2.0, k.2.1)
   own w after answer (Leaving (Answer n) batch fault) act next g ga k e m founded = absurd m
   own w after answer (Listing (Answer n)) act next g ga k e m founded = absurd m
   own w after answer (Sorting (Answer n) answers) act next g ga k e m founded = absurd m
@@ -339,13 +347,13 @@ module _ (A : Type 0) (laws : Laws) (t : Task) (seat : ℕ) (bytes : List ℕ) (
   other w after answer (Leaving (Answer n) batch fault) (Event Fold) g k e is = (
     k.0,
     run_open batch.0 k.0 w (Event Fold ∷ []) after k.1 (after, e, refl) (tt, tt),
-    cause_kept w after (folded_cause w after e) t.range.from (t.range.to - t.range.from) fault k.2,
+    (cause_kept w after (folded_cause w after e) t.range.from (t.range.to - t.range.from) fault k.2.0, k.2.1),
   )
   other w after answer (Leaving (Answer n) batch fault) happening g k e is = absurd (false≢true is.in_time)
   other w after answer (Sorting (Answer n) answers) happening g k e is = k
   other w after answer (Ended None) happening g k e is = k
   other w after answer (Ended (Some fault)) (Event Fold) g k e is =
-      cause_kept w after (folded_cause w after e) t.range.from (t.range.to - t.range.from) fault k
+      (cause_kept w after (folded_cause w after e) t.range.from (t.range.to - t.range.from) fault k.0, k.1)
   other w after answer (Ended (Some fault)) happening g k e is = absurd (false≢true is.in_time)
   other w after answer stage happening g k e is = absurd k
 
@@ -359,13 +367,13 @@ module _ (A : Type 0) (laws : Laws) (t : Task) (seat : ℕ) (bytes : List ℕ) (
         ap (map (λ (p : Page). p.0)) made.0.1 ∙ pages_numbered page (until t.range page),
       ))
   ready w answer after (Listing (Answer page)) next g k made =
-      subst (λ s. At w s after) (sym made.0) tt
+      subst (λ s. At w s after) (sym made.0) (tt, tt)
   ready w answer after (Sorting (Answer n) answers) next g k made =
       elim made [
         | inl ok ↦ subst (λ s. At w s after) (sym ok.1)
             (gathered w k.0 n answer after k.1 k.2 (sorted k.0 n answer after (map {B = ℕ × List ℕ} (λ e. (e.0.0, e.1.items)) answers.items) k.1 k.3 ok.0))
         | inr failed ↦ elim failed [
-          | inl none ↦ subst (λ s. At w s after) (sym none) tt
+          | inl none ↦ subst (λ s. At w s after) (sym none) (tt, tt)
           | inr short ↦ absurd (true≢false (sym (all_there k.0 n answer k.1)
               ∙ ap (list_all (λ (e : ℕ × List ℕ). has_part t.range e.0 (length e.1))) (sym k.3) ∙ short.0))
         ]

@@ -1,14 +1,15 @@
 -- Each request serves, from its beginning to its end.
 use Rattle.fa_asks.proofs.Causes.{Cause, KnowsLive, cause_founds}
-use Rattle.fa_asks.proofs.Going.{Laws}
+use Rattle.fa_asks.proofs.Going.{Laws, geometry_kept}
+use Rattle.fa_asks.proofs.PlainBytes.{export_long}
 use Rattle.fa_asks.proofs.PutBytes.{with_none}
 use Rattle.fa_asks.proofs.PutPage.{bytes_for}
 use Rattle.fa_asks.proofs.RangePages.{IsOf, of_back, page_of, upto, upto_first, upto_past}
-use Rattle.fa_asks.proofs.ReadServes.{read_gives, read_refused}
+use Rattle.fa_asks.proofs.ReadServes.{read_gives, read_may, read_refused}
 use Rattle.fa_asks.proofs.ReadStages.{Fits}
 use Rattle.fa_asks.proofs.WriteServes.{begins, first_past, wrote_all, wrote_is, wrote_none}
 use Rattle.fa_asks.proofs.WriteStages.{EndsAt, IsAt, WritesAt, Wrote, from_on, writes_on}
-use Rattle.fa_asks.specs.Asked.{Asked, Moment, Turn}
+use Rattle.fa_asks.specs.Asked.{Asked, Makes, Meanwhile, Moment, Readies, Strayed, Turn, TurnsTo}
 use Rattle.fa_asks.specs.Begun.{HasBegun, IsCalm}
 use Rattle.fa_asks.specs.Calls.{HasBytes, answer_of, call_of}
 use Rattle.fa_asks.specs.Shown.{store_of}
@@ -28,14 +29,16 @@ use Rattle.fa_ops.specs.declared.request.Task.{Task}
 use Rattle.fa_ops.specs.declared.stage.Stage.{Stage}
 use Rattle.fa_ops.specs.declared.stage.Stage.TheVariants.{BeginningFlush, Ended}
 use Rattle.fa_types.specs.Plain.{HasPages, export}
-use Rattle.fa_types.specs.Store.{Answer, Done, HasCause, InRange, IsCovered, IsCutShort, IsMet, IsUnwritten, IsWritten, IsZeroed, Refused, Serves}
+use Rattle.fa_types.specs.MemoryMeets.{length-bytes_at}
+use Rattle.fa_types.specs.Store.{Answer, Done, Flushing, IsAnswer, Meets, Reading, HasCause, InRange, IsCovered, IsCutShort, IsMet, IsUnwritten, IsWritten, IsZeroed, Refused, Serves}
 use Rattle.fa_types.specs.Store.{StopsAfter, Store, Trimming, Zeroing, first_whole, whole_length, whole_offset, with_bytes}
 use Rattle.fa_types.specs.declared.blocks.BlockFault.{BlockFault}
+use Rattle.fa_types.specs.declared.geometry.Geometry.{Geometry}
 use Rattle.fa_types.specs.declared.blocks.BlockFault.TheVariants.{Lost, NoMemory, NoRoom, Spent}
 use Rattle.std.proofs.Common.{Bool, List, None, Option, Some, [], ap, arith, cond, false, inl, inr, length, refl, replicate, subst, suc, sym, take, true, ℕ}
 use Rattle.std.proofs.Common.{◌*◌, ◌+◌, ◌-◌, ◌/◌, ◌<◌, ◌∙◌, ◌∷◌, ◌≡◌, ◌≤◌, ◌⊎◌}
 use Rattle.std.proofs.Math.Nat.{add-mul, div-mul-le_self, lt-div-mul-add, mul-le-mul_right, mul-mod_left, suc-mul, zero-mul}
-use Rattle.std.proofs.lemmas.Bool.{cases_Bool, cases_eq, cases_lt, leb-false, leb-true}
+use Rattle.std.proofs.lemmas.Bool.{cases_Bool, cases_eq, cases_lt, false≢true, leb-false, leb-true}
 use Rattle.std.proofs.lemmas.List.{length-replicate}
 use Rattle.std.specs.Prelude.{if◌then◌else◌, nat_le, slice_index, ◌%◌}
 
@@ -281,15 +284,20 @@ module _ (A : Type 0) (laws : Laws) (before : Moment A) where
   flush_long : (bytes : List ℕ) → length (bytes_for None (task_of size Flush).range bytes) ≡ 0
   flush_long bytes = refl
 
-  pub flush_serves : HasBegun Flush before → (seat : ℕ) (bytes : List ℕ) (turns : List Turn) (after : Moment A)
+  flush_end : (h : HasBegun Flush before) (seat : ℕ) (bytes : List ℕ) (turns : List Turn) (after : Moment A)
       → Asked (task_of size Flush) seat bytes before turns after → (end : Option BlockFault) → after.stage ≡ Ended end
-      → Serves (store_of start) (call_of Flush bytes) (answer_of Flush end after.answer) (store_of after.world)
-  flush_serves h seat bytes turns after asked end ended =
-      by_end end (subst (At A laws (task_of size Flush) seat bytes start (flush_fits h) (flush_long bytes) after.world) ended
+      → At A laws (task_of size Flush) seat bytes start (flush_fits h) (flush_long bytes) after.world (Ended end)
+  flush_end h seat bytes turns after asked end ended =
+      subst (At A laws (task_of size Flush) seat bytes start (flush_fits h) (flush_long bytes) after.world) ended
       (writes_on A laws (task_of size Flush) seat bytes start (flush_fits h) (flush_long bytes) (Cause laws start (task_of size Flush).range (flush_fits h)) KnowsLive
       (cause_founds laws start (task_of size Flush).range (flush_fits h)) before turns after
       (subst (At A laws (task_of size Flush) seat bytes start (flush_fits h) (flush_long bytes) start) (sym h.stage)
-      (begins (task_of size Flush).range start (flush_fits h) [] (flush_long bytes) laws h.reached h.calm, refl)) asked))
+      (begins (task_of size Flush).range start (flush_fits h) [] (flush_long bytes) laws h.reached h.calm, refl)) asked)
+
+  pub flush_serves : HasBegun Flush before → (seat : ℕ) (bytes : List ℕ) (turns : List Turn) (after : Moment A)
+      → Asked (task_of size Flush) seat bytes before turns after → (end : Option BlockFault) → after.stage ≡ Ended end
+      → Serves (store_of start) (call_of Flush bytes) (answer_of Flush end after.answer) (store_of after.world)
+  flush_serves h seat bytes turns after asked end ended = by_end end (flush_end h seat bytes turns after asked end ended)
     where
       by_end : (end : Option BlockFault) → At A laws (task_of size Flush) seat bytes start (flush_fits h) (flush_long bytes) after.world (Ended end)
           → Serves (store_of start) (call_of Flush bytes) (answer_of Flush end after.answer) (store_of after.world)
@@ -321,3 +329,81 @@ module _ (A : Type 0) (laws : Laws) (before : Moment A) where
       subst (λ answer. Serves (store_of start) (Trimming offset count fua) answer (store_of after.world))
       (sym (zero_answers (Trim offset count fua) end after.answer refl)) (trim_serves offset count fua h seat bytes turns after asked end ended)
   request_serves Flush h seat bytes many turns after asked end ended = flush_serves h seat bytes turns after asked end ended
+
+  -- a flush wants neither room nor memory
+  flush_answer : (h : HasBegun Flush before) (seat : ℕ) (bytes : List ℕ) (w : World) (fault : BlockFault) (page : ℕ)
+      → EndsAt A laws (task_of size Flush) seat bytes start (flush_fits h) (flush_long bytes) (Cause laws start (task_of size Flush).range (flush_fits h)) KnowsLive
+      (cause_founds laws start (task_of size Flush).range (flush_fits h)) page fault → IsAnswer Flushing (Refused fault)
+  flush_answer h seat bytes w fault page (inl at) = absurd (let from = at.from in let past = at.past in omega (arith, from, past))
+  flush_answer h seat bytes w fault page (inr behind) = of_two fault behind.2
+    where
+      is_lost_fault : BlockFault → Bool
+      is_lost_fault Lost = true
+      is_lost_fault fault = false
+
+      is_spent_fault : BlockFault → Bool
+      is_spent_fault Spent = true
+      is_spent_fault fault = false
+
+      of_two : (fault : BlockFault) → (fault ≡ Lost) ⊎ (fault ≡ Spent) → IsAnswer Flushing (Refused fault)
+      of_two Lost either = tt
+      of_two Spent either = tt
+      of_two NoRoom (inl same) = absurd (false≢true (ap is_lost_fault same))
+      of_two NoRoom (inr same) = absurd (false≢true (ap is_spent_fault same))
+      of_two NoMemory (inl same) = absurd (false≢true (ap is_lost_fault same))
+      of_two NoMemory (inr same) = absurd (false≢true (ap is_spent_fault same))
+
+  read_answer : (offset count : ℕ) → HasBegun (Read offset count) before → (seat : ℕ) (bytes : List ℕ) (turns : List Turn) (after : Moment A)
+      → Asked (task_of size (Read offset count)) seat bytes before turns after → (end : Option BlockFault) → after.stage ≡ Ended end
+      → IsAnswer (Reading offset count) (answer_of (Read offset count) end after.answer)
+  read_answer offset count h seat bytes turns after asked None ended =
+      let inside = h.inside in
+      let exported = export_long size start.plain h.sized in
+      let many = ap (λ n. n * size) (reached_holds start h.reached).plain in
+      ap length (read_gives A laws offset count before h seat bytes turns after asked ended).0
+      ∙ length-bytes_at offset count (export start.plain) (omega (arith, inside, exported, many))
+  read_answer offset count h seat bytes turns after asked (Some Lost) ended = tt
+  read_answer offset count h seat bytes turns after asked (Some NoRoom) ended = read_may A laws offset count before h seat bytes turns after asked NoRoom ended
+  read_answer offset count h seat bytes turns after asked (Some NoMemory) ended = tt
+  read_answer offset count h seat bytes turns after asked (Some Spent) ended = tt
+
+  request_answer : (request : Request) → HasBegun request before → (seat : ℕ) (bytes : List ℕ) (turns : List Turn) (after : Moment A)
+      → Asked (task_of size request) seat bytes before turns after → (end : Option BlockFault) → after.stage ≡ Ended end
+      → IsAnswer (call_of request bytes) (answer_of request end after.answer)
+  request_answer (Read offset count) h seat bytes turns after asked end ended = read_answer offset count h seat bytes turns after asked end ended
+  request_answer (Write offset count fua) h seat bytes turns after asked None ended = tt
+  request_answer (Write offset count fua) h seat bytes turns after asked (Some fault) ended = tt
+  request_answer (Zero offset count fua hole) h seat bytes turns after asked None ended = tt
+  request_answer (Zero offset count fua hole) h seat bytes turns after asked (Some fault) ended = tt
+  request_answer (Trim offset count fua) h seat bytes turns after asked None ended = tt
+  request_answer (Trim offset count fua) h seat bytes turns after asked (Some fault) ended = tt
+  request_answer Flush h seat bytes turns after asked None ended = tt
+  request_answer Flush h seat bytes turns after asked (Some fault) ended =
+      let k = flush_end h seat bytes turns after asked (Some fault) ended in flush_answer h seat bytes after.world fault k.1.0 k.1.2
+
+  -- a request leaves the shape of the array
+  asked_geometry : (t : Task) (seat : ℕ) (bytes : List ℕ) (one : Moment A) (turns : List Turn) (two : Moment A) → Asked t seat bytes one turns two
+      → two.world.core.page_map.geometry ≡ one.world.core.page_map.geometry
+  asked_geometry t seat bytes one [] two asked = ap (λ (m : Moment A). m.world.core.page_map.geometry) asked
+  asked_geometry t seat bytes one (turn ∷ turns) two asked = asked_geometry t seat bytes asked.0 turns two asked.2 ∙ by_turn turn asked.0 asked.1
+    where
+      by_turn : (turn : Turn) (middle : Moment A) → TurnsTo t seat bytes one turn middle
+          → middle.world.core.page_map.geometry ≡ one.world.core.page_map.geometry
+      by_turn (Makes act) middle made = laws.geometry one.world.core middle.world.core act made.0.step
+      by_turn Readies middle made = ap (λ (w : World). w.core.page_map.geometry) made.0
+      by_turn Strayed middle made = ap (λ (w : World). w.core.page_map.geometry) made.0
+      by_turn (Meanwhile happening) middle made = geometry_kept laws.geometry one.world middle.world happening made.0
+
+  -- each request is a call of a store
+  pub request_meets : (request : Request) → HasBegun request before → (seat : ℕ) (bytes : List ℕ) → HasBytes request bytes → (turns : List Turn)
+      (after : Moment A) → Asked (task_of size request) seat bytes before turns after → (end : Option BlockFault) → after.stage ≡ Ended end
+      → Meets (store_of start) (call_of request bytes) (answer_of request end after.answer) (store_of after.world)
+  request_meets request h seat bytes many turns after asked end ended =
+      let same = asked_geometry (task_of size request) seat bytes before turns after asked in
+      record {
+        size = ap (λ (g : Geometry). g.pages * g.page_bytes) same;
+        page_bytes = ap (λ (g : Geometry). g.page_bytes) same;
+        alone = refl;
+        gives = request_answer request h seat bytes turns after asked end ended;
+        served = λ alone. request_serves request h seat bytes many turns after asked end ended;
+      }
