@@ -12,5 +12,6 @@ pub mod RangePages
 pub mod ReadServes
 pub mod ReadStages
 pub mod Serving
+pub mod Sized
 pub mod WriteServes
 pub mod WriteStages

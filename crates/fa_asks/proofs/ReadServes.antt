@@ -3,6 +3,7 @@ use Rattle.fa_asks.proofs.Going.{Goes, Laws, goes_first}
 use Rattle.fa_asks.proofs.Gone.{gone_lost}
 use Rattle.fa_asks.proofs.RangePages.{IsOf, met_page, of_back, upto, upto_first}
 use Rattle.fa_asks.proofs.ReadStages.{Fits, IsReading, MayRead, ReadsAt, reads_on}
+use Rattle.fa_asks.proofs.Sized.{page_some, reached_sized}
 use Rattle.fa_asks.specs.Asked.{Asked, Moment, Turn}
 use Rattle.fa_asks.specs.Begun.{HasBegun}
 use Rattle.fa_asks.specs.Shown.{store_of}
@@ -36,8 +37,8 @@ module _ (A : Type 0) (laws : Laws) (offset count : ℕ) (before : Moment A) (h 
   pub read_fits : Fits first task.range
   read_fits = record {
     same = refl;
-    inside = record { some_bytes = h.some_bytes; ordered = omega arith; inside = h.inside };
-    sized = h.sized;
+    inside = record { some_bytes = page_some first.core.page_map.geometry; ordered = omega arith; inside = h.inside };
+    sized = reached_sized laws.geometry first h.reached;
     many = (reached_holds first h.reached).plain;
   }
 
@@ -61,7 +62,7 @@ module _ (A : Type 0) (laws : Laws) (offset count : ℕ) (before : Moment A) (h 
       by_count false some =
           let size : ℕ = task.range.page_bytes in
           let apart = eqb-false task.range.from task.range.to some in
-          let more : 0 < size = let n = h.some_bytes in omega (arith, n) in
+          let more : 0 < size = let n = page_some first.core.page_map.geometry in omega (arith, n) in
           let down : task.range.from / size * size ≤ task.range.from = div-mul-le_self task.range.from size in
           let up : task.range.from < task.range.from / size * size + size = lt-div-mul-add more in
           let order : task.range.from ≤ task.range.to = omega arith in

@@ -7,6 +7,7 @@ use Rattle.fa_asks.proofs.PutPage.{bytes_for}
 use Rattle.fa_asks.proofs.RangePages.{IsOf, of_back, page_of, upto, upto_first, upto_past}
 use Rattle.fa_asks.proofs.ReadServes.{read_gives, read_may, read_refused}
 use Rattle.fa_asks.proofs.ReadStages.{Fits}
+use Rattle.fa_asks.proofs.Sized.{page_some, reached_sized}
 use Rattle.fa_asks.proofs.WriteServes.{begins, first_past, wrote_all, wrote_is, wrote_none}
 use Rattle.fa_asks.proofs.WriteStages.{EndsAt, IsAt, WritesAt, Wrote, from_on, writes_on}
 use Rattle.fa_asks.specs.Asked.{Asked, Makes, Meanwhile, Moment, Readies, Strayed, Turn, TurnsTo}
@@ -168,8 +169,8 @@ module _ (A : Type 0) (laws : Laws) (before : Moment A) where
   write_fits : (offset count : ℕ) (fua : Bool) → HasBegun (Write offset count fua) before → Fits start (task_of size (Write offset count fua)).range
   write_fits offset count fua h = record {
     same = refl;
-    inside = record { some_bytes = h.some_bytes; ordered = omega arith; inside = h.inside };
-    sized = h.sized;
+    inside = record { some_bytes = page_some start.core.page_map.geometry; ordered = omega arith; inside = h.inside };
+    sized = reached_sized laws.geometry start h.reached;
     many = (reached_holds start h.reached).plain;
   }
 
@@ -205,8 +206,8 @@ module _ (A : Type 0) (laws : Laws) (before : Moment A) where
   zero_fits : (offset count : ℕ) (fua hole : Bool) → HasBegun (Zero offset count fua hole) before → Fits start (task_of size (Zero offset count fua hole)).range
   zero_fits offset count fua hole h = record {
     same = refl;
-    inside = record { some_bytes = h.some_bytes; ordered = omega arith; inside = h.inside };
-    sized = h.sized;
+    inside = record { some_bytes = page_some start.core.page_map.geometry; ordered = omega arith; inside = h.inside };
+    sized = reached_sized laws.geometry start h.reached;
     many = (reached_holds start h.reached).plain;
   }
 
@@ -228,14 +229,14 @@ module _ (A : Type 0) (laws : Laws) (before : Moment A) where
   trim_fits offset count fua h = record {
     same = refl;
     inside = record {
-      some_bytes = h.some_bytes;
+      some_bytes = page_some start.core.page_map.geometry;
       ordered = elim (cases_Bool (nat_le (whole_offset size offset) ((offset + count) / size * size))) [
         | inl is ↦ let from = whole_from size offset count is in let low = leb-true _ _ is in omega (arith, from, low)
         | inr is ↦ let from = whole_empty size offset count is in omega (arith, from)
       ];
       inside = let down : (offset + count) / size * size ≤ offset + count = div-mul-le_self (offset + count) size in let inside = h.inside in omega (arith, down, inside);
     };
-    sized = h.sized;
+    sized = reached_sized laws.geometry start h.reached;
     many = (reached_holds start h.reached).plain;
   }
 
@@ -276,8 +277,8 @@ module _ (A : Type 0) (laws : Laws) (before : Moment A) where
   flush_fits : HasBegun Flush before → Fits start (task_of size Flush).range
   flush_fits h = record {
     same = refl;
-    inside = record { some_bytes = h.some_bytes; ordered = omega arith; inside = omega arith };
-    sized = h.sized;
+    inside = record { some_bytes = page_some start.core.page_map.geometry; ordered = omega arith; inside = omega arith };
+    sized = reached_sized laws.geometry start h.reached;
     many = (reached_holds start h.reached).plain;
   }
 
@@ -358,7 +359,7 @@ module _ (A : Type 0) (laws : Laws) (before : Moment A) where
       → IsAnswer (Reading offset count) (answer_of (Read offset count) end after.answer)
   read_answer offset count h seat bytes turns after asked None ended =
       let inside = h.inside in
-      let exported = export_long size start.plain h.sized in
+      let exported = export_long size start.plain (reached_sized laws.geometry start h.reached) in
       let many = ap (λ n. n * size) (reached_holds start h.reached).plain in
       ap length (read_gives A laws offset count before h seat bytes turns after asked ended).0
       ∙ length-bytes_at offset count (export start.plain) (omega (arith, inside, exported, many))

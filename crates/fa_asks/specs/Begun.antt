@@ -8,19 +8,15 @@ use Rattle.fa_machine.specs.declared.places.Copying.{Copying}
 use Rattle.fa_ops.specs.Ops.{beginning}
 use Rattle.fa_ops.specs.Tasks.{end_of, task_of}
 use Rattle.fa_ops.specs.declared.request.Request.{Request}
-use Rattle.fa_types.specs.Plain.{HasPages}
 
 -- no copy of a page that is lost is under way
 abbrev pub IsCalm : World → Type 0
 IsCalm w = (copying : Copying) → w.core.copying ≡ Some copying → is_lost w.core.page_map copying.page.0 ≡ true → ⊥
 
--- A request as it begins, over a world that runs lead to. A page has a byte or more, and as many as each page of the plain array. The request
--- lies within the array.
+-- A request as it begins, over a world that runs lead to. The request lies within the array.
 pub record HasBegun {A : Type 0} (request : Request) (m : Moment A) : Type 0 where
   pub reached : IsReached m.world
   pub calm : IsCalm m.world
-  pub some_bytes : 1 ≤ m.world.core.page_map.geometry.page_bytes
-  pub sized : HasPages m.world.core.page_map.geometry.page_bytes m.world.plain
   pub inside : end_of request ≤ m.world.core.page_map.geometry.pages * m.world.core.page_map.geometry.page_bytes
   pub stage : m.stage ≡ beginning (task_of m.world.core.page_map.geometry.page_bytes request)
   pub answer : m.answer ≡ []

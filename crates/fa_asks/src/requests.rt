@@ -4,11 +4,13 @@ ghost use Rattle.fa_asks.specs.Asked.{Asked, Moment, Turn};
 ghost use Rattle.fa_asks.specs.Begun.{HasBegun};
 ghost use Rattle.fa_asks.specs.Calls.{HasBytes, answer_of, call_of};
 ghost use Rattle.fa_asks.specs.Shown.{store_of};
+ghost use Rattle.fa_laws.specs.Reached.{IsReached};
+ghost use Rattle.fa_machine.specs.World.{World};
 ghost use Rattle.fa_ops.specs.Tasks.{task_of};
 ghost use Rattle.fa_ops.specs.declared.request.Request.{Request};
 ghost use Rattle.fa_ops.specs.declared.request.Request.TheVariants.{Write};
 ghost use Rattle.fa_ops.specs.declared.stage.Stage.TheVariants.{Ended};
-ghost use Rattle.fa_types.specs.Store.{Serves, with_bytes};
+ghost use Rattle.fa_types.specs.Store.{IsWhole, Meets, Serves, with_bytes};
 ghost use Rattle.fa_types.specs.declared.blocks.BlockFault.{BlockFault};
 ghost use Rattle.fa_types.specs.declared.blocks.BlockFault.TheVariants.{NoRoom, Spent};
 
@@ -19,11 +21,17 @@ use fa_laws::steps::{
 
 /// A request that nobody else writes meanwhile serves, as a store that is alone does. A read gives the bytes of its range. A write, a zero
 /// or a trim leaves its bytes and nothing else. A flush writes nothing. One that is refused has a cause, and leaves a beginning of its bytes.
+/// What is answered is one of the answers that its call can have.
 pub fn a_request_serves<A>()
-    ensures { (request : Request) (seat : ℕ) (bytes : List ℕ) (before after : Moment A) (turns : List Turn) (end : Option BlockFault)
+    ensures serves { (request : Request) (seat : ℕ) (bytes : List ℕ) (before after : Moment A) (turns : List Turn) (end : Option BlockFault)
         → HasBegun request before → HasBytes request bytes
         → Asked (task_of before.world.core.page_map.geometry.page_bytes request) seat bytes before turns after → after.stage ≡ Ended end
         → Serves (store_of before.world) (call_of request bytes) (answer_of request end after.answer) (store_of after.world) }
+    ensures meets { (request : Request) (seat : ℕ) (bytes : List ℕ) (before after : Moment A) (turns : List Turn) (end : Option BlockFault)
+        → HasBegun request before → HasBytes request bytes
+        → Asked (task_of before.world.core.page_map.geometry.page_bytes request) seat bytes before turns after → after.stage ≡ Ended end
+        → Meets (store_of before.world) (call_of request bytes) (answer_of request end after.answer) (store_of after.world) }
+    ensures whole { (w : World) → IsReached w → IsWhole (store_of w) }
 {
     live_dies_are_kept();
     spares_are_kept();

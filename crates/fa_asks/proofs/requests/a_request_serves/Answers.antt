@@ -1,5 +1,9 @@
 use Rattle.fa_asks.proofs.Going.{Laws}
-use Rattle.fa_asks.proofs.Serving.{request_serves}
+use Rattle.fa_asks.proofs.Serving.{request_meets, request_serves}
+use Rattle.fa_asks.proofs.PlainBytes.{export_long}
+use Rattle.fa_asks.proofs.Sized.{page_some, reached_sized}
+use Rattle.fa_laws.proofs.Answering.{reached_holds}
+use Rattle.std.proofs.Common.{ap, ◌*◌, ◌∙◌}
 use Rattle.fa_asks.proofs.requests.a_request_serves.Goals as goal
 
 pub returns : goal.returns
@@ -11,5 +15,14 @@ returns g c =
       geometry = c.the_geometry_is_kept.ensures;
       falls = c.the_last_number_never_falls.ensures;
     } in
-    λ request seat bytes before after turns end h many asked ended.
-    request_serves g.row.A.Denot laws before request h seat bytes many turns after asked end ended
+    record {
+      serves = λ request seat bytes before after turns end h many asked ended.
+          request_serves g.row.A.Denot laws before request h seat bytes many turns after asked end ended;
+      meets = λ request seat bytes before after turns end h many asked ended.
+          request_meets g.row.A.Denot laws before request h seat bytes many turns after asked end ended;
+      whole = λ w reached. record {
+        some_bytes = page_some w.core.page_map.geometry;
+        sized = λ alone. export_long w.core.page_map.geometry.page_bytes w.plain (reached_sized laws.geometry w reached)
+            ∙ ap (λ n. n * w.core.page_map.geometry.page_bytes) (reached_holds w reached).plain;
+      };
+    }
