@@ -2,7 +2,7 @@
 use Rattle.fa_asks.proofs.CopiesKept.{copies_kept}
 use Rattle.fa_asks.proofs.Going.{Laws, cause_kept}
 use Rattle.fa_asks.proofs.Gone.{done_live}
-use Rattle.fa_asks.proofs.RangePages.{IsInside, IsOf, page_met}
+use Rattle.fa_asks.proofs.RangePages.{page_met}
 use Rattle.fa_asks.proofs.ReadStages.{Fits}
 use Rattle.fa_asks.proofs.WriteStages.{Founds}
 use Rattle.fa_asks.specs.Asked.{IsNoSpare}
@@ -13,11 +13,9 @@ use Rattle.fa_laws.proofs.Within.{reached_inside}
 use Rattle.fa_laws.specs.Reached.{IsReached}
 use Rattle.fa_machine.proofs.Lists.{among-filter-intro, among-range, any_none}
 use Rattle.fa_machine.specs.Among.{Among}
-use Rattle.fa_machine.specs.Copies.{is_lost}
 use Rattle.fa_machine.specs.Flushing.{flush_state, has_synced}
-use Rattle.fa_machine.specs.Maps.{Numbers, below, is_one_of}
+use Rattle.fa_machine.specs.Maps.{Numbers, is_one_of}
 use Rattle.fa_machine.specs.Placement.{copies_asked, has_room, homes, order_of, targets}
-use Rattle.fa_machine.specs.Reading.{is_late}
 use Rattle.fa_machine.specs.Run.{Event, Happening, Happens, HappensEvent, ImageCall}
 use Rattle.fa_machine.specs.State.{Core, MapState, dies_of, is_live}
 use Rattle.fa_machine.specs.Step.{Act, Done, FlushBegin, SpareIn, Step}
@@ -27,24 +25,22 @@ use Rattle.fa_machine.specs.declared.answers.Flush.{Flush}
 use Rattle.fa_machine.specs.declared.answers.FlushState.{FlushState}
 use Rattle.fa_machine.specs.declared.answers.FlushState.TheVariants.{NoDie as FlushNoDie, Synced, Waiting}
 use Rattle.fa_machine.specs.declared.refusals.ReserveRefused.{ReserveRefused}
-use Rattle.fa_machine.specs.declared.refusals.ReserveRefused.TheVariants.{NoDie as ReserveNoDie, NoMemory as ReserveNoMemory, NoRoom as ReserveNoRoom, Spent as NumbersSpent}
+use Rattle.fa_machine.specs.declared.refusals.ReserveRefused.TheVariants.{NoDie as ReserveNoDie, NoRoom as ReserveNoRoom, Spent as NumbersSpent}
 use Rattle.fa_machine.specs.declared.refusals.SpareRefused.TheVariants.{NotSpare}
 use Rattle.fa_ops.specs.declared.range.Range.{Range}
 use Rattle.fa_types.specs.Store.{HasCause, IsMet}
 use Rattle.fa_types.specs.declared.blocks.BlockFault.{BlockFault}
-use Rattle.fa_types.specs.declared.blocks.BlockFault.TheVariants.{Lost, NoMemory, NoRoom, Spent}
 use Rattle.fa_types.specs.declared.geometry.Geometry.{Geometry}
-use Rattle.std.proofs.Common.{Bool, List, None, Option, Some, [], ap, arith, cond, eq-eqb, eqb-true, false, inl, inr, length, map, not, refl, subst, sym}
-use Rattle.std.proofs.Common.{suc, take, true, zero, ℕ, ◌+◌, ◌++◌, ◌-◌, ◌<◌, ◌∙◌, ◌∷◌, ◌≡◌, ◌≤◌, ◌⊎◌}
-use Rattle.std.proofs.lemmas.Bool.{and_cases, and_from, cases_Bool, false≢true, lt-ltb, ltb-true, not_from_false, or_cases, or_left, or_right, true≢false}
+use Rattle.std.proofs.Common.{Bool, List, None, Some, [], ap, arith, cond, eq-eqb, eqb-true, false, inl, inr, length, not, refl, subst, sym}
+use Rattle.std.proofs.Common.{suc, true, zero, ℕ, ◌+◌, ◌++◌, ◌-◌, ◌<◌, ◌∙◌, ◌∷◌, ◌≡◌, ◌≤◌}
+use Rattle.std.proofs.lemmas.Bool.{and_from, cases_Bool, false≢true, lt-ltb, ltb-true, not_from_false, or_cases, or_left, or_right}
 use Rattle.std.specs.Cmp.{unsigned_tied}
 use Rattle.std.proofs.lemmas.List.{length-map, length-take, nil_from_length, reverse-append}
 use Rattle.std.proofs.lemmas.List.FromFn.{get_or-map-range_with_len}
 use Rattle.std.proofs.lemmas.Option.{none-some, same_Some}
 use Rattle.std.specs.FinMap.{get, contains_key, contains_key-keys, entries, keys, len, len-entries}
 use Rattle.std.specs.List.{list_all, list_any, range_with_len}
-use Rattle.std.specs.Ordering.{nat_cmp}
-use Rattle.std.specs.Prelude.{Err, Ok, count_by, filter, if◌then◌else◌, min, nat_lt, reverse, slice_index_or, ◌&&◌, ◌==◌, ◌||◌}
+use Rattle.std.specs.Prelude.{Err, Ok, count_by, filter, if◌then◌else◌, min, nat_lt, reverse, slice_index_or, ◌&&◌, ◌==◌}
 use Rattle.std.proofs.lemmas.List.Sums.{sum_by-cons}
 
 -- a set without a number has none

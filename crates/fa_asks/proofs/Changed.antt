@@ -1,33 +1,25 @@
 -- What an event may make of the slots of dies: a slot stays as it is, or is erased, or holds nothing new but the page of a Commit, of the copy
 -- under way, or of a slot of its die whose copy is current.
 use Rattle.fa_laws.proofs.Endings.{HasOutcome}
-use Rattle.fa_laws.proofs.Claiming.{room_erased}
-use Rattle.fa_laws.proofs.Committing.{reserved_owned}
-use Rattle.fa_laws.proofs.Finishing.{passed_all}
-use Rattle.fa_laws.proofs.Handing.{holds_held, no_state}
-use Rattle.fa_laws.proofs.ImageCalls.{read_too}
 use Rattle.fa_laws.proofs.Invariant.{Holds, scene_of}
-use Rattle.fa_machine.proofs.Lists.{among-filter, among-map, among-map-intro, among-range, among-take, found_passes, no_refusal, none_passes}
-use Rattle.fa_machine.proofs.Maps.{get-change, get-insert_other, get-insert_same, get-keep}
-use Rattle.fa_machine.proofs.Values.{get-insert_all, get-insert_all_among}
-use Rattle.fa_machine.proofs.Maps.{get-place_other, get-place_same, get-remove_same, place_cmp_total, place_itself, place_same}
-use Rattle.fa_laws.proofs.Parts.{kept≢held}
-use Rattle.fa_laws.proofs.Scene.{IsErasing, IsMoving, JobFits}
+use Rattle.fa_machine.proofs.Lists.{among-filter, among-map, among-take, found_passes, no_refusal}
+use Rattle.fa_machine.proofs.Maps.{get-change, get-keep}
+use Rattle.fa_machine.proofs.Values.{get-insert_all}
+use Rattle.fa_machine.proofs.Maps.{get-place_other, get-place_same, place_cmp_total, place_same}
+use Rattle.fa_laws.proofs.Scene.{IsMoving, JobFits}
 use Rattle.fa_machine.specs.Among.{Among}
-use Rattle.fa_machine.proofs.Takes.{IsOther, IsUrgent, take_cases}
-use Rattle.fa_machine.specs.Cells.{Broken, Cell, DidErase, DidMove, DidProgram, DidRead, DidSync, DidWriteHeader, Empty, Fault}
-use Rattle.fa_machine.specs.Cells.{Outcome, Sealed, Wrong, payload_of}
-use Rattle.fa_machine.specs.Collecting.{is_erased_outside, is_in_block}
+use Rattle.fa_machine.proofs.Takes.{IsOther, take_cases}
+use Rattle.fa_machine.specs.Cells.{DidErase, DidMove, DidProgram, DidRead, DidSync, DidWriteHeader, Fault}
+use Rattle.fa_machine.specs.Cells.{Outcome, Wrong}
 use Rattle.fa_machine.specs.Conditions.{drop_die, reserved_under}
-use Rattle.fa_machine.specs.Copies.{copy_on, holds_last, holds_page, is_current, is_held_slot, is_reserved_slot}
+use Rattle.fa_machine.specs.Copies.{holds_page, is_current, is_held_slot}
 use Rattle.fa_machine.specs.Maps.{change, insert_all, place_cmp}
-use Rattle.fa_machine.specs.Placement.{copies_asked, copy_place, has_room, is_erased_slot, order_of, targets}
-use Rattle.fa_machine.specs.Run.{Event, Happening, Happens, HappensEvent, ImageCall, Run}
-use Rattle.fa_machine.specs.State.{Core, MapState, OpenBatch, Reservation, is_live, slots_of, used_at}
+use Rattle.fa_machine.specs.Placement.{copies_asked, copy_place, has_room, order_of, targets}
+use Rattle.fa_machine.specs.State.{Core, OpenBatch, Reservation, is_live, used_at}
 use Rattle.fa_machine.specs.Step.{Abandon, Act, Admit, Advance, Claim, Commit, CommitCopy, Does, Done, EndBatch, FlushBegin}
 use Rattle.fa_machine.specs.Step.{FlushState, Fold, Release, Replan, Reserve, ReserveCopy, ReserveFewer, ReserveHole, SpareIn, Take}
 use Rattle.fa_machine.specs.Step.{Window}
-use Rattle.fa_machine.specs.Taking.{EndsJob, Handed, Takes, begins, begun, erase_ends, finished, move_ends, read_ends, stays}
+use Rattle.fa_machine.specs.Taking.{EndsJob, Handed, Takes, begins, begun, finished, move_ends, read_ends, stays}
 use Rattle.fa_machine.specs.Taking.{stepped_on, with_answer, without_stale_booking}
 use Rattle.fa_machine.specs.Turning.{CommitsCopy, copying_to}
 use Rattle.fa_machine.specs.World.{IsTold, Work, World}
@@ -56,15 +48,12 @@ use Rattle.fa_machine.specs.declared.refusals.SpareRefused.TheVariants.{NotSpare
 use Rattle.fa_machine.specs.declared.refusals.WindowRefused.TheVariants.{Busy as WindowBusy, HasOne, NoMemory as WindowNoMemory}
 use Rattle.fa_types.specs.declared.numbers.Page.{Page}
 use Rattle.fa_types.specs.declared.numbers.Seq.{Seq}
-use Rattle.std.proofs.Common.{Bool, List, None, Option, Some, [], ap, arith, eq-eqb, eqb-true, false, inl, inr, map, not, refl, subst}
-use Rattle.std.proofs.Common.{sym, true, ℕ, ◌/◌, ◌∙◌, ◌∷◌, ◌≡◌}
-use Rattle.std.proofs.lemmas.Bool.{and_from, and_parts, cases_Bool, cases_eq, false_from_ne_true, false≢true, ne_eqb, not-false, not_from_false}
-use Rattle.std.proofs.lemmas.Bool.{or_cases, or_left, true≢false}
-use Rattle.std.proofs.lemmas.Option.{cond_some, none-some, same_Some}
-use Rattle.std.specs.FinMap.{FinMap, contains_key, get, insert, remove}
-use Rattle.std.specs.List.{list_any}
-use Rattle.std.specs.Ordering.{nat_cmp}
-use Rattle.std.specs.Prelude.{Err, Ok, Result, filter, find, if◌then◌else◌, is_some, option_map, ◌&&◌, ◌==◌, ◌++◌}
+use Rattle.std.proofs.Common.{Bool, List, None, Option, Some, [], ap, false, inl, inr, map, not, refl, subst}
+use Rattle.std.proofs.Common.{sym, true, ℕ, ◌∙◌, ◌∷◌, ◌≡◌}
+use Rattle.std.proofs.lemmas.Bool.{and_parts, cases_eq, false≢true, not-false}
+use Rattle.std.proofs.lemmas.Option.{none-some, same_Some}
+use Rattle.std.specs.FinMap.{FinMap, get, insert, remove}
+use Rattle.std.specs.Prelude.{Err, Ok, Result, filter, if◌then◌else◌, is_some, option_map, ◌&&◌, ◌==◌}
 use Rattle.fa_laws.proofs.Scene.{is_settled}
 use Rattle.fa_machine.specs.Placement.{is_thin}
 use Rattle.fa_machine.specs.Taking.{is_idle, mark, program_ends}
@@ -359,8 +348,11 @@ module _ (w : World) (h : Holds w) (act : Act) where
           → IsNew w.core act d t (Some (if b then Held (record { 0 = p.0 }) version else Stale))
       target true current = record {
         there = inr (ap is_some moving.kept);
-        why = λ page v e. inr (inr (from, subst (λ n. is_current w.core.page_map n d from ≡ true)
-            (ap (λ (u : Used). page_of_held u) (same_Some (Held (record { 0 = p.0 }) version) (Held page v) e)) current));
+        why = λ page v e. inr (inr (
+          from,
+          subst (λ n. is_current w.core.page_map n d from ≡ true)
+              (ap (λ (u : Used). page_of_held u) (same_Some (Held (record { 0 = p.0 }) version) (Held page v) e)) current,
+        ));
       }
       target false current = freed d t Stale refl (inr (ap is_some moving.kept))
 

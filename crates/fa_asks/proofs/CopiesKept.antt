@@ -1,19 +1,17 @@
 -- No event changes how many copies a page is to have.
 use Rattle.fa_machine.proofs.Takes.{take_cases}
 use Rattle.fa_machine.specs.Cells.{DidErase, DidMove, DidProgram, DidRead, DidSync, DidWriteHeader, Fault, Outcome, Wrong}
-use Rattle.fa_machine.specs.Cells.{payload_of}
 use Rattle.fa_machine.specs.Conditions.{reserved_under}
-use Rattle.fa_machine.specs.Maps.{change, insert_all}
-use Rattle.fa_machine.specs.Placement.{copy_place, targets}
-use Rattle.fa_machine.specs.Reading.{at_once, zeros}
-use Rattle.fa_machine.specs.State.{Core, OpenBatch, OpenClaim, Reservation}
+use Rattle.fa_machine.specs.Placement.{copy_place}
+use Rattle.fa_machine.specs.Reading.{zeros}
+use Rattle.fa_machine.specs.State.{Core, OpenBatch, Reservation}
 use Rattle.fa_machine.specs.Step.{Abandon, Act, Admit, Advance, Claim, Commit, CommitCopy, Does, Done, EndBatch, FlushBegin}
 use Rattle.fa_machine.specs.Step.{FlushState, Fold, Release, Replan, Reserve, ReserveCopy, ReserveFewer, ReserveHole, SpareIn, Take}
 use Rattle.fa_machine.specs.Step.{Window}
-use Rattle.fa_machine.specs.Taking.{EndsJob, Handed, Takes, begins, begun, finished, handed, mark_claim, read_ends, with_answer}
+use Rattle.fa_machine.specs.Taking.{EndsJob, Handed, Takes, begins, begun, finished, handed, read_ends, with_answer}
 use Rattle.fa_machine.specs.Taking.{without_stale_booking}
 use Rattle.fa_machine.specs.Turning.{CommitsCopy, copying_to}
-use Rattle.fa_machine.specs.Writing.{Abandons, Commits, Reserves, claimed_page, target_on}
+use Rattle.fa_machine.specs.Writing.{Abandons, Commits, Reserves}
 use Rattle.fa_machine.specs.declared.answers.Copied.{Copied}
 use Rattle.fa_machine.specs.declared.answers.Copied.TheVariants.{Current, Late}
 use Rattle.fa_machine.specs.declared.jobs.Flight.{Flight}
@@ -33,9 +31,8 @@ use Rattle.fa_machine.specs.declared.refusals.WindowRefused.TheVariants.{Busy as
 use Rattle.fa_types.specs.declared.kind.Kind.{Kind}
 use Rattle.fa_types.specs.declared.kind.Kind.TheVariants.{Data, Hole}
 use Rattle.fa_types.specs.declared.numbers.Seq.{Seq}
-use Rattle.std.proofs.Common.{Bool, List, None, Option, Some, ap, false, map, refl, subst, sym, true, ℕ, ◌+◌, ◌≡◌}
-use Rattle.std.specs.FinMap.{FinMap, empty, get, insert, remove}
-use Rattle.std.specs.Ordering.{nat_cmp}
+use Rattle.std.proofs.Common.{Bool, List, None, Option, Some, ap, false, refl, subst, sym, true, ℕ, ◌≡◌}
+use Rattle.std.specs.FinMap.{get, remove}
 use Rattle.std.specs.Prelude.{Err, Ok, Result, if◌then◌else◌, ◌==◌}
 
 abbrev Has : Core → Core → Type 0

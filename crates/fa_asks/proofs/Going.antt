@@ -2,7 +2,7 @@
 use Rattle.fa_alone.proofs.Due.{happens_plain}
 use Rattle.fa_alone.proofs.ReadBack.{reached_on}
 use Rattle.fa_alone.specs.Unwritten.{WritesNothing}
-use Rattle.fa_asks.proofs.Gone.{IsGone, NumbersLaw, gone_lost, happens_gone, lost_gone}
+use Rattle.fa_asks.proofs.Gone.{IsGone, NumbersLaw, happens_gone, lost_gone}
 use Rattle.fa_asks.specs.Begun.{IsCalm}
 use Rattle.fa_asks.specs.Shown.{may_collect, roomy, store_of}
 use Rattle.fa_laws.proofs.Answering.{reached_holds}
@@ -14,15 +14,14 @@ use Rattle.fa_laws.specs.Leaving.{LeavesPage}
 use Rattle.fa_laws.specs.Reached.{IsReached}
 use Rattle.fa_machine.specs.Copies.{is_lost}
 use Rattle.fa_machine.specs.Placement.{copies_asked}
-use Rattle.fa_machine.specs.Run.{Event, Happening, Happens, HappensEvent, ImageCall}
+use Rattle.fa_machine.specs.Run.{Event, Happening, Happens, ImageCall}
 use Rattle.fa_machine.specs.State.{Core, MapState}
 use Rattle.fa_machine.specs.Step.{Act, Commit, Step}
 use Rattle.fa_machine.specs.World.{World}
 use Rattle.fa_types.specs.Store.{HasCause, IsMet}
 use Rattle.fa_types.specs.declared.blocks.BlockFault.{BlockFault}
 use Rattle.fa_types.specs.declared.blocks.BlockFault.TheVariants.{Lost, NoMemory, NoRoom, Spent}
-use Rattle.fa_types.specs.declared.geometry.Geometry.{Geometry}
-use Rattle.std.proofs.Common.{List, Some, [], ap, inl, inr, not, refl, subst, sym, true, ℕ, ◌-◌, ◌^◌, ◌∙◌, ◌∷◌, ◌≡◌, ◌≤◌, ◌⊎◌}
+use Rattle.std.proofs.Common.{[], ap, inl, inr, not, refl, subst, sym, true, ℕ, ◌-◌, ◌^◌, ◌∙◌, ◌∷◌, ◌≡◌, ◌≤◌}
 use Rattle.std.specs.FinMap.{len}
 use Rattle.std.specs.Prelude.{Err, Ok, nat_lt, ◌&&◌, ◌==◌, ◌||◌}
 

@@ -1,9 +1,8 @@
 -- A page that is lost stays lost while nobody writes it and no copy of it is under way.
 use Rattle.fa_alone.proofs.ReadBack.{reached_on}
-use Rattle.fa_asks.proofs.Changed.{Change, Changes, Copies, Why, Writes, event_changes}
+use Rattle.fa_asks.proofs.Changed.{Change, Changes, Why, Writes, event_changes}
 use Rattle.fa_laws.proofs.Answering.{reached_holds}
 use Rattle.fa_laws.proofs.Failing.{LiveLaw}
-use Rattle.fa_laws.proofs.Handing.{holds_held}
 use Rattle.fa_laws.proofs.Invariant.{Holds}
 use Rattle.fa_laws.proofs.Ranged.{HoldsRanged, calls_core, happens_ranged, reached_ranged}
 use Rattle.fa_laws.proofs.Returning.{SparesLaw, finished_live}
@@ -12,14 +11,13 @@ use Rattle.fa_laws.proofs.Within.{GeometryLaw, reached_inside}
 use Rattle.fa_laws.specs.Kept.{KeepsNumbers}
 use Rattle.fa_laws.specs.Leaving.{LeavesPage, RunLeaving}
 use Rattle.fa_laws.specs.Reached.{IsReached}
-use Rattle.fa_machine.proofs.Lists.{among-range, among_low, found_passes, none_passes}
+use Rattle.fa_machine.proofs.Lists.{among-range, none_passes}
 use Rattle.fa_machine.proofs.Maps.{get-insert_other, get-remove_some, has_some}
 use Rattle.fa_machine.specs.Among.{Among}
 use Rattle.fa_machine.specs.Cells.{Outcome}
 use Rattle.fa_machine.specs.Conditions.{reserved_under}
 use Rattle.fa_machine.specs.Copies.{holders, holds_last, holds_page, is_current, is_lost}
 use Rattle.fa_machine.specs.Maps.{Numbers}
-use Rattle.fa_machine.specs.Placement.{copies_asked, is_thin}
 use Rattle.fa_machine.specs.Run.{Event, Happening, Happens, HappensEvent, ImageCall}
 use Rattle.fa_machine.specs.State.{Core, Reservation, dies_of, is_live, slots_of, used_at}
 use Rattle.fa_machine.specs.Step.{Act, Commit, Done, SpareIn, Step}
@@ -35,14 +33,13 @@ use Rattle.fa_machine.specs.declared.refusals.CommitRefused.{CommitRefused}
 use Rattle.fa_machine.specs.declared.refusals.SpareRefused.TheVariants.{NotSpare}
 use Rattle.fa_types.specs.declared.numbers.Page.{Page}
 use Rattle.fa_types.specs.declared.numbers.Seq.{Seq}
-use Rattle.std.proofs.Common.{Bool, List, None, Option, Some, [], ap, arith, cond, eq-eqb, eqb-true, false, inl, inr, length, refl, subst, sym, true, ℕ}
+use Rattle.std.proofs.Common.{Bool, List, None, Option, Some, [], ap, arith, cond, eqb-true, false, inl, inr, length, refl, subst, sym, true, ℕ}
 use Rattle.std.proofs.Common.{◌*◌, ◌<◌, ◌∙◌, ◌∷◌, ◌≡◌, ◌⊎◌}
-use Rattle.std.proofs.lemmas.Bool.{and_from, and_parts, cases_Bool, cases_eq, false_from_ne_true, false≢true, ltb-true, or_cases, or_left, or_right}
+use Rattle.std.proofs.lemmas.Bool.{and_from, and_parts, cases_eq, false_from_ne_true, false≢true, ltb-true, or_cases, or_left, or_right}
 use Rattle.std.proofs.lemmas.Bool.{true≢false}
-use Rattle.std.proofs.lemmas.Option.{none-some}
-use Rattle.std.specs.FinMap.{FinMap, contains_key, get, insert, remove}
+use Rattle.std.specs.FinMap.{FinMap, contains_key, get, remove}
 use Rattle.std.specs.Ordering.{nat_cmp}
-use Rattle.std.specs.Prelude.{Err, Ok, Result, filter, find, is_some, nat_lt, ◌&&◌, ◌==◌, ◌||◌}
+use Rattle.std.specs.Prelude.{Err, Ok, filter, find, is_some, nat_lt, ◌==◌, ◌||◌}
 
 -- a die that is live or may be brought in
 abbrev pub may_live : Core → ℕ → Bool

@@ -7,7 +7,7 @@ use Rattle.fa_ops.specs.Prepared.{has_part, pages_between}
 use Rattle.fa_ops.specs.Ranges.{begins_at, bytes_in}
 use Rattle.fa_ops.specs.declared.range.Range.{Range}
 use Rattle.fa_types.specs.declared.numbers.Page.{Page}
-use Rattle.std.proofs.Common.{List, [], ap, arith, false, inl, inr, length, map, not, refl, subst, suc, sym, true, zero, ℕ, ◌+◌, ◌-◌, ◌<◌, ◌∙◌, ◌∷◌, ◌≡◌, ◌≤◌}
+use Rattle.std.proofs.Common.{List, [], ap, arith, false, inl, inr, length, map, not, refl, suc, true, zero, ℕ, ◌+◌, ◌-◌, ◌<◌, ◌∷◌, ◌≡◌, ◌≤◌}
 use Rattle.std.proofs.lemmas.Bool.{and_from, le-leb, lt-ltb, ne_eqb, not_from_false, or_from}
 use Rattle.std.proofs.lemmas.List.FromFn.{length-range_with_len}
 use Rattle.std.specs.List.{list_all, list_any, range_with_len}

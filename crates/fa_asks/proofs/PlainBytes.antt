@@ -1,11 +1,10 @@
 -- The bytes of the plain array's pages among all of its bytes, where each page has as many.
-use Rattle.fa_types.specs.Plain.{HasPages, export, put}
-use Rattle.fa_types.specs.Store.{bytes_at, with_bytes}
-use Rattle.std.proofs.Common.{List, [], ap, arith, drop, length, refl, subst, suc, sym, take, zero, ℕ, ◌*◌, ◌+◌, ◌++◌, ◌<◌, ◌∙◌, ◌∷◌, ◌≡◌, ◌≤◌}
+use Rattle.fa_types.specs.Plain.{HasPages, export}
+use Rattle.fa_types.specs.Store.{bytes_at}
+use Rattle.std.proofs.Common.{List, [], ap, arith, drop, length, refl, suc, sym, take, zero, ℕ, ◌*◌, ◌+◌, ◌++◌, ◌<◌, ◌∙◌, ◌∷◌, ◌≡◌, ◌≤◌}
 use Rattle.std.proofs.Math.Nat.{suc-mul, zero-mul}
-use Rattle.std.proofs.lemmas.List.{append-nil, append_assoc, drop-append-le, drop-drop, drop_at, length-append, length-drop, take-append-le, take_at}
-use Rattle.std.specs.List.{concat}
-use Rattle.std.specs.Prelude.{slice_index_or, slice_set}
+use Rattle.std.proofs.lemmas.List.{drop-append-le, drop-drop, drop_at, length-append, length-drop, take-append-le}
+use Rattle.std.specs.Prelude.{slice_index_or}
 
 take_none : {X : Type 0} (n : ℕ) → take {A = X} n [] ≡ []
 take_none zero = refl

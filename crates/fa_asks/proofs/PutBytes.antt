@@ -1,10 +1,9 @@
 -- Bytes that are written into a page, among all bytes of the plain array.
-use Rattle.fa_asks.proofs.PlainBytes.{take_on}
 use Rattle.fa_types.specs.Plain.{HasPages, export, put}
-use Rattle.fa_types.specs.Store.{bytes_at, with_bytes}
+use Rattle.fa_types.specs.Store.{with_bytes}
 use Rattle.std.proofs.Common.{List, [], ap, arith, drop, length, refl, suc, sym, take, zero, ℕ, ◌*◌, ◌+◌, ◌++◌, ◌<◌, ◌∙◌, ◌∷◌, ◌≡◌, ◌≤◌}
 use Rattle.std.proofs.Math.Nat.{suc-mul, zero-mul}
-use Rattle.std.proofs.lemmas.List.{append-nil, append_assoc, drop-append-le, drop-drop, drop_all, drop_at, length-append, length-set, length-take-le}
+use Rattle.std.proofs.lemmas.List.{append-nil, append_assoc, drop-append-le, drop-drop, drop_all, drop_at, length-append}
 use Rattle.std.proofs.lemmas.List.{take-append-drop, take-append-le}
 use Rattle.std.proofs.lemmas.List.Edits.{paste-paste, paste_all}
 use Rattle.std.specs.Prelude.{slice_index_or}

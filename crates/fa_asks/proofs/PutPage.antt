@@ -10,7 +10,7 @@ use Rattle.fa_ops.specs.declared.request.Fill.TheVariants.{Bytes, Holes, Zeros}
 use Rattle.fa_types.specs.MemoryMeets.{length-bytes_at, length-with_bytes}
 use Rattle.fa_types.specs.Plain.{HasPages, export, put}
 use Rattle.fa_types.specs.Store.{bytes_at, with_bytes}
-use Rattle.std.proofs.Common.{List, None, Option, Some, [], ap, arith, drop, length, refl, replicate, sym, take, true, ℕ, ◌*◌, ◌+◌, ◌++◌, ◌-◌, ◌<◌, ◌∙◌, ◌≡◌, ◌≤◌}
+use Rattle.std.proofs.Common.{List, None, Option, Some, [], ap, arith, length, replicate, sym, take, true, ℕ, ◌*◌, ◌+◌, ◌-◌, ◌∙◌, ◌≡◌, ◌≤◌}
 use Rattle.std.proofs.lemmas.Bool.{and_parts, leb-true}
 use Rattle.std.proofs.lemmas.List.{drop-replicate, length-replicate, length-take-le, take-replicate}
 use Rattle.std.specs.Prelude.{slice_index_or}

@@ -4,8 +4,8 @@ use Rattle.fa_ops.specs.Ranges.{begins_at, bytes_in, first_page, part_of, past_p
 use Rattle.fa_ops.specs.declared.range.Range.{Range}
 use Rattle.fa_types.specs.Plain.{HasPages, export}
 use Rattle.fa_types.specs.Store.{IsMet, bytes_at}
-use Rattle.std.proofs.Common.{Bool, List, [], ap, arith, cond, eq-eqb, false, inl, inr, length, map, refl, subst, suc, sym, true, zero, ℕ, ◌*◌, ◌+◌, ◌++◌}
-use Rattle.std.proofs.Common.{◌-◌, ◌/◌, ◌<◌, ◌∙◌, ◌∷◌, ◌≡◌, ◌≤◌, ◌⊎◌}
+use Rattle.std.proofs.Common.{List, [], ap, arith, cond, eq-eqb, inl, inr, length, map, subst, suc, sym, zero, ℕ, ◌*◌, ◌+◌, ◌++◌}
+use Rattle.std.proofs.Common.{◌-◌, ◌/◌, ◌<◌, ◌∙◌, ◌≡◌, ◌≤◌, ◌⊎◌}
 use Rattle.std.proofs.Math.Nat.{div-lt_iff_lt-mul, div-mul-le_self, le-div_iff_mul-le, lt-div-mul-add, mul-le-mul_right, suc-mul}
 use Rattle.std.proofs.lemmas.Bool.{cases_eq, cases_lt, ne_eqb}
 use Rattle.std.proofs.lemmas.List.{append-nil, append_assoc}
@@ -49,12 +49,12 @@ module _ (pages : ℕ) (r : Range) (h : IsInside pages r) where
         | inl none ↦ absurd (let below = none.1 in omega (arith, below, first))
         | inr past ↦ record {
           begins = (
-            let order = h.ordered in
-            let apart = past.0 in
-            let below = past.1 in
-            let up : page * size ≤ (r.to - 1) / size * size = mul-le-mul_right size (let low : page ≤ (r.to - 1) / size = omega (arith, below) in low) in
-            let back : (r.to - 1) / size * size ≤ r.to - 1 = div-mul-le_self (r.to - 1) size in omega (arith, order, apart, up, back)
-          );
+              let order = h.ordered in
+              let apart = past.0 in
+              let below = past.1 in
+              let up : page * size ≤ (r.to - 1) / size * size = mul-le-mul_right size (let low : page ≤ (r.to - 1) / size = omega (arith, below) in low) in
+              let back : (r.to - 1) / size * size ≤ r.to - 1 = div-mul-le_self (r.to - 1) size in omega (arith, order, apart, up, back)
+              );
           ends = ends;
           some = let order = h.ordered in let apart = past.0 in omega (arith, order, apart);
         }
@@ -84,9 +84,9 @@ module _ (pages : ℕ) (r : Range) (h : IsInside pages r) where
       elim (cases_lt page pages) [
         | inl low ↦ low
         | inr high ↦ absurd (
-          let up : pages * r.page_bytes ≤ page * r.page_bytes = mul-le-mul_right r.page_bytes high in
-          let begins = of_range.begins in let inside = h.inside in omega (arith, up, begins, inside)
-        )
+            let up : pages * r.page_bytes ≤ page * r.page_bytes = mul-le-mul_right r.page_bytes high in
+            let begins = of_range.begins in let inside = h.inside in omega (arith, up, begins, inside)
+            )
       ]
 
   -- some byte of such a page is in the range

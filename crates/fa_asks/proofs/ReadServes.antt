@@ -1,7 +1,7 @@
 -- A read serves, from its beginning to its end.
-use Rattle.fa_asks.proofs.Going.{Goes, Laws, goes_first}
+use Rattle.fa_asks.proofs.Going.{Laws, goes_first}
 use Rattle.fa_asks.proofs.Gone.{gone_lost}
-use Rattle.fa_asks.proofs.RangePages.{IsOf, met_page, of_back, upto, upto_first}
+use Rattle.fa_asks.proofs.RangePages.{IsOf, met_page, of_back, upto_first}
 use Rattle.fa_asks.proofs.ReadStages.{Fits, IsReading, MayRead, ReadsAt, reads_on}
 use Rattle.fa_asks.proofs.Sized.{page_some, reached_sized}
 use Rattle.fa_asks.specs.Asked.{Asked, Moment, Turn}
@@ -9,20 +9,17 @@ use Rattle.fa_asks.specs.Begun.{HasBegun}
 use Rattle.fa_asks.specs.Shown.{store_of}
 use Rattle.fa_laws.proofs.Answering.{reached_holds}
 use Rattle.fa_machine.specs.World.{World}
-use Rattle.fa_ops.specs.Ops.{beginning}
-use Rattle.fa_ops.specs.Prepared.{until}
 use Rattle.fa_ops.specs.Ranges.{first_page}
-use Rattle.fa_ops.specs.Tasks.{bytes_from, task_of}
+use Rattle.fa_ops.specs.Tasks.{task_of}
 use Rattle.fa_ops.specs.declared.request.Request.TheVariants.{Read}
 use Rattle.fa_ops.specs.declared.request.Task.{Task}
-use Rattle.fa_ops.specs.declared.range.Range.{Range}
 use Rattle.fa_ops.specs.declared.stage.Purpose.TheVariants.{Answer}
 use Rattle.fa_ops.specs.declared.stage.Stage.{Stage}
 use Rattle.fa_ops.specs.declared.stage.Stage.TheVariants.{Ended, Listing}
 use Rattle.fa_types.specs.Plain.{export}
 use Rattle.fa_types.specs.Store.{Gave, HasCause, IsMet, IsUnwritten, Reading, Refused, Serves, bytes_at}
 use Rattle.fa_types.specs.declared.blocks.BlockFault.{BlockFault}
-use Rattle.std.proofs.Common.{Bool, List, None, Some, [], ap, arith, drop, eqb-true, false, refl, subst, sym, take, true, ℕ, ◌*◌, ◌+◌, ◌-◌, ◌/◌, ◌<◌, ◌∙◌, ◌∷◌, ◌≡◌, ◌≤◌}
+use Rattle.std.proofs.Common.{Bool, List, None, Some, [], ap, arith, drop, eqb-true, false, refl, subst, sym, take, true, ℕ, ◌*◌, ◌+◌, ◌-◌, ◌/◌, ◌<◌, ◌∙◌, ◌≡◌, ◌≤◌}
 use Rattle.std.proofs.Math.Nat.{div-mul-le_self, lt-div-mul-add}
 use Rattle.std.proofs.lemmas.Bool.{eqb-false, true≢false}
 use Rattle.std.specs.Prelude.{if◌then◌else◌, slice_index, ◌==◌}

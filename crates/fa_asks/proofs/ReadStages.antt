@@ -12,39 +12,36 @@ use Rattle.fa_asks.specs.Shown.{store_of}
 use Rattle.fa_laws.proofs.Answering.{reached_holds}
 use Rattle.fa_machine.proofs.Lists.{among-filter, among-range, among_low, found_passes, none_passes}
 use Rattle.fa_machine.specs.Among.{Among}
-use Rattle.fa_machine.specs.Conditions.{batch_open}
 use Rattle.fa_machine.specs.Copies.{is_lost}
-use Rattle.fa_machine.specs.Reading.{Admitted, answered, batch_at as entry_at, is_late, left_of, released, results}
-use Rattle.fa_machine.specs.Run.{Event, Happening, Happens, HappensEvent, ImageCall}
+use Rattle.fa_machine.specs.Reading.{Admitted, batch_at as entry_at, is_late, left_of, results}
+use Rattle.fa_machine.specs.Run.{Event, Happening, Happens, HappensEvent}
 use Rattle.fa_machine.specs.State.{Core, OpenBatch}
 use Rattle.fa_machine.specs.Step.{Act, Admit, EndBatch, Fold, Replan, is_distinct, is_page}
 use Rattle.fa_machine.specs.World.{World, plain_page}
 use Rattle.fa_machine.specs.declared.answers.ReadState.TheVariants.{Ready}
-use Rattle.fa_machine.specs.declared.ids.BatchId.{BatchId}
 use Rattle.fa_machine.specs.declared.refusals.AdmitRefused.TheVariants.{Lost as PageLost, CalendarFull, Spent as RoundsSpent, NoMemory as AdmitNoMemory}
 use Rattle.fa_ops.specs.Moves.{Moves, Strays}
 use Rattle.fa_ops.specs.Ops.{Prepares}
-use Rattle.fa_ops.specs.Prepared.{SortsAnswer, after_batch, has_part, pages_between, until}
-use Rattle.fa_ops.specs.Ranges.{begins_at, bytes_in, first_page, part_of, past_page}
+use Rattle.fa_ops.specs.Prepared.{after_batch, has_part, until}
+use Rattle.fa_ops.specs.Ranges.{first_page, part_of, past_page}
 use Rattle.fa_ops.specs.declared.range.Range.{Range}
 use Rattle.fa_ops.specs.declared.request.Task.{Task}
-use Rattle.fa_ops.specs.declared.stage.Purpose.{Purpose}
-use Rattle.fa_ops.specs.declared.stage.Purpose.TheVariants.{Answer, Merge}
+use Rattle.fa_ops.specs.declared.stage.Purpose.TheVariants.{Answer}
 use Rattle.fa_ops.specs.declared.stage.Stage.{Stage}
 use Rattle.fa_ops.specs.declared.stage.Stage.TheVariants.{Asking, Ended, Leaving, Listing, Reading, Sorting}
 use Rattle.fa_types.specs.MemoryMeets.{length-bytes_at}
 use Rattle.fa_types.specs.Plain.{HasPages, export}
 use Rattle.fa_types.specs.Store.{HasCause, IsMet, bytes_at}
 use Rattle.fa_types.specs.declared.blocks.BlockFault.{BlockFault}
-use Rattle.fa_types.specs.declared.blocks.BlockFault.TheVariants.{Lost, NoMemory, NoRoom, Spent}
+use Rattle.fa_types.specs.declared.blocks.BlockFault.TheVariants.{Lost, NoRoom, Spent}
 use Rattle.fa_types.specs.declared.geometry.Geometry.{Geometry}
 use Rattle.fa_types.specs.declared.numbers.Page.{Page}
-use Rattle.std.proofs.Common.{Bool, List, None, Option, Some, [], ap, arith, cond, eq-eqb, false, inl, inr, length, map, refl, subst, sym, true, ℕ}
-use Rattle.std.proofs.Common.{◌*◌, ◌+◌, ◌++◌, ◌-◌, ◌<◌, ◌∙◌, ◌∷◌, ◌≡◌, ◌≤◌, ◌⊎◌}
+use Rattle.std.proofs.Common.{Bool, List, None, Option, Some, [], ap, arith, false, inl, inr, length, map, refl, subst, sym, true, ℕ}
+use Rattle.std.proofs.Common.{◌*◌, ◌+◌, ◌++◌, ◌-◌, ◌<◌, ◌∙◌, ◌∷◌, ◌≡◌, ◌≤◌}
 use Rattle.std.proofs.lemmas.Bool.{cases_lt, eqb-false, false_from_ne_true, false≢true, ltb-false, ltb-true, or_left, or_right, true≢false}
-use Rattle.std.specs.FinMap.{empty, get}
+use Rattle.std.specs.FinMap.{empty}
 use Rattle.std.specs.List.{flat_map, list_all, range_with_len}
-use Rattle.std.specs.Prelude.{Err, Ok, find, if◌then◌else◌, is_some, min, nat_le, nat_lt, slice_index_or, unwrap_or, ◌&&◌, ◌==◌}
+use Rattle.std.specs.Prelude.{Err, Ok, if◌then◌else◌, is_some, min, nat_le, nat_lt, unwrap_or, ◌&&◌, ◌==◌}
 
 -- The range is one of the array's bytes.
 pub record Fits (first : World) (r : Range) : Type 0 where
@@ -131,10 +128,10 @@ module _ (A : Type 0) (laws : Laws) (t : Task) (seat : ℕ) (bytes : List ℕ) (
   lost_cause : (w : World) → Goes first w → (p : ℕ) → IsOf t.range p → is_lost w.core.page_map p ≡ true → Cause t.range first w Lost
   lost_cause w g p of_range lost = (
     inr (
-        p,
-        lost,
-        subst (λ size. IsMet size t.range.from (t.range.to - t.range.from) p) (size_is w g) (page_met first.core.page_map.geometry.pages t.range f.inside p of_range),
-      ),
+      p,
+      lost,
+      subst (λ size. IsMet size t.range.from (t.range.to - t.range.from) p) (size_is w g) (page_met first.core.page_map.geometry.pages t.range f.inside p of_range),
+    ),
     tt,
   )
 
@@ -211,9 +208,10 @@ module _ (A : Type 0) (laws : Laws) (t : Task) (seat : ℕ) (bytes : List ℕ) (
 
       ended : past_page t.range ≤ next → (b : Bool) → (length after == t.range.to - t.range.from) ≡ b
           → At w (if b then Ended None else Ended (Some Lost)) after
-      ended high true long =
-          (is ∙ ap (λ count. bytes_at t.range.from count (export first.plain)) (upto_past first.core.page_map.geometry.pages t.range f.inside next high),
-          λ p of_range. until_next p (page_front p of_range) (page_back p of_range high))
+      ended high true long = (
+        is ∙ ap (λ count. bytes_at t.range.from count (export first.plain)) (upto_past first.core.page_map.geometry.pages t.range f.inside next high),
+        λ p of_range. until_next p (page_front p of_range) (page_back p of_range high),
+      )
         where
           page_front : (p : ℕ) → IsOf t.range p → first_page t.range ≤ p
           page_front p of_range = of_front first.core.page_map.geometry.pages t.range f.inside p of_range

@@ -4,12 +4,12 @@ use Rattle.fa_asks.proofs.Going.{Laws, geometry_kept}
 use Rattle.fa_asks.proofs.PlainBytes.{export_long}
 use Rattle.fa_asks.proofs.PutBytes.{with_none}
 use Rattle.fa_asks.proofs.PutPage.{bytes_for}
-use Rattle.fa_asks.proofs.RangePages.{IsOf, of_back, page_of, upto, upto_first, upto_past}
+use Rattle.fa_asks.proofs.RangePages.{page_of, upto, upto_first, upto_past}
 use Rattle.fa_asks.proofs.ReadServes.{read_gives, read_may, read_refused}
 use Rattle.fa_asks.proofs.ReadStages.{Fits}
 use Rattle.fa_asks.proofs.Sized.{page_some, reached_sized}
 use Rattle.fa_asks.proofs.WriteServes.{begins, first_past, wrote_all, wrote_is, wrote_none}
-use Rattle.fa_asks.proofs.WriteStages.{EndsAt, IsAt, WritesAt, Wrote, from_on, writes_on}
+use Rattle.fa_asks.proofs.WriteStages.{EndsAt, IsAt, WritesAt, from_on, writes_on}
 use Rattle.fa_asks.specs.Asked.{Asked, Makes, Meanwhile, Moment, Readies, Strayed, Turn, TurnsTo}
 use Rattle.fa_asks.specs.Begun.{HasBegun, IsCalm}
 use Rattle.fa_asks.specs.Calls.{HasBytes, answer_of, call_of}
@@ -18,25 +18,22 @@ use Rattle.fa_laws.proofs.Answering.{reached_holds}
 use Rattle.fa_laws.specs.Reached.{IsReached}
 use Rattle.fa_machine.specs.World.{World}
 use Rattle.fa_ops.specs.Moves.{from_page}
-use Rattle.fa_ops.specs.Ops.{beginning}
 use Rattle.fa_ops.specs.Ranges.{first_page, past_page}
-use Rattle.fa_ops.specs.Tasks.{end_of, task_of, whole_range, zeros_as}
+use Rattle.fa_ops.specs.Tasks.{task_of, whole_range, zeros_as}
 use Rattle.fa_ops.specs.declared.range.Range.{Range}
-use Rattle.fa_ops.specs.declared.request.Fill.{Fill}
-use Rattle.fa_ops.specs.declared.request.Fill.TheVariants.{Holes, Zeros}
 use Rattle.fa_ops.specs.declared.request.Request.{Request}
 use Rattle.fa_ops.specs.declared.request.Request.TheVariants.{Flush, Read, Trim, Write, Zero}
 use Rattle.fa_ops.specs.declared.request.Task.{Task}
 use Rattle.fa_ops.specs.declared.stage.Stage.{Stage}
-use Rattle.fa_ops.specs.declared.stage.Stage.TheVariants.{BeginningFlush, Ended}
-use Rattle.fa_types.specs.Plain.{HasPages, export}
+use Rattle.fa_ops.specs.declared.stage.Stage.TheVariants.{Ended}
+use Rattle.fa_types.specs.Plain.{export}
 use Rattle.fa_types.specs.MemoryMeets.{length-bytes_at}
-use Rattle.fa_types.specs.Store.{Answer, Done, Flushing, IsAnswer, Meets, Reading, HasCause, InRange, IsCovered, IsCutShort, IsMet, IsUnwritten, IsWritten, IsZeroed, Refused, Serves}
-use Rattle.fa_types.specs.Store.{StopsAfter, Store, Trimming, Zeroing, first_whole, whole_length, whole_offset, with_bytes}
+use Rattle.fa_types.specs.Store.{Answer, Done, Flushing, IsAnswer, Meets, Reading, HasCause, IsCutShort, IsUnwritten, IsWritten, IsZeroed, Refused, Serves}
+use Rattle.fa_types.specs.Store.{StopsAfter, Store, Trimming, Zeroing, first_whole, whole_length, whole_offset}
 use Rattle.fa_types.specs.declared.blocks.BlockFault.{BlockFault}
 use Rattle.fa_types.specs.declared.geometry.Geometry.{Geometry}
 use Rattle.fa_types.specs.declared.blocks.BlockFault.TheVariants.{Lost, NoMemory, NoRoom, Spent}
-use Rattle.std.proofs.Common.{Bool, List, None, Option, Some, [], ap, arith, cond, false, inl, inr, length, refl, replicate, subst, suc, sym, take, true, ℕ}
+use Rattle.std.proofs.Common.{Bool, List, None, Option, Some, [], ap, arith, false, inl, inr, length, refl, replicate, subst, suc, sym, true, ℕ}
 use Rattle.std.proofs.Common.{◌*◌, ◌+◌, ◌-◌, ◌/◌, ◌<◌, ◌∙◌, ◌∷◌, ◌≡◌, ◌≤◌, ◌⊎◌}
 use Rattle.std.proofs.Math.Nat.{add-mul, div-mul-le_self, lt-div-mul-add, mul-le-mul_right, mul-mod_left, suc-mul, zero-mul}
 use Rattle.std.proofs.lemmas.Bool.{cases_Bool, cases_eq, cases_lt, false≢true, leb-false, leb-true}
@@ -87,10 +84,10 @@ module _ (A : Type 0) (laws : Laws) (t : Task) (seat : ℕ) (bytes : List ℕ) (
   cut_short w fault k = (
     subst (λ n. HasCause (store_of w) t.range.from n fault) (sym long) k.0,
     (
-        upto t.range k.1.0,
-        stops k.1.0 fault k.1.2,
-        wrote_is t.range first f all long k.1.0 w k.1.1,
-      ),
+      upto t.range k.1.0,
+      stops k.1.0 fault k.1.2,
+      wrote_is t.range first f all long k.1.0 w k.1.1,
+    ),
   )
 
   pub done : (w : World) → At w (Ended None) → IsWritten (store_of first) (store_of w) t.range.from all

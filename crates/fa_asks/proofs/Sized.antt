@@ -25,18 +25,18 @@ use Rattle.fa_machine.specs.World.{Gave, JobCall, Work, World, next_call}
 use Rattle.fa_machine.specs.Writing.{Commits, claimed_page}
 use Rattle.fa_machine.specs.declared.jobs.Flight.{Flight}
 use Rattle.fa_machine.specs.declared.jobs.Flight.TheVariants.{Program}
-use Rattle.fa_types.specs.Plain.{HasPages, put}
+use Rattle.fa_types.specs.Plain.{HasPages}
 use Rattle.fa_types.specs.declared.geometry.Geometry.{Geometry}
 use Rattle.fa_types.specs.declared.kind.Kind.TheVariants.{Data as DataKind, Hole as HoleKind}
 use Rattle.fa_types.specs.declared.numbers.Seq.{Seq}
-use Rattle.std.proofs.Common.{Bool, List, None, Option, Some, ap, arith, eqb-true, false, inl, inr, length, map, not, refl, replicate, subst, sym, true, ℕ, ◌+◌, ◌∙◌, ◌≡◌, ◌≤◌}
-use Rattle.std.proofs.lemmas.Bool.{and_parts, false≢true, or_cases}
+use Rattle.std.proofs.Common.{Bool, List, None, Option, Some, ap, arith, eqb-true, false, inl, inr, length, map, not, refl, subst, sym, true, ℕ, ◌+◌, ◌∙◌, ◌≡◌, ◌≤◌}
+use Rattle.std.proofs.lemmas.Bool.{and_parts, or_cases}
 use Rattle.std.proofs.lemmas.List.{length-replicate}
 use Rattle.std.proofs.lemmas.Option.{none-some, same_Some}
 use Rattle.std.specs.Cmp.{nat_cmp_total}
 use Rattle.std.specs.FinMap.{get, get-empty, insert}
 use Rattle.std.specs.Ordering.{nat_cmp}
-use Rattle.std.specs.Prelude.{Err, Ok, if◌then◌else◌, is_some, option_and_then, option_map, unwrap_or, ◌&&◌, ◌==◌, ◌||◌}
+use Rattle.std.specs.Prelude.{Err, Ok, if◌then◌else◌, option_and_then, option_map, unwrap_or, ◌&&◌, ◌==◌, ◌||◌}
 
 abbrev size_of : World → ℕ
 size_of w = w.core.page_map.geometry.page_bytes

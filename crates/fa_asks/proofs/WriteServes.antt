@@ -1,26 +1,24 @@
 -- A write serves, from its beginning to its end.
 use Rattle.fa_asks.proofs.Going.{Laws, goes_first}
-use Rattle.fa_asks.proofs.Gone.{IsGone, gone_lost}
+use Rattle.fa_asks.proofs.Gone.{gone_lost}
 use Rattle.fa_asks.proofs.PutBytes.{with_none}
-use Rattle.fa_asks.proofs.PutPage.{bytes_for}
 use Rattle.fa_asks.proofs.RangePages.{IsInside, IsOf, of_back, of_front, upto, upto_first, upto_past}
 use Rattle.fa_asks.proofs.ReadStages.{Fits}
-use Rattle.fa_asks.proofs.WriteStages.{IsAt, Wrote}
+use Rattle.fa_asks.proofs.WriteStages.{Wrote}
 use Rattle.fa_asks.specs.Begun.{IsCalm}
 use Rattle.fa_asks.specs.Shown.{store_of}
 use Rattle.fa_laws.specs.Reached.{IsReached}
-use Rattle.fa_machine.specs.Copies.{is_lost}
 use Rattle.fa_machine.specs.World.{World}
 use Rattle.fa_ops.specs.Ranges.{covers, first_page, past_page}
 use Rattle.fa_ops.specs.declared.range.Range.{Range}
 use Rattle.fa_types.specs.Plain.{export}
 use Rattle.fa_types.specs.Store.{IsCovered, IsMet, IsUnwritten, IsWritten, with_bytes}
-use Rattle.std.proofs.Common.{List, [], ap, arith, inl, inr, length, refl, subst, suc, sym, take, true, ℕ, ◌*◌, ◌+◌, ◌-◌, ◌/◌, ◌<◌, ◌∙◌, ◌∷◌, ◌≡◌, ◌≤◌, ◌⊎◌}
+use Rattle.std.proofs.Common.{List, [], ap, arith, inl, inr, length, refl, subst, suc, sym, take, true, ℕ, ◌*◌, ◌+◌, ◌-◌, ◌/◌, ◌<◌, ◌∙◌, ◌≡◌, ◌≤◌}
 use Rattle.std.proofs.Common.{eq-eqb, cond}
 use Rattle.std.proofs.Math.Nat.{div-mul-le_self, lt-div-mul-add, mul-le-mul_right, suc-mul}
 use Rattle.std.proofs.lemmas.Bool.{and_parts, cases_eq, cases_lt, leb-true}
 use Rattle.std.proofs.lemmas.List.{length-take-le, nil_from_length, take_all}
-use Rattle.std.specs.Prelude.{slice_index, ◌==◌}
+use Rattle.std.specs.Prelude.{slice_index}
 
 module _ (r : Range) (first : World) (f : Fits first r) (all : List ℕ) (long : length all ≡ r.to - r.from) where
   abbrev Done : ℕ → World → Type 0
@@ -119,4 +117,3 @@ module _ (r : Range) (first : World) (f : Fits first r) (all : List ℕ) (long :
         gone = λ p lost. inr (goes.gone p lost);
         whole = λ p lost of_range low. absurd (let from = of_front first.core.page_map.geometry.pages r here p of_range in omega (arith, from, low));
       }
-

@@ -12,25 +12,24 @@ use Rattle.fa_asks.proofs.Gone.{IsGone, gone_lost, happens_gone}
 use Rattle.fa_asks.proofs.Owned.{IsOwned, claimed_now, keeps_claim, owned_on, owned_page, owned_same}
 use Rattle.fa_asks.proofs.Pages.{range_allowed}
 use Rattle.fa_asks.proofs.PlainBytes.{export_long, page_long}
-use Rattle.fa_asks.proofs.PutBytes.{put_sized, with_none}
-use Rattle.fa_asks.proofs.PutPage.{bytes_for, content_is, covered_whole, new_covered, new_long, part_long, written_on}
-use Rattle.fa_asks.proofs.RangePages.{IsInside, IsOf, page_low, page_of, part_begins, part_ends, part_fits, upto}
+use Rattle.fa_asks.proofs.PutBytes.{put_sized}
+use Rattle.fa_asks.proofs.PutPage.{bytes_for, content_is, covered_whole, new_covered, new_long, written_on}
+use Rattle.fa_asks.proofs.RangePages.{IsOf, page_low, page_of, part_begins, part_ends, part_fits, upto}
 use Rattle.fa_asks.proofs.ReadStages.{Fits}
 use Rattle.fa_asks.specs.Asked.{Asked, IsAnothers, IsBarred, IsFounded, IsNoSpare, LeavesClaim, Makes, Meanwhile, Moment, Readies, Strayed, Turn}
 use Rattle.fa_asks.specs.Asked.{TurnsTo, fits}
 use Rattle.fa_asks.specs.Shown.{may_collect}
 use Rattle.fa_laws.proofs.Answering.{reached_holds}
-use Rattle.fa_laws.proofs.Ranged.{calls_core}
 use Rattle.fa_laws.specs.Reached.{IsReached}
 use Rattle.fa_machine.proofs.Lists.{among-filter, found_passes, none_passes}
 use Rattle.fa_machine.specs.Among.{Among}
 use Rattle.fa_machine.specs.Flushing.{flush_state}
-use Rattle.fa_machine.specs.Conditions.{claim_open, is_reserved, reserved_under}
+use Rattle.fa_machine.specs.Conditions.{claim_open, is_reserved}
 use Rattle.fa_machine.specs.Copies.{is_lost}
-use Rattle.fa_machine.specs.Placement.{copies_asked, targets}
+use Rattle.fa_machine.specs.Placement.{copies_asked}
 use Rattle.fa_machine.specs.Reading.{Admitted, batch_at as entry_at, is_late, left_of, results, zeros}
-use Rattle.fa_machine.specs.Run.{Event, Happening, Happens, HappensEvent, ImageCall}
-use Rattle.fa_machine.specs.State.{Core, OpenBatch, OpenClaim, Reservation, is_live}
+use Rattle.fa_machine.specs.Run.{Event, Happening, Happens, HappensEvent}
+use Rattle.fa_machine.specs.State.{Core, OpenBatch, OpenClaim}
 use Rattle.fa_machine.specs.Step.{Abandon, Act, Admit, Claim, Commit, EndBatch, FlushBegin, FlushState, Fold, Release, Replan, Reserve, ReserveFewer}
 use Rattle.fa_machine.specs.Step.{ReserveHole, is_distinct, is_page, is_sized}
 use Rattle.fa_machine.specs.World.{World, plain_page}
@@ -38,8 +37,6 @@ use Rattle.fa_machine.specs.Writing.{claimed_page, reserve_refusal}
 use Rattle.fa_machine.specs.declared.answers.Flush.{Flush}
 use Rattle.fa_machine.specs.declared.answers.FlushState.TheVariants.{NoDie as FlushNoDie, Synced, Waiting}
 use Rattle.fa_machine.specs.declared.answers.ReadState.TheVariants.{Ready}
-use Rattle.fa_machine.specs.declared.ids.BatchId.{BatchId}
-use Rattle.fa_machine.specs.declared.ids.ClaimId.{ClaimId}
 use Rattle.fa_machine.specs.declared.refusals.AbandonRefused.TheVariants.{Pending as AbandonPending, Programmed}
 use Rattle.fa_machine.specs.declared.refusals.AdmitRefused.TheVariants.{CalendarFull, Lost as PageLost, NoMemory as AdmitNoMemory, Spent as RoundsSpent}
 use Rattle.fa_machine.specs.declared.refusals.ClaimRefused.TheVariants.{Claimed, NoMemory as ClaimNoMemory}
@@ -57,7 +54,7 @@ use Rattle.fa_ops.specs.declared.request.Fill.{Fill}
 use Rattle.fa_ops.specs.declared.request.Fill.TheVariants.{Bytes, Holes, Zeros}
 use Rattle.fa_ops.specs.declared.request.Task.{Task}
 use Rattle.fa_ops.specs.declared.stage.Held.{Held}
-use Rattle.fa_ops.specs.declared.stage.Purpose.TheVariants.{Answer, Merge}
+use Rattle.fa_ops.specs.declared.stage.Purpose.TheVariants.{Merge}
 use Rattle.fa_ops.specs.declared.stage.Stage.{Stage}
 use Rattle.fa_ops.specs.declared.stage.Stage.TheVariants.{Abandoning, Asking, BeginningFlush, Claiming, Committing, Ended, Filling, Flushing, Leaving}
 use Rattle.fa_ops.specs.declared.stage.Stage.TheVariants.{Listing, Reading, Releasing, Reserving, Sorting}
@@ -75,9 +72,9 @@ use Rattle.std.proofs.Common.{Bool, List, None, Option, Some, [], ap, arith, con
 use Rattle.std.proofs.Common.{take, true, ℕ, ◌*◌, ◌+◌, ◌-◌, ◌^◌, ◌<◌, ◌∙◌, ◌∷◌, ◌≡◌, ◌≤◌, ◌⊎◌}
 use Rattle.std.proofs.lemmas.Bool.{and_from, cases_eq, false_from_ne_true, false≢true, le-leb, lt-ltb, ltb-false, ltb-true, true≢false}
 use Rattle.std.proofs.lemmas.Option.{none-some, same_Some}
-use Rattle.std.specs.FinMap.{contains_key, empty, get, insert}
-use Rattle.std.specs.List.{list_all, range_with_len}
-use Rattle.std.specs.Prelude.{Err, Ok, Result, find, if◌then◌else◌, is_some, min, nat_le, nat_lt, option_and_then, option_map, slice_index_or, unwrap_or}
+use Rattle.std.specs.FinMap.{empty}
+use Rattle.std.specs.List.{list_all}
+use Rattle.std.specs.Prelude.{Err, Ok, if◌then◌else◌, is_some, min, nat_le, nat_lt, option_and_then, option_map, slice_index_or, unwrap_or}
 use Rattle.std.specs.Prelude.{◌&&◌, ◌==◌}
 
 module _ (r : Range) (first : World) (all : List ℕ) where
@@ -375,11 +372,17 @@ module _ (A : Type 0) (laws : Laws) (t : Task) (seat : ℕ) (bytes : List ℕ) (
         | inr stays ↦ subst (WritesAt w) (sym stays) k
       ]
   refused_at held wish w next page least ReserveNoDie k why m fewer =
-      subst (WritesAt w) (sym m) (k.0, founds.no_die w k.0.wrote.reached
-      ((three_cases _ _ _ ReserveNoDie (refused_first (reserve_refusal w.core page least) ReserveNoDie why (other_refusal ReserveNoDie (omega arith)))).0 refl))
+      subst (WritesAt w) (sym m) (
+        k.0,
+        founds.no_die w k.0.wrote.reached
+            ((three_cases _ _ _ ReserveNoDie (refused_first (reserve_refusal w.core page least) ReserveNoDie why (other_refusal ReserveNoDie (omega arith)))).0 refl),
+      )
   refused_at held wish w next page least NumbersSpent k why m fewer =
-      subst (WritesAt w) (sym m) (k.0, founds.no_number w
-      ((three_cases _ _ _ NumbersSpent (refused_first (reserve_refusal w.core page least) NumbersSpent why (other_refusal NumbersSpent (omega arith)))).1 refl))
+      subst (WritesAt w) (sym m) (
+        k.0,
+        founds.no_number w
+            ((three_cases _ _ _ NumbersSpent (refused_first (reserve_refusal w.core page least) NumbersSpent why (other_refusal NumbersSpent (omega arith)))).1 refl),
+      )
   refused_at held wish w next page least ReserveNoMemory k why m fewer = subst (WritesAt w) (sym m) (k.0, founds.no_memory w)
 
   -- the state is the same where a Reserve was refused
@@ -562,13 +565,16 @@ module _ (A : Type 0) (laws : Laws) (t : Task) (seat : ℕ) (bytes : List ℕ) (
   own w after (Reading (Merge held) batch) (EndBatch b answers) next k e m founded = absurd m.1
   own w after (Reading (Merge held) batch) act next k e m founded = absurd m
   own w after (Leaving (Merge held) batch fault) (EndBatch b answers) next k e m founded =
-      subst (WritesAt after) (sym m.1) (own_on held w after k.0 (Event (EndBatch b answers)) e tt tt, founds.kept w after (record {
-        page_map = ap (λ (c : Core). c.page_map) e.step.does.1;
-        copies = ap (λ (c : Core). c.copies) e.step.does.1;
-        last = ap (λ (c : Core). c.last) e.step.does.1;
-        round = ap (λ (c : Core). c.calendar.round) e.step.does.1;
-        flushes = ap (λ (c : Core). c.flushes) e.step.does.1;
-      }) fault k.2)
+      subst (WritesAt after) (sym m.1) (
+        own_on held w after k.0 (Event (EndBatch b answers)) e tt tt,
+        founds.kept w after (record {
+          page_map = ap (λ (c : Core). c.page_map) e.step.does.1;
+          copies = ap (λ (c : Core). c.copies) e.step.does.1;
+          last = ap (λ (c : Core). c.last) e.step.does.1;
+          round = ap (λ (c : Core). c.calendar.round) e.step.does.1;
+          flushes = ap (λ (c : Core). c.flushes) e.step.does.1;
+        }) fault k.2,
+      )
   own w after (Leaving (Merge held) batch fault) act next k e m founded = absurd m
   own w after (Reserving held (Data payload)) (Reserve claim b (Ok seq)) next k e m founded =
       let at : HappensEvent w (Reserve held.claim.0 payload (Ok seq)) after =
@@ -812,13 +818,16 @@ module _ (A : Type 0) (laws : Laws) (t : Task) (seat : ℕ) (bytes : List ℕ) (
 
       by_next : (next : Stage A) → IsMerged t bytes held (plain_page w held.page.0) next → WritesAt w next
       by_next (Reserving h (Data payload)) made =
-          subst (λ x. WritesAt w (Reserving x (Data payload))) (sym made.0) (k, record {
-            for_page = record {
-              is = made.1 ∙ ap (λ part. with_bytes (begins_at t.range held.page.0) part (plain_page w held.page.0)) (contents held.page.0 (of_range held.page.0 k.at));
-              fit = inr there;
-            };
-            hole = tt;
-          })
+          subst (λ x. WritesAt w (Reserving x (Data payload))) (sym made.0) (
+            k,
+            record {
+              for_page = record {
+                is = made.1 ∙ ap (λ part. with_bytes (begins_at t.range held.page.0) part (plain_page w held.page.0)) (contents held.page.0 (of_range held.page.0 k.at));
+                fit = inr there;
+              };
+              hole = tt;
+            },
+          )
       by_next next made = failed next made
 
   -- something is prepared

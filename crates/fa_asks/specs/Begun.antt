@@ -1,5 +1,5 @@
 -- Where a request begins.
-use Rattle.std.specs.Prelude.{◌≡◌, ℕ, ◌*◌, ◌≤◌, List, [], Some, true}
+use Rattle.std.specs.Prelude.{◌≡◌, ◌*◌, ◌≤◌, [], Some, true}
 use Rattle.fa_asks.specs.Asked.{Moment}
 use Rattle.fa_laws.specs.Reached.{IsReached}
 use Rattle.fa_machine.specs.Copies.{is_lost}
