@@ -5,11 +5,11 @@ use Rattle.fa_asks.proofs.PlainBytes.{export_long}
 use Rattle.fa_asks.proofs.PutBytes.{with_none}
 use Rattle.fa_asks.proofs.PutPage.{bytes_for}
 use Rattle.fa_asks.proofs.RangePages.{page_of, upto, upto_first, upto_past}
-use Rattle.fa_asks.proofs.ReadServes.{read_gives, read_may, read_refused}
-use Rattle.fa_asks.proofs.ReadStages.{Fits}
+use Rattle.fa_asks.proofs.ReadServes.{read_fits, read_gives, read_may, read_on_end, read_refused}
+use Rattle.fa_asks.proofs.ReadStages.{Fits, no_stray as no_stray_read}
 use Rattle.fa_asks.proofs.Sized.{page_some, reached_sized}
 use Rattle.fa_asks.proofs.WriteServes.{begins, first_past, wrote_all, wrote_is, wrote_none}
-use Rattle.fa_asks.proofs.WriteStages.{EndsAt, IsAt, WritesAt, from_on, writes_on}
+use Rattle.fa_asks.proofs.WriteStages.{EndsAt, IsAt, WritesAt, from_on, no_stray, writes_on}
 use Rattle.fa_asks.specs.Asked.{Asked, Makes, Meanwhile, Moment, Readies, Strayed, Turn, TurnsTo}
 use Rattle.fa_asks.specs.Begun.{HasBegun, IsCalm}
 use Rattle.fa_asks.specs.Calls.{HasBytes, answer_of, call_of}
@@ -153,15 +153,20 @@ module _ (A : Type 0) (laws : Laws) (before : Moment A) where
   size = start.core.page_map.geometry.page_bytes
 
   -- a request that writes, from its first page on
+  goes_at : (t : Task) (f : Fits start t.range) (seat : ℕ) (bytes : List ℕ) (long : length (bytes_for t.fill t.range bytes) ≡ t.range.to - t.range.from)
+      → IsReached start → IsCalm start → before.stage ≡ from_page t (first_page t.range) → (turns : List Turn) (after : Moment A)
+      → Asked t seat bytes before turns after → At A laws t seat bytes start f long after.world after.stage
+  goes_at t f seat bytes long reached calm begun turns after asked =
+      writes_on A laws t seat bytes start f long (Cause laws start t.range f) KnowsLive (cause_founds laws start t.range f) before turns after
+      (subst (At A laws t seat bytes start f long start) (sym begun)
+      (from_on A laws t seat bytes start f long (Cause laws start t.range f) KnowsLive (cause_founds laws start t.range f) start (first_page t.range) (omega arith)
+      (first_past t.range start f (bytes_for t.fill t.range bytes) long) (begins t.range start f (bytes_for t.fill t.range bytes) long laws reached calm))) asked
+
   ends_at : (t : Task) (f : Fits start t.range) (seat : ℕ) (bytes : List ℕ) (long : length (bytes_for t.fill t.range bytes) ≡ t.range.to - t.range.from)
       → IsReached start → IsCalm start → before.stage ≡ from_page t (first_page t.range) → (turns : List Turn) (after : Moment A)
       → Asked t seat bytes before turns after → (end : Option BlockFault) → after.stage ≡ Ended end → At A laws t seat bytes start f long after.world (Ended end)
   ends_at t f seat bytes long reached calm begun turns after asked end ended =
-      subst (At A laws t seat bytes start f long after.world) ended
-      (writes_on A laws t seat bytes start f long (Cause laws start t.range f) KnowsLive (cause_founds laws start t.range f) before turns after
-      (subst (At A laws t seat bytes start f long start) (sym begun)
-      (from_on A laws t seat bytes start f long (Cause laws start t.range f) KnowsLive (cause_founds laws start t.range f) start (first_page t.range) (omega arith)
-      (first_past t.range start f (bytes_for t.fill t.range bytes) long) (begins t.range start f (bytes_for t.fill t.range bytes) long laws reached calm))) asked)
+      subst (At A laws t seat bytes start f long after.world) ended (goes_at t f seat bytes long reached calm begun turns after asked)
 
   write_fits : (offset count : ℕ) (fua : Bool) → HasBegun (Write offset count fua) before → Fits start (task_of size (Write offset count fua)).range
   write_fits offset count fua h = record {
@@ -282,15 +287,20 @@ module _ (A : Type 0) (laws : Laws) (before : Moment A) where
   flush_long : (bytes : List ℕ) → length (bytes_for None (task_of size Flush).range bytes) ≡ 0
   flush_long bytes = refl
 
+  flush_goes : (h : HasBegun Flush before) (seat : ℕ) (bytes : List ℕ) (turns : List Turn) (after : Moment A)
+      → Asked (task_of size Flush) seat bytes before turns after
+      → At A laws (task_of size Flush) seat bytes start (flush_fits h) (flush_long bytes) after.world after.stage
+  flush_goes h seat bytes turns after asked =
+      writes_on A laws (task_of size Flush) seat bytes start (flush_fits h) (flush_long bytes) (Cause laws start (task_of size Flush).range (flush_fits h)) KnowsLive
+      (cause_founds laws start (task_of size Flush).range (flush_fits h)) before turns after
+      (subst (At A laws (task_of size Flush) seat bytes start (flush_fits h) (flush_long bytes) start) (sym h.stage)
+      (begins (task_of size Flush).range start (flush_fits h) [] (flush_long bytes) laws h.reached h.calm, refl)) asked
+
   flush_end : (h : HasBegun Flush before) (seat : ℕ) (bytes : List ℕ) (turns : List Turn) (after : Moment A)
       → Asked (task_of size Flush) seat bytes before turns after → (end : Option BlockFault) → after.stage ≡ Ended end
       → At A laws (task_of size Flush) seat bytes start (flush_fits h) (flush_long bytes) after.world (Ended end)
   flush_end h seat bytes turns after asked end ended =
-      subst (At A laws (task_of size Flush) seat bytes start (flush_fits h) (flush_long bytes) after.world) ended
-      (writes_on A laws (task_of size Flush) seat bytes start (flush_fits h) (flush_long bytes) (Cause laws start (task_of size Flush).range (flush_fits h)) KnowsLive
-      (cause_founds laws start (task_of size Flush).range (flush_fits h)) before turns after
-      (subst (At A laws (task_of size Flush) seat bytes start (flush_fits h) (flush_long bytes) start) (sym h.stage)
-      (begins (task_of size Flush).range start (flush_fits h) [] (flush_long bytes) laws h.reached h.calm, refl)) asked)
+      subst (At A laws (task_of size Flush) seat bytes start (flush_fits h) (flush_long bytes) after.world) ended (flush_goes h seat bytes turns after asked)
 
   pub flush_serves : HasBegun Flush before → (seat : ℕ) (bytes : List ℕ) (turns : List Turn) (after : Moment A)
       → Asked (task_of size Flush) seat bytes before turns after → (end : Option BlockFault) → after.stage ≡ Ended end
@@ -405,3 +415,34 @@ module _ (A : Type 0) (laws : Laws) (before : Moment A) where
         gives = request_answer request h seat bytes turns after asked end ended;
         served = λ alone. request_serves request h seat bytes many turns after asked end ended;
       }
+
+  -- no request strays
+  stray : (t : Task) (f : Fits start t.range) (seat : ℕ) (bytes : List ℕ) (long : length (bytes_for t.fill t.range bytes) ≡ t.range.to - t.range.from)
+      → (middle after : Moment A) → At A laws t seat bytes start f long middle.world middle.stage → TurnsTo t seat bytes middle Strayed after → ⊥
+  stray t f seat bytes long middle after k strays =
+      no_stray A laws t seat bytes start f long (Cause laws start t.range f) KnowsLive (cause_founds laws start t.range f) middle.world middle.stage after.stage k
+      strays.1 strays.2
+
+  pub request_strays : (request : Request) → HasBegun request before → (seat : ℕ) (bytes : List ℕ) → HasBytes request bytes → (turns : List Turn)
+      (middle after : Moment A) → Asked (task_of size request) seat bytes before turns middle → TurnsTo (task_of size request) seat bytes middle Strayed after → ⊥
+  request_strays (Read offset count) h seat bytes many turns middle after asked strays =
+      let at = read_on_end A laws offset count before h seat bytes turns middle asked in
+      no_stray_read A laws (task_of size (Read offset count)) seat bytes start (read_fits A laws offset count before h) middle.world middle.answer middle.stage
+      after.stage at.goes at.at strays.1 strays.2
+  request_strays (Write offset count fua) h seat bytes many turns middle after asked strays =
+      let t = task_of size (Write offset count fua) in
+      let f = write_fits offset count fua h in
+      let long = write_long offset count bytes many in
+      stray t f seat bytes long middle after (goes_at t f seat bytes long h.reached h.calm h.stage turns middle asked) strays
+  request_strays (Zero offset count fua hole) h seat bytes many turns middle after asked strays =
+      let t = task_of size (Zero offset count fua hole) in
+      let f = zero_fits offset count fua hole h in
+      let long = zero_long t.range hole bytes in
+      stray t f seat bytes long middle after (goes_at t f seat bytes long h.reached h.calm h.stage turns middle asked) strays
+  request_strays (Trim offset count fua) h seat bytes many turns middle after asked strays =
+      let t = task_of size (Trim offset count fua) in
+      let f = trim_fits offset count fua h in
+      let long : length (bytes_for t.fill t.range bytes) ≡ t.range.to - t.range.from = length-replicate (t.range.to - t.range.from) 0 in
+      stray t f seat bytes long middle after (goes_at t f seat bytes long h.reached h.calm h.stage turns middle asked) strays
+  request_strays Flush h seat bytes many turns middle after asked strays =
+      stray (task_of size Flush) (flush_fits h) seat bytes (flush_long bytes) middle after (flush_goes h seat bytes turns middle asked) strays

@@ -1,6 +1,6 @@
 //! What a read comes to.
 ghost use Rattle.std.specs.Prelude.{◌≡◌, ◌≢◌, ℕ, List, None, Some, true};
-ghost use Rattle.fa_asks.specs.Asked.{Asked, Moment, Strayed, Turn, TurnsTo};
+ghost use Rattle.fa_asks.specs.Asked.{Asked, Moment, Turn};
 ghost use Rattle.fa_asks.specs.Begun.{HasBegun};
 ghost use Rattle.fa_asks.specs.Shown.{store_of};
 ghost use Rattle.fa_ops.specs.Tasks.{task_of};
@@ -37,7 +37,7 @@ pub fn a_read_serves<A>()
     the_last_number_never_falls();
 }
 
-/// No read ends with other bytes than those of its range, or without a fault where a page of the range was lost as it began, or strays.
+/// No read ends with other bytes than those of its range, or without a fault where a page of the range was lost as it began.
 pub fn wrong_reads_are_none<A>()
     ensures bytes { (offset len seat : ℕ) (bytes : List ℕ) (before after : Moment A) (turns : List Turn)
         → HasBegun (Read offset len) before
@@ -47,10 +47,6 @@ pub fn wrong_reads_are_none<A>()
         → HasBegun (Read offset len) before → (store_of before.world).lost page ≡ true
         → IsMet before.world.core.page_map.geometry.page_bytes offset len page → after.stage ≡ Ended None
         → ¬ (Asked (task_of before.world.core.page_map.geometry.page_bytes (Read offset len)) seat bytes before turns after) }
-    ensures strays { (offset len seat : ℕ) (bytes : List ℕ) (before middle after : Moment A) (turns : List Turn)
-        → HasBegun (Read offset len) before
-        → Asked (task_of before.world.core.page_map.geometry.page_bytes (Read offset len)) seat bytes before turns middle
-        → ¬ (TurnsTo (task_of before.world.core.page_map.geometry.page_bytes (Read offset len)) seat bytes middle Strayed after) }
 {
     live_dies_are_kept();
     spares_are_kept();

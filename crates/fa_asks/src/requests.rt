@@ -1,6 +1,6 @@
 //! What any request comes to.
 ghost use Rattle.std.specs.Prelude.{◌≡◌, ◌≢◌, ℕ, ◌<◌, ◌/◌, Bool, List, None, Option, Some, false, length, slice_index};
-ghost use Rattle.fa_asks.specs.Asked.{Asked, Moment, Turn};
+ghost use Rattle.fa_asks.specs.Asked.{Asked, Moment, Strayed, Turn, TurnsTo};
 ghost use Rattle.fa_asks.specs.Begun.{HasBegun};
 ghost use Rattle.fa_asks.specs.Calls.{HasBytes, answer_of, call_of};
 ghost use Rattle.fa_asks.specs.Shown.{store_of};
@@ -40,9 +40,14 @@ pub fn a_request_serves<A>()
     the_last_number_never_falls();
 }
 
-/// No write ends without a fault where a byte that is not lost is another one than it wrote, or than it was. None is refused for want of
-/// room where a die may be collected, or as spent where no counter is at its end.
+/// No request strays: the conditions of its events hold whenever it makes one. No write ends without a fault where a byte that is not lost
+/// is another one than it wrote, or than it was. None is refused for want of room where a die may be collected, or as spent where no counter
+/// is at its end.
 pub fn wrong_requests_are_none<A>()
+    ensures strays { (request : Request) (seat : ℕ) (bytes : List ℕ) (before middle after : Moment A) (turns : List Turn)
+        → HasBegun request before → HasBytes request bytes
+        → Asked (task_of before.world.core.page_map.geometry.page_bytes request) seat bytes before turns middle
+        → ¬ (TurnsTo (task_of before.world.core.page_map.geometry.page_bytes request) seat bytes middle Strayed after) }
     ensures bytes { (offset len seat i : ℕ) (fua : Bool) (bytes : List ℕ) (before after : Moment A) (turns : List Turn)
         → HasBegun (Write offset len fua) before → length bytes ≡ len → i < (store_of after.world).size
         → (store_of after.world).lost (i / (store_of after.world).page_bytes) ≡ false

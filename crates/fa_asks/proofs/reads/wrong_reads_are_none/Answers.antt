@@ -1,8 +1,5 @@
 use Rattle.fa_asks.proofs.Going.{Laws}
-use Rattle.fa_asks.proofs.ReadServes.{read_fits, read_gives, read_on_end}
-use Rattle.fa_asks.proofs.ReadStages.{no_stray}
-use Rattle.fa_ops.specs.Tasks.{task_of}
-use Rattle.fa_ops.specs.declared.request.Request.TheVariants.{Read}
+use Rattle.fa_asks.proofs.ReadServes.{read_gives}
 use Rattle.fa_asks.proofs.reads.wrong_reads_are_none.Goals as goal
 
 pub returns : goal.returns
@@ -19,8 +16,4 @@ returns g c =
           other (read_gives g.row.A.Denot laws offset count before h seat bytes turns after asked ended).0;
       lost = λ offset count seat page bytes before after turns h lost met ended asked.
           (read_gives g.row.A.Denot laws offset count before h seat bytes turns after asked ended).1 page lost met;
-      strays = λ offset count seat bytes before middle after turns h asked strays.
-          let at = read_on_end g.row.A.Denot laws offset count before h seat bytes turns middle asked in
-          no_stray g.row.A.Denot laws (task_of before.world.core.page_map.geometry.page_bytes (Read offset count)) seat bytes before.world
-          (read_fits g.row.A.Denot laws offset count before h) middle.world middle.answer middle.stage after.stage at.goes at.at strays.1 strays.2;
     }

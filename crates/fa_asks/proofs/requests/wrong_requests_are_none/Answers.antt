@@ -1,5 +1,5 @@
 use Rattle.fa_asks.proofs.Going.{Laws}
-use Rattle.fa_asks.proofs.Serving.{write_serves}
+use Rattle.fa_asks.proofs.Serving.{request_strays, write_serves}
 use Rattle.fa_types.specs.declared.blocks.BlockFault.TheVariants.{NoRoom, Spent}
 use Rattle.std.proofs.Common.{None, Some, sym, ◌∙◌}
 use Rattle.std.proofs.lemmas.Bool.{false≢true}
@@ -15,6 +15,8 @@ returns g c =
       falls = c.the_last_number_never_falls.ensures;
     } in
     record {
+      strays = λ request seat bytes before middle after turns h many asked strays.
+          request_strays g.row.A.Denot laws before request h seat bytes many turns middle after asked strays;
       bytes = λ offset count seat i fua bytes before after turns h many low there other ended asked.
           other ((write_serves g.row.A.Denot laws before offset count fua h seat bytes many turns after asked None ended).content i low there);
       room = λ offset count seat fua bytes before after turns h many room ended asked.
