@@ -3,6 +3,7 @@ pub mod Changed
 pub mod CopiesKept
 pub mod Going
 pub mod Gone
+pub mod OneTurn
 pub mod Owned
 pub mod Pages
 pub mod PlainBytes

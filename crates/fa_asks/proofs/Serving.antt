@@ -1,4 +1,5 @@
 -- Each request serves, from its beginning to its end.
+use Rattle.fa_alone.proofs.ReadBack.{reached_on}
 use Rattle.fa_asks.proofs.Causes.{Cause, KnowsLive, cause_founds}
 use Rattle.fa_asks.proofs.Going.{Laws, geometry_kept}
 use Rattle.fa_asks.proofs.PlainBytes.{export_long}
@@ -16,6 +17,7 @@ use Rattle.fa_asks.specs.Calls.{HasBytes, answer_of, call_of}
 use Rattle.fa_asks.specs.Shown.{store_of}
 use Rattle.fa_laws.proofs.Answering.{reached_holds}
 use Rattle.fa_laws.specs.Reached.{IsReached}
+use Rattle.fa_machine.specs.Run.{Event}
 use Rattle.fa_machine.specs.World.{World}
 use Rattle.fa_ops.specs.Moves.{from_page}
 use Rattle.fa_ops.specs.Ranges.{first_page, past_page}
@@ -401,6 +403,18 @@ module _ (A : Type 0) (laws : Laws) (before : Moment A) where
       by_turn Readies middle made = ap (λ (w : World). w.core.page_map.geometry) made.0
       by_turn Strayed middle made = ap (λ (w : World). w.core.page_map.geometry) made.0
       by_turn (Meanwhile happening) middle made = geometry_kept laws.geometry one.world middle.world happening made.0
+
+  -- runs lead from where a request begins to where it goes
+  pub asked_reached : (t : Task) (seat : ℕ) (bytes : List ℕ) (one : Moment A) (turns : List Turn) (two : Moment A) → IsReached one.world
+      → Asked t seat bytes one turns two → IsReached two.world
+  asked_reached t seat bytes one [] two reached asked = subst (λ (m : Moment A). IsReached m.world) (sym asked) reached
+  asked_reached t seat bytes one (turn ∷ turns) two reached asked = asked_reached t seat bytes asked.0 turns two (by_turn turn asked.0 asked.1) asked.2
+    where
+      by_turn : (turn : Turn) (middle : Moment A) → TurnsTo t seat bytes one turn middle → IsReached middle.world
+      by_turn (Makes act) middle made = reached_on one.world reached (Event act ∷ []) middle.world (middle.world, made.0, refl)
+      by_turn Readies middle made = subst IsReached (sym made.0) reached
+      by_turn Strayed middle made = subst IsReached (sym made.0) reached
+      by_turn (Meanwhile happening) middle made = reached_on one.world reached (happening ∷ []) middle.world (middle.world, made.0, refl)
 
   -- each request is a call of a store
   pub request_meets : (request : Request) → HasBegun request before → (seat : ℕ) (bytes : List ℕ) → HasBytes request bytes → (turns : List Turn)

@@ -5,3 +5,4 @@
 pub mod lost;
 pub mod reads;
 pub mod requests;
+pub mod turns;

@@ -8,6 +8,7 @@ ghost use Rattle.fa_laws.specs.Reached.{IsReached};
 ghost use Rattle.fa_machine.specs.World.{World};
 ghost use Rattle.fa_ops.specs.Tasks.{task_of};
 ghost use Rattle.fa_ops.specs.declared.request.Request.{Request};
+ghost use Rattle.fa_ops.specs.declared.request.Task.{Task};
 ghost use Rattle.fa_ops.specs.declared.request.Request.TheVariants.{Write};
 ghost use Rattle.fa_ops.specs.declared.stage.Stage.TheVariants.{Ended};
 ghost use Rattle.fa_types.specs.Store.{IsWhole, Meets, Serves, with_bytes};
@@ -21,7 +22,7 @@ use fa_laws::steps::{
 
 /// A request that nobody else writes meanwhile serves, as a store that is alone does. A read gives the bytes of its range. A write, a zero
 /// or a trim leaves its bytes and nothing else. A flush writes nothing. One that is refused has a cause, and leaves a beginning of its bytes.
-/// What is answered is one of the answers that its call can have.
+/// What is answered is one of the answers that its call can have. Where it ends another may begin, over a world that runs lead to.
 pub fn a_request_serves<A>()
     ensures serves { (request : Request) (seat : ℕ) (bytes : List ℕ) (before after : Moment A) (turns : List Turn) (end : Option BlockFault)
         → HasBegun request before → HasBytes request bytes
@@ -31,6 +32,8 @@ pub fn a_request_serves<A>()
         → HasBegun request before → HasBytes request bytes
         → Asked (task_of before.world.core.page_map.geometry.page_bytes request) seat bytes before turns after → after.stage ≡ Ended end
         → Meets (store_of before.world) (call_of request bytes) (answer_of request end after.answer) (store_of after.world) }
+    ensures reached { (t : Task) (seat : ℕ) (bytes : List ℕ) (before after : Moment A) (turns : List Turn) → IsReached before.world
+        → Asked t seat bytes before turns after → IsReached after.world }
     ensures whole { (w : World) → IsReached w → IsWhole (store_of w) }
 {
     live_dies_are_kept();

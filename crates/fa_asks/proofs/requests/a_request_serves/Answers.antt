@@ -1,5 +1,5 @@
 use Rattle.fa_asks.proofs.Going.{Laws}
-use Rattle.fa_asks.proofs.Serving.{request_meets, request_serves}
+use Rattle.fa_asks.proofs.Serving.{asked_reached, request_meets, request_serves}
 use Rattle.fa_asks.proofs.PlainBytes.{export_long}
 use Rattle.fa_asks.proofs.Sized.{page_some, reached_sized}
 use Rattle.fa_laws.proofs.Answering.{reached_holds}
@@ -20,6 +20,7 @@ returns g c =
           request_serves g.row.A.Denot laws before request h seat bytes many turns after asked end ended;
       meets = λ request seat bytes before after turns end h many asked ended.
           request_meets g.row.A.Denot laws before request h seat bytes many turns after asked end ended;
+      reached = λ t seat bytes before after turns reached asked. asked_reached g.row.A.Denot laws before t seat bytes before turns after reached asked;
       whole = λ w reached. record {
         some_bytes = page_some w.core.page_map.geometry;
         sized = λ alone. export_long w.core.page_map.geometry.page_bytes w.plain (reached_sized laws.geometry w reached)
