@@ -1,6 +1,7 @@
 pub mod Causes
 pub mod Changed
 pub mod CopiesKept
+pub mod Flushed
 pub mod Going
 pub mod Gone
 pub mod OneTurn

@@ -904,7 +904,7 @@ module _ (A : Type 0) (laws : Laws) (t : Task) (seat : ℕ) (bytes : List ℕ) (
   no_stray w (Ended fault) next k barred strays = strays
   no_stray w stage next k barred strays = k
 
-  turn_writes : (before after : Moment A) (turn : Turn) → WritesAt before.world before.stage → TurnsTo t seat bytes before turn after
+  pub turn_writes : (before after : Moment A) (turn : Turn) → WritesAt before.world before.stage → TurnsTo t seat bytes before turn after
       → WritesAt after.world after.stage
   turn_writes before after (Makes act) k made = own before.world after.world before.stage act after.stage k made.0 made.1 made.2
   turn_writes before after Readies k made =

@@ -151,3 +151,10 @@ module _ {A : Type 0} where
   Asked t seat bytes before [] after = after ≡ before
   Asked t seat bytes before (turn ∷ turns) after =
       (middle : Moment A) × TurnsTo t seat bytes before turn middle × Asked t seat bytes middle turns after
+
+-- the events and image calls among some turns
+abbrev pub happenings_of : List Turn → List Happening
+happenings_of [] = []
+happenings_of (Makes act ∷ turns) = Event act ∷ happenings_of turns
+happenings_of (Meanwhile happening ∷ turns) = happening ∷ happenings_of turns
+happenings_of (turn ∷ turns) = happenings_of turns

@@ -2,6 +2,7 @@
 //! code. Runs, events and worlds are those of `fa_machine`, turns of a request those of `fa_ops`.
 #![tactic(auto)]
 
+pub mod flushes;
 pub mod lost;
 pub mod reads;
 pub mod requests;
