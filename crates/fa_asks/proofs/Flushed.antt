@@ -1,8 +1,5 @@
 -- A request with a flush ends without a fault only behind a sync of each die.
 use Rattle.fa_asks.proofs.Going.{Laws}
-use Rattle.fa_asks.proofs.PutPage.{bytes_for}
-use Rattle.fa_asks.proofs.ReadStages.{Fits}
-use Rattle.fa_asks.proofs.WriteStages.{Founds, WritesAt, turn_writes}
 use Rattle.fa_asks.specs.Asked.{Asked, IsAnothers, Makes, Meanwhile, Moment, Readies, Strayed, Turn, TurnsTo, happenings_of}
 use Rattle.fa_laws.proofs.Answering.{reached_holds}
 use Rattle.fa_laws.proofs.Returning.{run_out, spareless}
@@ -12,14 +9,12 @@ use Rattle.fa_alone.proofs.ReadBack.{reached_on}
 use Rattle.fa_laws.specs.Reached.{IsReached}
 use Rattle.fa_laws.specs.Syncing.{EndsSync, TakesAndEndsSync}
 use Rattle.fa_machine.specs.Flushing.{flush_state, has_synced}
-use Rattle.fa_machine.specs.Maps.{Numbers}
 use Rattle.fa_machine.specs.Run.{Event, Happening, Happens, HappensEvent, ImageCall, Run}
 use Rattle.fa_machine.specs.State.{Core, dies_of, is_live}
 use Rattle.fa_machine.specs.Step.{Abandon, Act, Admit, Claim, Commit, Done, EndBatch, FlushBegin, FlushState, Fold, Release, Replan, Reserve, ReserveFewer}
 use Rattle.fa_machine.specs.Step.{ReserveHole, Take}
 use Rattle.fa_machine.specs.World.{World}
 use Rattle.fa_machine.specs.declared.answers.Flush.{Flush}
-use Rattle.fa_machine.specs.declared.answers.FlushState.{FlushState as StateOfFlush}
 use Rattle.fa_machine.specs.declared.answers.FlushState.TheVariants.{NoDie as FlushNoDie, Synced, Waiting}
 use Rattle.fa_machine.specs.declared.refusals.AbandonRefused.TheVariants.{Pending as AbandonPending, Programmed}
 use Rattle.fa_machine.specs.declared.refusals.AdmitRefused.TheVariants.{CalendarFull, Lost as PageLost, NoMemory as AdmitNoMemory, Spent as RoundsSpent}
@@ -41,9 +36,8 @@ use Rattle.fa_ops.specs.declared.stage.Stage.TheVariants.{Abandoning, Asking, Be
 use Rattle.fa_ops.specs.declared.stage.Stage.TheVariants.{Listing, Reading, Releasing, Reserving, Sorting}
 use Rattle.fa_ops.specs.declared.stage.Wish.{Wish}
 use Rattle.fa_ops.specs.declared.stage.Wish.TheVariants.{Data, Fewer, Hole}
-use Rattle.fa_types.specs.declared.blocks.BlockFault.{BlockFault}
 use Rattle.fa_types.specs.declared.numbers.Seq.{Seq}
-use Rattle.std.proofs.Common.{Bool, List, None, Option, Some, [], ap, false, inl, inr, length, refl, subst, sym, true, ℕ, ◌++◌, ◌+◌, ◌-◌, ◌∙◌, ◌∷◌, ◌≡◌, ◌⊎◌}
+use Rattle.std.proofs.Common.{Bool, List, None, Some, [], ap, false, inl, inr, refl, subst, sym, true, ℕ, ◌++◌, ◌+◌, ◌∙◌, ◌∷◌, ◌≡◌}
 use Rattle.std.proofs.lemmas.Bool.{cases_Bool, false_from_ne_true, false≢true}
 use Rattle.std.proofs.lemmas.List.{append-nil, append_assoc}
 use Rattle.std.specs.FinMap.{contains_key}
@@ -350,4 +344,3 @@ module _ (A : Type 0) (laws : Laws) (syncs : SyncLaws) (t : Task) (seat : ℕ) (
   -- a request with a flush has none behind it as it begins
   pub from_begins : (page : ℕ) → FlushedAt [] first (from_page t page)
   from_begins page = pages_on [] first page
-

@@ -1,6 +1,6 @@
 -- A turn of a request over the locked array as turns of what becomes of it.
 use Rattle.fa_alone.specs.Unwritten.{EndsNoBatch}
-use Rattle.fa_asks.specs.Asked.{Asked, BringsNoSpare, IsAnothers, IsBarred, IsFounded, LeavesClaim, Makes, Meanwhile, Moment, OfOne, Strayed, Turn}
+use Rattle.fa_asks.specs.Asked.{Asked, BringsNoSpare, IsBarred, IsFounded, LeavesClaim, Makes, Meanwhile, OfOne, Strayed, Turn}
 use Rattle.fa_asks.specs.Asked.{batch_at, claim_at}
 use Rattle.fa_asks.specs.Shown.{may_collect}
 use Rattle.fa_machine.specs.Cells.{Outcome}
@@ -12,13 +12,12 @@ use Rattle.fa_machine.specs.World.{IsTold, World, followed}
 use Rattle.fa_machine.specs.declared.refusals.ReserveRefused.TheVariants.{NoRoom}
 use Rattle.fa_ops.specs.Moves.{Moved, Moves, Rested, Strays, Turned, Folded, Strayed as StrayedTurn}
 use Rattle.fa_ops.specs.declared.request.Task.{Task}
-use Rattle.fa_ops.specs.declared.stage.Purpose.{Purpose}
 use Rattle.fa_ops.specs.declared.stage.Stage.{Stage}
 use Rattle.fa_ops.specs.declared.stage.Stage.TheVariants.{Flushing, Reading, Releasing, Reserving}
 use Rattle.fa_ops.specs.declared.stage.Wish.TheVariants.{Data, Fewer, Hole}
 use Rattle.fa_shared.specs.Seats.{number_of}
 use Rattle.fa_shared.specs.declared.seat.Seat.{Seat}
-use Rattle.std.proofs.Common.{List, None, Option, Some, [], ap, refl, subst, suc, sym, ℕ, ◌∙◌, ◌∷◌, ◌≡◌}
+use Rattle.std.proofs.Common.{List, None, Option, Some, [], ap, refl, suc, sym, ℕ, ◌∙◌, ◌∷◌, ◌≡◌}
 use Rattle.std.specs.Prelude.{Err, Ok}
 
 of_fold : (o : Option ℕ) → OfOne EndsNoBatch o (Event Fold)
@@ -87,10 +86,10 @@ turn_asked L A t bytes answer before after w new stage next (Moved act step comm
   Makes act ∷ [],
   refl,
   (
-      record { world = behind A t (number_of before) w act new; stage = next; answer = answer },
-      (made A t (number_of before) w stage act next new step moves, moves, founded act moves, refl),
-      refl,
-    ),
+    record { world = behind A t (number_of before) w act new; stage = next; answer = answer },
+    (made A t (number_of before) w stage act next new step moves, moves, founded act moves, refl),
+    refl,
+  ),
 )
 turn_asked L A t bytes answer before after w new stage next (Folded between act full fold step commits moves) founded barred =
     let middle : World = behind A t (number_of before) w Fold between in (
@@ -98,30 +97,30 @@ turn_asked L A t bytes answer before after w new stage next (Folded between act 
       Meanwhile (Event Fold) ∷ Makes act ∷ [],
       refl,
       (
-          record { world = middle; stage = stage; answer = answer },
-          (
-              folded A t (number_of before) w between fold,
-              record {
-                writes_nothing = tt;
-                batch = of_fold (batch_at stage);
-                claim = under_fold (claim_at stage);
-                in_time = tt;
-                no_spare = spareless_fold A t (number_of before) stage;
-              },
-              refl,
-              refl,
-            ),
-          (
-              record { world = behind A t (number_of before) middle act new; stage = next; answer = answer },
-              (
-                  made A t (number_of before) middle stage act next new step moves,
-                  moves,
-                  founded_on A t (number_of before) w.core between fold stage act next (founded act moves),
-                  refl,
-                ),
-              refl,
-            ),
+        record { world = middle; stage = stage; answer = answer },
+        (
+          folded A t (number_of before) w between fold,
+          record {
+            writes_nothing = tt;
+            batch = of_fold (batch_at stage);
+            claim = under_fold (claim_at stage);
+            in_time = tt;
+            no_spare = spareless_fold A t (number_of before) stage;
+          },
+          refl,
+          refl,
         ),
+        (
+          record { world = behind A t (number_of before) middle act new; stage = next; answer = answer },
+          (
+            made A t (number_of before) middle stage act next new step moves,
+            moves,
+            founded_on A t (number_of before) w.core between fold stage act next (founded act moves),
+            refl,
+          ),
+          refl,
+        ),
+      ),
     )
 turn_asked L A t bytes answer before after w new stage next (StrayedTurn same kept strays) founded barred = (
   w,
