@@ -7,7 +7,8 @@ use Rattle.fa_machine.specs.Cells.{Outcome}
 use Rattle.fa_machine.specs.Reading.{results}
 use Rattle.fa_machine.specs.Run.{Event, HappensEvent}
 use Rattle.fa_machine.specs.State.{Core}
-use Rattle.fa_machine.specs.Step.{Act, Done, EndBatch, Fold, ReserveCopy, ReserveFewer, Step}
+use Rattle.fa_machine.specs.Step.{Act, Admit, Commit, Done, EndBatch, Fold, Reserve, ReserveCopy, ReserveFewer, ReserveHole, Step, Take}
+use Rattle.fa_machine.specs.Taking.{Handed}
 use Rattle.fa_machine.specs.World.{IsTold, World, followed}
 use Rattle.fa_machine.specs.declared.refusals.ReserveRefused.TheVariants.{NoRoom}
 use Rattle.fa_ops.specs.Moves.{Moved, Moves, Rested, Strays, Turned, Folded, Strayed as StrayedTurn}
@@ -43,6 +44,29 @@ module _ (A : Type 0) (t : Task) (seat : ℕ) where
   no_copy (Reserving held Hole) page seq payload made next m = m
   no_copy stage page seq payload made next m = m
 
+  no_take : (stage : Stage A) (die taker : ℕ) (job : Option Handed) (next : Stage A) → Moves t seat stage (Take die taker job) next → ⊥
+  no_take (Reserving held (Data payload)) die taker job next m = m
+  no_take (Reserving held (Fewer payload)) die taker job next m = m
+  no_take (Reserving held Hole) die taker job next m = m
+  no_take stage die taker job next m = m
+
+  -- an event of a request changes neither images nor what the dies are at
+  own_images : (w : World) (stage : Stage A) (act : Act) (next : Stage A) → Moves t seat stage act next
+      → ((followed act w).images ≡ w.images) × ((followed act w).works ≡ w.works)
+  own_images w stage (Take die taker job) next m = absurd (no_take stage die taker job next m)
+  own_images w stage (Done die outcome) next m = absurd (no_done stage die outcome next m)
+  own_images w stage (Reserve claim payload (Ok seq)) next m = (refl, refl)
+  own_images w stage (Reserve claim payload (Err refused)) next m = (refl, refl)
+  own_images w stage (ReserveHole claim (Ok seq)) next m = (refl, refl)
+  own_images w stage (ReserveHole claim (Err refused)) next m = (refl, refl)
+  own_images w stage (ReserveFewer claim payload (Ok seq)) next m = (refl, refl)
+  own_images w stage (ReserveFewer claim payload (Err refused)) next m = (refl, refl)
+  own_images w stage (Commit claim by (Ok seq)) next m = (refl, refl)
+  own_images w stage (Commit claim by (Err refused)) next m = (refl, refl)
+  own_images w stage (Admit pages (Ok made)) next m = (refl, refl)
+  own_images w stage (Admit pages (Err refused)) next m = (refl, refl)
+  own_images w stage act next m = (refl, refl)
+
   own_told : (w : World) (stage : Stage A) (act : Act) (next : Stage A) → Moves t seat stage act next → IsTold w act
   own_told w stage (Done die outcome) next m = absurd (no_done stage die outcome next m)
   own_told w stage (ReserveCopy page seq payload (Ok made)) next m = absurd (no_copy stage page seq payload made next m)
@@ -73,29 +97,35 @@ module _ (A : Type 0) (t : Task) (seat : ℕ) where
 
 abbrev pub Turns : {A : Type 0} → Task → ℕ → List ℕ → World → Stage A → List ℕ → Core → Stage A → Type 0
 Turns {A} t seat bytes w stage answer new next =
-    (v : World) × (turns : List Turn) × (v.core ≡ new)
+    (v : World) × (turns : List Turn) × (v.core ≡ new) × (v.images ≡ w.images) × (v.works ≡ w.works)
     × Asked {A = A} t seat bytes (record { world = w; stage = stage; answer = answer }) turns (record { world = v; stage = next; answer = answer })
 
 pub turn_asked : (L A : Type 0) (t : Task) (bytes answer : List ℕ) (before after : Seat L) (w : World) (new : Core) (stage next : Stage A)
     → Turned t before after w.core stage new next → ((act : Act) → Moves t (number_of before) stage act next → IsFounded w.core stage act next)
     → (Strays w.core stage next → IsBarred w.core stage) → Turns t (number_of before) bytes w stage answer new next
 turn_asked L A t bytes answer before after w new stage next (Rested same kept stays) founded barred =
-    (w, [], sym same, ap (λ (s : Stage A). record { world = w; stage = s; answer = answer }) stays)
-turn_asked L A t bytes answer before after w new stage next (Moved act step commits moves) founded barred = (
-  behind A t (number_of before) w act new,
-  Makes act ∷ [],
-  refl,
-  (
-    record { world = behind A t (number_of before) w act new; stage = next; answer = answer },
-    (made A t (number_of before) w stage act next new step moves, moves, founded act moves, refl),
-    refl,
-  ),
-)
+    (w, [], sym same, refl, refl, ap (λ (s : Stage A). record { world = w; stage = s; answer = answer }) stays)
+turn_asked L A t bytes answer before after w new stage next (Moved act step commits moves) founded barred =
+    let kept = own_images A t (number_of before) w stage act next moves in (
+      behind A t (number_of before) w act new,
+      Makes act ∷ [],
+      refl,
+      kept.0,
+      kept.1,
+      (
+        record { world = behind A t (number_of before) w act new; stage = next; answer = answer },
+        (made A t (number_of before) w stage act next new step moves, moves, founded act moves, refl),
+        refl,
+      ),
+    )
 turn_asked L A t bytes answer before after w new stage next (Folded between act full fold step commits moves) founded barred =
-    let middle : World = behind A t (number_of before) w Fold between in (
+    let middle : World = behind A t (number_of before) w Fold between in
+    let kept = own_images A t (number_of before) middle stage act next moves in (
       behind A t (number_of before) middle act new,
       Meanwhile (Event Fold) ∷ Makes act ∷ [],
       refl,
+      kept.0,
+      kept.1,
       (
         record { world = middle; stage = stage; answer = answer },
         (
@@ -126,5 +156,7 @@ turn_asked L A t bytes answer before after w new stage next (StrayedTurn same ke
   w,
   Strayed ∷ [],
   sym same,
+  refl,
+  refl,
   (record { world = w; stage = next; answer = answer }, (refl, barred strays, strays, refl), refl),
 )

@@ -1,10 +1,11 @@
 //! What any request comes to.
 ghost use Rattle.std.specs.Prelude.{◌≡◌, ◌≢◌, ℕ, ◌<◌, ◌/◌, Bool, List, None, Option, Some, false, length, slice_index};
 ghost use Rattle.fa_asks.specs.Asked.{Asked, Moment, Strayed, Turn, TurnsTo};
-ghost use Rattle.fa_asks.specs.Begun.{HasBegun};
+ghost use Rattle.fa_asks.specs.Begun.{HasBegun, IsCalm};
 ghost use Rattle.fa_asks.specs.Calls.{HasBytes, answer_of, call_of};
 ghost use Rattle.fa_asks.specs.Shown.{store_of};
 ghost use Rattle.fa_laws.specs.Reached.{IsReached};
+ghost use Rattle.fa_machine.specs.Beginning.{IsBeginning};
 ghost use Rattle.fa_machine.specs.World.{World};
 ghost use Rattle.fa_ops.specs.Tasks.{task_of};
 ghost use Rattle.fa_ops.specs.declared.request.Request.{Request};
@@ -22,7 +23,8 @@ use fa_laws::steps::{
 
 /// A request that nobody else writes meanwhile serves, as a store that is alone does. A read gives the bytes of its range. A write, a zero
 /// or a trim leaves its bytes and nothing else. A flush writes nothing. One that is refused has a cause, and leaves a beginning of its bytes.
-/// What is answered is one of the answers that its call can have. Where it ends another may begin, over a world that runs lead to.
+/// What is answered is one of the answers that its call can have. The first request may begin over an array that was just mounted, and where
+/// one ends another may begin, over a world that runs lead to.
 pub fn a_request_serves<A>()
     ensures serves { (request : Request) (seat : ℕ) (bytes : List ℕ) (before after : Moment A) (turns : List Turn) (end : Option BlockFault)
         → HasBegun request before → HasBytes request bytes
@@ -34,6 +36,7 @@ pub fn a_request_serves<A>()
         → Meets (store_of before.world) (call_of request bytes) (answer_of request end after.answer) (store_of after.world) }
     ensures reached { (t : Task) (seat : ℕ) (bytes : List ℕ) (before after : Moment A) (turns : List Turn) → IsReached before.world
         → Asked t seat bytes before turns after → IsReached after.world }
+    ensures calm { (w : World) → IsBeginning w → IsReached w × IsCalm w }
     ensures whole { (w : World) → IsReached w → IsWhole (store_of w) }
 {
     live_dies_are_kept();
