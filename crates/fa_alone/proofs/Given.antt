@@ -204,14 +204,14 @@ module _ (batch : ℕ) (plain : List (List ℕ)) where
     happens_gives (Event act) after none happens = event_gives act after none happens
     happens_gives (ImageCall die gave) after none happens = call_gives after die (w.works die) gave refl happens
 
-  run_gives : (w : World) → Holds w → (happenings : List Happening) (last : World) → Gives batch plain w → Run w happenings last
+  pub run_gives : (w : World) → Holds w → (happenings : List Happening) (last : World) → Gives batch plain w → Run w happenings last
       → AllByRecursion WritesNothing happenings → Holds last × Gives batch plain last
   run_gives w h [] last g run none = (subst Holds (sym run) h, subst (Gives batch plain) (sym run) g)
   run_gives w h (happening ∷ happenings) last g run none =
       run_gives run.0 (happens_holds w happening run.0 h run.1) happenings last (happens_gives w h g happening run.0 none.0 run.1) run.2 none.1
 
 -- nothing is in flight for a batch that is yet to be admitted, and it is not open
-fresh_gives : (w : World) → Holds w → (batch : ℕ) → is_fresh w.core batch ≡ true → Gives batch w.plain w
+pub fresh_gives : (w : World) → Holds w → (batch : ℕ) → is_fresh w.core batch ≡ true → Gives batch w.plain w
 fresh_gives w h batch fresh = record {
   same = refl;
   reads = λ die work b page version slot e flight of_batch.

@@ -1,8 +1,9 @@
 -- A batch that is ready answers each page of its list, in the list's order.
 use Rattle.fa_alone.proofs.Changes.{Batches, batches_after, batches_are, with_ended, with_one_more, with_read}
-use Rattle.fa_alone.proofs.Given.{last_gives, open_page}
+use Rattle.fa_alone.proofs.Given.{Gives, last_gives, open_page}
 use Rattle.fa_alone.specs.Unwritten.{EndsNoBatch, WritesNothing}
 use Rattle.fa_laws.proofs.Endings.{HappensCall}
+use Rattle.fa_laws.proofs.Invariant.{Holds}
 use Rattle.fa_laws.specs.Reached.{IsReached}
 use Rattle.fa_machine.proofs.Maps.{get-insert_other, get-insert_same, get-remove_other}
 use Rattle.fa_machine.specs.Cells.{DidRead, Outcome, payload_of}
@@ -20,7 +21,7 @@ use Rattle.std.proofs.lemmas.Bool.{and_parts, cases_eq, false≢true, not-true, 
 use Rattle.std.specs.FinMap.{FinMap, contains_key, empty, get, insert}
 use Rattle.std.specs.List.{AllByRecursion, cons_option, list_all}
 use Rattle.std.specs.Ordering.{nat_cmp}
-use Rattle.std.specs.Prelude.{Err, Ok, filter_map, if◌then◌else◌, is_some, option_map, unwrap_or}
+use Rattle.std.specs.Prelude.{Err, Ok, filter_map, if◌then◌else◌, is_some, option_map, slice_index_or, unwrap_or}
 
 -- the batch is open, with these pages
 pub record IsOpen (batch : ℕ) (pages : List ℕ) (batches : Batches) : Type 0 where
@@ -89,7 +90,7 @@ module _ (batch : ℕ) (pages : List ℕ) where
       next_open None c = absurd c
       next_open (Some call) c = subst (λ (v : World). IsOpen batch pages v.core.batches) (sym c.2) k
 
-  run_open : (w : World) (happenings : List Happening) (last : World) → IsOpen batch pages w.core.batches → Run w happenings last
+  pub run_open : (w : World) (happenings : List Happening) (last : World) → IsOpen batch pages w.core.batches → Run w happenings last
       → AllByRecursion (EndsNoBatch batch) happenings → IsOpen batch pages last.core.batches
   run_open w [] last k run none = subst (λ (v : World). IsOpen batch pages v.core.batches) (sym run) k
   run_open w (Event act ∷ happenings) last k run none =
@@ -99,7 +100,7 @@ module _ (batch : ℕ) (pages : List ℕ) where
   run_open w (ImageCall die gave ∷ happenings) last k run none =
       run_open run.0 happenings last (call_open w run.0 die (w.works die) gave run.1 k) run.2 none.1
 
-admitted_open : (w opened : World) (pages : List ℕ) (admitted : Admitted) → HappensEvent w (Admit pages (Ok admitted)) opened
+pub admitted_open : (w opened : World) (pages : List ℕ) (admitted : Admitted) → HappensEvent w (Admit pages (Ok admitted)) opened
     → IsOpen admitted.batch.0 pages opened.core.batches
 admitted_open w opened pages admitted opens =
     subst (IsOpen admitted.batch.0 pages) (sym (batches_are w.core (Admit pages (Ok admitted)) opened.core opens.step.does))
@@ -129,6 +130,20 @@ all_given answers f (page ∷ pages) all given =
     let parts = and_parts (contains_key answers page) (list_all (λ page. contains_key answers page) pages) all in
     one_given answers f page (get answers page) refl parts.0 given _ _ (all_given answers f pages parts.1 given)
 
+-- a batch with these pages that is ready is answered what it was given
+pub open_gives : (batch : ℕ) (pages : List ℕ) (plain : List (List ℕ)) (last after : World) (answer : List (ℕ × List ℕ)) → Holds last
+    → Gives batch plain last → IsOpen batch pages last.core.batches → results last.core batch ≡ Ready → HappensEvent last (EndBatch batch answer) after
+    → answer ≡ map (λ page. (page, slice_index_or plain page [])) pages
+open_gives batch pages plain last after answer h gives k ready ends =
+    let here : batch_at last.core batch ≡ k.entry = ap (λ (o : Option OpenBatch). unwrap_or o (record { pages = []; answers = empty })) k.found in
+    let whole = if_ready _ (list_all (λ page. contains_key (batch_at last.core batch).answers page) (batch_at last.core batch).pages) ready in
+    ends.step.does.0
+    ∙ ap answered here
+    ∙ all_given k.entry.answers (λ page. slice_index_or plain page []) k.entry.pages
+    (ap (λ (b : OpenBatch). list_all (λ page. contains_key b.answers page) b.pages) (sym here) ∙ whole)
+    (λ page bytes e. open_page batch plain last h gives k.entry k.found page bytes e)
+    ∙ ap (map (λ page. (page, slice_index_or plain page []))) k.lists
+
 pub ready_gives : (w opened last after : World) (pages : List ℕ) (admitted : Admitted) (happenings : List Happening) (answer : List (ℕ × List ℕ))
     → IsReached w → HappensEvent w (Admit pages (Ok admitted)) opened → Run opened happenings last → AllByRecursion WritesNothing happenings
     → AllByRecursion (EndsNoBatch admitted.batch.0) happenings → results last.core admitted.batch.0 ≡ Ready
@@ -136,11 +151,5 @@ pub ready_gives : (w opened last after : World) (pages : List ℕ) (admitted : A
 ready_gives w opened last after pages admitted happenings answer reached opens run none unended ready ends =
     let batch = admitted.batch.0 in
     let found = last_gives w opened last pages admitted happenings reached opens run none in
-    let k = run_open batch pages opened happenings last (admitted_open w opened pages admitted opens) run unended in
-    let here : batch_at last.core batch ≡ k.entry = ap (λ (o : Option OpenBatch). unwrap_or o (record { pages = []; answers = empty })) k.found in
-    let whole = if_ready _ (list_all (λ page. contains_key (batch_at last.core batch).answers page) (batch_at last.core batch).pages) ready in
-    ends.step.does.0
-    ∙ ap answered here
-    ∙ all_given k.entry.answers (plain_page w) k.entry.pages (ap (λ (b : OpenBatch). list_all (λ page. contains_key b.answers page) b.pages) (sym here) ∙ whole)
-    (λ page bytes e. open_page batch w.plain last found.0 found.1 k.entry k.found page bytes e)
-    ∙ ap (map (λ page. (page, plain_page w page))) k.lists
+    open_gives batch pages w.plain last after answer found.0 found.1
+    (run_open batch pages opened happenings last (admitted_open w opened pages admitted opens) run unended) ready ends

@@ -63,7 +63,7 @@ given_payload : (w : World) (claim given : ℕ) (payload : List ℕ) (page seq :
 given_payload w claim given payload page seq is low =
     value_other (claimed_page w.core claim) given payload w.payloads page seq (λ e f. absurd (omega (arith, f, is, low)))
 
-kept_payload : (w : World) (act : Act) (new : Core) → Does w.core act new → (page seq : ℕ) → seq ≤ w.core.last
+pub kept_payload : (w : World) (act : Act) (new : Core) → Does w.core act new → (page seq : ℕ) → seq ≤ w.core.last
     → (followed act w).payloads page seq ≡ w.payloads page seq
 kept_payload w (Reserve claim payload (Ok given)) new d page seq low = given_payload w claim given.0 payload page seq d.1 low
 kept_payload w (Reserve claim payload (Err refused)) new d page seq low = refl

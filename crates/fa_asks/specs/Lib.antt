@@ -1,0 +1,4 @@
+pub mod Asked
+pub mod Begun
+pub mod Calls
+pub mod Shown

@@ -1,0 +1,41 @@
+//! What a flush comes to.
+ghost use Rattle.std.specs.Prelude.{◌≡◌, ℕ, List, None, true};
+ghost use Rattle.fa_asks.specs.Asked.{Asked, Moment, Turn, happenings_of};
+ghost use Rattle.fa_asks.specs.Begun.{HasBegun};
+ghost use Rattle.fa_asks.specs.Calls.{HasBytes};
+ghost use Rattle.fa_laws.specs.Syncing.{TakesAndEndsSync};
+ghost use Rattle.fa_machine.specs.Run.{Run};
+ghost use Rattle.fa_machine.specs.State.{is_live};
+ghost use Rattle.fa_ops.specs.Tasks.{task_of};
+ghost use Rattle.fa_ops.specs.declared.request.Request.{Request};
+ghost use Rattle.fa_ops.specs.declared.request.Task.{Task};
+ghost use Rattle.fa_ops.specs.declared.stage.Stage.TheVariants.{Ended};
+
+use fa_laws::steps::{
+    a_sync_is_of_its_take, flushes_are_counted, live_dies_are_kept, no_older_sync_answers_a_flush,
+    numbers_are_kept, spares_are_kept, synced_rises_by_a_sync, the_geometry_is_kept,
+    the_last_number_never_falls,
+};
+
+/// What becomes of a request is a run. One with a flush that ends without a fault ends behind a sync of each die that is live as it begins and
+/// as it ends: the die took the sync meanwhile, and ended it.
+pub fn a_flush_has_synced<A>()
+    ensures run { (t : Task) (seat : ℕ) (bytes : List ℕ) (before after : Moment A) (turns : List Turn)
+        → Asked t seat bytes before turns after → Run before.world (happenings_of turns) after.world }
+    ensures synced { (request : Request) (seat die : ℕ) (bytes : List ℕ) (before after : Moment A) (turns : List Turn)
+        → HasBegun request before → HasBytes request bytes
+        → (task_of before.world.core.page_map.geometry.page_bytes request).flush ≡ true
+        → Asked (task_of before.world.core.page_map.geometry.page_bytes request) seat bytes before turns after → after.stage ≡ Ended None
+        → is_live before.world.core.page_map die ≡ true → is_live after.world.core.page_map die ≡ true
+        → TakesAndEndsSync die (happenings_of turns) }
+{
+    live_dies_are_kept();
+    spares_are_kept();
+    numbers_are_kept();
+    the_geometry_is_kept();
+    the_last_number_never_falls();
+    synced_rises_by_a_sync();
+    a_sync_is_of_its_take();
+    flushes_are_counted();
+    no_older_sync_answers_a_flush();
+}
