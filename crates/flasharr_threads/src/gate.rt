@@ -11,11 +11,9 @@ pub(crate) const TURNS: u32 = 10_000;
 /// Which calls are held.
 #[derive(Clone, Copy)]
 pub(crate) enum Held {
-    /// Reads of slots of this die.
-    ReadsOf(Die),
-    /// Reads of slots of all dies.
+    /// Reads of slots.
     Reads,
-    /// Reads and programs of slots of all dies.
+    /// Reads and programs of slots.
     Slots,
 }
 
@@ -106,18 +104,14 @@ impl<'a, R: Clock> Holding<'a, R> {
 }
 
 impl<'a, R: Clock> Gate for Holding<'a, R> {
-    fn before(&self, die: Die, call: ImageCallKind) {
-        let (is_counted, is_held) = match (call, self.held) {
-            (ImageCallKind::ReadSlot, Held::ReadsOf(held)) => (true, die == held),
-            (ImageCallKind::ReadSlot, _) => (true, true),
-            (ImageCallKind::Program, Held::Slots) => (true, true),
-            _ => (false, false),
+    fn before(&self, _die: Die, call: ImageCallKind) {
+        let is_held = match (call, self.held) {
+            (ImageCallKind::ReadSlot, _) => true,
+            (ImageCallKind::Program, Held::Slots) => true,
+            _ => false,
         };
-        if !is_counted || !self.is_shut.load(Ordering::SeqCst) {
-            return;
-        }
-        let _ = self.begun.fetch_add(1, Ordering::SeqCst);
-        if is_held {
+        if is_held && self.is_shut.load(Ordering::SeqCst) {
+            let _ = self.begun.fetch_add(1, Ordering::SeqCst);
             self.hold();
         }
     }

@@ -70,10 +70,10 @@ fn turns_of(alloc: Global, desk: &Desk) -> Result<Vec<InTurn<'_>>, AllocError> {
     Ok(users)
 }
 
-/// A read of two pages on two dies is at both dies at once.
+/// A read of two pages on two dies is at both dies at once, whichever is first: each read of a die waits for that of the other.
 fn two_dies_read_in_one_round<R: Machine>(rt: &R) -> Came {
     let steps = [Step::Write(0), Step::Write(1), Step::Shut, Step::Read(0, 2)];
-    let gate = Holding::new(rt, Held::ReadsOf(Die(0)), 2);
+    let gate = Holding::new(rt, Held::Reads, 2);
     let start = new_array(rt, Shape::of(2))?;
     close_by_steps(rt, start, &gate, Meanwhile::Sleep, &steps, 0)?;
     Ok(())
