@@ -1,0 +1,132 @@
+-- Deeds one after the other.
+use Rattle.std.proofs.Common.{◌≡◌, ◌∙◌, ℕ, Bool, List, Option, Some, None, Ok, Result, IfNone, IfSome, ap, refl, sym, subst}
+use Rattle.fa_headers.specs.declared.judging.Standing.{Standing}
+use Rattle.fa_image.specs.Image.{ImageAnswer, ImageCall}
+use Rattle.fa_machine.specs.State.{Core}
+use Rattle.fa_machine.specs.Step.{Act, Advance, Fold, SpareIn, Step, Take, Window}
+use Rattle.fa_machine.specs.declared.refusals.SpareRefused.{SpareRefused}
+use Rattle.fa_shared.specs.Locked.{LockedState}
+use Rattle.fa_shared.specs.Seats.{commits_with, number_of}
+use Rattle.fa_shared.specs.declared.seat.Seat.{Seat}
+use Rattle.fa_solo.specs.Deeds.{Goes, IsForDies, IsForOrder, IsForRequests, Makes, MakesJob, Runs, Stays}
+use Rattle.fa_solo.specs.House.{House}
+use Rattle.fa_solo.specs.Rigs.{Does, house_of}
+use Rattle.fa_solo.specs.declared.rig.Rig.{Rig}
+use Rattle.fa_workers.specs.Held.{Folded, Folds, HadRoom, LeavesRest}
+use Rattle.fa_workers.specs.Spares.{BringsIn, HasNone, Lowest, WantsNone}
+
+-- one after the other
+pub join_rest : {L : Type 0} {a b c : LockedState} {s t u : Seat L} → LeavesRest a s b t → LeavesRest b t c u → LeavesRest a s c u
+join_rest {a = a} {b = b} {c = c} one two = record {
+  rest = two.rest ∙ ap (λ (l : LockedState). record l { core = c.core }) one.rest;
+  commits = two.commits ∙ one.commits;
+  number = two.number ∙ one.number;
+}
+
+pub rest_same : {L : Type 0} (a : LockedState) (s : Seat L) → LeavesRest a s a s
+rest_same a s = record { rest = refl; commits = refl; number = refl }
+
+module _ {I : Type 0} (made : I → ImageCall → ImageAnswer → I → Type 0) (array : List ℕ) (dies : List Standing) (seat : ℕ) where
+  pub goes_more : (P : Act → Type 0) (a b c : House I) → Goes made array dies seat P a b → Goes made array dies seat P b c
+      → Goes made array dies seat P a c
+  goes_more P a b c one Stays = one
+  goes_more P a b c one (Makes middle new act before may step images) = Makes middle new act (goes_more P a b middle one before) may step images
+  goes_more P a b c one (Runs middle new die before job) = Runs middle new die (goes_more P a b middle one before) job
+
+  pub goes_wider : (P Q : Act → Type 0) → ((act : Act) → P act → Q act) → (a b : House I) → Goes made array dies seat P a b
+      → Goes made array dies seat Q a b
+  goes_wider P Q wider a b Stays = Stays
+  goes_wider P Q wider a b (Makes middle new act before may step images) =
+      Makes middle new act (goes_wider P Q wider a middle before) (wider act may) step images
+  goes_wider P Q wider a b (Runs middle new die before job) = Runs middle new die (goes_wider P Q wider a middle before) job
+
+-- the same by other numbers that are equal
+pub goes_by : {I : Type 0} (made : I → ImageCall → ImageAnswer → I → Type 0) (array other : List ℕ) (dies those : List Standing) (seat same : ℕ)
+    (P : Act → Type 0) (a b : House I) → other ≡ array → those ≡ dies → same ≡ seat → Goes made other those same P a b
+    → Goes made array dies seat P a b
+goes_by made array other dies those seat same P a b number standing by goes =
+    subst (λ (n : ℕ). Goes made array dies n P a b) by (subst (λ (d : List Standing). Goes made array d same P a b) standing
+    (subst (λ (x : List ℕ). Goes made x those same P a b) number goes))
+
+module _ {L M I A : Type 0} (made : I → ImageCall → ImageAnswer → I → Type 0) where
+  pub does_none : (P : Act → Type 0) (a : Rig L M I A) → Does made P a a
+  does_none P a = record { goes = Stays; left = rest_same _ _; dies = refl }
+
+  pub does_more : (P : Act → Type 0) (a b c : Rig L M I A) → Does made P a b → Does made P b c → Does made P a c
+  does_more P a b c one two = record {
+    goes = goes_more made a.locked.number a.dies.items (number_of a.seat) P (house_of a) (house_of b) (house_of c) one.goes
+        (goes_by made a.locked.number b.locked.number a.dies.items b.dies.items (number_of a.seat) (number_of b.seat) P (house_of b) (house_of c)
+        (ap (λ (l : LockedState). l.number) one.left.rest) one.dies one.left.number two.goes);
+    left = join_rest one.left two.left;
+    dies = two.dies ∙ one.dies;
+  }
+
+  pub does_wider : (P Q : Act → Type 0) → ((act : Act) → P act → Q act) → (a b : Rig L M I A) → Does made P a b → Does made Q a b
+  does_wider P Q wider a b does = record {
+    goes = goes_wider made a.locked.number a.dies.items (number_of a.seat) P Q wider (house_of a) (house_of b) does.goes;
+    left = does.left;
+    dies = does.dies;
+  }
+
+  -- an event, which leaves the images
+  pub does_event : (P : Act → Type 0) (a b : Rig L M I A) (act : Act) → P act → Step a.locked.core act b.locked.core
+      → LeavesRest a.locked a.seat b.locked b.seat → b.images.items ≡ a.images.items → b.dies.items ≡ a.dies.items → Does made P a b
+  does_event P a b act may step left images dies = record {
+    goes = Makes (house_of a) (house_of b) act Stays may step images;
+    left = left;
+    dies = dies;
+  }
+
+  -- no event
+  pub does_same : (P : Act → Type 0) (a b : Rig L M I A) → b.locked.core ≡ a.locked.core
+      → LeavesRest a.locked a.seat b.locked b.seat → b.images.items ≡ a.images.items → b.dies.items ≡ a.dies.items → Does made P a b
+  does_same P a b same left images dies = record {
+    goes = let house : House I → Type 0 = λ h. Goes made a.locked.number a.dies.items (number_of a.seat) P (house_of a) h in
+        subst house (λ i. record { core = sym same i; images = sym images i }) Stays;
+    left = left;
+    dies = dies;
+  }
+
+  -- an event, if its condition held
+  pub does_option : {X : Type 0} (P : Act → Type 0) (a b : Rig L M I A) (result : Option X) (act : X → Act) → ((x : X) → P (act x))
+      → IfSome result (λ x. Step a.locked.core (act x) b.locked.core) → IfNone result (b.locked.core ≡ a.locked.core)
+      → LeavesRest a.locked a.seat b.locked b.seat → b.images.items ≡ a.images.items → b.dies.items ≡ a.dies.items → Does made P a b
+  does_option P a b (Some x) act may some none left images dies = does_event P a b (act x) (may x) some left images dies
+  does_option P a b None act may some none left images dies = does_same P a b none left images dies
+
+  -- the history is folded, if it is full
+  pub does_fold : (P : Act → Type 0) (a b : Rig L M I A) → P Fold → Folds a.locked.core b.locked.core
+      → LeavesRest a.locked a.seat b.locked b.seat → b.images.items ≡ a.images.items → b.dies.items ≡ a.dies.items → Does made P a b
+  does_fold P a b may (Folded full step) left images dies = does_event P a b Fold may step left images dies
+  does_fold P a b may (HadRoom same) left images dies = does_same P a b same left images dies
+
+  -- a spare is brought in, or none
+  pub does_spare : (P : Act → Type 0) (a b : Rig L M I A) (brought : Bool)
+      → ((die : ℕ) (answer : Result (Unit {0}) SpareRefused) → P (SpareIn die answer)) → BringsIn a.locked.core brought b.locked.core
+      → LeavesRest a.locked a.seat b.locked b.seat → b.images.items ≡ a.images.items → b.dies.items ≡ a.dies.items → Does made P a b
+  does_spare P a b brought may (Lowest die is wants lower step) left images dies =
+      does_event P a b (SpareIn die (Ok tt)) (may die (Ok tt)) step left images dies
+  does_spare P a b brought may (WantsNone is wants same) left images dies = does_same P a b same left images dies
+  does_spare P a b brought may (HasNone is none same) left images dies = does_same P a b same left images dies
+
+-- what is for dies is for the array's order, and for requests
+pub for_order : (act : Act) → IsForDies act → IsForOrder act
+for_order (Take die seat None) may = may
+for_order (Window die rounds answer) may = may
+for_order (Advance answer) may = may
+for_order (SpareIn die answer) may = may
+for_order Fold may = may
+for_order act may = absurd may
+
+pub for_requests : (act : Act) → IsForDies act → IsForRequests act
+for_requests (Take die seat None) may = may
+for_requests (Window die rounds answer) may = may
+for_requests (Advance answer) may = may
+for_requests (SpareIn die answer) may = may
+for_requests Fold may = may
+for_requests act may = absurd may
+
+-- a Fold leaves the geometry
+pub fold_geometry : (old new : Core) → Folds old new → new.page_map.geometry ≡ old.page_map.geometry
+fold_geometry old new (Folded full step) = ap (λ (c : Core). c.page_map.geometry) step.does
+fold_geometry old new (HadRoom same) = ap (λ (c : Core). c.page_map.geometry) same

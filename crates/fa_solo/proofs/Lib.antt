@@ -1,0 +1,5 @@
+mod Asked
+mod Begun
+mod Chains
+mod Ended
+mod Taken

@@ -1,0 +1,6 @@
+use Rattle.std.proofs.Common.{refl}
+use Rattle.fa_solo.proofs.Asked.{runs_turn}
+use Rattle.fa_solo.proofs.requests.turn.Goals as goal
+
+pub returns : goal.returns
+returns g c = λ bytes. runs_turn _ bytes _ _ _ _ c.turn.ensures.turned c.turn.ensures.task c.turn.ensures.answer c.turn.ensures.account refl refl

@@ -1,0 +1,5 @@
+pub mod Calls
+pub mod House
+pub mod Deeds
+pub mod Rigs
+pub mod Turns

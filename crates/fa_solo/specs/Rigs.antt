@@ -1,0 +1,54 @@
+-- What contracts see of what the store of one thread owns, and what is done with it besides its requests.
+use Rattle.std.specs.Prelude.{◌≡◌, ℕ, ◌+◌, ◌<◌, List, Some, length, slice_get, slice_set}
+use Rattle.fa_image.specs.Image.{ImageAnswer, ImageCall, ImageState}
+use Rattle.fa_machine.specs.Cells.{Outcome}
+use Rattle.fa_machine.specs.Step.{Act, Done, Step}
+use Rattle.fa_machine.specs.Taking.{Handed}
+use Rattle.fa_mount.specs.Standings.{place_on}
+use Rattle.fa_shared.specs.Seats.{number_of}
+use Rattle.fa_solo.specs.Deeds.{Goes}
+use Rattle.fa_solo.specs.House.{House}
+use Rattle.fa_solo.specs.declared.rig.Rig.{Rig}
+use Rattle.fa_workers.specs.Held.{LeavesRest}
+use Rattle.fa_workers.specs.Made.{Ran}
+
+module _ {L M I A : Type 0} where
+  abbrev pub house_of : Rig L M I A → House I
+  house_of rig = record { core = rig.locked.core; images = rig.images.items }
+
+  -- The die has this image, at this place of the list, and it is of the array's geometry.
+  pub record IsPlaced (view : I → ImageState) (rig : Rig L M I A) (die place : ℕ) : Type 0 where
+    pub place_is : place_on rig.dies.items die ≡ Some place
+    pub inside : place < length rig.images.items
+    pub image : I
+    pub image_is : slice_get rig.images.items place ≡ Some image
+    pub shape : (view image).geometry ≡ rig.locked.core.page_map.geometry
+
+  -- There is memory for a slot's bytes and for a page's.
+  pub record HasMemory (rig : Rig L M I A) : Type 0 where
+    pub scratch : length rig.scratch.items ≡ rig.locked.core.page_map.geometry.page_bytes + 64
+    pub buffer : length rig.buffer.items ≡ rig.locked.core.page_map.geometry.page_bytes
+
+  module _ (made : I → ImageCall → ImageAnswer → I → Type 0) where
+    -- The calls of a job were made of the image at a place, and the job ends so by what they gave.
+    pub record RanAt (old : Rig L M I A) (die place : ℕ) (job : Handed) (outcome : Outcome) (images : List I) : Type 0 where
+      pub before : I
+      pub after : I
+      pub image_is : slice_get old.images.items place ≡ Some before
+      pub ran : Ran made old.locked.core.page_map.geometry old.locked.number die job outcome before after
+      pub images_are : images ≡ slice_set old.images.items place after
+
+    -- They were made, and the job has ended so.
+    pub record EndsAt (old : Rig L M I A) (die place : ℕ) (job : Handed) (new : Rig L M I A) : Type 0 where
+      pub outcome : Outcome
+      pub ran : RanAt old die place job outcome new.images.items
+      pub ends : Step old.locked.core (Done die outcome) new.locked.core
+      pub left : LeavesRest old.locked old.seat new.locked new.seat
+      pub dies : new.dies.items ≡ old.dies.items
+
+    -- Deeds were done, of which the events are some of these. Nothing else of the array under its lock has changed, no Commit was made, and
+    -- the images are those of the same dies.
+    pub record Does (P : Act → Type 0) (old new : Rig L M I A) : Type 0 where
+      pub goes : Goes made old.locked.number old.dies.items (number_of old.seat) P (house_of old) (house_of new)
+      pub left : LeavesRest old.locked old.seat new.locked new.seat
+      pub dies : new.dies.items ≡ old.dies.items

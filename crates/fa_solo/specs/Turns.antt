@@ -1,0 +1,66 @@
+-- A request from its beginning to its end, by one thread: its turns, what it prepares, and what is done for dies while it waits.
+use Rattle.std.specs.Prelude.{◌≡◌, ℕ, List}
+use Rattle.fa_blocks.specs.Counts.{GoesOn}
+use Rattle.fa_headers.specs.declared.judging.Standing.{Standing}
+use Rattle.fa_image.specs.Image.{ImageAnswer, ImageCall}
+use Rattle.fa_ops.specs.Moves.{Turned}
+use Rattle.fa_ops.specs.Ops.{Prepares, answer_of, stage_of, task_in}
+use Rattle.fa_ops.specs.declared.op.Op.{Op}
+use Rattle.fa_ops.specs.declared.request.Task.{Task}
+use Rattle.fa_ops.specs.declared.stage.Stage.{Stage}
+use Rattle.fa_shared.specs.Seats.{commits_with, number_of}
+use Rattle.fa_shared.specs.declared.seat.Seat.{Seat}
+use Rattle.fa_solo.specs.Deeds.{Goes, IsForRequests}
+use Rattle.fa_solo.specs.House.{House}
+use Rattle.fa_solo.specs.Rigs.{house_of}
+use Rattle.fa_solo.specs.declared.rig.Rig.{Rig}
+
+-- How far a request is: the array with its images, the seat by which its events are made, its stage, and its answer so far.
+pub record Asking (L I A : Type 0) : Type 0 where
+  pub house : House I
+  pub seat : Seat L
+  pub stage : Stage A
+  pub answer : List ℕ
+
+module _ {L I A : Type 0} (made : I → ImageCall → ImageAnswer → I → Type 0) (array : List ℕ) (dies : List Standing) (seat : ℕ) (task : Task)
+    (bytes : List ℕ) where
+  -- a turn of the request, which leaves the images as they are
+  pub record MakesTurn (old new : Asking L I A) : Type 0 where
+    pub turned : Turned task old.seat new.seat old.house.core old.stage new.house.core new.stage
+    pub number : number_of new.seat ≡ number_of old.seat
+    pub images : new.house.images ≡ old.house.images
+    pub answer : new.answer ≡ old.answer
+
+  -- what it prepares, which leaves the array as it is
+  pub record MakesReady (old new : Asking L I A) : Type 0 where
+    pub prepares : Prepares task bytes old.stage old.answer new.stage new.answer
+    pub same_house : new.house ≡ old.house
+    pub same_seat : new.seat ≡ old.seat
+
+  -- what is done meanwhile, which leaves the request as it is
+  pub record PassesTime (old new : Asking L I A) : Type 0 where
+    pub goes : Goes made array dies seat IsForRequests old.house new.house
+    pub commits : commits_with new.seat ≡ commits_with old.seat
+    pub number : number_of new.seat ≡ number_of old.seat
+    pub stage : new.stage ≡ old.stage
+    pub answer : new.answer ≡ old.answer
+
+  -- any number of these, one after the other
+  pub data Asks (old : Asking L I A) : Asking L I A → Type 0 where
+    Begins : Asks old old
+    Turns : (middle new : Asking L I A) → Asks old middle → MakesTurn middle new → Asks old new
+    Readies : (middle new : Asking L I A) → Asks old middle → MakesReady middle new → Asks old new
+    Waits : (middle new : Asking L I A) → Asks old middle → PassesTime middle new → Asks old new
+
+module _ {L M I A : Type 0} where
+  abbrev pub asking_of : Rig L M I A → Op A → Asking L I A
+  asking_of rig op = record { house = house_of rig; seat = rig.seat; stage = stage_of op; answer = answer_of op }
+
+  -- A request went on so, with these bytes. The Commits of the seat keep up with its pages, and nothing else of the array under its lock has
+  -- changed.
+  pub record RunsOn (made : I → ImageCall → ImageAnswer → I → Type 0) (bytes : List ℕ) (rig : Rig L M I A) (op : Op A) (new : Rig L M I A)
+      (next : Op A) : Type 0 where
+    pub asks : Asks made rig.locked.number rig.dies.items (number_of rig.seat) (task_in op) bytes (asking_of rig op) (asking_of new next)
+    pub counts : GoesOn rig.seat op new.seat next
+    pub rest : new.locked ≡ record rig.locked { core = new.locked.core; book = new.locked.book }
+    pub dies : new.dies.items ≡ rig.dies.items

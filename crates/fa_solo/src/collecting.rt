@@ -1,0 +1,111 @@
+//! Dies that are collected: windows are given, and the rounds pass in which the steps are made.
+ghost use Rattle.fa_solo.specs.Deeds.{IsForDies};
+ghost use Rattle.fa_solo.specs.Rigs.{Does};
+
+use crate::events::window;
+use crate::jobs::work_off;
+use crate::rig::Rig;
+use fa_core::Array;
+use fa_image::Image;
+use fa_machine::WindowRefused;
+use fa_map::Map;
+use fa_types::{BlockFault, Die, Round};
+use std::alloc::Allocator;
+use std::sync::ledger::Ledger;
+
+/// What came of giving windows.
+#[derive(Clone, Copy, Debug, PartialEq, Eq)]
+pub(crate) enum Windows {
+    /// No die wanted one.
+    Unwanted,
+    /// Dies have windows.
+    Given,
+    /// A die that wants one was refused it.
+    Refused(WindowRefused),
+}
+
+/// Gives windows and makes their steps until no live die wants a window. False where a die that wants one was refused it.
+pub(crate) fn collect<L: Ledger, M: Map + Drop, I: Image, A: Allocator + Copy>(
+    rig: &mut Rig<L, M, I, A>,
+) -> bool
+    ensures { Does I.made IsForDies rig.old rig.new }
+{
+    for _ in 0..u64::MAX {
+        let windows = give_windows(rig, false);
+        work_off(rig);
+        match windows {
+            Windows::Unwanted => return true,
+            Windows::Given => {}
+            Windows::Refused(_) => return false,
+        }
+    }
+    false
+}
+
+/// Gives a window to each die that wants one and has none. Where a write waits for room those are asked alone that have none.
+pub(crate) fn give_windows<L: Ledger, M: Map + Drop, I: Image, A: Allocator + Copy>(
+    rig: &mut Rig<L, M, I, A>,
+    for_room: bool,
+) -> Windows
+    ensures { Does I.made IsForDies rig.old rig.new }
+{
+    let mut windows = Windows::Unwanted;
+    for die in 0..rig.locked.array().geometry().dies {
+        windows = both(windows, give_window(rig, Die(die as u8), for_room));
+    }
+    windows
+}
+
+/// What came of two dies: a refusal is told, and else whether one has a window.
+fn both(one: Windows, other: Windows) -> Windows {
+    match one {
+        Windows::Unwanted => other,
+        Windows::Given => match other {
+            Windows::Refused(refused) => Windows::Refused(refused),
+            _ => Windows::Given,
+        },
+        Windows::Refused(refused) => Windows::Refused(refused),
+    }
+}
+
+/// Gives a window to a die, if it wants one and has none.
+fn give_window<L: Ledger, M: Map + Drop, I: Image, A: Allocator + Copy>(
+    rig: &mut Rig<L, M, I, A>,
+    die: Die,
+    for_room: bool,
+) -> Windows
+    ensures { Does I.made IsForDies rig.old rig.new }
+{
+    if !is_wanted(rig.locked.array(), die, for_room) {
+        return Windows::Unwanted;
+    }
+    let rounds = rig.window_rounds;
+    match window(rig.alloc, &mut rig.locked, &mut rig.seat, die, rounds) {
+        Some(answer) => windows_of(answer),
+        None => Windows::Refused(WindowRefused::Busy),
+    }
+}
+
+/// What came of a Window that a die wants.
+fn windows_of(answer: Result<Round, WindowRefused>) -> Windows {
+    match answer {
+        Ok(_) | Err(WindowRefused::HasOne) => Windows::Given,
+        Err(refused) => Windows::Refused(refused),
+    }
+}
+
+/// Whether the die wants a window, and, where a write waits for room, has no room.
+fn is_wanted<M: Map, A: Allocator + Copy>(array: &Array<M, A>, die: Die, for_room: bool) -> bool {
+    array.is_die(die)
+        && array.is_live(die)
+        && array.wants_window(die)
+        && (!for_room || array.room(die) == 0)
+}
+
+/// Why a request is refused that waits for room, where a window was refused so.
+pub(crate) fn fault_of(refused: WindowRefused) -> BlockFault {
+    match refused {
+        WindowRefused::NoMemory => BlockFault::NoMemory,
+        WindowRefused::Busy | WindowRefused::HasOne => BlockFault::Spent,
+    }
+}

@@ -1,0 +1,16 @@
+//! The store that an array is to one thread that is alone with it, and that makes all work of its dies, its collector and its rebuilder itself.
+#![tactic(auto)]
+
+mod collecting;
+mod events;
+mod jobs;
+mod rebuilding;
+mod requests;
+mod rig;
+mod running;
+mod solo;
+mod spares;
+mod whole;
+
+pub use rig::Parts;
+pub use solo::Solo;

@@ -1,0 +1,202 @@
+//! Thin pages that get one more copy.
+ghost use Rattle.fa_solo.specs.Deeds.{IsForDies, IsForOrder};
+ghost use Rattle.fa_solo.specs.Rigs.{Does};
+
+use crate::collecting::collect;
+use crate::events::{admit, commit_copy, end_batch, reserve_copy};
+use crate::jobs::{bring_in, work, work_off};
+use crate::rig::Rig;
+use fa_image::Image;
+use fa_machine::{AdmitRefused, BatchId, CommitCopyRefused, Copied, ReadState};
+use fa_map::Map;
+use fa_reads::Admitted;
+use fa_shared::Locked;
+use fa_tag::Payload;
+use fa_types::{Page, Seq};
+use std::alloc::Allocator;
+use std::sync::ledger::Ledger;
+
+/// A page that is to have one more copy, with its number when it was found.
+#[derive(Clone, Copy)]
+struct ThinPage {
+    page: Page,
+    seq: Seq,
+}
+
+/// Brings in a spare where one is wanted, collects until no live die wants a window, and makes copies until no page is thin that has a place
+/// to go. A refusal ends this.
+pub(crate) fn tidy<L: Ledger, M: Map + Drop, I: Image, A: Allocator + Copy>(
+    rig: &mut Rig<L, M, I, A>,
+)
+    ensures { Does I.made IsForOrder rig.old rig.new }
+{
+    put_in_order(rig);
+    work_off(rig);
+}
+
+/// The same, but that rounds may be left to pass.
+fn put_in_order<L: Ledger, M: Map + Drop, I: Image, A: Allocator + Copy>(rig: &mut Rig<L, M, I, A>)
+    ensures { Does I.made IsForOrder rig.old rig.new }
+{
+    for _ in 0..u64::MAX {
+        bring_in(rig);
+        if !collect(rig) {
+            return;
+        }
+        if !rebuild_next(rig) {
+            return;
+        }
+    }
+}
+
+/// Gives the next thin page one more copy. False where there is none, or something was refused.
+fn rebuild_next<L: Ledger, M: Map + Drop, I: Image, A: Allocator + Copy>(
+    rig: &mut Rig<L, M, I, A>,
+) -> bool
+    ensures { Does I.made IsForOrder rig.old rig.new }
+{
+    let Some(thin) = find_thin(&rig.locked) else {
+        return false;
+    };
+    let Some(batch) = ask(rig, thin.page) else {
+        return false;
+    };
+    let state = wait_for(rig, batch);
+    let Some(answers) = end(rig, batch) else {
+        return false;
+    };
+    if state == ReadState::Ready {
+        return copy(rig, thin, answers);
+    }
+    state == ReadState::Torn
+}
+
+/// A batch of the page alone, if it is admitted.
+fn ask<L: Ledger, M: Map + Drop, I: Image, A: Allocator + Copy>(
+    rig: &mut Rig<L, M, I, A>,
+    page: Page,
+) -> Option<BatchId>
+    ensures { Does I.made IsForOrder rig.old rig.new }
+{
+    match admit(&mut rig.locked, &mut rig.seat, page) {
+        Some(answer) => batch_of(answer),
+        None => None,
+    }
+}
+
+/// The batch that was admitted, if it was.
+fn batch_of<A: Allocator>(answer: Result<Admitted<A>, AdmitRefused>) -> Option<BatchId> {
+    match answer {
+        Ok(admitted) => Some(admitted.batch),
+        Err(_) => None,
+    }
+}
+
+/// What the batch gave, which is ended.
+fn end<L: Ledger, M: Map + Drop, I: Image, A: Allocator + Copy>(
+    rig: &mut Rig<L, M, I, A>,
+    batch: BatchId,
+) -> Option<Vec<(Page, Vec<u8, A>), A>>
+    ensures { Does I.made IsForOrder rig.old rig.new }
+{
+    end_batch(rig.alloc, &mut rig.locked, &mut rig.seat, batch)
+}
+
+/// The next thin page that has a place to go.
+fn find_thin<L: Ledger, M: Map + Drop, A: Allocator + Copy>(
+    locked: &Locked<L, M, A>,
+) -> Option<ThinPage> {
+    let (page, _) = locked.array().next_thin()?;
+    if !locked.array().is_page(page) {
+        return None;
+    }
+    let seq = locked.array().seq(page)?;
+    Some(ThinPage { page, seq })
+}
+
+/// Makes the reads of a batch, and tells how it stands then.
+fn wait_for<L: Ledger, M: Map + Drop, I: Image, A: Allocator + Copy>(
+    rig: &mut Rig<L, M, I, A>,
+    batch: BatchId,
+) -> ReadState
+    ensures { Does I.made IsForDies rig.old rig.new }
+{
+    for _ in 0..u64::MAX {
+        let state = rig.locked.array().results(batch);
+        if state != ReadState::Waiting {
+            return state;
+        }
+        if !work(rig) {
+            return state;
+        }
+    }
+    ReadState::Waiting
+}
+
+/// Makes a copy of what was read of a page. False where that was refused.
+fn copy<L: Ledger, M: Map + Drop, I: Image, A: Allocator + Copy>(
+    rig: &mut Rig<L, M, I, A>,
+    thin: ThinPage,
+    answers: Vec<(Page, Vec<u8, A>), A>,
+) -> bool
+    ensures { Does I.made IsForOrder rig.old rig.new }
+{
+    let mut answers = answers;
+    let Some((_, bytes)) = answers.pop() else {
+        return false;
+    };
+    let Ok(payload) = Payload::new(bytes) else {
+        return false;
+    };
+    if !reserve(rig, thin, &payload) {
+        return false;
+    }
+    see_through(rig)
+}
+
+/// Reserves a slot for the copy. Whether that was accepted.
+fn reserve<L: Ledger, M: Map + Drop, I: Image, A: Allocator + Copy>(
+    rig: &mut Rig<L, M, I, A>,
+    thin: ThinPage,
+    payload: &Payload<A>,
+) -> bool
+    ensures { Does I.made IsForOrder rig.old rig.new }
+{
+    let ThinPage { page, seq } = thin;
+    match reserve_copy(&mut rig.locked, &mut rig.seat, page, seq, payload) {
+        Some(answer) => answer.is_ok(),
+        None => false,
+    }
+}
+
+/// Makes the program of the copy that is under way, and ends it. False where it does not end.
+fn see_through<L: Ledger, M: Map + Drop, I: Image, A: Allocator + Copy>(
+    rig: &mut Rig<L, M, I, A>,
+) -> bool
+    ensures { Does I.made IsForOrder rig.old rig.new }
+{
+    for _ in 0..u64::MAX {
+        let answer = commit(rig);
+        if !is_pending(answer) {
+            return answer.is_some();
+        }
+        if !work(rig) {
+            return false;
+        }
+    }
+    false
+}
+
+/// Whether the copy is not programmed yet.
+fn is_pending(answer: Option<Result<Copied, CommitCopyRefused>>) -> bool {
+    matches!(answer, Some(Err(CommitCopyRefused::Pending)))
+}
+
+/// The copy is current, if it is programmed.
+fn commit<L: Ledger, M: Map + Drop, I: Image, A: Allocator + Copy>(
+    rig: &mut Rig<L, M, I, A>,
+) -> Option<Result<Copied, CommitCopyRefused>>
+    ensures { Does I.made IsForOrder rig.old rig.new }
+{
+    commit_copy(rig.alloc, &mut rig.locked, &mut rig.seat)
+}

@@ -1,0 +1,195 @@
+//! What a store of one thread owns.
+ghost use Rattle.std.specs.Prelude.{◌≡◌, ◌+◌, true, IfErr, IfOk, length};
+ghost use Rattle.fa_core.specs.Array.{IsWhole, number_of as array_number, state_of};
+ghost use Rattle.fa_mount.specs.Standings.{place_on};
+
+use fa_headers::Standing;
+use fa_image::Image;
+use fa_map::Map;
+use fa_mount::{MountedArray, place_of};
+use fa_shared::{Locked, Seat};
+use fa_types::{Die, Geometry, TAG_BYTES};
+use std::alloc::{AllocError, Allocator, Global};
+use std::sync::ledger::{Blank, Ledger};
+
+/// An array with the images that it was mounted from, in their order.
+#[derive(Drop)]
+pub struct Parts<M: Map + Drop, I: Image, A: Allocator = Global> {
+    /// The array, with the places of its dies' images in the list.
+    pub mounted: MountedArray<M, A>,
+    /// The images.
+    pub images: Vec<I, A>,
+}
+
+/// An array that nobody else uses, with its images and what their jobs want.
+#[derive(Drop)]
+pub(crate) struct Rig<L: Ledger, M: Map + Drop, I: Image, A: Allocator + Copy> {
+    pub(crate) alloc: A,
+    pub(crate) locked: Locked<L, M, A>,
+    pub(crate) seat: Seat<L>,
+    pub(crate) dies: Vec<Standing, A>,
+    pub(crate) images: Vec<I, A>,
+    // A slot's bytes, and a page's.
+    pub(crate) scratch: Vec<u8, A>,
+    pub(crate) buffer: Vec<u8, A>,
+    // How many rounds a window of the collector has.
+    pub(crate) window_rounds: u64,
+}
+
+/// Memory for the jobs of dies: a slot's bytes, and a page's.
+#[derive(Drop)]
+struct Memory<A: Allocator> {
+    scratch: Vec<u8, A>,
+    buffer: Vec<u8, A>,
+}
+
+impl<L: Ledger, M: Map + Drop, I: Image, A: Allocator + Copy> Rig<L, M, I, A> {
+    ghost use Rattle.std.specs.Prelude.{◌≡◌, IfSome};
+    ghost use Rattle.fa_solo.specs.Rigs.{IsPlaced};
+
+    /// An array and its images for one thread. Where memory is refused both are handed back.
+    pub(crate) fn new(
+        alloc: A,
+        blank: Blank,
+        parts: Parts<M, I, A>,
+        window_rounds: u64,
+    ) -> Result<Rig<L, M, I, A>, Parts<M, I, A>>
+        requires name { blank.name ≡ L.name }
+        requires parts { (blank.parts ≡ L.parts) × (blank.parts ≡ 257) }
+        requires whole { IsWhole M.view parts.mounted.array }
+        ensures core { IfOk result (λ rig. rig.locked.core ≡ state_of M.view parts.mounted.array) }
+        ensures number { IfOk result (λ rig. rig.locked.number ≡ array_number parts.mounted.array) }
+        ensures dies { IfOk result (λ rig. rig.dies ≡ parts.mounted.dies) }
+        ensures images { IfOk result (λ rig. rig.images ≡ parts.images) }
+        ensures rounds { IfOk result (λ rig. rig.window_rounds ≡ window_rounds) }
+        ensures refused { IfErr result (λ back. back ≡ parts) }
+    {
+        let Parts { mounted, images } = parts;
+        let MountedArray { array, dies } = mounted;
+        let Ok(Memory { scratch, buffer }) = memory_for(alloc, array.geometry().page_bytes) else {
+            return Err(Parts {
+                mounted: MountedArray { array, dies },
+                images,
+            });
+        };
+        match Locked::alone(alloc, blank, array) {
+            Ok(locked) => Ok(seated(
+                alloc,
+                locked,
+                dies,
+                images,
+                Memory { scratch, buffer },
+                window_rounds,
+            )),
+            Err(array) => Err(Parts {
+                mounted: MountedArray { array, dies },
+                images,
+            }),
+        }
+    }
+
+    /// The array and its images.
+    pub(crate) fn into_parts(self) -> Parts<M, I, A>
+        ensures core { state_of M.view result.mounted.array ≡ self.locked.core }
+        ensures number { array_number result.mounted.array ≡ self.locked.number }
+        ensures whole { IsWhole M.view result.mounted.array }
+        ensures dies { result.mounted.dies ≡ self.dies }
+        ensures images { result.images ≡ self.images }
+    {
+        let Rig {
+            locked,
+            dies,
+            images,
+            ..
+        } = self;
+        Parts {
+            mounted: MountedArray {
+                array: locked.into_array(),
+                dies,
+            },
+            images,
+        }
+    }
+
+    /// The place of the image of a die, which is of the array's geometry. None where there is none.
+    pub(crate) fn place(&self, die: Die) -> Option<usize>
+        ensures { IfSome result (λ place. IsPlaced I.view self.now die.0 place) }
+    {
+        let place = place_at(self.dies.as_slice(), usize::from(die.0))?;
+        if place >= self.images.len() {
+            return None;
+        }
+        if !is_of(&self.images[place], self.geometry()) {
+            return None;
+        }
+        Some(place)
+    }
+
+    /// The array's geometry.
+    fn geometry(&self) -> Geometry
+        ensures { result ≡ self.now.locked.core.page_map.geometry }
+    {
+        self.locked.array().geometry()
+    }
+}
+
+/// Whether an image is of this geometry.
+fn is_of<I: Image>(image: &I, geometry: Geometry) -> bool
+    ensures { result ≡ true → (I.view image.now).geometry ≡ geometry }
+{
+    image.geometry() == geometry
+}
+
+/// The place of the image of a die. None where it has no image, or is none of the array.
+fn place_at(dies: &[Standing], die: usize) -> Option<usize>
+    ensures { result ≡ place_on dies.now die }
+{
+    match dies.get(die) {
+        Some(standing) => place_of(*standing),
+        None => None,
+    }
+}
+
+/// Takes the one seat of an array that is locked for one thread.
+fn seated<L: Ledger, M: Map + Drop, I: Image, A: Allocator + Copy>(
+    alloc: A,
+    locked: Locked<L, M, A>,
+    dies: Vec<Standing, A>,
+    images: Vec<I, A>,
+    memory: Memory<A>,
+    window_rounds: u64,
+) -> Rig<L, M, I, A>
+    requires { locked.out ≡ 0 }
+    ensures core { result.locked.core ≡ locked.core }
+    ensures number { result.locked.number ≡ locked.number }
+    ensures dies { result.dies ≡ dies }
+    ensures images { result.images ≡ images }
+    ensures rounds { result.window_rounds ≡ window_rounds }
+{
+    let mut locked = locked;
+    let Some(seat) = locked.seat() else {
+        unreachable!()
+    };
+    let Memory { scratch, buffer } = memory;
+    Rig {
+        alloc,
+        locked,
+        seat,
+        dies,
+        images,
+        scratch,
+        buffer,
+        window_rounds,
+    }
+}
+
+/// Memory for the jobs of dies whose pages have so many bytes. The error is out of memory.
+fn memory_for<A: Allocator + Copy>(alloc: A, page_bytes: u32) -> Result<Memory<A>, AllocError>
+    ensures scratch { IfOk result (λ memory. length memory.scratch.items ≡ page_bytes + 64) }
+    ensures buffer { IfOk result (λ memory. length memory.buffer.items ≡ page_bytes) }
+{
+    let page = page_bytes as usize;
+    let scratch = vec![in alloc; 0u8; page + TAG_BYTES]?;
+    let buffer = vec![in alloc; 0u8; page]?;
+    Ok(Memory { scratch, buffer })
+}

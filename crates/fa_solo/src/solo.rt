@@ -1,0 +1,142 @@
+//! The store of one thread.
+ghost use Rattle.std.specs.Prelude.{◌≡◌, ◌*◌, ◌^◌, ◌≤◌, IfErr};
+ghost use Rattle.fa_core.specs.Array.{IsWhole};
+
+use crate::rig::{Parts, Rig};
+use crate::whole::{call, call_read};
+use fa_image::Image;
+use fa_map::Map;
+use fa_ops::Request;
+use fa_types::{BlockFault, Blocks, Geometry, Round};
+use std::alloc::{Allocator, Global};
+use std::sync::ledger::{Blank, Ledger};
+
+/// A block store over an array that nobody else uses, and over its images. All is done within its calls, by the thread that makes them:
+/// the jobs of dies, the windows of the collector, spares, and copies of thin pages.
+#[derive(Drop)]
+pub struct Solo<L: Ledger, M: Map + Drop, I: Image, A: Allocator + Copy = Global> {
+    rig: Rig<L, M, I, A>,
+    bytes: u64,
+    page_bytes: u32,
+    ghost some_bytes: { 1 ≤ page_bytes },
+    ghost small_pages: { page_bytes ≤ 4096 },
+    ghost few_bytes: { bytes ≤ 4294967296 },
+}
+
+impl<L: Ledger, M: Map + Drop, I: Image, A: Allocator + Copy> Solo<L, M, I, A> {
+    /// The store of an array over the images from which it was mounted, with a ledger of 257 parts that nothing else names. No job, claim,
+    /// batch or copy of the array is open. A window of the collector has so many rounds, 1 to 64. Where memory is refused the array and the
+    /// images are handed back.
+    pub fn new(
+        alloc: A,
+        blank: Blank,
+        parts: Parts<M, I, A>,
+        window_rounds: u64,
+    ) -> Result<Solo<L, M, I, A>, Parts<M, I, A>>
+        requires name { blank.name ≡ L.name }
+        requires parts { (blank.parts ≡ L.parts) × (blank.parts ≡ 257) }
+        requires whole { IsWhole M.view parts.mounted.array }
+        ensures refused { IfErr result (λ back. back ≡ parts) }
+    {
+        let (bytes, page_bytes) = store_bytes(parts.mounted.array.geometry());
+        match Rig::new(alloc, blank, parts, window_rounds) {
+            Ok(rig) => Ok(Solo {
+                rig,
+                bytes,
+                page_bytes,
+            }),
+            Err(parts) => Err(parts),
+        }
+    }
+
+    /// The array and its images.
+    pub fn into_parts(self) -> Parts<M, I, A>
+        ensures { IsWhole M.view result.mounted.array }
+    {
+        let Solo { rig, .. } = self;
+        rig.into_parts()
+    }
+
+    /// The array's round.
+    pub fn now(&self) -> Round
+        ensures { result.0 ≡ self.now.rig.locked.core.calendar.round }
+    {
+        self.rig.locked.array().now()
+    }
+}
+
+/// How many bytes the store of an array has, and how many a page of it.
+fn store_bytes(geometry: Geometry) -> (u64, u32)
+    ensures bytes { result.0 ≡ geometry.pages * geometry.page_bytes }
+    ensures most { result.0 ≤ 2 ^ 32 }
+    ensures page { result.1 ≡ geometry.page_bytes }
+    ensures some { 1 ≤ result.1 }
+    ensures small { result.1 ≤ 4096 }
+{
+    let bytes = geometry.pages * u64::from(geometry.page_bytes);
+    (bytes, geometry.page_bytes)
+}
+
+impl<L: Ledger, M: Map + Drop, I: Image, A: Allocator + Copy> Blocks for Solo<L, M, I, A> {
+    ghost use Rattle.std.specs.Prelude.{◌≡◌};
+    ghost use Rattle.fa_blocks.specs.Counts.{IsMade, is_accepted, pages_of};
+    ghost use Rattle.fa_blocks.specs.SharedStore.{shared_meets, shared_view, shared_whole};
+    ghost use Rattle.fa_solo.specs.Calls.{MakesCall};
+    ghost use Rattle.fa_types.specs.Store.{IsAnswer};
+
+    ghost view = { λ store. shared_view store.bytes store.page_bytes };
+
+    ghost made = { λ before call answer after. (after.bytes ≡ before.bytes) × (after.page_bytes ≡ before.page_bytes) × IsAnswer call answer
+        × IsMade (pages_of before.page_bytes call) before.rig.seat (is_accepted answer) after.rig.seat
+        × MakesCall I.made before.page_bytes before.rig call answer after.rig };
+
+    ghost meets = { λ before after call answer made.
+        shared_meets before.bytes before.page_bytes after.bytes after.page_bytes call answer made.0 made.1 made.2 };
+
+    ghost whole = { λ store. shared_whole store.bytes store.page_bytes store.some_bytes };
+
+    fn size(&self) -> u64 {
+        self.bytes
+    }
+
+    fn page_bytes(&self) -> u32 {
+        self.page_bytes
+    }
+
+    fn read<B: Allocator>(
+        &mut self,
+        alloc: B,
+        offset: u64,
+        len: u64,
+    ) -> Result<Vec<u8, B>, BlockFault> {
+        call_read(&mut self.rig, self.page_bytes, offset, len, alloc)
+    }
+
+    fn write(&mut self, offset: u64, bytes: &[u8], fua: bool) -> Result<(), BlockFault> {
+        let len = bytes.len() as u64;
+        let request = Request::Write { offset, len, fua };
+        call(&mut self.rig, self.page_bytes, request, bytes)
+    }
+
+    fn zero(&mut self, offset: u64, len: u64, fua: bool, hole: bool) -> Result<(), BlockFault> {
+        let request = Request::Zero {
+            offset,
+            len,
+            fua,
+            hole,
+        };
+        call(&mut self.rig, self.page_bytes, request, &[])
+    }
+
+    fn trim(&mut self, offset: u64, len: u64, fua: bool) -> Result<(), BlockFault> {
+        let request = Request::Trim { offset, len, fua };
+        call(&mut self.rig, self.page_bytes, request, &[])
+    }
+
+    fn flush(&mut self) -> Result<(), BlockFault> {
+        match call(&mut self.rig, self.page_bytes, Request::Flush, &[]) {
+            Err(BlockFault::NoRoom | BlockFault::NoMemory) => Err(BlockFault::Lost),
+            answer => answer,
+        }
+    }
+}

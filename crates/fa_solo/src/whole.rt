@@ -1,0 +1,81 @@
+//! Whole calls: what is for dies before a request, the request, and what the array wants behind it.
+ghost use Rattle.std.specs.Prelude.{◌≡◌, ◌+◌, ◌^◌, ◌≤◌, [], length, is_ok, true, false, IfOk, IfErr, OnOk};
+ghost use Rattle.fa_blocks.specs.Counts.{IsMade};
+ghost use Rattle.fa_ops.specs.Tallies.{pages_in};
+ghost use Rattle.fa_ops.specs.Tasks.{end_of, task_of};
+ghost use Rattle.fa_ops.specs.declared.request.Request.TheVariants.{Read};
+ghost use Rattle.fa_solo.specs.Calls.{EndsBy, IsServed, MakesWhole};
+ghost use Rattle.fa_solo.specs.Deeds.{IsForOrder};
+ghost use Rattle.fa_solo.specs.Rigs.{Does};
+ghost use Rattle.fa_types.specs.Store.{Gave, Refused};
+ghost use Rattle.fa_types.specs.declared.blocks.BlockFault.TheVariants.{NoRoom};
+
+use crate::jobs::bring_in;
+use crate::rebuilding::tidy;
+use crate::requests::{run, run_read};
+use crate::rig::Rig;
+use fa_image::Image;
+use fa_map::Map;
+use fa_ops::Request;
+use fa_types::BlockFault;
+use std::alloc::Allocator;
+use std::sync::ledger::Ledger;
+
+/// A call that answers no bytes. Behind it all is done that the array wants, save where there was no room.
+pub(crate) fn call<L: Ledger, M: Map + Drop, I: Image, A: Allocator + Copy>(
+    rig: &mut Rig<L, M, I, A>,
+    page_bytes: u32,
+    request: Request,
+    bytes: &[u8],
+) -> Result<(), BlockFault>
+    requires some { 1 ≤ page_bytes }
+    requires small { page_bytes ≤ 4096 }
+    requires inside { end_of request ≤ 2 ^ 32 }
+    ensures made { IsMade (pages_in (task_of page_bytes request)) rig.old.seat (is_ok result) rig.new.seat }
+    ensures done { OnOk result (MakesWhole I.made (task_of page_bytes request) bytes.now true (IsServed true) rig.old rig.new) }
+    ensures refused { IfErr result (λ fault. MakesWhole I.made (task_of page_bytes request) bytes.now false (IsServed false) rig.old rig.new) }
+{
+    bring_in(rig);
+    let answer = run(rig, page_bytes, request, bytes);
+    let is_full = answer == Err(BlockFault::NoRoom);
+    tidy_unless(rig, is_full);
+    answer
+}
+
+/// A read. Behind it all is done that the array wants.
+pub(crate) fn call_read<L: Ledger, M: Map + Drop, I: Image, A: Allocator + Copy, B: Allocator>(
+    rig: &mut Rig<L, M, I, A>,
+    page_bytes: u32,
+    offset: u64,
+    len: u64,
+    into: B,
+) -> Result<Vec<u8, B>, BlockFault>
+    requires some { 1 ≤ page_bytes }
+    requires small { page_bytes ≤ 4096 }
+    requires inside { offset + len ≤ 2 ^ 32 }
+    ensures length { IfOk result (λ answer. length answer.items ≡ len) }
+    ensures room { IfErr result (λ fault. fault ≡ NoRoom → ⊥) }
+    ensures made { IsMade 0 rig.old.seat (is_ok result) rig.new.seat }
+    ensures gave { IfOk result (λ answer. MakesWhole I.made (task_of page_bytes (Read offset len)) [] true (EndsBy (Gave answer.items))
+        rig.old rig.new) }
+    ensures refused { IfErr result (λ fault. MakesWhole I.made (task_of page_bytes (Read offset len)) [] false (EndsBy (Refused fault))
+        rig.old rig.new) }
+{
+    bring_in(rig);
+    let answer = run_read(rig, page_bytes, offset, len, into);
+    tidy(rig);
+    answer
+}
+
+/// Does what the array wants, unless there was no room.
+fn tidy_unless<L: Ledger, M: Map + Drop, I: Image, A: Allocator + Copy>(
+    rig: &mut Rig<L, M, I, A>,
+    is_full: bool,
+)
+    ensures { Does I.made IsForOrder rig.old rig.new }
+{
+    if is_full {
+        return;
+    }
+    tidy(rig);
+}
