@@ -4,29 +4,15 @@ use Rattle.fa_image.specs.FileMade.{file_view, FileMade}
 use Rattle.fa_image.specs.declared.file_image.FileImage.{FileImage}
 use Rattle.fa_headers.specs.declared.fault.MountRefused.{MountRefused}
 use Rattle.fa_headers.specs.declared.found.Found.{Found}
-use Rattle.fa_settings.specs.Settings.{IsFault}
 use Rattle.fa_settings.specs.declared.settings.Settings.{Settings}
-use Rattle.fa_settings.specs.declared.fault.SettingsFault.{SettingsFault}
-use Rattle.fa_settings.specs.declared.fault.SettingsFault.TheVariants as fault
 use Rattle.fa_admin.specs.Array.{IsTold, IsText, IsLines, IsDocument, IsNotTold, not_told_of}
 use Rattle.fa_admin.specs.Mount.{Array, MountsArray, RefusesArray}
-use Rattle.fa_admin.specs.Opened.{AreOpened}
-use Rattle.fa_admin.specs.SettingsRefused.{HasFault}
-use Rattle.fa_admin.specs.declared.images.NotOpened.{NotOpened}
-use Rattle.fa_admin.specs.declared.images.NotOpened.TheVariants.{Image, NoMemory}
+use Rattle.fa_host.specs.Opened.{AreOpened}
+use Rattle.fa_host.specs.declared.images.NotOpened.{NotOpened}
+use Rattle.fa_host.specs.declared.images.NotOpened.TheVariants.{Image, NoMemory}
 use Rattle.fa_admin.specs.declared.look.Asked.{Asked}
 use Rattle.fa_admin.specs.declared.look.NotTold.{NotTold}
 use Rattle.fa_admin.specs.declared.look.NotTold.TheVariants as told
-
--- a fault of the settings that is not that memory was refused
-pub has_fault : {A : Type 0} (text : List ℕ) (f : SettingsFault A) → IsFault text f → (f ≡ fault.NoMemory → ⊥) → HasFault text f
-has_fault text fault.NotToml is other = is
-has_fault text (fault.Missing key) is other = is
-has_fault text (fault.WrongType key) is other = is
-has_fault text (fault.Unknown name) is other = is
-has_fault text (fault.OutsideLimits key) is other = is
-has_fault text (fault.Geometry f) is other = is
-has_fault text fault.NoMemory is other = other refl
 
 module _ {A W : Type 0} (f : W → FileImage) (settings : Settings A) (unclean : Bool) where
   -- images that were not opened

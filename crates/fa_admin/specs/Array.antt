@@ -13,20 +13,20 @@ use Rattle.fa_headers.specs.declared.found.Found.{Found}
 use Rattle.fa_scan.specs.declared.mounted.Report.{Report}
 use Rattle.fa_settings.specs.Settings.{IsSettingsText}
 use Rattle.fa_settings.specs.declared.settings.Settings.{Settings}
-use Rattle.fa_admin.specs.Documents.{check_data, document_line, dump_data}
-use Rattle.fa_admin.specs.Look.{check_text, dump_text}
+use Rattle.fa_documents.specs.Documents.{check_data, document_line, dump_data}
+use Rattle.fa_documents.specs.Lines.{check_text, dump_text}
 use Rattle.fa_admin.specs.Mount.{Array, MountsArray, RefusesArray}
-use Rattle.fa_admin.specs.Opened.{AreOpened}
-use Rattle.fa_admin.specs.Printing.{Prints, TellsNoMemory}
-use Rattle.fa_admin.specs.SettingsRefused.{RefusesSettings}
-use Rattle.fa_admin.specs.Table.{AreRowsFrom}
-use Rattle.fa_admin.specs.declared.images.NotOpened.{NotOpened}
-use Rattle.fa_admin.specs.declared.images.NotOpened.TheVariants as opened
+use Rattle.fa_host.specs.Opened.{AreOpened}
+use Rattle.fa_host.specs.Printing.{Prints, TellsNoMemory}
+use Rattle.fa_host.specs.SettingsRefused.{RefusesSettings}
+use Rattle.fa_documents.specs.Table.{AreRowsFrom}
+use Rattle.fa_host.specs.declared.images.NotOpened.{NotOpened}
+use Rattle.fa_host.specs.declared.images.NotOpened.TheVariants as opened
 use Rattle.fa_admin.specs.declared.look.Asked.{Asked}
 use Rattle.fa_admin.specs.declared.look.Asked.TheVariants.{Check, Dump}
 use Rattle.fa_admin.specs.declared.look.NotTold.{NotTold}
 use Rattle.fa_admin.specs.declared.look.NotTold.TheVariants as told
-use Rattle.fa_admin.specs.declared.table.DieRow.{DieRow}
+use Rattle.fa_documents.specs.declared.table.DieRow.{DieRow}
 
 -- what is printed of images that are not mounted: the fault's number, and its words
 abbrev pub mount_line : MountFault → List ℕ

@@ -1,9 +1,2 @@
 pub mod Array
-pub mod Documents
-pub mod Formatting
-pub mod Look
 pub mod Mount
-pub mod Opened
-pub mod Printing
-pub mod SettingsRefused
-pub mod Table

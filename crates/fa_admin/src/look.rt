@@ -5,17 +5,13 @@ ghost use Rattle.fa_admin.specs.Array.{IsTold, IsLines, IsDocument, IsDocumentWi
 ghost use Rattle.fa_headers.specs.Found.{AreFound, IsReadOf};
 ghost use Rattle.fa_admin.specs.Mount.{MountsArray, RefusesArray};
 
-use crate::check_text::check_text;
-use crate::complaint::{complain, tell};
-use crate::document::{check_json, dump_json};
-use crate::dump_text::dump_text;
-use crate::host::Host;
-use crate::images::{NotOpened, OpenImages, open_images};
-use crate::printing::{DONE, REFUSED, print, refuse_for_memory};
-use crate::settings_file::{refuse_settings, settings_at};
-use crate::table::{DieRow, path_of, rows_of};
-use crate::watched::{Watched, clear};
+use fa_documents::{DieRow, check_json, check_text, dump_json, dump_text, path_of, rows_of};
 use fa_headers::{Found, MountFault, MountRefused, expect, read_headers};
+use fa_host::printing::{DONE, REFUSED, print, refuse_for_memory};
+use fa_host::{
+    Host, NotOpened, OpenImages, Watched, clear, complain, open_images, refuse_settings,
+    settings_at, tell,
+};
 use fa_image::{FileImage, Image};
 use fa_map::PageMap;
 use fa_scan::{Mounted, scan_found_side_by_side};

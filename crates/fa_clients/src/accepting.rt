@@ -1,7 +1,7 @@
 //! The one who accepts clients.
 use crate::host::Networked;
 use crate::lobby::{Guest, Lobby};
-use fa_admin::tell;
+use fa_host::tell;
 use std::net::{SocketAddr, TcpListener, TcpStream};
 use std::thread;
 use std::time::Duration;

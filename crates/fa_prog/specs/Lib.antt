@@ -1,6 +1,2 @@
-pub mod HexLines
 pub mod Output
-pub mod Plan
 pub mod Program
-pub mod Talk
-pub mod Verify

@@ -8,8 +8,8 @@ use Rattle.fa_mount.specs.declared.closing.CloseFault.{CloseFault}
 use Rattle.fa_shared.specs.Causes.{cause_number}
 use Rattle.fa_shared.specs.declared.faults.Fault.{Fault}
 use Rattle.fa_admin.specs.Array.{mount_line}
-use Rattle.fa_admin.specs.Printing.{Prints, TellsNoMemory}
-use Rattle.fa_admin.specs.SettingsRefused.{RefusesSettings}
+use Rattle.fa_host.specs.Printing.{Prints, TellsNoMemory}
+use Rattle.fa_host.specs.SettingsRefused.{RefusesSettings}
 
 -- where clients can connect
 abbrev pub address_line : List ℕ → List ℕ

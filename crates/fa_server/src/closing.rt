@@ -5,8 +5,7 @@ ghost use Rattle.fa_map.specs.PageView.{page_view};
 ghost use Rattle.fa_server.specs.Serving.{TellsEnd, closed_line, closed_status, fault_line, fault_lines};
 ghost use Rattle.std.specs.Fmt.{decimal};
 
-use fa_admin::printing::{DONE, REFUSED, print, refuse_for_memory};
-use fa_admin::push_number;
+use fa_host::printing::{DONE, REFUSED, print, push_number, refuse_for_memory};
 use fa_image::Image;
 use fa_map::PageMap;
 use fa_mount::{CloseFault, MountedArray, close_clean};

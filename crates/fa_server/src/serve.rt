@@ -3,19 +3,18 @@ ghost use Rattle.std.specs.Prelude.{◌≡◌, IfOk};
 ghost use Rattle.fa_core.specs.Array.{IsWhole};
 ghost use Rattle.fa_map.specs.PageView.{page_view};
 ghost use Rattle.fa_admin.specs.Array.{mount_line as line_of};
-ghost use Rattle.fa_admin.specs.Printing.{Prints};
+ghost use Rattle.fa_host.specs.Printing.{Prints};
 ghost use Rattle.fa_server.specs.Serving.{TellsEnd, TellsOn, TellsServe};
 
 use crate::closing::{close, print_end};
 use crate::host::ServerHost;
 use crate::ready::{listening_text, ready_of};
 use crate::serving::{Ended, serve_ready};
-use fa_admin::printing::{DONE, REFUSED, print, refuse_for_memory};
-use fa_admin::{
-    NotOpened, OpenImages, explain, mount_line, open_images, refuse_settings, settings_at, tell,
-};
+use fa_admin::{explain, mount_line};
 use fa_clients::Networked;
 use fa_headers::{MountFault, MountRefused, expect, read_headers};
+use fa_host::printing::{DONE, REFUSED, print, refuse_for_memory};
+use fa_host::{NotOpened, OpenImages, open_images, refuse_settings, settings_at, tell};
 use fa_image::Image;
 use fa_map::PageMap;
 use fa_mount::{MountedArray, mount_found_side_by_side};

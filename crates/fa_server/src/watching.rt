@@ -1,7 +1,7 @@
 //! What is told of the array while it is served.
-use fa_admin::tell;
 use fa_clients::Networked;
 use fa_core::Array;
+use fa_host::tell;
 use fa_map::PageMap;
 use fa_shared::{Cause, Fault, Shared};
 use fa_types::{Die, Page};

@@ -1,5 +1,5 @@
 use Rattle.std.proofs.Common.{inl, inr, subst, ◌∙◌}
-use Rattle.fa_admin.specs.Printing.{Prints}
+use Rattle.fa_host.specs.Printing.{Prints}
 use Rattle.fa_server.proofs.serve.serve_mounted.Goals as goal
 
 pub returns-in_default-ready_of : goal.returns-in_default-ready_of

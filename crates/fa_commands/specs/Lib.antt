@@ -1,0 +1,5 @@
+pub mod HexLines
+pub mod Output
+pub mod Plan
+pub mod Talk
+pub mod Verify

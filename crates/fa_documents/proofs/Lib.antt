@@ -1,0 +1,3 @@
+pub mod DumpLines
+pub mod Rows
+pub mod Sends

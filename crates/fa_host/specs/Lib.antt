@@ -1,0 +1,3 @@
+pub mod Opened
+pub mod Printing
+pub mod SettingsRefused

@@ -1,0 +1,31 @@
+//! What is told on standard error.
+use crate::host::Host;
+use std::fmt::Display;
+use std::io::{self, Eprint};
+
+/// Tells these words, behind the program's name.
+pub fn tell<R: Eprint, T: Display + Drop>(rt: &R, words: T) {
+    let _ = eprintln!(rt; "flasharr: {words}");
+}
+
+/// Tells what is wrong with the file of a path.
+pub fn complain<R: Eprint, T: Display>(rt: &R, path: &str, what: &T) {
+    tell(rt, format_args!("{path}: {what}"));
+}
+
+/// Tells why the system refused a call on the file of a path, in its words and without its number. Where there is no
+/// memory for the words they are told with the number.
+pub(crate) fn complain_of_call<R: Host>(rt: &R, path: &str, refused: &io::Error) {
+    match refused.to_string(rt.alloc()) {
+        Ok(text) => complain(rt, path, &words_of(&text)),
+        Err(_) => complain(rt, path, refused),
+    }
+}
+
+/// The words of an error of the system, before its number.
+fn words_of(text: &str) -> &str {
+    match text.split_once(" (os error ") {
+        Some((words, _number)) => words,
+        None => text,
+    }
+}

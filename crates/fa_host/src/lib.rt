@@ -1,0 +1,15 @@
+//! What every command has of the machine that it runs on: standard error and output, the file of the settings, and the files of images.
+#![tactic(auto)]
+
+mod complaint;
+mod host;
+mod images;
+pub mod printing;
+mod settings_file;
+mod watched;
+
+pub use complaint::{complain, tell};
+pub use host::Host;
+pub use images::{NotOpened, OpenImages, open_images, tell_refused};
+pub use settings_file::{NoSettings, refuse_settings, settings_at};
+pub use watched::{Watched, clear};
