@@ -6,7 +6,7 @@ use Rattle.fa_asks.proofs.RangePages.{page_met}
 use Rattle.fa_asks.proofs.ReadStages.{Fits}
 use Rattle.fa_asks.proofs.WriteStages.{Founds}
 use Rattle.fa_asks.specs.Asked.{IsNoSpare}
-use Rattle.fa_asks.specs.Shown.{is_crowded, may_collect, roomy, store_of}
+use Rattle.fa_asks.specs.Shown.{is_crowded, roomy, store_of}
 use Rattle.fa_laws.proofs.Ranged.{calls_core}
 use Rattle.fa_laws.proofs.Runs.{run_keeps}
 use Rattle.fa_laws.proofs.Within.{reached_inside}
@@ -27,6 +27,7 @@ use Rattle.fa_machine.specs.declared.answers.FlushState.TheVariants.{NoDie as Fl
 use Rattle.fa_machine.specs.declared.refusals.ReserveRefused.{ReserveRefused}
 use Rattle.fa_machine.specs.declared.refusals.ReserveRefused.TheVariants.{NoDie as ReserveNoDie, NoRoom as ReserveNoRoom, Spent as NumbersSpent}
 use Rattle.fa_machine.specs.declared.refusals.SpareRefused.TheVariants.{NotSpare}
+use Rattle.fa_ops.specs.Founded.{may_collect}
 use Rattle.fa_ops.specs.declared.range.Range.{Range}
 use Rattle.fa_types.specs.Store.{HasCause, IsMet}
 use Rattle.fa_types.specs.declared.blocks.BlockFault.{BlockFault}

@@ -4,7 +4,7 @@ use Rattle.fa_alone.proofs.ReadBack.{reached_on}
 use Rattle.fa_alone.specs.Unwritten.{WritesNothing}
 use Rattle.fa_asks.proofs.Gone.{IsGone, NumbersLaw, happens_gone, lost_gone}
 use Rattle.fa_asks.specs.Begun.{IsCalm}
-use Rattle.fa_asks.specs.Shown.{may_collect, roomy, store_of}
+use Rattle.fa_asks.specs.Shown.{roomy, store_of}
 use Rattle.fa_laws.proofs.Answering.{reached_holds}
 use Rattle.fa_laws.proofs.Failing.{LiveLaw}
 use Rattle.fa_laws.proofs.Ranged.{calls_core}
@@ -18,6 +18,7 @@ use Rattle.fa_machine.specs.Run.{Event, Happening, Happens, ImageCall}
 use Rattle.fa_machine.specs.State.{Core, MapState}
 use Rattle.fa_machine.specs.Step.{Act, Commit, Step}
 use Rattle.fa_machine.specs.World.{World}
+use Rattle.fa_ops.specs.Founded.{may_collect}
 use Rattle.fa_types.specs.Store.{HasCause, IsMet}
 use Rattle.fa_types.specs.declared.blocks.BlockFault.{BlockFault}
 use Rattle.fa_types.specs.declared.blocks.BlockFault.TheVariants.{Lost, NoMemory, NoRoom, Spent}

@@ -1,24 +1,21 @@
 -- A turn of a request over the locked array as turns of what becomes of it.
 use Rattle.fa_alone.specs.Unwritten.{EndsNoBatch}
-use Rattle.fa_asks.specs.Asked.{Asked, BringsNoSpare, IsBarred, IsFounded, LeavesClaim, Makes, Meanwhile, OfOne, Strayed, Turn}
+use Rattle.fa_asks.specs.Asked.{Asked, BringsNoSpare, LeavesClaim, Makes, Meanwhile, OfOne, Strayed, Turn}
 use Rattle.fa_asks.specs.Asked.{batch_at, claim_at}
-use Rattle.fa_asks.specs.Shown.{may_collect}
 use Rattle.fa_machine.specs.Cells.{Outcome}
-use Rattle.fa_machine.specs.Reading.{results}
 use Rattle.fa_machine.specs.Run.{Event, HappensEvent}
 use Rattle.fa_machine.specs.State.{Core}
-use Rattle.fa_machine.specs.Step.{Act, Admit, Commit, Done, EndBatch, Fold, Reserve, ReserveCopy, ReserveFewer, ReserveHole, Step, Take}
+use Rattle.fa_machine.specs.Step.{Act, Admit, Commit, Done, Fold, Reserve, ReserveCopy, ReserveFewer, ReserveHole, Step, Take}
 use Rattle.fa_machine.specs.Taking.{Handed}
 use Rattle.fa_machine.specs.World.{IsTold, World, followed}
-use Rattle.fa_machine.specs.declared.refusals.ReserveRefused.TheVariants.{NoRoom}
-use Rattle.fa_ops.specs.Moves.{Moved, Moves, Rested, Strays, Turned, Folded, Strayed as StrayedTurn}
+use Rattle.fa_ops.specs.Moves.{Moved, Moves, Rested, Turned, Folded, Strayed as StrayedTurn}
 use Rattle.fa_ops.specs.declared.request.Task.{Task}
 use Rattle.fa_ops.specs.declared.stage.Stage.{Stage}
-use Rattle.fa_ops.specs.declared.stage.Stage.TheVariants.{Flushing, Reading, Releasing, Reserving}
+use Rattle.fa_ops.specs.declared.stage.Stage.TheVariants.{Flushing, Reserving}
 use Rattle.fa_ops.specs.declared.stage.Wish.TheVariants.{Data, Fewer, Hole}
 use Rattle.fa_shared.specs.Seats.{number_of}
 use Rattle.fa_shared.specs.declared.seat.Seat.{Seat}
-use Rattle.std.proofs.Common.{List, None, Option, Some, [], ap, refl, suc, sym, ℕ, ◌∙◌, ◌∷◌, ◌≡◌}
+use Rattle.std.proofs.Common.{List, None, Option, Some, [], ap, refl, suc, sym, ℕ, ◌∷◌, ◌≡◌}
 use Rattle.std.specs.Prelude.{Err, Ok}
 
 of_fold : (o : Option ℕ) → OfOne EndsNoBatch o (Event Fold)
@@ -76,14 +73,6 @@ module _ (A : Type 0) (t : Task) (seat : ℕ) where
   spareless_fold (Flushing flush) = tt
   spareless_fold stage = tt
 
-  -- a Fold leaves what an event is founded on
-  founded_on : (old between : Core) → Step old Fold between → (stage : Stage A) (act : Act) (next : Stage A) → IsFounded old stage act next
-      → IsFounded between stage act next
-  founded_on old between fold (Reading purpose batch) (EndBatch b answers) next f = ap (λ (c : Core). results c b) fold.does ∙ f
-  founded_on old between fold (Reserving held (Fewer payload)) (ReserveFewer claim bytes (Err NoRoom)) (Releasing h fault) f =
-      ap (λ (c : Core). may_collect c.page_map) fold.does ∙ f
-  founded_on old between fold stage act next f = tt
-
   -- the world behind an event
   abbrev behind : World → Act → Core → World
   behind w act new = record (followed act w) { core = new; moment = suc w.moment }
@@ -101,11 +90,10 @@ Turns {A} t seat bytes w stage answer new next =
     × Asked {A = A} t seat bytes (record { world = w; stage = stage; answer = answer }) turns (record { world = v; stage = next; answer = answer })
 
 pub turn_asked : (L A : Type 0) (t : Task) (bytes answer : List ℕ) (before after : Seat L) (w : World) (new : Core) (stage next : Stage A)
-    → Turned t before after w.core stage new next → ((act : Act) → Moves t (number_of before) stage act next → IsFounded w.core stage act next)
-    → (Strays w.core stage next → IsBarred w.core stage) → Turns t (number_of before) bytes w stage answer new next
-turn_asked L A t bytes answer before after w new stage next (Rested same kept stays) founded barred =
+    → Turned t before after w.core stage new next → Turns t (number_of before) bytes w stage answer new next
+turn_asked L A t bytes answer before after w new stage next (Rested same kept stays) =
     (w, [], sym same, refl, refl, ap (λ (s : Stage A). record { world = w; stage = s; answer = answer }) stays)
-turn_asked L A t bytes answer before after w new stage next (Moved act step commits moves) founded barred =
+turn_asked L A t bytes answer before after w new stage next (Moved act step commits moves founded) =
     let kept = own_images A t (number_of before) w stage act next moves in (
       behind A t (number_of before) w act new,
       Makes act ∷ [],
@@ -114,11 +102,11 @@ turn_asked L A t bytes answer before after w new stage next (Moved act step comm
       kept.1,
       (
         record { world = behind A t (number_of before) w act new; stage = next; answer = answer },
-        (made A t (number_of before) w stage act next new step moves, moves, founded act moves, refl),
+        (made A t (number_of before) w stage act next new step moves, moves, founded, refl),
         refl,
       ),
     )
-turn_asked L A t bytes answer before after w new stage next (Folded between act full fold step commits moves) founded barred =
+turn_asked L A t bytes answer before after w new stage next (Folded between act full fold step commits moves founded) =
     let middle : World = behind A t (number_of before) w Fold between in
     let kept = own_images A t (number_of before) middle stage act next moves in (
       behind A t (number_of before) middle act new,
@@ -145,18 +133,18 @@ turn_asked L A t bytes answer before after w new stage next (Folded between act 
           (
             made A t (number_of before) middle stage act next new step moves,
             moves,
-            founded_on A t (number_of before) w.core between fold stage act next (founded act moves),
+            founded,
             refl,
           ),
           refl,
         ),
       ),
     )
-turn_asked L A t bytes answer before after w new stage next (StrayedTurn same kept strays) founded barred = (
+turn_asked L A t bytes answer before after w new stage next (StrayedTurn same kept strays barred) = (
   w,
   Strayed ∷ [],
   sym same,
   refl,
   refl,
-  (record { world = w; stage = next; answer = answer }, (refl, barred strays, strays, refl), refl),
+  (record { world = w; stage = next; answer = answer }, (refl, barred, strays, refl), refl),
 )

@@ -7,7 +7,7 @@ use Rattle.fa_asks.proofs.Gone.{gone_lost}
 use Rattle.fa_asks.proofs.Pages.{among_from, pages_numbered, parts_there, range_allowed}
 use Rattle.fa_asks.proofs.PlainBytes.{export_long, page_long}
 use Rattle.fa_asks.proofs.RangePages.{IsInside, IsOf, of_back, of_front, page_low, page_met, page_of, part_fits, parts_are, upto, upto_past}
-use Rattle.fa_asks.specs.Asked.{Asked, IsAnothers, IsBarred, IsFounded, Moment, Turn, TurnsTo, Makes, Meanwhile, Readies, Strayed}
+use Rattle.fa_asks.specs.Asked.{Asked, IsAnothers, Moment, Turn, TurnsTo, Makes, Meanwhile, Readies, Strayed}
 use Rattle.fa_asks.specs.Shown.{store_of}
 use Rattle.fa_laws.proofs.Answering.{reached_holds}
 use Rattle.fa_machine.proofs.Lists.{among-filter, among-range, among_low, found_passes, none_passes}
@@ -20,6 +20,7 @@ use Rattle.fa_machine.specs.Step.{Act, Admit, EndBatch, Fold, Replan, is_distinc
 use Rattle.fa_machine.specs.World.{World, plain_page}
 use Rattle.fa_machine.specs.declared.answers.ReadState.TheVariants.{Ready}
 use Rattle.fa_machine.specs.declared.refusals.AdmitRefused.TheVariants.{Lost as PageLost, CalendarFull, Spent as RoundsSpent, NoMemory as AdmitNoMemory}
+use Rattle.fa_ops.specs.Founded.{IsBarred, IsFounded}
 use Rattle.fa_ops.specs.Moves.{Moves, Strays}
 use Rattle.fa_ops.specs.Ops.{Prepares}
 use Rattle.fa_ops.specs.Prepared.{after_batch, has_part, until}

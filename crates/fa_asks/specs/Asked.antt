@@ -1,18 +1,11 @@
 -- How a request goes on over the array's world while nobody else writes: its own events, what it prepares without one, and what else happens
 -- meanwhile.
-use Rattle.std.specs.Prelude.{◌≡◌, ℕ, Bool, true, false, not, ◌&&◌, nat_le, IsTrue, List, [], ◌∷◌, length, map, Option, Some, None, Ok, Err}
-use Rattle.std.specs.List.{list_all}
+use Rattle.std.specs.Prelude.{◌≡◌, ℕ, Bool, true, false, IsTrue, List, [], ◌∷◌, Option, Some, None, Ok}
 use Rattle.fa_alone.specs.Unwritten.{EndsNoBatch, WritesNothing}
-use Rattle.fa_asks.specs.Shown.{may_collect}
-use Rattle.fa_machine.specs.Conditions.{claim_open, is_reserved}
-use Rattle.fa_machine.specs.Reading.{results}
 use Rattle.fa_machine.specs.Run.{Happening, Event, Happens, HappensEvent}
-use Rattle.fa_machine.specs.State.{Core}
-use Rattle.fa_machine.specs.Step.{Act, Abandon, Commit, EndBatch, Fold, Release, Reserve, ReserveFewer, ReserveHole, SpareIn}
-use Rattle.fa_machine.specs.Step.{is_distinct, is_page, is_sized}
+use Rattle.fa_machine.specs.Step.{Act, Abandon, Commit, Fold, Release, Reserve, ReserveFewer, ReserveHole, SpareIn}
 use Rattle.fa_machine.specs.World.{World}
-use Rattle.fa_machine.specs.declared.answers.ReadState.TheVariants.{Ready}
-use Rattle.fa_machine.specs.declared.refusals.ReserveRefused.TheVariants.{NoRoom}
+use Rattle.fa_ops.specs.Founded.{IsBarred, IsFounded}
 use Rattle.fa_ops.specs.Moves.{Moves, Strays}
 use Rattle.fa_ops.specs.Ops.{Prepares}
 use Rattle.fa_ops.specs.declared.request.Task.{Task}
@@ -21,8 +14,6 @@ use Rattle.fa_ops.specs.declared.stage.Purpose.TheVariants.{Answer, Merge}
 use Rattle.fa_ops.specs.declared.stage.Stage.{Stage}
 use Rattle.fa_ops.specs.declared.stage.Stage.TheVariants.{Listing, Asking, Reading, Leaving, Sorting, Claiming, Filling, Reserving}
 use Rattle.fa_ops.specs.declared.stage.Stage.TheVariants.{Committing, Abandoning, Releasing, Flushing}
-use Rattle.fa_ops.specs.declared.stage.Wish.{Wish}
-use Rattle.fa_ops.specs.declared.stage.Wish.TheVariants.{Data, Fewer, Hole}
 
 -- the array's world, how far the request is, and its answer so far
 pub record Moment (A : Type 0) : Type 0 where
@@ -112,25 +103,6 @@ module _ {A : Type 0} where
     pub claim : OfOne LeavesClaim (claim_at stage) happening
     pub in_time : IsInTime stage happening
     pub no_spare : BringsNoSpare stage happening
-
-  -- A batch that is read is ended as it is ready. A write is refused for want of room where nothing can be collected.
-  abbrev pub IsFounded : Core → Stage A → Act → Stage A → Type 0
-  IsFounded core (Reading purpose batch) (EndBatch b answers) next = results core b ≡ Ready
-  IsFounded core (Reserving held (Fewer payload)) (ReserveFewer claim bytes (Err NoRoom)) (Releasing h fault) = may_collect core.page_map ≡ false
-  IsFounded core stage act next = Unit {0}
-
-  abbrev pub fits : Core → Wish A → Bool
-  fits core (Data payload) = is_sized core payload
-  fits core (Fewer payload) = is_sized core payload
-  fits core Hole = true
-
-  -- A condition of the event of a stage does not hold, where it is not told of what the request comes to then.
-  abbrev pub IsBarred : Core → Stage A → Type 0
-  IsBarred core (Asking purpose pages) =
-      (is_distinct (map (λ page. page.0) pages.items) && list_all (is_page core) (map (λ page. page.0) pages.items)
-      && nat_le (length (map (λ page. page.0) pages.items)) 1024) ≡ false
-  IsBarred core (Reserving held wish) = (claim_open core held.claim.0 && not (is_reserved core held.claim.0) && fits core wish) ≡ false
-  IsBarred core stage = Unit {0}
 
   -- One turn of what becomes of a request with this seat and these bytes.
   abbrev pub TurnsTo : Task → ℕ → List ℕ → Moment A → Turn → Moment A → Type 0

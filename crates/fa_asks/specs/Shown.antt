@@ -1,23 +1,14 @@
 -- An array as a block store that nobody else calls: what its callers see of it.
-use Rattle.std.specs.Prelude.{ℕ, ◌*◌, ◌-◌, ◌^◌, Bool, true, not, ◌==◌, ◌&&◌, ◌||◌, nat_lt, is_some, count_by}
-use Rattle.std.specs.List.{list_any}
+use Rattle.std.specs.Prelude.{ℕ, ◌*◌, ◌-◌, ◌^◌, Bool, true, not, ◌==◌, ◌&&◌, ◌||◌, nat_lt, count_by}
 use Rattle.std.specs.FinMap.{len}
-use Rattle.fa_machine.specs.Collecting.{victim}
 use Rattle.fa_machine.specs.Copies.{is_lost}
 use Rattle.fa_machine.specs.Placement.{copies_asked, has_room}
 use Rattle.fa_machine.specs.Reading.{is_late}
-use Rattle.fa_machine.specs.State.{Core, MapState, dies_of, is_live}
+use Rattle.fa_machine.specs.State.{Core, MapState, dies_of}
 use Rattle.fa_machine.specs.World.{World}
+use Rattle.fa_ops.specs.Founded.{may_collect}
 use Rattle.fa_types.specs.Plain.{export}
 use Rattle.fa_types.specs.Store.{Store}
-
--- whether a die without room has a block to collect
-abbrev pub may_free : MapState → ℕ → Bool
-may_free m die = is_live m die && not (has_room m die) && is_some (victim m die)
-
--- whether some die has
-abbrev pub may_collect : MapState → Bool
-may_collect m = list_any (may_free m) (dies_of m)
 
 -- how many live dies have room
 abbrev pub roomy : MapState → ℕ

@@ -1,10 +1,9 @@
 //! What a turn of a request is.
 ghost use Rattle.std.specs.Prelude.{◌≡◌, ℕ, List, [], ◌∷◌};
-ghost use Rattle.fa_asks.specs.Asked.{Asked, IsBarred, IsFounded, Moment, Readies, Turn};
+ghost use Rattle.fa_asks.specs.Asked.{Asked, Moment, Readies, Turn};
 ghost use Rattle.fa_machine.specs.State.{Core};
-ghost use Rattle.fa_machine.specs.Step.{Act};
 ghost use Rattle.fa_machine.specs.World.{World};
-ghost use Rattle.fa_ops.specs.Moves.{Moves, Strays, Turned};
+ghost use Rattle.fa_ops.specs.Moves.{Turned};
 ghost use Rattle.fa_ops.specs.Ops.{Prepares};
 ghost use Rattle.fa_ops.specs.declared.request.Task.{Task};
 ghost use Rattle.fa_ops.specs.declared.stage.Stage.{Stage};
@@ -12,13 +11,10 @@ ghost use Rattle.fa_shared.specs.Seats.{number_of};
 ghost use Rattle.fa_shared.specs.declared.seat.Seat.{Seat};
 
 /// A turn of a request, as `fa_ops::Op::turn` tells it, is none, one or two turns of what becomes of the request, over a world with the
-/// array's state: a Fold first, where one was made. The images and the jobs of dies stay. It is asked of the event that it is founded, and of
-/// a turn without one that a condition does not hold. What `fa_ops::Op::prepare` makes is a turn too.
+/// array's state: a Fold first, where one was made. The images and the jobs of dies stay. What `fa_ops::Op::prepare` makes is a turn too.
 pub fn a_turn_is_asked<L, A>()
     ensures turned { (t : Task) (bytes answer : List ℕ) (before after : Seat L) (w : World) (new : Core) (stage next : Stage A)
         → Turned t before after w.core stage new next
-        → ((act : Act) → Moves t (number_of before) stage act next → IsFounded w.core stage act next)
-        → (Strays w.core stage next → IsBarred w.core stage)
         → (v : World) × (turns : List Turn) × (v.core ≡ new) × (v.images ≡ w.images) × (v.works ≡ w.works)
         × Asked t (number_of before) bytes (record { world = w; stage = stage; answer = answer }) turns
         (record { world = v; stage = next; answer = answer }) }

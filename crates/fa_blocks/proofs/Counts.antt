@@ -240,11 +240,11 @@ pub turned_counts : {L A : Type 0} (t : Task) (before after : Seat L) (old : Cor
     → Counts (tally_at (commits_with before) t stage) (tally_at (commits_with after) t next)
 turned_counts t before after old stage new next (Rested same kept stays) =
     counts_by t _ _ stage next 0 (omega (arith, kept)) (counted_to t stage next 0 stage stays (counted_same t stage))
-turned_counts t before after old stage new next (Moved act step rise moves) =
+turned_counts t before after old stage new next (Moved act step rise moves founded) =
     counts_by t _ _ stage next (commits_in act) rise (counted_move t _ stage act next moves)
-turned_counts t before after old stage new next (Folded between act full fold step rise moves) =
+turned_counts t before after old stage new next (Folded between act full fold step rise moves founded) =
     counts_by t _ _ stage next (commits_in act) rise (counted_move t _ stage act next moves)
-turned_counts t before after old stage new next (Strayed same kept strays) =
+turned_counts t before after old stage new next (Strayed same kept strays barred) =
     counts_by t _ _ stage next 0 (omega (arith, kept)) (counted_stray t old stage next strays)
 
 -- what is prepared leaves as many pages, or the request is refused

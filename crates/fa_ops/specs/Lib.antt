@@ -1,4 +1,5 @@
 pub mod Accounts
+pub mod Founded
 pub mod Moves
 pub mod Ops
 pub mod Prepared

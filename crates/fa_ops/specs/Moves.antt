@@ -22,6 +22,7 @@ use Rattle.fa_machine.specs.declared.refusals.FlushRefused.TheVariants.{Spent as
 use Rattle.fa_machine.specs.declared.refusals.ReserveRefused.{ReserveRefused}
 use Rattle.fa_machine.specs.declared.refusals.ReserveRefused.TheVariants.{NoRoom as ReserveNoRoom, NoDie as ReserveNoDie, Spent as NumbersSpent}
 use Rattle.fa_machine.specs.declared.refusals.ReserveRefused.TheVariants.{NoMemory as ReserveNoMemory}
+use Rattle.fa_ops.specs.Founded.{IsBarred, IsFounded}
 use Rattle.fa_ops.specs.Ranges.{covers, past_page}
 use Rattle.fa_ops.specs.declared.request.Task.{Task}
 use Rattle.fa_ops.specs.declared.stage.Held.{Held}
@@ -157,12 +158,14 @@ commits_in act = 0
 
 module _ {L A : Type 0} where
   -- A turn with a seat: the request waits; or it makes its event; or it makes it after a Fold, where the history is full; or no event can be
-  -- made. The seat's Commits rise by those of the event.
+  -- made. The seat's Commits rise by those of the event. The event is founded in the state that it meets, and where none can be made a
+  -- condition of it does not hold.
   pub data Turned (t : Task) (before after : Seat L) (old : Core) (stage : Stage A) (new : Core) (next : Stage A) : Type 0 where
     Rested : new ≡ old → commits_with after ≡ commits_with before → next ≡ stage → Turned t before after old stage new next
     Moved : (act : Act) → Step old act new → commits_with after ≡ commits_with before + commits_in act
-        → Moves t (number_of before) stage act next → Turned t before after old stage new next
+        → Moves t (number_of before) stage act next → IsFounded old stage act next → Turned t before after old stage new next
     Folded : (between : Core) (act : Act) → history_full old ≡ true → Step old Fold between → Step between act new
         → commits_with after ≡ commits_with before + commits_in act → Moves t (number_of before) stage act next
+        → IsFounded between stage act next → Turned t before after old stage new next
+    Strayed : new ≡ old → commits_with after ≡ commits_with before → Strays old stage next → IsBarred old stage
         → Turned t before after old stage new next
-    Strayed : new ≡ old → commits_with after ≡ commits_with before → Strays old stage next → Turned t before after old stage new next

@@ -1,7 +1,8 @@
 //! The events that requests make, each with its answer, or None where a condition of it does not hold.
-ghost use Rattle.std.specs.Prelude.{◌≡◌, ℕ, ◌+◌, ◌&&◌, not, false, IfNone, IfSome, List, map};
+ghost use Rattle.std.specs.Prelude.{◌≡◌, ℕ, ◌+◌, ◌&&◌, not, false, nat_le, IfNone, IfSome, List, length, map};
+ghost use Rattle.std.specs.List.{list_all};
 ghost use Rattle.fa_machine.specs.Conditions.{batch_open, claim_open, history_full, is_reserved};
-ghost use Rattle.fa_machine.specs.Step.{Step, is_page};
+ghost use Rattle.fa_machine.specs.Step.{Step, is_distinct, is_page, is_sized};
 ghost use Rattle.fa_machine.specs.Step.{Abandon, Admit, Claim, Commit, EndBatch, FlushBegin, FlushState as StateFlush, Fold, Release, Replan};
 ghost use Rattle.fa_machine.specs.Step.{Reserve, ReserveFewer, ReserveHole};
 ghost use Rattle.fa_ops.specs.Accounts.{IsAccounted};
@@ -67,7 +68,8 @@ pub(crate) fn reserve<L: Ledger, M: Map + Drop, A: Allocator + Copy>(
     payload: &Payload<A>,
 ) -> Option<Result<Seq, ReserveRefused>>
     ensures some { IfSome result (λ answer. Step locked.old.core (Reserve claim.0 payload.now answer) locked.new.core) }
-    ensures none { IfNone result (locked.new.core ≡ locked.old.core) }
+    ensures none { IfNone result (((claim_open locked.old.core claim.0 && not (is_reserved locked.old.core claim.0)
+        && is_sized locked.old.core payload.now) ≡ false) × (locked.new.core ≡ locked.old.core)) }
     ensures commits { commits_with seat.new ≡ commits_with seat.old }
     ensures account { IsAccounted locked.old seat.old locked.new seat.new }
 {
@@ -85,7 +87,8 @@ pub(crate) fn reserve_fewer<L: Ledger, M: Map + Drop, A: Allocator + Copy>(
     payload: &Payload<A>,
 ) -> Option<Result<Seq, ReserveRefused>>
     ensures some { IfSome result (λ answer. Step locked.old.core (ReserveFewer claim.0 payload.now answer) locked.new.core) }
-    ensures none { IfNone result (locked.new.core ≡ locked.old.core) }
+    ensures none { IfNone result (((claim_open locked.old.core claim.0 && not (is_reserved locked.old.core claim.0)
+        && is_sized locked.old.core payload.now) ≡ false) × (locked.new.core ≡ locked.old.core)) }
     ensures commits { commits_with seat.new ≡ commits_with seat.old }
     ensures account { IsAccounted locked.old seat.old locked.new seat.new }
 {
@@ -103,7 +106,8 @@ pub(crate) fn reserve_hole<L: Ledger, M: Map + Drop, A: Allocator + Copy>(
     claim: ClaimId,
 ) -> Option<Result<Seq, ReserveRefused>>
     ensures some { IfSome result (λ answer. Step locked.old.core (ReserveHole claim.0 answer) locked.new.core) }
-    ensures none { IfNone result (locked.new.core ≡ locked.old.core) }
+    ensures none { IfNone result (((claim_open locked.old.core claim.0 && not (is_reserved locked.old.core claim.0)) ≡ false)
+        × (locked.new.core ≡ locked.old.core)) }
     ensures commits { commits_with seat.new ≡ commits_with seat.old }
     ensures account { IsAccounted locked.old seat.old locked.new seat.new }
 {
@@ -160,7 +164,9 @@ pub(crate) fn admit<L: Ledger, M: Map + Drop, A: Allocator + Copy>(
 ) -> Option<Result<Admitted<A>, AdmitRefused>>
     ensures some { IfSome result (λ answer. Step locked.old.core (Admit (map (λ page. page.0) pages.now) (admit_answer answer))
         locked.new.core) }
-    ensures none { IfNone result (locked.new.core ≡ locked.old.core) }
+    ensures none { IfNone result (((is_distinct (map (λ page. page.0) pages.now)
+        && list_all (is_page locked.old.core) (map (λ page. page.0) pages.now)
+        && nat_le (length (map (λ page. page.0) pages.now)) 1024) ≡ false) × (locked.new.core ≡ locked.old.core)) }
     ensures commits { commits_with seat.new ≡ commits_with seat.old }
     ensures account { IsAccounted locked.old seat.old locked.new seat.new }
 {

@@ -1,5 +1,6 @@
 //! Batches of pages, asked for, waited for and ended.
 ghost use Rattle.std.specs.Prelude.{◌≡◌};
+ghost use Rattle.fa_machine.specs.Reading.{results as rule_results};
 ghost use Rattle.fa_ops.specs.Accounts.{IsAccounted};
 ghost use Rattle.fa_ops.specs.Moves.{AfterAdmit, AfterPlanned, Turned, stopped as rule_stopped};
 ghost use Rattle.fa_reads.specs.Answers.{admit_answer, plan_answer};
@@ -86,7 +87,7 @@ pub(crate) fn read<L: Ledger, M: Map + Drop, A: Allocator + Copy>(
     }
 }
 
-/// The batch is ended, and its answers are to be sorted.
+/// The batch, which is ready, is ended, and its answers are to be sorted.
 fn end<L: Ledger, M: Map + Drop, A: Allocator + Copy>(
     alloc: A,
     locked: &mut Locked<L, M, A>,
@@ -94,6 +95,7 @@ fn end<L: Ledger, M: Map + Drop, A: Allocator + Copy>(
     purpose: Purpose,
     batch: BatchId,
 ) -> Stage<A>
+    requires { rule_results locked.old.core batch.0 ≡ ReadState.Ready }
     ensures turned { (t : Task) → Turned t seat.old seat.new locked.old.core (Reading purpose batch) locked.new.core result }
     ensures account { IsAccounted locked.old seat.old locked.new seat.new }
 {

@@ -1,4 +1,8 @@
 //! Whether a write may get room if it waits.
+ghost use Rattle.std.specs.Prelude.{◌≡◌, ◌<◌, false};
+ghost use Rattle.fa_core.specs.Array.{state_of};
+ghost use Rattle.fa_ops.specs.Founded.{may_collect, may_free as rule_free};
+
 use fa_core::Array;
 use fa_machine::JobKind;
 use fa_map::Map;
@@ -6,14 +10,15 @@ use fa_types::Die;
 use std::alloc::Allocator;
 
 /// Whether slots may become free, or what is reserved may be given back: a copy is under way, a die programs, or a live die without room
-/// has a victim or is at a step of its collector. Which write waits is in no clause.
-pub(crate) fn may_get_room<M: Map, A: Allocator + Copy>(array: &Array<M, A>) -> bool {
+/// has a victim or is at a step of its collector. Where none may, no die has a block to collect; which other write waits is in no clause.
+pub(crate) fn may_get_room<M: Map, A: Allocator + Copy>(array: &Array<M, A>) -> bool
+    ensures { result ≡ false → may_collect (state_of M.view array.now).page_map ≡ false }
+{
     if array.copy_open() {
         return true;
     }
-    let dies = array.geometry().dies.min(64) as u8;
-    for die in 0..dies {
-        if may_free(array, Die(die)) {
+    for die in 0..array.geometry().dies {
+        if may_free(array, Die(die as u8)) {
             return true;
         }
     }
@@ -21,8 +26,11 @@ pub(crate) fn may_get_room<M: Map, A: Allocator + Copy>(array: &Array<M, A>) -> 
 }
 
 /// Whether this die may.
-fn may_free<M: Map, A: Allocator + Copy>(array: &Array<M, A>, die: Die) -> bool {
-    if !array.is_die(die) || !array.is_live(die) {
+fn may_free<M: Map, A: Allocator + Copy>(array: &Array<M, A>, die: Die) -> bool
+    requires { die.0 < (state_of M.view array.now).page_map.geometry.dies }
+    ensures { result ≡ false → rule_free (state_of M.view array.now).page_map die.0 ≡ false }
+{
+    if !array.is_live(die) {
         return false;
     }
     match array.job_kind(die) {

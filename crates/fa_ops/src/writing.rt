@@ -1,5 +1,5 @@
 //! Pages, claimed, written and released.
-ghost use Rattle.std.specs.Prelude.{◌≡◌, true, false};
+ghost use Rattle.std.specs.Prelude.{◌≡◌, true, false, Err};
 ghost use Rattle.fa_machine.specs.Conditions.{history_full, is_reserved};
 ghost use Rattle.fa_ops.specs.Accounts.{IsAccounted};
 ghost use Rattle.fa_ops.specs.Moves.{Turned, after_pages as rule_after, from_page as rule_from, opened as rule_opened};
@@ -160,7 +160,8 @@ fn reserved<A: Allocator>(
     answer: Result<Seq, ReserveRefused>,
     waits: bool,
 ) -> Stage<A>
-    ensures { AfterReserve held wish answer result }
+    ensures after { AfterReserve held wish answer result }
+    ensures waits { answer ≡ Err ReserveRefused.NoRoom → waits ≡ true → result ≡ Reserving held wish }
 {
     match answer {
         Ok(_) => Stage::Committing(held, wish),

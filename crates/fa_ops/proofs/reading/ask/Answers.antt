@@ -1,6 +1,8 @@
-use Rattle.std.proofs.Common.{ap, map}
-use Rattle.fa_machine.specs.Step.{Admit}
-use Rattle.fa_ops.specs.Moves.{Moved}
+use Rattle.std.proofs.Common.{◌≡◌, List, ap, false, length, map, subst}
+use Rattle.std.specs.List.{list_all}
+use Rattle.std.specs.Prelude.{◌&&◌, nat_le}
+use Rattle.fa_machine.specs.Step.{Admit, is_distinct, is_page}
+use Rattle.fa_ops.specs.Moves.{Moved, Strayed}
 use Rattle.fa_reads.specs.Answers.{admit_answer}
 use Rattle.fa_types.specs.declared.numbers.Page.{Page}
 use Rattle.fa_ops.proofs.Turns.{no_rise}
@@ -10,4 +12,11 @@ pub returns-in-Some-clause-turned : goal.returns-in-Some-clause-turned
 returns-in-Some-clause-turned g c =
     λ t. Moved (Admit (map (λ (page : Page). page.0) c.as_slice.result.now) (admit_answer c.in-Some.answer)) c.in-Some.ensures.some
     (no_rise c.in-Some.ensures.commits)
-    (ap (map (λ (page : Page). page.0)) c.as_slice.ensures.value, c.asked.ensures)
+    (ap (map (λ (page : Page). page.0)) c.as_slice.ensures.value, c.asked.ensures) tt
+
+pub returns-in-None-clause-turned : goal.returns-in-None-clause-turned
+returns-in-None-clause-turned g c =
+    λ t. Strayed c.in-None.ensures.none.1 c.in-None.ensures.commits c.stopped.ensures
+    (subst (λ (pages : List Page). (is_distinct (map (λ (page : Page). page.0) pages)
+    && list_all (is_page c.args.locked.now.core) (map (λ (page : Page). page.0) pages)
+    && nat_le (length (map (λ (page : Page). page.0) pages)) 1024) ≡ false) c.as_slice.ensures.value c.in-None.ensures.none.0)

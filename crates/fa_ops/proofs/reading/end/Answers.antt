@@ -7,4 +7,4 @@ use Rattle.fa_ops.proofs.reading.end.Goals as goal
 pub returns-in-Some-clause-turned : goal.returns-in-Some-clause-turned
 returns-in-Some-clause-turned g c =
     λ t. Moved (EndBatch c.args.batch.0 (map (λ e. (e.0.0, e.1.items)) c.in-Some.answers.items)) c.in-Some.ensures.some
-    (no_rise c.in-Some.ensures.commits) (refl, (refl, refl))
+    (no_rise c.in-Some.ensures.commits) (refl, (refl, refl)) c.requires

@@ -7,4 +7,4 @@ use Rattle.fa_ops.proofs.syncing.flush.Goals as goal
 pub returns-clause-turned : goal.returns-clause-turned
 returns-clause-turned g c =
     λ t. Moved (FlushState c.args.asked c.flush_state.result) c.flush_state.ensures.event (no_rise c.flush_state.ensures.commits)
-    (refl, c.flushed.ensures)
+    (refl, c.flushed.ensures) tt

@@ -7,4 +7,4 @@ use Rattle.fa_ops.proofs.writing.abandon_wish.Goals as goal
 pub returns-in-Some-clause-turned : goal.returns-in-Some-clause-turned
 returns-in-Some-clause-turned g c =
     λ t. Moved (Abandon c.args.held.claim.0 c.in-Some.answer) c.in-Some.ensures.some (no_rise c.in-Some.ensures.commits)
-    (refl, c.abandoned.ensures)
+    (refl, c.abandoned.ensures) tt

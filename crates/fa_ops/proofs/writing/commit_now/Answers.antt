@@ -7,4 +7,4 @@ use Rattle.fa_ops.proofs.writing.commit_now.Goals as goal
 pub returns-in-Some-clause-turned : goal.returns-in-Some-clause-turned
 returns-in-Some-clause-turned g c =
     λ t. Moved (Commit c.args.held.claim.0 (number_of c.args.seat.now) c.in-Some.answer) c.in-Some.ensures.some c.in-Some.ensures.made
-    (refl, refl, c.committed.ensures)
+    (refl, refl, c.committed.ensures) tt

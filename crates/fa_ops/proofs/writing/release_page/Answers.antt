@@ -9,4 +9,4 @@ returns-then-is_reserved-clause-turned g c = c.give_up.ensures.turned c.args.tas
 
 pub returns-in-Some-clause-turned : goal.returns-in-Some-clause-turned
 returns-in-Some-clause-turned g c =
-    Moved (Release c.args.held.claim.0) c.in-Some.ensures.some (no_rise c.in-Some.ensures.commits) (refl, c.released.ensures)
+    Moved (Release c.args.held.claim.0) c.in-Some.ensures.some (no_rise c.in-Some.ensures.commits) (refl, c.released.ensures) tt

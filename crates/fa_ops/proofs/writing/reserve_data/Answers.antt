@@ -7,4 +7,4 @@ use Rattle.fa_ops.proofs.writing.reserve_data.Goals as goal
 pub returns-in-Some-clause-turned : goal.returns-in-Some-clause-turned
 returns-in-Some-clause-turned g c =
     λ t. Moved (Reserve c.args.held.claim.0 c.args.payload c.in-Some.answer) c.in-Some.ensures.some (no_rise c.in-Some.ensures.commits)
-    (refl, refl, c.reserved.ensures)
+    (refl, refl, c.reserved.ensures.after) tt

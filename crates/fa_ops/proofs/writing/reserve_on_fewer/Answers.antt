@@ -1,10 +1,15 @@
-use Rattle.std.proofs.Common.{refl}
+use Rattle.std.proofs.Common.{◌∙◌, ap, refl, sym}
+use Rattle.fa_machine.specs.State.{Core}
 use Rattle.fa_machine.specs.Step.{ReserveFewer}
+use Rattle.fa_ops.specs.Founded.{may_collect}
 use Rattle.fa_ops.specs.Moves.{Moved}
+use Rattle.fa_ops.proofs.Rooms.{founded_fewer}
 use Rattle.fa_ops.proofs.Turns.{no_rise}
 use Rattle.fa_ops.proofs.writing.reserve_on_fewer.Goals as goal
 
 pub returns-in-Some-clause-turned : goal.returns-in-Some-clause-turned
 returns-in-Some-clause-turned g c =
     λ t. Moved (ReserveFewer c.args.held.claim.0 c.args.payload c.in-Some.answer) c.in-Some.ensures.some
-    (no_rise c.in-Some.ensures.commits) (refl, refl, c.reserved.ensures)
+    (no_rise c.in-Some.ensures.commits) (refl, refl, c.reserved.ensures.after)
+    (founded_fewer _ _ _ _ _ _ _ _ (λ none. ap (λ (core : Core). may_collect core.page_map) (sym c.array.ensures.state)
+    ∙ c.may_get_room-waits.ensures none) c.reserved.ensures.waits)
