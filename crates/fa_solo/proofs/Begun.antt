@@ -8,8 +8,8 @@ use Rattle.fa_ops.specs.declared.op.Op.{Op}
 use Rattle.fa_ops.specs.declared.request.Request.{Request}
 use Rattle.fa_ops.specs.declared.request.Task.{Task}
 use Rattle.fa_solo.specs.Calls.{EndsBy, IsServed, Made, MakesRequest, MakesWhole}
-use Rattle.fa_solo.specs.Deeds.{IsForDies, IsForOrder}
-use Rattle.fa_solo.specs.Rigs.{Does}
+use Rattle.fa_solo.specs.Deeds.{IsForDies}
+use Rattle.fa_solo.specs.Rigs.{Does, Tidies}
 use Rattle.fa_solo.specs.Turns.{RunsOn}
 use Rattle.fa_solo.specs.declared.rig.Rig.{Rig}
 use Rattle.fa_types.specs.Store.{Gave, Refused}
@@ -43,32 +43,32 @@ module _ {L M I A : Type 0} (made : I → ImageCall → ImageAnswer → I → Ty
 
   -- what is done before a request and behind it
   pub whole : (a b c d : Rig L M I A) (task : Task) (bytes : List ℕ) (accepted : Bool) (ends : Op A → Type 0) → Does made IsForDies a b
-      → MakesRequest made task bytes accepted ends b c → Does made IsForOrder c d → MakesWhole made task bytes accepted ends a d
+      → MakesRequest made task bytes accepted ends b c → Tidies made c d → MakesWhole made task bytes accepted ends a d
   whole a b c d task bytes accepted ends before request behind =
       record { begun = b; done = c; before = before; request = request; behind = behind }
 
   pub whole_done : (a b c d : Rig L M I A) (task : Task) (bytes : List ℕ) (result : Result (Unit {0}) BlockFault) → Does made IsForDies a b
-      → MakesRequest made task bytes (is_ok result) (IsServed (is_ok result)) b c → Does made IsForOrder c d
+      → MakesRequest made task bytes (is_ok result) (IsServed (is_ok result)) b c → Tidies made c d
       → OnOk result (MakesWhole made task bytes true (IsServed true) a d)
   whole_done a b c d task bytes (Ok x) before request behind = whole a b c d task bytes true (IsServed true) before request behind
   whole_done a b c d task bytes (Err fault) before request behind = tt
 
   pub whole_refused : (a b c d : Rig L M I A) (task : Task) (bytes : List ℕ) (result : Result (Unit {0}) BlockFault) → Does made IsForDies a b
-      → MakesRequest made task bytes (is_ok result) (IsServed (is_ok result)) b c → Does made IsForOrder c d
+      → MakesRequest made task bytes (is_ok result) (IsServed (is_ok result)) b c → Tidies made c d
       → IfErr result (λ fault. MakesWhole made task bytes false (IsServed false) a d)
   whole_refused a b c d task bytes (Ok x) before request behind = tt
   whole_refused a b c d task bytes (Err fault) before request behind =
       whole a b c d task bytes false (IsServed false) before request behind
 
   pub whole_ok : {X : Type 0} (a b c d : Rig L M I A) (task : Task) (bytes : List ℕ) (result : Result X BlockFault) (ends : X → Op A → Type 0)
-      → Does made IsForDies a b → IfOk result (λ x. MakesRequest made task bytes true (ends x) b c) → Does made IsForOrder c d
+      → Does made IsForDies a b → IfOk result (λ x. MakesRequest made task bytes true (ends x) b c) → Tidies made c d
       → IfOk result (λ x. MakesWhole made task bytes true (ends x) a d)
   whole_ok a b c d task bytes (Ok x) ends before request behind = whole a b c d task bytes true (ends x) before request behind
   whole_ok a b c d task bytes (Err fault) ends before request behind = tt
 
   pub whole_err : {X : Type 0} (a b c d : Rig L M I A) (task : Task) (bytes : List ℕ) (result : Result X BlockFault)
       (ends : BlockFault → Op A → Type 0) → Does made IsForDies a b
-      → IfErr result (λ x. MakesRequest made task bytes false (ends x) b c) → Does made IsForOrder c d
+      → IfErr result (λ x. MakesRequest made task bytes false (ends x) b c) → Tidies made c d
       → IfErr result (λ x. MakesWhole made task bytes false (ends x) a d)
   whole_err a b c d task bytes (Ok x) ends before request behind = tt
   whole_err a b c d task bytes (Err fault) ends before request behind = whole a b c d task bytes false (ends fault) before request behind

@@ -2,4 +2,5 @@ mod Asked
 mod Begun
 mod Chains
 mod Ended
+mod Orders
 mod Taken

@@ -6,8 +6,8 @@ use Rattle.fa_ops.specs.Ops.{answer_of, beginning, ended, stage_of, task_in}
 use Rattle.fa_ops.specs.Tasks.{task_of}
 use Rattle.fa_ops.specs.declared.op.Op.{Op}
 use Rattle.fa_ops.specs.declared.request.Task.{Task}
-use Rattle.fa_solo.specs.Deeds.{IsForDies, IsForOrder}
-use Rattle.fa_solo.specs.Rigs.{Does}
+use Rattle.fa_solo.specs.Deeds.{IsForDies}
+use Rattle.fa_solo.specs.Rigs.{Does, Tidies}
 use Rattle.fa_solo.specs.Turns.{RunsOn}
 use Rattle.fa_solo.specs.declared.rig.Rig.{Rig}
 use Rattle.fa_types.specs.Store.{Call, Reading, Writing, Zeroing, Trimming, Flushing, Answer, Gave, Done, Refused}
@@ -36,13 +36,13 @@ module _ {L M I A : Type 0} (made : I → ImageCall → ImageAnswer → I → Ty
     Made : (op next : Op A) → task_in op ≡ task → stage_of op ≡ beginning task → answer_of op ≡ [] → RunsOn made bytes old op new next
         → ends next → MakesRequest task bytes accepted ends old new
 
-  -- A call: what is for dies before it, the request, and what the array wants behind it.
+  -- A call: what is for dies before it, the request, and what is for the array's order behind it.
   pub record MakesWhole (task : Task) (bytes : List ℕ) (accepted : Bool) (ends : Op A → Type 0) (old new : Rig L M I A) : Type 0 where
     pub begun : Rig L M I A
     pub done : Rig L M I A
     pub before : Does made IsForDies old begun
     pub request : MakesRequest task bytes accepted ends begun done
-    pub behind : Does made IsForOrder done new
+    pub behind : Tidies made done new
 
   abbrev pub MakesCall : ℕ → Rig L M I A → Call → Answer → Rig L M I A → Type 0
   MakesCall page_bytes old call answer new =

@@ -1,6 +1,6 @@
 -- What is done with an array and its images by one thread: events, and jobs of dies from their Takes to their Dones. No two jobs are under
 -- way at once, and each Done tells what the job's own calls of its image gave.
-use Rattle.std.specs.Prelude.{◌≡◌, ℕ, List, [], ◌∷◌, Option, Some, None, slice_get, slice_set}
+use Rattle.std.specs.Prelude.{◌≡◌, ℕ, List, [], ◌∷◌, Option, Some, None, Err, slice_get, slice_set}
 use Rattle.fa_headers.specs.declared.judging.Standing.{Standing}
 use Rattle.fa_image.specs.Image.{ImageAnswer, ImageCall}
 use Rattle.fa_machine.specs.Cells.{Outcome}
@@ -21,11 +21,11 @@ IsForDies (SpareIn die answer) = Unit {0}
 IsForDies Fold = Unit {0}
 IsForDies act = ⊥
 
--- Those, and the events by which a thin page gets one more copy.
+-- Those, and the events by which a thin page is read and a copy of it becomes current. A slot is reserved for one more copy by `CopiesPage` alone.
 abbrev pub IsForOrder : Act → Type 0
 IsForOrder (Admit (page ∷ []) answer) = Unit {0}
 IsForOrder (EndBatch batch answers) = Unit {0}
-IsForOrder (ReserveCopy page seq payload answer) = Unit {0}
+IsForOrder (ReserveCopy page seq payload (Err refused)) = Unit {0}
 IsForOrder (CommitCopy answer) = Unit {0}
 IsForOrder act = IsForDies act
 

@@ -1,13 +1,14 @@
 -- What contracts see of what the store of one thread owns, and what is done with it besides its requests.
-use Rattle.std.specs.Prelude.{◌≡◌, ℕ, ◌+◌, ◌<◌, List, Some, length, slice_get, slice_set}
+use Rattle.std.specs.Prelude.{◌≡◌, ◌⊎◌, ℕ, ◌+◌, ◌<◌, List, [], ◌∷◌, ◌++◌, Some, Ok, length, slice_get, slice_set}
 use Rattle.fa_image.specs.Image.{ImageAnswer, ImageCall, ImageState}
 use Rattle.fa_machine.specs.Cells.{Outcome}
-use Rattle.fa_machine.specs.Step.{Act, Done, Step}
+use Rattle.fa_machine.specs.Step.{Act, Done, ReserveCopy, Step}
 use Rattle.fa_machine.specs.Taking.{Handed}
 use Rattle.fa_mount.specs.Standings.{place_on}
 use Rattle.fa_shared.specs.Seats.{number_of}
-use Rattle.fa_solo.specs.Deeds.{Goes}
+use Rattle.fa_solo.specs.Deeds.{Goes, IsForOrder}
 use Rattle.fa_solo.specs.House.{House}
+use Rattle.fa_solo.specs.Orders.{Orders}
 use Rattle.fa_solo.specs.declared.rig.Rig.{Rig}
 use Rattle.fa_workers.specs.Held.{LeavesRest}
 use Rattle.fa_workers.specs.Made.{Ran}
@@ -28,6 +29,21 @@ module _ {L M I A : Type 0} where
   pub record HasMemory (rig : Rig L M I A) : Type 0 where
     pub scratch : length rig.scratch.items ≡ rig.locked.core.page_map.geometry.page_bytes + 64
     pub buffer : length rig.buffer.items ≡ rig.locked.core.page_map.geometry.page_bytes
+
+  -- An event was made. Nothing else of the array under its lock has changed, no Commit was made, and the images are the same.
+  pub record DoesOne (act : Act) (old new : Rig L M I A) : Type 0 where
+    pub step : Step old.locked.core act new.locked.core
+    pub left : LeavesRest old.locked old.seat new.locked new.seat
+    pub images : new.images.items ≡ old.images.items
+    pub dies : new.dies.items ≡ old.dies.items
+
+  -- A slot was reserved for one more copy of the page's write with this number, of the bytes that were answered last.
+  pub record ReservesCopy (page seq : ℕ) (answers : List (ℕ × List ℕ)) (old new : Rig L M I A) : Type 0 where
+    pub others : List (ℕ × List ℕ)
+    pub given : ℕ
+    pub bytes : List ℕ
+    pub last : answers ≡ others ++ (given, bytes) ∷ []
+    pub reserves : DoesOne (ReserveCopy page seq bytes (Ok tt)) old new
 
   module _ (made : I → ImageCall → ImageAnswer → I → Type 0) where
     -- The calls of a job were made of the image at a place, and the job ends so by what they gave.
@@ -52,3 +68,15 @@ module _ {L M I A : Type 0} where
       pub goes : Goes made old.locked.number old.dies.items (number_of old.seat) P (house_of old) (house_of new)
       pub left : LeavesRest old.locked old.seat new.locked new.seat
       pub dies : new.dies.items ≡ old.dies.items
+
+    -- The same of what is done for the array's order.
+    pub record Tidies (old new : Rig L M I A) : Type 0 where
+      pub orders : Orders made old.locked.number old.dies.items (number_of old.seat) (house_of old) (house_of new)
+      pub left : LeavesRest old.locked old.seat new.locked new.seat
+      pub dies : new.dies.items ≡ old.dies.items
+
+    -- One more copy of the page was reserved of what was answered, with deeds behind it; or it was not, and deeds were done.
+    abbrev pub TriesCopy : (page seq : ℕ) → List (ℕ × List ℕ) → Rig L M I A → Rig L M I A → Type 0
+    TriesCopy page seq answers old new =
+        Does IsForOrder old new
+        ⊎ ((middle : Rig L M I A) × ReservesCopy page seq answers old middle × Does IsForOrder middle new)

@@ -1,6 +1,11 @@
 //! Thin pages that get one more copy.
+ghost use Rattle.std.specs.Prelude.{◌≡◌, ◌∷◌, [], map, option_map, true, false, IfNone, IfSome, Ok, Some};
+ghost use Rattle.std.specs.FinMap.{get};
+ghost use Rattle.fa_machine.specs.Reading.{Planned, results as rule_results};
+ghost use Rattle.fa_machine.specs.Step.{Admit, EndBatch, ReserveCopy};
+ghost use Rattle.fa_reads.specs.Answers.{admit_answer};
 ghost use Rattle.fa_solo.specs.Deeds.{IsForDies, IsForOrder};
-ghost use Rattle.fa_solo.specs.Rigs.{Does};
+ghost use Rattle.fa_solo.specs.Rigs.{Does, DoesOne, ReservesCopy, Tidies, TriesCopy};
 
 use crate::collecting::collect;
 use crate::events::{admit, commit_copy, end_batch, reserve_copy};
@@ -28,7 +33,7 @@ struct ThinPage {
 pub(crate) fn tidy<L: Ledger, M: Map + Drop, I: Image, A: Allocator + Copy>(
     rig: &mut Rig<L, M, I, A>,
 )
-    ensures { Does I.made IsForOrder rig.old rig.new }
+    ensures { Tidies I.made rig.old rig.new }
 {
     put_in_order(rig);
     work_off(rig);
@@ -36,7 +41,7 @@ pub(crate) fn tidy<L: Ledger, M: Map + Drop, I: Image, A: Allocator + Copy>(
 
 /// The same, but that rounds may be left to pass.
 fn put_in_order<L: Ledger, M: Map + Drop, I: Image, A: Allocator + Copy>(rig: &mut Rig<L, M, I, A>)
-    ensures { Does I.made IsForOrder rig.old rig.new }
+    ensures { Tidies I.made rig.old rig.new }
 {
     for _ in 0..u64::MAX {
         bring_in(rig);
@@ -53,7 +58,7 @@ fn put_in_order<L: Ledger, M: Map + Drop, I: Image, A: Allocator + Copy>(rig: &m
 fn rebuild_next<L: Ledger, M: Map + Drop, I: Image, A: Allocator + Copy>(
     rig: &mut Rig<L, M, I, A>,
 ) -> bool
-    ensures { Does I.made IsForOrder rig.old rig.new }
+    ensures { Tidies I.made rig.old rig.new }
 {
     let Some(thin) = find_thin(&rig.locked) else {
         return false;
@@ -76,7 +81,9 @@ fn ask<L: Ledger, M: Map + Drop, I: Image, A: Allocator + Copy>(
     rig: &mut Rig<L, M, I, A>,
     page: Page,
 ) -> Option<BatchId>
-    ensures { Does I.made IsForOrder rig.old rig.new }
+    ensures none { IfNone result (Does I.made IsForOrder rig.old rig.new) }
+    ensures some { IfSome result (λ batch. (planned : Planned)
+        × DoesOne (Admit (page.0 ∷ []) (Ok (record { batch = batch; planned = planned }))) rig.old rig.new) }
 {
     match admit(&mut rig.locked, &mut rig.seat, page) {
         Some(answer) => batch_of(answer),
@@ -85,7 +92,9 @@ fn ask<L: Ledger, M: Map + Drop, I: Image, A: Allocator + Copy>(
 }
 
 /// The batch that was admitted, if it was.
-fn batch_of<A: Allocator>(answer: Result<Admitted<A>, AdmitRefused>) -> Option<BatchId> {
+fn batch_of<A: Allocator>(answer: Result<Admitted<A>, AdmitRefused>) -> Option<BatchId>
+    ensures { IfSome result (λ batch. (planned : Planned) × (admit_answer answer ≡ Ok (record { batch = batch; planned = planned }))) }
+{
     match answer {
         Ok(admitted) => Some(admitted.batch),
         Err(_) => None,
@@ -97,7 +106,8 @@ fn end<L: Ledger, M: Map + Drop, I: Image, A: Allocator + Copy>(
     rig: &mut Rig<L, M, I, A>,
     batch: BatchId,
 ) -> Option<Vec<(Page, Vec<u8, A>), A>>
-    ensures { Does I.made IsForOrder rig.old rig.new }
+    ensures none { IfNone result (Does I.made IsForOrder rig.old rig.new) }
+    ensures some { IfSome result (λ answers. DoesOne (EndBatch batch.0 (map (λ e. (e.0.0, e.1.items)) answers.items)) rig.old rig.new) }
 {
     end_batch(rig.alloc, &mut rig.locked, &mut rig.seat, batch)
 }
@@ -105,7 +115,9 @@ fn end<L: Ledger, M: Map + Drop, I: Image, A: Allocator + Copy>(
 /// The next thin page that has a place to go.
 fn find_thin<L: Ledger, M: Map + Drop, A: Allocator + Copy>(
     locked: &Locked<L, M, A>,
-) -> Option<ThinPage> {
+) -> Option<ThinPage>
+    ensures { IfSome result (λ thin. option_map (λ version. version.seq) (get locked.now.core.page_map.versions thin.page.0) ≡ Some thin.seq) }
+{
     let (page, _) = locked.array().next_thin()?;
     if !locked.array().is_page(page) {
         return None;
@@ -119,7 +131,8 @@ fn wait_for<L: Ledger, M: Map + Drop, I: Image, A: Allocator + Copy>(
     rig: &mut Rig<L, M, I, A>,
     batch: BatchId,
 ) -> ReadState
-    ensures { Does I.made IsForDies rig.old rig.new }
+    ensures does { Does I.made IsForDies rig.old rig.new }
+    ensures ready { result ≡ ReadState.Ready → rule_results rig.new.locked.core batch.0 ≡ ReadState.Ready }
 {
     for _ in 0..u64::MAX {
         let state = rig.locked.array().results(batch);
@@ -127,7 +140,7 @@ fn wait_for<L: Ledger, M: Map + Drop, I: Image, A: Allocator + Copy>(
             return state;
         }
         if !work(rig) {
-            return state;
+            return ReadState::Waiting;
         }
     }
     ReadState::Waiting
@@ -139,7 +152,22 @@ fn copy<L: Ledger, M: Map + Drop, I: Image, A: Allocator + Copy>(
     thin: ThinPage,
     answers: Vec<(Page, Vec<u8, A>), A>,
 ) -> bool
-    ensures { Does I.made IsForOrder rig.old rig.new }
+    ensures { TriesCopy I.made thin.page.0 thin.seq.0 (map (λ e. (e.0.0, e.1.items)) answers.items) rig.old rig.new }
+{
+    if !reserve_last(rig, thin, answers) {
+        return false;
+    }
+    see_through(rig)
+}
+
+/// Reserves a slot for a copy of what was answered last. Whether that was accepted.
+fn reserve_last<L: Ledger, M: Map + Drop, I: Image, A: Allocator + Copy>(
+    rig: &mut Rig<L, M, I, A>,
+    thin: ThinPage,
+    answers: Vec<(Page, Vec<u8, A>), A>,
+) -> bool
+    ensures yes { result ≡ true → ReservesCopy thin.page.0 thin.seq.0 (map (λ e. (e.0.0, e.1.items)) answers.items) rig.old rig.new }
+    ensures no { result ≡ false → Does I.made IsForOrder rig.old rig.new }
 {
     let mut answers = answers;
     let Some((_, bytes)) = answers.pop() else {
@@ -148,10 +176,7 @@ fn copy<L: Ledger, M: Map + Drop, I: Image, A: Allocator + Copy>(
     let Ok(payload) = Payload::new(bytes) else {
         return false;
     };
-    if !reserve(rig, thin, &payload) {
-        return false;
-    }
-    see_through(rig)
+    reserve(rig, thin, &payload)
 }
 
 /// Reserves a slot for the copy. Whether that was accepted.
@@ -160,7 +185,8 @@ fn reserve<L: Ledger, M: Map + Drop, I: Image, A: Allocator + Copy>(
     thin: ThinPage,
     payload: &Payload<A>,
 ) -> bool
-    ensures { Does I.made IsForOrder rig.old rig.new }
+    ensures yes { result ≡ true → DoesOne (ReserveCopy thin.page.0 thin.seq.0 payload.now (Ok tt)) rig.old rig.new }
+    ensures no { result ≡ false → Does I.made IsForOrder rig.old rig.new }
 {
     let ThinPage { page, seq } = thin;
     match reserve_copy(&mut rig.locked, &mut rig.seat, page, seq, payload) {

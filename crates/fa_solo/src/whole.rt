@@ -5,8 +5,7 @@ ghost use Rattle.fa_ops.specs.Tallies.{pages_in};
 ghost use Rattle.fa_ops.specs.Tasks.{end_of, task_of};
 ghost use Rattle.fa_ops.specs.declared.request.Request.TheVariants.{Read};
 ghost use Rattle.fa_solo.specs.Calls.{EndsBy, IsServed, MakesWhole};
-ghost use Rattle.fa_solo.specs.Deeds.{IsForOrder};
-ghost use Rattle.fa_solo.specs.Rigs.{Does};
+ghost use Rattle.fa_solo.specs.Rigs.{Tidies};
 ghost use Rattle.fa_types.specs.Store.{Gave, Refused};
 ghost use Rattle.fa_types.specs.declared.blocks.BlockFault.TheVariants.{NoRoom};
 
@@ -72,7 +71,7 @@ fn tidy_unless<L: Ledger, M: Map + Drop, I: Image, A: Allocator + Copy>(
     rig: &mut Rig<L, M, I, A>,
     is_full: bool,
 )
-    ensures { Does I.made IsForOrder rig.old rig.new }
+    ensures { Tidies I.made rig.old rig.new }
 {
     if is_full {
         return;

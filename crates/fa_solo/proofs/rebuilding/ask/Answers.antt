@@ -1,14 +1,22 @@
 use Rattle.std.proofs.Common.{[], ◌∷◌, refl}
-use Rattle.fa_solo.proofs.Chains.{does_option}
 use Rattle.fa_machine.specs.Step.{Admit}
 use Rattle.fa_reads.specs.Answers.{admit_answer}
-use Rattle.fa_solo.specs.Deeds.{IsForDies, IsForOrder}
+use Rattle.fa_solo.proofs.Chains.{does_option}
+use Rattle.fa_solo.proofs.Orders.{asked_for, if_none, one_if_some}
+use Rattle.fa_solo.specs.Deeds.{IsForOrder}
 use Rattle.fa_solo.proofs.rebuilding.ask.Goals as goal
 
-pub returns-in-Some : goal.returns-in-Some
-returns-in-Some g c = does_option _ IsForOrder _ _ c.admit.result (λ answer. Admit (c.args.page.0 ∷ []) (admit_answer answer)) (λ _. tt) c.admit.ensures.some
-    c.admit.ensures.none c.admit.ensures.account refl refl
+pub returns-in-Some-clause-none : goal.returns-in-Some-clause-none
+returns-in-Some-clause-none g c =
+    if_none c.batch_of.result (does_option _ IsForOrder _ _ c.admit.result (λ answer. Admit (c.args.page.0 ∷ []) (admit_answer answer)) (λ _. tt)
+    c.admit.ensures.some c.admit.ensures.none c.admit.ensures.account refl refl)
 
-pub returns-in-None : goal.returns-in-None
-returns-in-None g c = does_option _ IsForOrder _ _ c.admit.result (λ answer. Admit (c.args.page.0 ∷ []) (admit_answer answer)) (λ _. tt) c.admit.ensures.some
+pub returns-in-Some-clause-some : goal.returns-in-Some-clause-some
+returns-in-Some-clause-some g c =
+    asked_for _ _ c.args.page.0 c.batch_of.result _ c.batch_of.ensures
+    (one_if_some _ _ c.admit.result (λ answer. Admit (c.args.page.0 ∷ []) (admit_answer answer)) c.admit.ensures.some c.admit.ensures.account refl refl)
+
+pub returns-in-None-clause-none : goal.returns-in-None-clause-none
+returns-in-None-clause-none g c =
+    does_option _ IsForOrder _ _ c.admit.result (λ answer. Admit (c.args.page.0 ∷ []) (admit_answer answer)) (λ _. tt) c.admit.ensures.some
     c.admit.ensures.none c.admit.ensures.account refl refl

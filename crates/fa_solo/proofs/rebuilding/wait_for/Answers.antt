@@ -8,5 +8,5 @@ loop-init g c = does_none _ IsForDies _
 pub loop-preserved : goal.loop-preserved
 loop-preserved g c = does_more _ IsForDies _ _ _ c.loop.invariant c.work.ensures
 
-pub returns-then-not-work : goal.returns-then-not-work
-returns-then-not-work g c = does_more _ IsForDies _ _ _ c.loop.invariant c.work.ensures
+pub returns-then-not-work-clause-does : goal.returns-then-not-work-clause-does
+returns-then-not-work-clause-does g c = does_more _ IsForDies _ _ _ c.loop.invariant c.work.ensures

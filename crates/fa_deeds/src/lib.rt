@@ -1,0 +1,4 @@
+//! Laws of what the store of one thread does, as what drives an array over the images of its dies.
+#![tactic(auto)]
+
+pub mod laws;
