@@ -26,15 +26,16 @@ none_among f first (suc n) none =
 
 -- a die that is not live
 pub gone_may_not : (m : MapState) (die : ℕ) → is_live m die ≡ false → may_free m die ≡ false
-gone_may_not m die gone = and_left (is_live m die) (not (has_room m die) && is_some (victim m die)) gone
+gone_may_not m die gone =
+    and_left (is_live m die && not (has_room m die)) (is_some (victim m die)) (and_left (is_live m die) (not (has_room m die)) gone)
 
 -- one that is live and has room
 pub roomy_may_not : (m : MapState) (die slots : ℕ) → is_live m die ≡ true → slots ≡ room m die → (slots == 0) ≡ false → may_free m die ≡ false
 roomy_may_not m die slots live is some =
     let none : room m die ≡ 0 → ⊥ = λ no. eqb-false slots 0 some (is ∙ no) in
     let has : has_room m die ≡ true = and_from (is_live m die) (nat_lt 0 (room m die)) live (lt-ltb 0 (room m die) (omega (arith, none))) in
-    and_right (is_live m die) (not (has_room m die) && is_some (victim m die))
-    (and_left (not (has_room m die)) (is_some (victim m die)) (not_from_true (has_room m die) has))
+    and_left (is_live m die && not (has_room m die)) (is_some (victim m die))
+    (and_right (is_live m die) (not (has_room m die)) (not_from_true (has_room m die) has))
 
 some_block : (o : Option Block) → is_some (option_map (λ (block : Block). block.0) o) ≡ is_some o
 some_block None = refl
@@ -44,8 +45,7 @@ some_block (Some block) = refl
 pub spared_may_not : (m : MapState) (die : ℕ) (o : Option Block) → option_map (λ (block : Block). block.0) o ≡ victim m die → is_some o ≡ false
     → may_free m die ≡ false
 spared_may_not m die o is none =
-    and_right (is_live m die) (not (has_room m die) && is_some (victim m die))
-    (and_right (not (has_room m die)) (is_some (victim m die)) (ap is_some (sym is) ∙ some_block o ∙ none))
+    and_right (is_live m die && not (has_room m die)) (is_some (victim m die)) (ap is_some (sym is) ∙ some_block o ∙ none)
 
 -- A write on fewer dies is refused for want of room where it was asked before whether it may get room.
 pub founded_fewer : {A : Type 0} (core : Core) (held : Held) (payload : List ℕ) (claim : ℕ) (bytes : List ℕ)

@@ -1,7 +1,7 @@
 -- Turns, from what the calls of the array tell.
 use Rattle.std.proofs.Common.{◌≡◌, ◌∙◌, ◌+◌, ℕ, List, false, Option, Some, None, IfSome, IfNone, Result, refl, sym, ap, subst, arith}
-use Rattle.std.proofs.Common.{inl, inr, not, true}
-use Rattle.std.proofs.lemmas.Bool.{and_cases, and_left, and_right}
+use Rattle.std.proofs.Common.{not, true}
+use Rattle.std.proofs.lemmas.Bool.{and_left}
 use Rattle.std.specs.Prelude.{◌&&◌}
 use Rattle.fa_machine.specs.Conditions.{batch_open, claim_open, history_full, is_reserved}
 use Rattle.fa_machine.specs.State.{Core}
@@ -9,14 +9,12 @@ use Rattle.fa_machine.specs.Step.{Step, Abandon, EndBatch, Fold}
 use Rattle.fa_machine.specs.declared.ids.BatchId.{BatchId}
 use Rattle.fa_machine.specs.declared.refusals.AbandonRefused.{AbandonRefused}
 use Rattle.fa_ops.specs.Accounts.{IsAccounted}
-use Rattle.fa_ops.specs.Founded.{IsBarred}
 use Rattle.fa_ops.specs.Moves.{Turned, Moved, Rested, Strayed, stopped}
 use Rattle.fa_ops.specs.declared.request.Task.{Task}
 use Rattle.fa_ops.specs.declared.stage.Held.{Held}
 use Rattle.fa_ops.specs.declared.stage.Purpose.{Purpose}
 use Rattle.fa_ops.specs.declared.stage.Stage.{Stage}
-use Rattle.fa_ops.specs.declared.stage.Stage.TheVariants.{Leaving, Releasing, Reserving}
-use Rattle.fa_ops.specs.declared.stage.Wish.TheVariants.{Hole}
+use Rattle.fa_ops.specs.declared.stage.Stage.TheVariants.{Leaving, Releasing}
 use Rattle.fa_shared.specs.Locked.{LockedState}
 use Rattle.fa_shared.specs.Seats.{commits_with}
 use Rattle.fa_shared.specs.declared.seat.Seat.{Seat}
@@ -57,14 +55,9 @@ gave_up t before after old new held fault told (Some a) some none kept =
 gave_up t before after old new held fault told None some none kept = Rested (none.1) kept refl
 
 -- a hole can't be reserved where its claim is not open, or something is reserved under it
-pub barred_hole : {A : Type 0} (core : Core) (held : Held) → (claim_open core held.claim.0 && not (is_reserved core held.claim.0)) ≡ false
-    → IsBarred {A = A} core (Reserving held Hole)
-barred_hole core held none =
-    elim (and_cases (claim_open core held.claim.0) (not (is_reserved core held.claim.0)) none) [
-      | inl closed ↦ and_left (claim_open core held.claim.0) (not (is_reserved core held.claim.0) && true) closed
-      | inr reserved ↦ and_right (claim_open core held.claim.0) (not (is_reserved core held.claim.0) && true)
-          (and_left (not (is_reserved core held.claim.0)) true reserved)
-    ]
+pub barred_hole : (core : Core) (claim : ℕ) → (claim_open core claim && not (is_reserved core claim)) ≡ false
+    → (claim_open core claim && not (is_reserved core claim) && true) ≡ false
+barred_hole core claim none = and_left (claim_open core claim && not (is_reserved core claim)) true none
 
 -- behind a Fold the history has room
 pub has_room : (old new : Core) → Step old Fold new → history_full new ≡ false

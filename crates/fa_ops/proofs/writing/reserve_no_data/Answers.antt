@@ -12,4 +12,4 @@ returns-in-Some-clause-turned g c =
 pub returns-in-None-clause-turned : goal.returns-in-None-clause-turned
 returns-in-None-clause-turned g c =
     λ t. Strayed c.in-None.ensures.none.1 c.in-None.ensures.commits refl
-    (barred_hole c.args.locked.now.core c.args.held c.in-None.ensures.none.0)
+    (barred_hole c.args.locked.now.core c.args.held.claim.0 c.in-None.ensures.none.0)
