@@ -1,12 +1,12 @@
 //! What `check` and `dump` print of a mounted array: their lines, and their JSON documents.
 #![tactic(auto)]
 
-mod check_text;
+mod check_lines;
 mod document;
-mod dump_text;
+mod dump_lines;
 mod table;
 
-pub use check_text::check_text;
+pub use check_lines::check_text;
 pub use document::{check_json, dump_json};
-pub use dump_text::dump_text;
+pub use dump_lines::dump_text;
 pub use table::{DieRow, path_of, rows_of};

@@ -3,7 +3,7 @@ use Rattle.std.specs.List.{flat_map}
 use Rattle.fa_scan.specs.Pages.{Written}
 use Rattle.fa_documents.specs.Lines.{line_text}
 use Rattle.fa_documents.proofs.DumpLines.{lines_of_written}
-use Rattle.fa_documents.proofs.dump_text.dump_text.Goals as goal
+use Rattle.fa_documents.proofs.dump_lines.dump_text.Goals as goal
 
 pub loop-page-init : goal.loop-page-init
 loop-page-init g c =

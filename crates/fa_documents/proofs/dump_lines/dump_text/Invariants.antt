@@ -1,7 +1,7 @@
 use Rattle.std.proofs.Common.{◌≡◌, ◌++◌, string_bytes}
 use Rattle.std.specs.List.{flat_map}
 use Rattle.fa_documents.specs.Lines.{dump_text, line_text}
-use Rattle.fa_documents.proofs.dump_text.dump_text.Given as goal
+use Rattle.fa_documents.proofs.dump_lines.dump_text.Given as goal
 
 -- what was told, and the lines of the pages that are left, are the whole text
 abbrev pub invariant-loop-page : goal.invariant-loop-page
