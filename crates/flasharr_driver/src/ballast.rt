@@ -1,5 +1,5 @@
 //! A heap that is filled, so that it refuses memory.
-use std::alloc::{AllocError, Allocator};
+use std::alloc::{AllocError, Allocator, Global};
 
 /// The bytes of the least piece of a heap.
 const GRAIN: usize = 16;
@@ -9,12 +9,12 @@ const LARGEST: usize = 1024 * 1024;
 
 /// What a heap is filled with.
 #[derive(Drop)]
-pub(crate) struct Ballast<A: Allocator, B: Allocator> {
-    pieces: Vec<Vec<u8, A>, B>,
+pub(crate) struct Ballast<A: Allocator> {
+    pieces: Vec<Vec<u8, A>>,
 }
 
-impl<A: Allocator + Copy, B: Allocator + Copy> Ballast<A, B> {
-    pub(crate) fn new(alloc: B) -> Ballast<A, B> {
+impl<A: Allocator + Copy> Ballast<A> {
+    pub(crate) fn new(alloc: Global) -> Ballast<A> {
         Ballast {
             pieces: Vec::new(alloc),
         }

@@ -2,7 +2,7 @@
 use crate::content::Content;
 use fa_machine::BatchId;
 use fa_types::{Page, Seq};
-use std::alloc::{AllocError, Allocator};
+use std::alloc::{AllocError, Global};
 
 /// What a batch is to answer for a page.
 #[derive(Clone, Copy)]
@@ -16,15 +16,15 @@ pub(crate) struct Due {
 
 /// An open batch.
 #[derive(Drop)]
-pub(crate) struct OpenBatch<B: Allocator> {
+pub(crate) struct OpenBatch {
     pub(crate) id: BatchId,
     /// The pages, in the list's order.
-    pub(crate) dues: Vec<Due, B>,
+    pub(crate) dues: Vec<Due>,
     /// Whether the rebuilder reads it.
     pub(crate) is_for_copy: bool,
 }
 
-impl<B: Allocator> OpenBatch<B> {
+impl OpenBatch {
     /// A read of the page gave its answer.
     pub(crate) fn answer(&mut self, page: Page, content: Content, seq: Seq) {
         for due in self.dues.iter_mut() {
@@ -47,7 +47,7 @@ impl<B: Allocator> OpenBatch<B> {
 }
 
 /// The index of a batch by its number. None where it is not open.
-pub(crate) fn index_of<B: Allocator>(batches: &[OpenBatch<B>], id: BatchId) -> Option<usize> {
+pub(crate) fn index_of(batches: &[OpenBatch], id: BatchId) -> Option<usize> {
     for (index, batch) in batches.iter().enumerate() {
         if batch.id == id {
             return Some(index);
@@ -57,10 +57,7 @@ pub(crate) fn index_of<B: Allocator>(batches: &[OpenBatch<B>], id: BatchId) -> O
 }
 
 /// Takes a batch out of a list. None where the list has none at the index.
-pub(crate) fn take_out<B: Allocator>(
-    batches: &mut Vec<OpenBatch<B>, B>,
-    index: usize,
-) -> Option<OpenBatch<B>> {
+pub(crate) fn take_out(batches: &mut Vec<OpenBatch>, index: usize) -> Option<OpenBatch> {
     if index < batches.len() {
         Some(batches.remove(index))
     } else {
@@ -69,9 +66,6 @@ pub(crate) fn take_out<B: Allocator>(
 }
 
 /// A list of the pages of a batch. The error is out of memory.
-pub(crate) fn pages_of<B: Allocator>(
-    alloc: B,
-    batch: &OpenBatch<B>,
-) -> Result<Vec<Page, B>, AllocError> {
+pub(crate) fn pages_of(alloc: Global, batch: &OpenBatch) -> Result<Vec<Page>, AllocError> {
     batch.dues.iter().map(|due| due.page).collect(alloc)
 }

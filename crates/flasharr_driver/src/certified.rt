@@ -8,14 +8,14 @@ use fa_cert::{Verdict, check};
 use fa_core::{Array, Planned};
 use fa_map::Map;
 use fa_types::{Die, Kind, Page};
-use std::alloc::{AllocError, Allocator};
+use std::alloc::{AllocError, Allocator, Global};
 
 /// The pages of a list that are read from dies: those whose last write gave them bytes. The error is out of memory.
-pub(crate) fn read_pages<M: Map, A: Allocator + Copy, B: Allocator>(
+pub(crate) fn read_pages<M: Map, A: Allocator + Copy>(
     array: &Array<M, A>,
-    alloc: B,
+    alloc: Global,
     pages: &[Page],
-) -> Result<Vec<Page, B>, AllocError> {
+) -> Result<Vec<Page>, AllocError> {
     let mut read = Vec::new(alloc);
     for page in pages {
         if is_data(array, *page) {
@@ -70,12 +70,12 @@ fn holds<M: Map, A: Allocator + Copy>(array: &Array<M, A>, page: Page, die: Die)
 }
 
 /// Checks a plan against the rounds that were closed before it. The error is out of memory.
-pub(crate) fn judge<A: Allocator + Copy, B: Allocator>(
+pub(crate) fn judge<A: Allocator + Copy>(
     heap: A,
     batch: &Batch<A>,
     closed: &Closed<A>,
     planned: &Planned<A>,
-    desk: &mut Desk<B>,
+    desk: &mut Desk,
 ) -> Result<(), AllocError> {
     desk.certificates = desk.certificates.saturating_add(1);
     if !batch.is_sound() {

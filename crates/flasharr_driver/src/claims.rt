@@ -2,7 +2,7 @@
 use crate::content::Content;
 use fa_machine::ClaimId;
 use fa_types::Page;
-use std::alloc::{AllocError, Allocator};
+use std::alloc::{AllocError, Global};
 
 /// An open claim.
 #[derive(Clone, Copy)]
@@ -15,12 +15,12 @@ pub(crate) struct Claimed {
 
 /// The open claims.
 #[derive(Drop)]
-pub(crate) struct Claims<B: Allocator> {
-    claims: Vec<Claimed, B>,
+pub(crate) struct Claims {
+    claims: Vec<Claimed>,
 }
 
-impl<B: Allocator> Claims<B> {
-    pub(crate) fn new(alloc: B) -> Claims<B> {
+impl Claims {
+    pub(crate) fn new(alloc: Global) -> Claims {
         Claims {
             claims: Vec::new(alloc),
         }

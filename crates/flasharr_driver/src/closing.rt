@@ -40,10 +40,10 @@ const FORMAT_2: u8 = 2;
 const CALLS: u64 = 4;
 
 /// An array with something open is not closed.
-pub(crate) fn close_busy<M: Map + Drop, A: Allocator + Copy, B: Allocator>(
+pub(crate) fn close_busy<M: Map + Drop, A: Allocator + Copy>(
     mounted: &MountedArray<M, A>,
-    life: &mut Life<A, B>,
-    desk: &mut Desk<B>,
+    life: &mut Life<A>,
+    desk: &mut Desk,
 )
     requires { IsWhole M.view mounted.now.array }
 {
@@ -57,11 +57,11 @@ pub(crate) fn close_busy<M: Map + Drop, A: Allocator + Copy, B: Allocator>(
 }
 
 /// An array at rest is closed, or left as it stands. The error is out of memory.
-pub(crate) fn end_life<M: Map + Drop, A: Allocator + Copy, B: Allocator + Copy>(
+pub(crate) fn end_life<M: Map + Drop, A: Allocator + Copy>(
     mounted: &MountedArray<M, A>,
     heap: A,
-    life: &mut Life<A, B>,
-    desk: &mut Desk<B>,
+    life: &mut Life<A>,
+    desk: &mut Desk,
     way: Way,
 ) -> Result<Ended, AllocError>
     requires { IsWhole M.view mounted.now.array }
@@ -84,9 +84,9 @@ pub(crate) fn end_life<M: Map + Drop, A: Allocator + Copy, B: Allocator + Copy>(
 }
 
 /// Closes the array over its images.
-fn close<M: Map + Drop, A: Allocator + Copy, B: Allocator>(
+fn close<M: Map + Drop, A: Allocator + Copy>(
     mounted: &MountedArray<M, A>,
-    images: &mut Images<B>,
+    images: &mut Images,
 ) -> Result<u64, CloseFault>
     requires { IsWhole M.view mounted.now.array }
 {
@@ -114,10 +114,7 @@ fn bit(die: u32) -> u64 {
 }
 
 /// Only the images of live dies are kept.
-fn keep_living<M: Map, A: Allocator + Copy, B: Allocator>(
-    array: &Array<M, A>,
-    life: &mut Life<A, B>,
-) {
+fn keep_living<M: Map, A: Allocator + Copy>(array: &Array<M, A>, life: &mut Life<A>) {
     for die in 0..array.geometry().dies {
         let die = die_of(u64::from(die));
         if !array.is_live(die) {
@@ -129,11 +126,11 @@ fn keep_living<M: Map, A: Allocator + Copy, B: Allocator>(
 /// Closes the array again and again, of which the image of each live die in turn refuses its first call, its second, and so on up
 /// to a call that is not made. Where it was closed, what is mounted of all images is the same array. Each time the headers are as they
 /// were. The error is out of memory.
-fn refuse_each_call<M: Map + Drop, A: Allocator + Copy, B: Allocator + Copy>(
+fn refuse_each_call<M: Map + Drop, A: Allocator + Copy>(
     mounted: &MountedArray<M, A>,
     heap: A,
-    life: &mut Life<A, B>,
-    desk: &mut Desk<B>,
+    life: &mut Life<A>,
+    desk: &mut Desk,
     way: Way,
 ) -> Result<(), AllocError>
     requires { IsWhole M.view mounted.now.array }
@@ -153,11 +150,11 @@ fn refuse_each_call<M: Map + Drop, A: Allocator + Copy, B: Allocator + Copy>(
 }
 
 /// The same of one call of a die.
-fn refuse_call<M: Map + Drop, A: Allocator + Copy, B: Allocator>(
+fn refuse_call<M: Map + Drop, A: Allocator + Copy>(
     mounted: &MountedArray<M, A>,
     heap: A,
-    life: &mut Life<A, B>,
-    desk: &mut Desk<B>,
+    life: &mut Life<A>,
+    desk: &mut Desk,
     way: Way,
     die: Die,
     call: u64,
@@ -180,10 +177,10 @@ fn refuse_call<M: Map + Drop, A: Allocator + Copy, B: Allocator>(
 
 /// Closes the array, of which a die refuses a call where one is given, and compares the answer and the marks. True where it was
 /// closed.
-fn close_as<M: Map + Drop, A: Allocator + Copy, B: Allocator>(
+fn close_as<M: Map + Drop, A: Allocator + Copy>(
     mounted: &MountedArray<M, A>,
-    life: &mut Life<A, B>,
-    desk: &mut Desk<B>,
+    life: &mut Life<A>,
+    desk: &mut Desk,
     refusing: Option<Die>,
 ) -> bool
     requires { IsWhole M.view mounted.now.array }
@@ -220,7 +217,7 @@ fn close_as<M: Map + Drop, A: Allocator + Copy, B: Allocator>(
 }
 
 /// Counts how closing ended.
-fn note<B: Allocator>(desk: &mut Desk<B>, closed: Result<u64, CloseFault>, refusing: Option<Die>) {
+fn note(desk: &mut Desk, closed: Result<u64, CloseFault>, refusing: Option<Die>) {
     desk.count(match (closed, refusing) {
         (Ok(_), None) => Seen::CloseClean,
         (Ok(_), Some(_)) => Seen::CloseWithoutDie,
@@ -259,12 +256,7 @@ fn is_held_on<M: Map, A: Allocator + Copy>(array: &Array<M, A>, page: Page, die:
 }
 
 /// The dies of the mask are marked clean in this epoch with this mask, and no other die is marked in it.
-fn judge_marks<A: Allocator, B: Allocator>(
-    life: &mut Life<A, B>,
-    desk: &mut Desk<B>,
-    epoch: u64,
-    mask: u64,
-) {
+fn judge_marks<A: Allocator>(life: &mut Life<A>, desk: &mut Desk, epoch: u64, mask: u64) {
     for die in 0..life.geometry.dies {
         let is_marked = match header_of(&mut life.images, die) {
             Some(header) => header.clean && header.epoch == epoch && header.mask == mask,
@@ -281,12 +273,7 @@ fn judge_marks<A: Allocator, B: Allocator>(
 }
 
 /// No die of the mask is marked clean in this epoch or a later one.
-fn judge_no_marks<A: Allocator, B: Allocator>(
-    life: &mut Life<A, B>,
-    desk: &mut Desk<B>,
-    epoch: u64,
-    mask: u64,
-) {
+fn judge_no_marks<A: Allocator>(life: &mut Life<A>, desk: &mut Desk, epoch: u64, mask: u64) {
     for die in 0..life.geometry.dies {
         let is_marked = match header_of(&mut life.images, die) {
             Some(header) => header.clean && header.epoch >= epoch,
@@ -299,7 +286,7 @@ fn judge_no_marks<A: Allocator, B: Allocator>(
 }
 
 /// The header of a die's image, where it is of today's format.
-fn header_of<B: Allocator>(images: &mut Images<B>, die: u32) -> Option<Header> {
+fn header_of(images: &mut Images, die: u32) -> Option<Header> {
     let image = images.of(die_of(u64::from(die)))?;
     let mut bytes = [0; HEADER_BYTES];
     match image.read_header(&mut bytes) {

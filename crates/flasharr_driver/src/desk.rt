@@ -2,19 +2,18 @@
 use crate::random::Random;
 use crate::seen::{Seen, Tally};
 use crate::told::Told;
-use std::alloc::{Allocator, Global};
+use std::alloc::Global;
 
 /// The most differences that are told one by one.
 const MAX_TOLD: u64 = 20;
 
 /// The source of all choices, what was counted, and what is printed.
 #[derive(Drop)]
-pub(crate) struct Desk<B: Allocator> {
-    pub(crate) alloc: B,
-    /// Where small heaps come from.
-    pub(crate) global: Global,
+pub(crate) struct Desk {
+    /// Where all memory comes from but that of the arrays.
+    pub(crate) alloc: Global,
     pub(crate) random: Random,
-    pub(crate) told: Told<B>,
+    pub(crate) told: Told,
     /// How many events were made.
     pub(crate) events: u64,
     /// How many arrays there were.
@@ -29,11 +28,10 @@ pub(crate) struct Desk<B: Allocator> {
     last_content: u64,
 }
 
-impl<B: Allocator + Copy> Desk<B> {
-    pub(crate) fn new(alloc: B, global: Global, seed: u64) -> Desk<B> {
+impl Desk {
+    pub(crate) fn new(alloc: Global, seed: u64) -> Desk {
         Desk {
             alloc,
-            global,
             random: Random::new(seed),
             told: Told::new(alloc),
             events: 0,
@@ -47,7 +45,7 @@ impl<B: Allocator + Copy> Desk<B> {
     }
 }
 
-impl<B: Allocator> Desk<B> {
+impl Desk {
     /// An event came to this.
     pub(crate) fn count(&mut self, seen: Seen) {
         self.tally.count(seen);

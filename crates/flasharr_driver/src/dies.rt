@@ -21,11 +21,11 @@ use fa_workers::{Open, run_job};
 use std::alloc::{AllocError, Allocator};
 
 /// A die ends its job, or takes one. The error is out of memory.
-pub(crate) fn work<M: Map, A: Allocator + Copy, B: Allocator + Copy>(
+pub(crate) fn work<M: Map, A: Allocator + Copy>(
     array: &mut Array<M, A>,
     heap: A,
-    life: &mut Life<A, B>,
-    desk: &mut Desk<B>,
+    life: &mut Life<A>,
+    desk: &mut Desk,
     die: Die,
 ) -> Result<(), AllocError>
     requires { IsWhole M.view array.old }
@@ -38,11 +38,11 @@ pub(crate) fn work<M: Map, A: Allocator + Copy, B: Allocator + Copy>(
 }
 
 /// A die ends its job, if it has one. The error is out of memory.
-pub(crate) fn end_job<M: Map, A: Allocator + Copy, B: Allocator + Copy>(
+pub(crate) fn end_job<M: Map, A: Allocator + Copy>(
     array: &mut Array<M, A>,
     heap: A,
-    life: &mut Life<A, B>,
-    desk: &mut Desk<B>,
+    life: &mut Life<A>,
+    desk: &mut Desk,
     die: Die,
 ) -> Result<(), AllocError>
     requires { IsWhole M.view array.old }
@@ -55,11 +55,11 @@ pub(crate) fn end_job<M: Map, A: Allocator + Copy, B: Allocator + Copy>(
 }
 
 /// A die takes a job, and makes its calls. The error is out of memory.
-fn take<M: Map, A: Allocator + Copy, B: Allocator + Copy>(
+fn take<M: Map, A: Allocator + Copy>(
     array: &mut Array<M, A>,
     heap: A,
-    life: &mut Life<A, B>,
-    desk: &mut Desk<B>,
+    life: &mut Life<A>,
+    desk: &mut Desk,
     die: Die,
 ) -> Result<(), AllocError>
     requires { IsWhole M.view array.old }
@@ -88,12 +88,12 @@ fn take_of<A: Allocator>(die: Die, _heap: &A) -> Call<'_, A>
 }
 
 /// Makes the calls of the job that was handed out, if one was.
-fn begin<A: Allocator, B: Allocator>(
+fn begin<A: Allocator>(
     die: Die,
     geometry: Geometry,
     number: &[u8; 16],
     answer: &Answer<A>,
-    life: &mut Life<A, B>,
+    life: &mut Life<A>,
     buffer: &mut [u8],
 ) -> Option<Begun>
     requires { FitsAnswer geometry number.now (Call.Take die) answer.now }
@@ -114,7 +114,7 @@ fn begin<A: Allocator, B: Allocator>(
 }
 
 /// What the page of a read is full of now.
-fn due_of<A: Allocator, B: Allocator>(flight: Flight, life: &Life<A, B>) -> Content {
+fn due_of<A: Allocator>(flight: Flight, life: &Life<A>) -> Content {
     match flight {
         Flight::Read { page, .. } => life.plain.content(page),
         _ => Content::ZEROS,
@@ -122,12 +122,12 @@ fn due_of<A: Allocator, B: Allocator>(flight: Flight, life: &Life<A, B>) -> Cont
 }
 
 /// Makes the calls of a job on its die's image.
-fn run<A: Allocator, B: Allocator>(
+fn run<A: Allocator>(
     die: Die,
     geometry: Geometry,
     number: &[u8; 16],
     job: &Job<A>,
-    life: &mut Life<A, B>,
+    life: &mut Life<A>,
     buffer: &mut [u8],
 ) -> Outcome
     requires { IsJobFor geometry number.now die.0 (handed_of job.now) }
@@ -169,11 +169,11 @@ fn run_on<I: Image, A: Allocator>(
 }
 
 /// A die's job is over. The error is out of memory.
-fn finish<M: Map, A: Allocator + Copy, B: Allocator + Copy>(
+fn finish<M: Map, A: Allocator + Copy>(
     array: &mut Array<M, A>,
     heap: A,
-    life: &mut Life<A, B>,
-    desk: &mut Desk<B>,
+    life: &mut Life<A>,
+    desk: &mut Desk,
     die: Die,
     flying: Flying<A>,
 ) -> Result<(), AllocError>
@@ -201,7 +201,7 @@ fn finish<M: Map, A: Allocator + Copy, B: Allocator + Copy>(
 }
 
 /// A read that its die has survived gave its page's answer.
-fn tell_due<A: Allocator, B: Allocator>(life: &mut Life<A, B>, flight: Flight, due: Content) {
+fn tell_due<A: Allocator>(life: &mut Life<A>, flight: Flight, due: Content) {
     if let Flight::Read {
         batch,
         page,
@@ -218,7 +218,7 @@ fn tell_due<A: Allocator, B: Allocator>(life: &mut Life<A, B>, flight: Flight, d
 }
 
 /// Counts how a job ended. A die goes out at a fault and at a wrong read, and at nothing else.
-fn note_end<B: Allocator>(desk: &mut Desk<B>, flight: Flight, outcome: Outcome, is_live: bool) {
+fn note_end(desk: &mut Desk, flight: Flight, outcome: Outcome, is_live: bool) {
     match outcome {
         Outcome::Fault(fault) => {
             desk.count(fault_seen(fault));
@@ -238,7 +238,7 @@ fn note_end<B: Allocator>(desk: &mut Desk<B>, flight: Flight, outcome: Outcome, 
 }
 
 /// A die went out though its image refused nothing.
-fn note_other_slot<B: Allocator>(desk: &mut Desk<B>, flight: Flight) {
+fn note_other_slot(desk: &mut Desk, flight: Flight) {
     match flight {
         Flight::Read { .. } => desk.count(Seen::DoneOtherSlot),
         _ => desk.differ("a die goes out with no fault:", 0, 0),

@@ -12,31 +12,31 @@ use fa_map::Map;
 use fa_mount::MountedArray;
 use fa_tag::{Tag, seal};
 use fa_types::{Die, Geometry, HEADER_BYTES, Kind};
-use std::alloc::{AllocError, Allocator};
+use std::alloc::{AllocError, Allocator, Global};
 
 /// The number of each array.
 const ARRAY: [u8; 16] = [7; 16];
 
 /// The image of a die, of which one call can be made to fail and one read to give wrong bytes.
-pub(crate) type DieImage<B> = FuseImage<WrongImage<MemImage<B>>>;
+pub(crate) type DieImage = FuseImage<WrongImage<MemImage>>;
 
 /// The images of an array's dies, in some order.
 #[derive(Drop)]
-pub(crate) struct Images<B: Allocator> {
-    images: Vec<DieImage<B>, B>,
+pub(crate) struct Images {
+    images: Vec<DieImage>,
     // Where the image of each die stands in the list.
-    places: Vec<Option<usize>, B>,
+    places: Vec<Option<usize>>,
     // How many programs met a slot that was not erased, on images that are not kept.
     overwritten: u64,
 }
 
 /// The images of a new array, those of spares among them, with headers of the older format or of today's. None where an image refuses.
 /// The error is out of memory.
-pub(crate) fn new_images<B: Allocator + Copy>(
-    alloc: B,
+pub(crate) fn new_images(
+    alloc: Global,
     geometry: Geometry,
     is_old: bool,
-) -> Result<Option<Images<B>>, AllocError> {
+) -> Result<Option<Images>, AllocError> {
     let mut images = erased(alloc, geometry)?;
     let mut places = Vec::new(alloc);
     for place in 0..images.len() {
@@ -58,10 +58,7 @@ pub(crate) fn new_images<B: Allocator + Copy>(
 }
 
 /// An erased image for each die. The error is out of memory.
-fn erased<B: Allocator + Copy>(
-    alloc: B,
-    geometry: Geometry,
-) -> Result<Vec<DieImage<B>, B>, AllocError>
+fn erased(alloc: Global, geometry: Geometry) -> Result<Vec<DieImage>, AllocError>
     ensures long { IfOk result (λ images. length images.items ≡ geometry.dies) }
     ensures shape { IfOk result (λ images. AllByRecursion
         (λ image. (fused_view (wrong_view mem_image_view) image).geometry ≡ geometry) images.items) }
@@ -74,16 +71,30 @@ fn erased<B: Allocator + Copy>(
 }
 
 /// An erased image. The error is out of memory.
-fn erased_one<B: Allocator + Copy>(alloc: B, geometry: Geometry) -> Result<DieImage<B>, AllocError>
+fn erased_one(alloc: Global, geometry: Geometry) -> Result<DieImage, AllocError>
     ensures { IfOk result (λ image. (fused_view (wrong_view mem_image_view) image).geometry ≡ geometry) }
 {
     let image = MemImage::new(alloc, geometry)?;
-    Ok(FuseImage::new(WrongImage::new(image)))
+    Ok(with_fuse(image))
 }
 
-impl<B: Allocator> Images<B> {
+/// An image of which one call can be made to fail and one read to give wrong bytes.
+fn with_fuse<I: Image>(image: I) -> FuseImage<WrongImage<I>>
+    ensures { (fused_view (wrong_view I.view) result).geometry ≡ (I.view image).geometry }
+{
+    FuseImage::new(WrongImage::new(image))
+}
+
+/// The image, of which the `k`-th read of a slot from now on gives wrong bytes and no call fails.
+fn with_wrong_read<I: Image>(image: FuseImage<WrongImage<I>>, k: u64) -> FuseImage<WrongImage<I>> {
+    let mut image = image.into_inner();
+    image.arm(k);
+    FuseImage::new(image)
+}
+
+impl Images {
     /// All images.
-    pub(crate) fn all(&mut self) -> &mut [DieImage<B>] {
+    pub(crate) fn all(&mut self) -> &mut [DieImage] {
         self.images.as_mut_slice()
     }
 
@@ -93,7 +104,7 @@ impl<B: Allocator> Images<B> {
     }
 
     /// The image of a die.
-    pub(crate) fn of(&mut self, die: Die) -> Option<&mut DieImage<B>> {
+    pub(crate) fn of(&mut self, die: Die) -> Option<&mut DieImage> {
         match self.place_of(die) {
             Some(place) => self.images.get_mut(place),
             None => None,
@@ -124,9 +135,8 @@ impl<B: Allocator> Images<B> {
         if self.images.len() <= place {
             return Ok(());
         }
-        let mut image = self.images.remove(place).into_inner();
-        image.arm(k);
-        self.images.insert(place, FuseImage::new(image))?;
+        let image = self.images.remove(place);
+        self.images.insert(place, with_wrong_read(image, k))?;
         Ok(())
     }
 
@@ -146,7 +156,7 @@ impl<B: Allocator> Images<B> {
     }
 
     /// The headers of all images, of which none fails. The error is out of memory.
-    pub(crate) fn headers(&mut self, alloc: B) -> Result<Vec<[u8; HEADER_BYTES], B>, AllocError> {
+    pub(crate) fn headers(&mut self, alloc: Global) -> Result<Vec<[u8; HEADER_BYTES]>, AllocError> {
         let mut headers = Vec::new(alloc);
         for image in self.images.iter_mut() {
             let mut bytes = [0; HEADER_BYTES];
@@ -207,10 +217,13 @@ impl<B: Allocator> Images<B> {
 
 /// Where an image stands once the one at a place is gone.
 fn moved_down(place: Option<usize>, gone: usize) -> Option<usize> {
-    match place {
-        Some(place) if place == gone => None,
-        Some(place) if gone < place => Some(place.saturating_sub(1)),
-        place => place,
+    let place = place?;
+    if place == gone {
+        None
+    } else if gone < place {
+        Some(place - 1)
+    } else {
+        Some(place)
     }
 }
 

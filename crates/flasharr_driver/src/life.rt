@@ -7,7 +7,7 @@ use crate::plain::Plain;
 use fa_core::Outcome;
 use fa_machine::{Flight, Flush};
 use fa_types::{Die, Geometry};
-use std::alloc::{AllocError, Allocator};
+use std::alloc::{AllocError, Allocator, Global};
 
 /// A job whose calls are made.
 #[derive(Clone, Copy)]
@@ -27,18 +27,18 @@ pub(crate) struct Flying<A: Allocator> {
 
 /// What is kept beside an array: its dies' images, the jobs in flight, what clients have open, and the plain array.
 #[derive(Drop)]
-pub(crate) struct Life<A: Allocator, B: Allocator> {
+pub(crate) struct Life<A: Allocator> {
     pub(crate) geometry: Geometry,
-    pub(crate) images: Images<B>,
-    pub(crate) plain: Plain<B>,
-    pub(crate) claims: Claims<B>,
-    pub(crate) batches: Vec<OpenBatch<B>, B>,
-    pub(crate) flushes: Vec<Flush, B>,
+    pub(crate) images: Images,
+    pub(crate) plain: Plain,
+    pub(crate) claims: Claims,
+    pub(crate) batches: Vec<OpenBatch>,
+    pub(crate) flushes: Vec<Flush>,
     /// The bytes of a slot, for the jobs.
-    pub(crate) scratch: Vec<u8, B>,
-    flights: Vec<Option<Flying<A>>, B>,
+    pub(crate) scratch: Vec<u8>,
+    flights: Vec<Option<Flying<A>>>,
     // Buffers of a page's bytes that no job has.
-    buffers: Vec<Vec<u8, A>, B>,
+    buffers: Vec<Vec<u8, A>>,
     /// How often a fuse is armed: one event in so many.
     pub(crate) fault_every: u64,
 }
@@ -51,14 +51,14 @@ pub(crate) fn die_of(number: u64) -> Die {
     Die(u8::try_from(number).unwrap_or(u8::MAX))
 }
 
-impl<A: Allocator + Copy, B: Allocator + Copy> Life<A, B> {
+impl<A: Allocator + Copy> Life<A> {
     /// What is kept beside an array of this geometry, of which no page was written. The error is out of memory.
     pub(crate) fn new(
-        alloc: B,
+        alloc: Global,
         geometry: Geometry,
-        images: Images<B>,
+        images: Images,
         fault_every: u64,
-    ) -> Result<Life<A, B>, AllocError> {
+    ) -> Result<Life<A>, AllocError> {
         let slot_bytes = (geometry.page_bytes as usize).saturating_add(TAG_BYTES);
         let mut flights = Vec::new(alloc);
         for _ in 0..geometry.dies {
@@ -93,7 +93,7 @@ impl<A: Allocator + Copy, B: Allocator + Copy> Life<A, B> {
     }
 }
 
-impl<A: Allocator, B: Allocator> Life<A, B> {
+impl<A: Allocator> Life<A> {
     /// Whether the die is at a job.
     pub(crate) fn is_flying(&self, die: Die) -> bool {
         match self.flights.get(die.0 as usize) {

@@ -56,7 +56,7 @@ fn main(rt: HostRuntime) -> io::Result<ExitCode> {
         return Ok(ExitCode::from(FAULTY));
     };
     let heap = LocalHeap::new(rt.alloc(), HEAP_BYTES)?;
-    let mut desk = Desk::new(rt.alloc(), rt.alloc(), wanted.seed);
+    let mut desk = Desk::new(rt.alloc(), wanted.seed);
     run(&heap, &mut desk, wanted.events)?;
     desk.finish();
     rt.print(desk.told.text())?;

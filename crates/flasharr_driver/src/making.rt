@@ -11,7 +11,7 @@ use fa_machine::{
     Copied, Flight, FlushState, ReserveCopyRefused, ReserveRefused, WindowRefused,
 };
 use fa_map::Map;
-use std::alloc::Allocator;
+use std::alloc::{Allocator, Global};
 
 /// Who makes all events.
 pub(crate) const SEAT: u32 = 0;
@@ -20,10 +20,10 @@ pub(crate) const SEAT: u32 = 0;
 const STARVED_EVERY: u64 = 64;
 
 /// Makes an event, and counts what it came to. Now and then it finds no memory.
-pub(crate) fn make<M: Map, A: Allocator + Copy, B: Allocator + Copy>(
+pub(crate) fn make<M: Map, A: Allocator + Copy>(
     array: &mut Array<M, A>,
     heap: A,
-    desk: &mut Desk<B>,
+    desk: &mut Desk,
     call: Call<'_, A>,
 ) -> Answer<A>
     requires { IsWhole M.view array.old }
@@ -36,10 +36,10 @@ pub(crate) fn make<M: Map, A: Allocator + Copy, B: Allocator + Copy>(
 }
 
 /// An event, which may find no memory.
-fn step<M: Map, A: Allocator + Copy, B: Allocator + Copy>(
+fn step<M: Map, A: Allocator + Copy>(
     array: &mut Array<M, A>,
     heap: A,
-    alloc: B,
+    alloc: Global,
     is_starved: bool,
     call: Call<'_, A>,
 ) -> Answer<A>
@@ -53,10 +53,10 @@ fn step<M: Map, A: Allocator + Copy, B: Allocator + Copy>(
 }
 
 /// Makes an event that is lent nothing.
-pub(crate) fn make_event<M: Map, A: Allocator + Copy, B: Allocator + Copy>(
+pub(crate) fn make_event<M: Map, A: Allocator + Copy>(
     array: &mut Array<M, A>,
     heap: A,
-    desk: &mut Desk<B>,
+    desk: &mut Desk,
     event: Event<A>,
 ) -> Answer<A>
     requires { IsWhole M.view array.old }
@@ -67,10 +67,10 @@ pub(crate) fn make_event<M: Map, A: Allocator + Copy, B: Allocator + Copy>(
 }
 
 /// An event that finds no memory.
-fn make_starved<M: Map, A: Allocator + Copy, B: Allocator + Copy>(
+fn make_starved<M: Map, A: Allocator + Copy>(
     array: &mut Array<M, A>,
     heap: A,
-    alloc: B,
+    alloc: Global,
     call: Call<'_, A>,
 ) -> Answer<A>
     requires { IsWhole M.view array.old }
@@ -83,7 +83,7 @@ fn make_starved<M: Map, A: Allocator + Copy, B: Allocator + Copy>(
 }
 
 /// Counts an answer.
-pub(crate) fn note<A: Allocator, B: Allocator>(desk: &mut Desk<B>, answer: &Answer<A>) {
+pub(crate) fn note<A: Allocator>(desk: &mut Desk, answer: &Answer<A>) {
     desk.events = desk.events.saturating_add(1);
     if let Some(seen) = seen_of(answer) {
         desk.count(seen);

@@ -37,10 +37,10 @@ const SMALL_ROOMS: usize = 4096;
 const MOST_ROOMS: usize = 4352;
 
 /// Mounts the images, of which none fails. None where they are not mounted, which is a difference.
-pub(crate) fn mount_images<A: Allocator + Copy, B: Allocator>(
+pub(crate) fn mount_images<A: Allocator + Copy>(
     heap: A,
-    life: &mut Life<A, B>,
-    desk: &mut Desk<B>,
+    life: &mut Life<A>,
+    desk: &mut Desk,
     way: Way,
 ) -> Option<MountedArray<PageMap<A>, A>>
     ensures { IfSome result (λ mounted. IsWhole page_view mounted.array) }
@@ -89,10 +89,10 @@ fn holds<M: Map, A: Allocator + Copy>(array: &Array<M, A>, page: Page, die: Die)
 }
 
 /// Compares an array that was mounted with the one that was closed: each page has the same last write, and none is lost.
-pub(crate) fn compare<M: Map, N: Map, A: Allocator + Copy, B: Allocator>(
+pub(crate) fn compare<M: Map, N: Map, A: Allocator + Copy>(
     closed: &Array<M, A>,
     mounted: &Array<N, A>,
-    desk: &mut Desk<B>,
+    desk: &mut Desk,
 ) {
     if let Some(page) = lowest_lost(mounted) {
         desk.differ("a page is lost once the array is mounted:", page.0, 0);
@@ -128,10 +128,10 @@ fn last_write<M: Map, A: Allocator + Copy>(array: &Array<M, A>, page: Page) -> O
 
 /// Mounts the images again and again, of which the one at a place refuses its first call, then its second, and so on up to a call that
 /// is not made. Each of these is told as that image's fault.
-pub(crate) fn refuse_each_read<A: Allocator + Copy, B: Allocator>(
+pub(crate) fn refuse_each_read<A: Allocator + Copy>(
     heap: A,
-    life: &mut Life<A, B>,
-    desk: &mut Desk<B>,
+    life: &mut Life<A>,
+    desk: &mut Desk,
     way: Way,
     place: usize,
 ) {
@@ -150,10 +150,10 @@ pub(crate) fn refuse_each_read<A: Allocator + Copy, B: Allocator>(
 }
 
 /// The same of one call. False where it is not made.
-fn refuse_read<A: Allocator + Copy, B: Allocator>(
+fn refuse_read<A: Allocator + Copy>(
     heap: A,
-    life: &mut Life<A, B>,
-    desk: &mut Desk<B>,
+    life: &mut Life<A>,
+    desk: &mut Desk,
     way: Way,
     place: usize,
     call: u64,
@@ -200,10 +200,10 @@ fn is_fault_of(refused: Option<MountRefused>, place: usize) -> bool {
 
 /// Mounts the images in no memory, in a little, and so on until it is enough. Each growth is the first that does not fit in some
 /// turn. The error is out of memory.
-pub(crate) fn refuse_each_growth<A: Allocator, B: Allocator>(
+pub(crate) fn refuse_each_growth<A: Allocator>(
     global: Global,
-    life: &mut Life<A, B>,
-    desk: &mut Desk<B>,
+    life: &mut Life<A>,
+    desk: &mut Desk,
     way: Way,
 ) -> Result<(), AllocError> {
     let mut room = 0usize;
@@ -223,10 +223,10 @@ pub(crate) fn refuse_each_growth<A: Allocator, B: Allocator>(
 }
 
 /// Mounts the images in a little less memory than is enough, in a little more, and so on up to what is.
-fn refuse_the_last_growths<A: Allocator, B: Allocator>(
+fn refuse_the_last_growths<A: Allocator>(
     global: Global,
-    life: &mut Life<A, B>,
-    desk: &mut Desk<B>,
+    life: &mut Life<A>,
+    desk: &mut Desk,
     way: Way,
     enough: usize,
 ) -> Result<(), AllocError> {
@@ -239,10 +239,10 @@ fn refuse_the_last_growths<A: Allocator, B: Allocator>(
 }
 
 /// Whether the images are mounted in so much memory. It is a difference where they are refused for anything else. The error is out of memory.
-fn is_mounted_in<A: Allocator, B: Allocator>(
+fn is_mounted_in<A: Allocator>(
     global: Global,
-    life: &mut Life<A, B>,
-    desk: &mut Desk<B>,
+    life: &mut Life<A>,
+    desk: &mut Desk,
     way: Way,
     room: usize,
 ) -> Result<bool, AllocError> {

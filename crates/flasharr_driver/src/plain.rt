@@ -1,17 +1,17 @@
 //! The plain array.
 use crate::content::Content;
 use fa_types::Page;
-use std::alloc::{AllocError, Allocator};
+use std::alloc::{AllocError, Global};
 
 /// The disk as it would be with no dies: what stands in each page.
 #[derive(Drop)]
-pub(crate) struct Plain<B: Allocator> {
-    pages: Vec<Content, B>,
+pub(crate) struct Plain {
+    pages: Vec<Content>,
 }
 
-impl<B: Allocator> Plain<B> {
+impl Plain {
     /// So many pages of zeros. The error is out of memory.
-    pub(crate) fn new(alloc: B, pages: u64) -> Result<Plain<B>, AllocError> {
+    pub(crate) fn new(alloc: Global, pages: u64) -> Result<Plain, AllocError> {
         let mut plain = Plain {
             pages: Vec::new(alloc),
         };

@@ -11,7 +11,7 @@ use fa_core::{Answer, Array, Call, Planned};
 use fa_machine::{AdmitRefused, BatchId, ReadState};
 use fa_map::Map;
 use fa_types::Page;
-use std::alloc::{AllocError, Allocator};
+use std::alloc::{AllocError, Allocator, Global};
 
 /// The most batches that are open.
 const MAX_BATCHES: usize = 4;
@@ -23,11 +23,11 @@ const MAX_PAGES: u64 = 8;
 const RASH_EVERY: u64 = 64;
 
 /// A client asks for some pages, if not too many batches are open. The error is out of memory.
-pub(crate) fn read<M: Map, A: Allocator + Copy, B: Allocator + Copy>(
+pub(crate) fn read<M: Map, A: Allocator + Copy>(
     array: &mut Array<M, A>,
     heap: A,
-    life: &mut Life<A, B>,
-    desk: &mut Desk<B>,
+    life: &mut Life<A>,
+    desk: &mut Desk,
 ) -> Result<(), AllocError>
     requires { IsWhole M.view array.old }
     ensures { IsWhole M.view array.new }
@@ -40,10 +40,7 @@ pub(crate) fn read<M: Map, A: Allocator + Copy, B: Allocator + Copy>(
 }
 
 /// Some pages, no two the same. The error is out of memory.
-fn draw_pages<B: Allocator + Copy>(
-    pages: u64,
-    desk: &mut Desk<B>,
-) -> Result<Vec<Page, B>, AllocError> {
+fn draw_pages(pages: u64, desk: &mut Desk) -> Result<Vec<Page>, AllocError> {
     let mut drawn = Vec::new(desk.alloc);
     for _ in 0..desk.random.below(MAX_PAGES).saturating_add(1) {
         let page = Page(desk.random.below(pages));
@@ -55,11 +52,11 @@ fn draw_pages<B: Allocator + Copy>(
 }
 
 /// A batch of these pages is asked for. The error is out of memory.
-pub(crate) fn admit<M: Map, A: Allocator + Copy, B: Allocator + Copy>(
+pub(crate) fn admit<M: Map, A: Allocator + Copy>(
     array: &mut Array<M, A>,
     heap: A,
-    life: &mut Life<A, B>,
-    desk: &mut Desk<B>,
+    life: &mut Life<A>,
+    desk: &mut Desk,
     pages: &[Page],
     is_for_copy: bool,
 ) -> Result<(), AllocError>
@@ -90,12 +87,12 @@ pub(crate) fn admit<M: Map, A: Allocator + Copy, B: Allocator + Copy>(
 }
 
 /// What is due for the pages of a batch if they are answered at once. The error is out of memory.
-fn dues_of<M: Map, A: Allocator + Copy, B: Allocator + Copy>(
+fn dues_of<M: Map, A: Allocator + Copy>(
     array: &Array<M, A>,
-    life: &Life<A, B>,
-    alloc: B,
+    life: &Life<A>,
+    alloc: Global,
     pages: &[Page],
-) -> Result<Vec<Due, B>, AllocError> {
+) -> Result<Vec<Due>, AllocError> {
     let mut dues = Vec::new(alloc);
     for page in pages {
         dues.push(Due {
@@ -112,11 +109,11 @@ fn dues_of<M: Map, A: Allocator + Copy, B: Allocator + Copy>(
 }
 
 /// A page that is refused as lost is held by no die.
-fn judge_lost<M: Map, A: Allocator + Copy, B: Allocator>(
+fn judge_lost<M: Map, A: Allocator + Copy>(
     array: &Array<M, A>,
     heap: A,
     page: Page,
-    desk: &mut Desk<B>,
+    desk: &mut Desk,
 ) -> Result<(), AllocError> {
     if !holders(array, heap, page)?.is_empty() {
         desk.differ("a page that is held is refused as lost:", page.0, 0);
@@ -125,11 +122,11 @@ fn judge_lost<M: Map, A: Allocator + Copy, B: Allocator>(
 }
 
 /// An open batch of a client goes on as it stands. The error is out of memory.
-pub(crate) fn go_on_reading<M: Map, A: Allocator + Copy, B: Allocator + Copy>(
+pub(crate) fn go_on_reading<M: Map, A: Allocator + Copy>(
     array: &mut Array<M, A>,
     heap: A,
-    life: &mut Life<A, B>,
-    desk: &mut Desk<B>,
+    life: &mut Life<A>,
+    desk: &mut Desk,
 ) -> Result<(), AllocError>
     requires { IsWhole M.view array.old }
     ensures { IsWhole M.view array.new }
@@ -164,11 +161,11 @@ pub(crate) fn go_on_reading<M: Map, A: Allocator + Copy, B: Allocator + Copy>(
 }
 
 /// A batch is planned anew. Where a page of it is lost, it is ended. The error is out of memory.
-pub(crate) fn replan<M: Map, A: Allocator + Copy, B: Allocator + Copy>(
+pub(crate) fn replan<M: Map, A: Allocator + Copy>(
     array: &mut Array<M, A>,
     heap: A,
-    life: &mut Life<A, B>,
-    desk: &mut Desk<B>,
+    life: &mut Life<A>,
+    desk: &mut Desk,
     index: usize,
     id: BatchId,
 ) -> Result<(), AllocError>
@@ -199,20 +196,20 @@ pub(crate) fn replan<M: Map, A: Allocator + Copy, B: Allocator + Copy>(
 }
 
 /// The pages of a plan. The error is out of memory.
-fn planned_pages<A: Allocator, B: Allocator>(
-    alloc: B,
+fn planned_pages<A: Allocator>(
+    alloc: Global,
     planned: &Planned<A>,
-) -> Result<Vec<Page, B>, AllocError> {
+) -> Result<Vec<Page>, AllocError> {
     let places = planned.plan.places.as_slice();
     places.iter().map(|place| place.page).collect(alloc)
 }
 
 /// A batch is ended, and what it answers is compared. One that is whole answers each of its pages. The error is out of memory.
-pub(crate) fn end<M: Map, A: Allocator + Copy, B: Allocator + Copy>(
+pub(crate) fn end<M: Map, A: Allocator + Copy>(
     array: &mut Array<M, A>,
     heap: A,
-    life: &mut Life<A, B>,
-    desk: &mut Desk<B>,
+    life: &mut Life<A>,
+    desk: &mut Desk,
     index: usize,
     is_whole: bool,
 ) -> Result<(), AllocError>
@@ -230,11 +227,11 @@ pub(crate) fn end<M: Map, A: Allocator + Copy, B: Allocator + Copy>(
 }
 
 /// Compares the answers of a batch with what is due.
-pub(crate) fn compare<A: Allocator, B: Allocator>(
-    batch: &OpenBatch<B>,
+pub(crate) fn compare<A: Allocator>(
+    batch: &OpenBatch,
     answers: &[(Page, Vec<u8, A>)],
     is_whole: bool,
-    desk: &mut Desk<B>,
+    desk: &mut Desk,
 ) {
     if is_whole && answers.len() != batch.dues.len() {
         desk.differ(
@@ -248,7 +245,7 @@ pub(crate) fn compare<A: Allocator, B: Allocator>(
     }
 }
 
-fn compare_page<B: Allocator>(batch: &OpenBatch<B>, page: Page, bytes: &[u8], desk: &mut Desk<B>) {
+fn compare_page(batch: &OpenBatch, page: Page, bytes: &[u8], desk: &mut Desk) {
     desk.compared = desk.compared.saturating_add(1);
     match batch.due(page) {
         Some(due) => {

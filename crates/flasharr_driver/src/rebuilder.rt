@@ -18,11 +18,11 @@ use std::alloc::{AllocError, Allocator};
 const LATE_EVERY: u64 = 16;
 
 /// A step of the rebuilder: the copy under way ends, or the next thin page is read and copied. The error is out of memory.
-pub(crate) fn rebuild<M: Map, A: Allocator + Copy, B: Allocator + Copy>(
+pub(crate) fn rebuild<M: Map, A: Allocator + Copy>(
     array: &mut Array<M, A>,
     heap: A,
-    life: &mut Life<A, B>,
-    desk: &mut Desk<B>,
+    life: &mut Life<A>,
+    desk: &mut Desk,
 ) -> Result<(), AllocError>
     requires { IsWhole M.view array.old }
     ensures { IsWhole M.view array.new }
@@ -38,10 +38,10 @@ pub(crate) fn rebuild<M: Map, A: Allocator + Copy, B: Allocator + Copy>(
 }
 
 /// The copy under way ends, if it was programmed.
-pub(crate) fn commit_copy<M: Map, A: Allocator + Copy, B: Allocator + Copy>(
+pub(crate) fn commit_copy<M: Map, A: Allocator + Copy>(
     array: &mut Array<M, A>,
     heap: A,
-    desk: &mut Desk<B>,
+    desk: &mut Desk,
 )
     requires { IsWhole M.view array.old }
     ensures { IsWhole M.view array.new }
@@ -54,7 +54,7 @@ pub(crate) fn commit_copy<M: Map, A: Allocator + Copy, B: Allocator + Copy>(
 }
 
 /// The index of the batch by which the rebuilder reads.
-fn copy_batch<B: Allocator>(batches: &[OpenBatch<B>]) -> Option<usize> {
+fn copy_batch(batches: &[OpenBatch]) -> Option<usize> {
     for (index, batch) in batches.iter().enumerate() {
         if batch.is_for_copy {
             return Some(index);
@@ -64,11 +64,11 @@ fn copy_batch<B: Allocator>(batches: &[OpenBatch<B>]) -> Option<usize> {
 }
 
 /// The next thin page is read, by a batch of its own. The error is out of memory.
-fn begin<M: Map, A: Allocator + Copy, B: Allocator + Copy>(
+fn begin<M: Map, A: Allocator + Copy>(
     array: &mut Array<M, A>,
     heap: A,
-    life: &mut Life<A, B>,
-    desk: &mut Desk<B>,
+    life: &mut Life<A>,
+    desk: &mut Desk,
 ) -> Result<(), AllocError>
     requires { IsWhole M.view array.old }
     ensures { IsWhole M.view array.new }
@@ -80,11 +80,11 @@ fn begin<M: Map, A: Allocator + Copy, B: Allocator + Copy>(
 }
 
 /// The batch goes on as it stands. The error is out of memory.
-fn go_on<M: Map, A: Allocator + Copy, B: Allocator + Copy>(
+fn go_on<M: Map, A: Allocator + Copy>(
     array: &mut Array<M, A>,
     heap: A,
-    life: &mut Life<A, B>,
-    desk: &mut Desk<B>,
+    life: &mut Life<A>,
+    desk: &mut Desk,
     index: usize,
 ) -> Result<(), AllocError>
     requires { IsWhole M.view array.old }
@@ -113,11 +113,11 @@ fn go_on<M: Map, A: Allocator + Copy, B: Allocator + Copy>(
 }
 
 /// The page that was answered is to have one more copy. The error is out of memory.
-fn copy_first<M: Map, A: Allocator + Copy, B: Allocator + Copy>(
+fn copy_first<M: Map, A: Allocator + Copy>(
     array: &mut Array<M, A>,
     heap: A,
-    desk: &mut Desk<B>,
-    batch: &OpenBatch<B>,
+    desk: &mut Desk,
+    batch: &OpenBatch,
     answers: Vec<(Page, Vec<u8, A>), A>,
 ) -> Result<(), AllocError>
     requires { IsWhole M.view array.old }

@@ -25,11 +25,11 @@ const LAST_PAGES: u64 = 8;
 const RESTING_TURNS: u64 = 4000;
 
 /// Each claim is released, the copy under way ends, each batch is answered, and each die ends its job. The error is out of memory.
-pub(crate) fn rest<M: Map, A: Allocator + Copy, B: Allocator + Copy>(
+pub(crate) fn rest<M: Map, A: Allocator + Copy>(
     array: &mut Array<M, A>,
     heap: A,
-    life: &mut Life<A, B>,
-    desk: &mut Desk<B>,
+    life: &mut Life<A>,
+    desk: &mut Desk,
 ) -> Result<(), AllocError>
     requires { IsWhole M.view array.old }
     ensures { IsWhole M.view array.new }
@@ -48,11 +48,11 @@ pub(crate) fn rest<M: Map, A: Allocator + Copy, B: Allocator + Copy>(
 }
 
 /// The first claim goes on towards its end, and so does the copy under way.
-fn end_one<M: Map, A: Allocator + Copy, B: Allocator + Copy>(
+fn end_one<M: Map, A: Allocator + Copy>(
     array: &mut Array<M, A>,
     heap: A,
-    life: &mut Life<A, B>,
-    desk: &mut Desk<B>,
+    life: &mut Life<A>,
+    desk: &mut Desk,
 )
     requires { IsWhole M.view array.old }
     ensures { IsWhole M.view array.new }
@@ -67,11 +67,11 @@ fn end_one<M: Map, A: Allocator + Copy, B: Allocator + Copy>(
 }
 
 /// Each die ends its job, or takes one. The error is out of memory.
-fn work_all<M: Map, A: Allocator + Copy, B: Allocator + Copy>(
+fn work_all<M: Map, A: Allocator + Copy>(
     array: &mut Array<M, A>,
     heap: A,
-    life: &mut Life<A, B>,
-    desk: &mut Desk<B>,
+    life: &mut Life<A>,
+    desk: &mut Desk,
 ) -> Result<(), AllocError>
     requires { IsWhole M.view array.old }
     ensures { IsWhole M.view array.new }
@@ -83,11 +83,11 @@ fn work_all<M: Map, A: Allocator + Copy, B: Allocator + Copy>(
 }
 
 /// Each die ends its job. The error is out of memory.
-fn land_all<M: Map, A: Allocator + Copy, B: Allocator + Copy>(
+fn land_all<M: Map, A: Allocator + Copy>(
     array: &mut Array<M, A>,
     heap: A,
-    life: &mut Life<A, B>,
-    desk: &mut Desk<B>,
+    life: &mut Life<A>,
+    desk: &mut Desk,
 ) -> Result<(), AllocError>
     requires { IsWhole M.view array.old }
     ensures { IsWhole M.view array.new }
@@ -99,11 +99,11 @@ fn land_all<M: Map, A: Allocator + Copy, B: Allocator + Copy>(
 }
 
 /// Each open batch is answered or, where a page of it is lost, ended. The error is out of memory.
-pub(crate) fn settle<M: Map, A: Allocator + Copy, B: Allocator + Copy>(
+pub(crate) fn settle<M: Map, A: Allocator + Copy>(
     array: &mut Array<M, A>,
     heap: A,
-    life: &mut Life<A, B>,
-    desk: &mut Desk<B>,
+    life: &mut Life<A>,
+    desk: &mut Desk,
 ) -> Result<(), AllocError>
     requires { IsWhole M.view array.old }
     ensures { IsWhole M.view array.new }
@@ -121,11 +121,11 @@ pub(crate) fn settle<M: Map, A: Allocator + Copy, B: Allocator + Copy>(
 }
 
 /// The first batch that is open goes on as it stands.
-fn settle_first<M: Map, A: Allocator + Copy, B: Allocator + Copy>(
+fn settle_first<M: Map, A: Allocator + Copy>(
     array: &mut Array<M, A>,
     heap: A,
-    life: &mut Life<A, B>,
-    desk: &mut Desk<B>,
+    life: &mut Life<A>,
+    desk: &mut Desk,
 ) -> Result<(), AllocError>
     requires { IsWhole M.view array.old }
     ensures { IsWhole M.view array.new }
@@ -142,11 +142,11 @@ fn settle_first<M: Map, A: Allocator + Copy, B: Allocator + Copy>(
 }
 
 /// Each page is read that is not lost, some at a time. The error is out of memory.
-pub(crate) fn look_at_all<M: Map, A: Allocator + Copy, B: Allocator + Copy>(
+pub(crate) fn look_at_all<M: Map, A: Allocator + Copy>(
     array: &mut Array<M, A>,
     heap: A,
-    life: &mut Life<A, B>,
-    desk: &mut Desk<B>,
+    life: &mut Life<A>,
+    desk: &mut Desk,
 ) -> Result<(), AllocError>
     requires { IsWhole M.view array.old }
     ensures { IsWhole M.view array.new }

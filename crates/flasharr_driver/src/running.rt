@@ -50,9 +50,9 @@ const MOUNT_REFUSED_EVERY: u64 = 4;
 const GROWTH_REFUSED_EVERY: u64 = 32;
 
 /// Makes arrays and their events until there were so many. The error is out of memory.
-pub(crate) fn run<A: Allocator + Copy, B: Allocator + Copy>(
+pub(crate) fn run<A: Allocator + Copy>(
     heap: A,
-    desk: &mut Desk<B>,
+    desk: &mut Desk,
     events: u64,
 ) -> Result<(), AllocError> {
     for _ in 0..events {
@@ -65,11 +65,7 @@ pub(crate) fn run<A: Allocator + Copy, B: Allocator + Copy>(
 }
 
 /// One array, until there were so many events or its lives are over. The error is out of memory.
-fn run_array<A: Allocator + Copy, B: Allocator + Copy>(
-    heap: A,
-    desk: &mut Desk<B>,
-    events: u64,
-) -> Result<(), AllocError> {
+fn run_array<A: Allocator + Copy>(heap: A, desk: &mut Desk, events: u64) -> Result<(), AllocError> {
     let Some(shape) = draw_shape(&mut desk.random) else {
         desk.differ("no array is drawn", 0, 0);
         desk.events = events;
@@ -96,10 +92,10 @@ fn run_array<A: Allocator + Copy, B: Allocator + Copy>(
 
 /// The lives of an array, each from where it is mounted to where it is closed or left, and last a look at what is mounted then. The
 /// error is out of memory.
-fn live_on<A: Allocator + Copy, B: Allocator + Copy>(
+fn live_on<A: Allocator + Copy>(
     heap: A,
-    life: &mut Life<A, B>,
-    desk: &mut Desk<B>,
+    life: &mut Life<A>,
+    desk: &mut Desk,
     copies: Copies,
     events: u64,
 ) -> Result<(), AllocError> {
@@ -122,11 +118,11 @@ fn live_on<A: Allocator + Copy, B: Allocator + Copy>(
 }
 
 /// A life of an array, of which no page is lost as it begins. The error is out of memory.
-fn live_once<M: Map + Drop, A: Allocator + Copy, B: Allocator + Copy>(
+fn live_once<M: Map + Drop, A: Allocator + Copy>(
     mounted: MountedArray<M, A>,
     heap: A,
-    life: &mut Life<A, B>,
-    desk: &mut Desk<B>,
+    life: &mut Life<A>,
+    desk: &mut Desk,
     way: Way,
     is_last: bool,
     events: u64,
@@ -152,10 +148,10 @@ fn live_once<M: Map + Drop, A: Allocator + Copy, B: Allocator + Copy>(
 
 /// How the array is mounted next. Its images change their places, and reads of them and growths are refused now and then. The error is
 /// out of memory.
-fn next_way<A: Allocator + Copy, B: Allocator + Copy>(
+fn next_way<A: Allocator + Copy>(
     heap: A,
-    life: &mut Life<A, B>,
-    desk: &mut Desk<B>,
+    life: &mut Life<A>,
+    desk: &mut Desk,
     copies: Copies,
     ended: Ended,
 ) -> Result<Way, AllocError> {
@@ -174,17 +170,17 @@ fn next_way<A: Allocator + Copy, B: Allocator + Copy>(
         refuse_each_read(heap, life, desk, way, one);
     }
     if desk.random.one_in(GROWTH_REFUSED_EVERY) {
-        refuse_each_growth(desk.global, life, desk, way)?;
+        refuse_each_growth(desk.alloc, life, desk, way)?;
     }
     Ok(way)
 }
 
 /// The events of an array in a random order.
-fn live<M: Map, A: Allocator + Copy, B: Allocator + Copy>(
+fn live<M: Map, A: Allocator + Copy>(
     array: &mut Array<M, A>,
     heap: A,
-    life: &mut Life<A, B>,
-    desk: &mut Desk<B>,
+    life: &mut Life<A>,
+    desk: &mut Desk,
     events: u64,
 ) -> Result<(), AllocError>
     requires { IsWhole M.view array.old }
@@ -205,10 +201,7 @@ fn live<M: Map, A: Allocator + Copy, B: Allocator + Copy>(
 }
 
 /// Whether no die is live.
-fn is_dead<M: Map, A: Allocator + Copy, B: Allocator>(
-    array: &Array<M, A>,
-    life: &Life<A, B>,
-) -> bool {
+fn is_dead<M: Map, A: Allocator + Copy>(array: &Array<M, A>, life: &Life<A>) -> bool {
     for die in 0..life.geometry.dies {
         if array.is_live(die_of(u64::from(die))) {
             return false;
@@ -218,11 +211,11 @@ fn is_dead<M: Map, A: Allocator + Copy, B: Allocator>(
 }
 
 /// One step of one of those who make events.
-fn step<M: Map, A: Allocator + Copy, B: Allocator + Copy>(
+fn step<M: Map, A: Allocator + Copy>(
     array: &mut Array<M, A>,
     heap: A,
-    life: &mut Life<A, B>,
-    desk: &mut Desk<B>,
+    life: &mut Life<A>,
+    desk: &mut Desk,
 ) -> Result<(), AllocError>
     requires { IsWhole M.view array.old }
     ensures { IsWhole M.view array.new }

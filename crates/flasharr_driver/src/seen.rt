@@ -1,6 +1,5 @@
 //! How often each event, refusal and kind of job came.
 use crate::told::Told;
-use std::alloc::Allocator;
 
 /// What an event came to, or mounting, or closing.
 #[derive(Clone, Copy)]
@@ -183,13 +182,12 @@ impl Tally {
 
     /// It came once more.
     pub(crate) fn count(&mut self, seen: Seen) {
-        if let Some(count) = self.counts.get_mut(seen as usize) {
-            *count = count.saturating_add(1);
-        }
+        let index = seen as usize;
+        self.counts[index] = self.counts[index].saturating_add(1);
     }
 
     /// A line for each.
-    pub(crate) fn tell<B: Allocator>(&self, told: &mut Told<B>) {
+    pub(crate) fn tell(&self, told: &mut Told) {
         for (name, count) in NAMES.iter().zip(self.counts.iter()) {
             told.pair(name, *count);
         }

@@ -109,10 +109,10 @@ fn draw_last(random: &mut Random) -> Option<u64> {
 }
 
 /// Writes a page with the last number that was given, where few are left. The error is out of memory.
-pub(crate) fn write_last<A: Allocator + Copy, B: Allocator + Copy>(
+pub(crate) fn write_last<A: Allocator + Copy>(
     shape: Shape,
-    life: &mut Life<A, B>,
-    desk: &mut Desk<B>,
+    life: &mut Life<A>,
+    desk: &mut Desk,
 ) -> Result<(), AllocError> {
     let Some(last) = shape.last else {
         return Ok(());
@@ -134,13 +134,7 @@ pub(crate) fn write_last<A: Allocator + Copy, B: Allocator + Copy>(
 }
 
 /// The page with that number stands in the first slot of a die then. False where it does not.
-fn put_on<B: Allocator>(
-    images: &mut Images<B>,
-    die: u64,
-    seq: u64,
-    payload: &[u8],
-    scratch: &mut Vec<u8, B>,
-) -> bool {
+fn put_on(images: &mut Images, die: u64, seq: u64, payload: &[u8], scratch: &mut Vec<u8>) -> bool {
     let die = die_of(die);
     let tag = Tag {
         page: OLD_PAGE,

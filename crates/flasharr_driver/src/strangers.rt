@@ -23,11 +23,11 @@ const NO_DIE: Die = Die(64);
 const LONG_WINDOW: u64 = 65;
 
 /// Makes a call whose condition does not hold. The error is out of memory.
-pub(crate) fn make_stranger<M: Map, A: Allocator + Copy, B: Allocator + Copy>(
+pub(crate) fn make_stranger<M: Map, A: Allocator + Copy>(
     array: &mut Array<M, A>,
     heap: A,
-    life: &mut Life<A, B>,
-    desk: &mut Desk<B>,
+    life: &mut Life<A>,
+    desk: &mut Desk,
 ) -> Result<(), AllocError>
     requires { IsWhole M.view array.old }
     ensures { IsWhole M.view array.new }

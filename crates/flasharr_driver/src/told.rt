@@ -1,16 +1,15 @@
 //! What is printed.
-use std::alloc::Allocator;
-use std::fmt::Display;
+use std::alloc::Global;
 
 /// Lines that are printed. What finds no memory is left out, and `is_whole` tells that.
 #[derive(Drop)]
-pub(crate) struct Told<B: Allocator> {
-    text: String<B>,
+pub(crate) struct Told {
+    text: String,
     is_whole: bool,
 }
 
-impl<B: Allocator> Told<B> {
-    pub(crate) fn new(alloc: B) -> Told<B> {
+impl Told {
+    pub(crate) fn new(alloc: Global) -> Told {
         Told {
             text: String::new(alloc),
             is_whole: true,
@@ -26,7 +25,7 @@ impl<B: Allocator> Told<B> {
     }
 
     /// A line of words and a number.
-    pub(crate) fn pair<W: Display + Drop>(&mut self, words: W, number: u64) {
+    pub(crate) fn pair(&mut self, words: &str, number: u64) {
         if write!(self.text, "{words} {number}\n").is_err() {
             self.is_whole = false;
         }

@@ -21,10 +21,10 @@ const NEEDLESS_EVERY: u64 = 16;
 const MAX_FLUSHES: usize = 4;
 
 /// The round rises, if it may.
-pub(crate) fn advance<M: Map, A: Allocator + Copy, B: Allocator + Copy>(
+pub(crate) fn advance<M: Map, A: Allocator + Copy>(
     array: &mut Array<M, A>,
     heap: A,
-    desk: &mut Desk<B>,
+    desk: &mut Desk,
 )
     requires { IsWhole M.view array.old }
     ensures { IsWhole M.view array.new }
@@ -36,10 +36,10 @@ pub(crate) fn advance<M: Map, A: Allocator + Copy, B: Allocator + Copy>(
 }
 
 /// The die has a window, if it wants one.
-pub(crate) fn collect<M: Map, A: Allocator + Copy, B: Allocator + Copy>(
+pub(crate) fn collect<M: Map, A: Allocator + Copy>(
     array: &mut Array<M, A>,
     heap: A,
-    desk: &mut Desk<B>,
+    desk: &mut Desk,
     die: Die,
 )
     requires { IsWhole M.view array.old }
@@ -57,10 +57,10 @@ pub(crate) fn collect<M: Map, A: Allocator + Copy, B: Allocator + Copy>(
 }
 
 /// A die is brought in, if it is a spare.
-pub(crate) fn bring_in<M: Map, A: Allocator + Copy, B: Allocator + Copy>(
+pub(crate) fn bring_in<M: Map, A: Allocator + Copy>(
     array: &mut Array<M, A>,
     heap: A,
-    desk: &mut Desk<B>,
+    desk: &mut Desk,
     die: Die,
 )
     requires { IsWhole M.view array.old }
@@ -73,11 +73,11 @@ pub(crate) fn bring_in<M: Map, A: Allocator + Copy, B: Allocator + Copy>(
 }
 
 /// A flush is begun, or it is asked how one stands. The error is out of memory.
-pub(crate) fn flush<M: Map, A: Allocator + Copy, B: Allocator + Copy>(
+pub(crate) fn flush<M: Map, A: Allocator + Copy>(
     array: &mut Array<M, A>,
     heap: A,
-    life: &mut Life<A, B>,
-    desk: &mut Desk<B>,
+    life: &mut Life<A>,
+    desk: &mut Desk,
 ) -> Result<(), AllocError>
     requires { IsWhole M.view array.old }
     ensures { IsWhole M.view array.new }
@@ -100,18 +100,14 @@ pub(crate) fn flush<M: Map, A: Allocator + Copy, B: Allocator + Copy>(
     Ok(())
 }
 
-fn forget_flush<A: Allocator, B: Allocator>(life: &mut Life<A, B>, index: usize) {
+fn forget_flush<A: Allocator>(life: &mut Life<A>, index: usize) {
     if index < life.flushes.len() {
         life.flushes.remove(index);
     }
 }
 
 /// The history is folded.
-pub(crate) fn fold<M: Map, A: Allocator + Copy, B: Allocator + Copy>(
-    array: &mut Array<M, A>,
-    heap: A,
-    desk: &mut Desk<B>,
-)
+pub(crate) fn fold<M: Map, A: Allocator + Copy>(array: &mut Array<M, A>, heap: A, desk: &mut Desk)
     requires { IsWhole M.view array.old }
     ensures { IsWhole M.view array.new }
 {

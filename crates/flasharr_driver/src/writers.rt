@@ -27,11 +27,11 @@ enum Wish {
 }
 
 /// A step of a client that writes: a page is claimed, or one that is claimed goes on. The error is out of memory.
-pub(crate) fn write<M: Map, A: Allocator + Copy, B: Allocator + Copy>(
+pub(crate) fn write<M: Map, A: Allocator + Copy>(
     array: &mut Array<M, A>,
     heap: A,
-    life: &mut Life<A, B>,
-    desk: &mut Desk<B>,
+    life: &mut Life<A>,
+    desk: &mut Desk,
 ) -> Result<(), AllocError>
     requires { IsWhole M.view array.old }
     ensures { IsWhole M.view array.new }
@@ -47,11 +47,11 @@ pub(crate) fn write<M: Map, A: Allocator + Copy, B: Allocator + Copy>(
 }
 
 /// A page is claimed.
-fn claim<M: Map, A: Allocator + Copy, B: Allocator + Copy>(
+fn claim<M: Map, A: Allocator + Copy>(
     array: &mut Array<M, A>,
     heap: A,
-    life: &mut Life<A, B>,
-    desk: &mut Desk<B>,
+    life: &mut Life<A>,
+    desk: &mut Desk,
 ) -> Result<(), AllocError>
     requires { IsWhole M.view array.old }
     ensures { IsWhole M.view array.new }
@@ -64,11 +64,11 @@ fn claim<M: Map, A: Allocator + Copy, B: Allocator + Copy>(
 }
 
 /// A claim goes on to its next step.
-fn go_on<M: Map, A: Allocator + Copy, B: Allocator + Copy>(
+fn go_on<M: Map, A: Allocator + Copy>(
     array: &mut Array<M, A>,
     heap: A,
-    life: &mut Life<A, B>,
-    desk: &mut Desk<B>,
+    life: &mut Life<A>,
+    desk: &mut Desk,
     index: usize,
     claimed: Claimed,
 ) -> Result<(), AllocError>
@@ -92,11 +92,11 @@ fn go_on<M: Map, A: Allocator + Copy, B: Allocator + Copy>(
 }
 
 /// A claim goes on towards its end: what is reserved under it is settled, and then it is closed.
-pub(crate) fn end_claim<M: Map, A: Allocator + Copy, B: Allocator + Copy>(
+pub(crate) fn end_claim<M: Map, A: Allocator + Copy>(
     array: &mut Array<M, A>,
     heap: A,
-    life: &mut Life<A, B>,
-    desk: &mut Desk<B>,
+    life: &mut Life<A>,
+    desk: &mut Desk,
     index: usize,
     claimed: Claimed,
 )
@@ -110,11 +110,11 @@ pub(crate) fn end_claim<M: Map, A: Allocator + Copy, B: Allocator + Copy>(
 }
 
 /// The claim is closed.
-fn release<M: Map, A: Allocator + Copy, B: Allocator + Copy>(
+fn release<M: Map, A: Allocator + Copy>(
     array: &mut Array<M, A>,
     heap: A,
-    life: &mut Life<A, B>,
-    desk: &mut Desk<B>,
+    life: &mut Life<A>,
+    desk: &mut Desk,
     index: usize,
     claim: ClaimId,
 )
@@ -128,11 +128,11 @@ fn release<M: Map, A: Allocator + Copy, B: Allocator + Copy>(
 }
 
 /// Something is reserved under the claim.
-fn reserve<M: Map, A: Allocator + Copy, B: Allocator + Copy>(
+fn reserve<M: Map, A: Allocator + Copy>(
     array: &mut Array<M, A>,
     heap: A,
-    life: &mut Life<A, B>,
-    desk: &mut Desk<B>,
+    life: &mut Life<A>,
+    desk: &mut Desk,
     index: usize,
     claim: ClaimId,
 ) -> Result<(), AllocError>
@@ -178,11 +178,11 @@ fn seen_of(wish: Wish) -> Seen {
 }
 
 /// What is reserved is committed or, less often, given up.
-fn settle<M: Map, A: Allocator + Copy, B: Allocator + Copy>(
+fn settle<M: Map, A: Allocator + Copy>(
     array: &mut Array<M, A>,
     heap: A,
-    life: &mut Life<A, B>,
-    desk: &mut Desk<B>,
+    life: &mut Life<A>,
+    desk: &mut Desk,
     index: usize,
     claimed: Claimed,
     content: Content,
