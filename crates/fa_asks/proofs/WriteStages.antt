@@ -17,7 +17,7 @@ use Rattle.fa_asks.proofs.PutPage.{bytes_for, content_is, covered_whole, new_cov
 use Rattle.fa_asks.proofs.RangePages.{IsOf, page_low, page_of, part_begins, part_ends, part_fits, upto}
 use Rattle.fa_asks.proofs.ReadStages.{Fits}
 use Rattle.fa_asks.specs.Asked.{Asked, IsAnothers, IsNoSpare, LeavesClaim, Makes, Meanwhile, Moment, Readies, Strayed, Turn}
-use Rattle.fa_asks.specs.Asked.{TurnsTo, fits}
+use Rattle.fa_asks.specs.Asked.{TurnsTo}
 use Rattle.fa_laws.proofs.Answering.{reached_holds}
 use Rattle.fa_laws.specs.Reached.{IsReached}
 use Rattle.fa_machine.proofs.Lists.{among-filter, found_passes, none_passes}
@@ -44,7 +44,7 @@ use Rattle.fa_machine.specs.declared.refusals.FlushRefused.TheVariants.{Spent as
 use Rattle.fa_machine.specs.declared.refusals.ReserveRefused.{ReserveRefused}
 use Rattle.fa_machine.specs.declared.refusals.ReserveRefused.TheVariants.{NoDie as ReserveNoDie, NoMemory as ReserveNoMemory, NoRoom as ReserveNoRoom}
 use Rattle.fa_machine.specs.declared.refusals.ReserveRefused.TheVariants.{Spent as NumbersSpent}
-use Rattle.fa_ops.specs.Founded.{IsBarred, IsFounded, may_collect}
+use Rattle.fa_ops.specs.Founded.{IsBarred, IsFounded, may_collect, fits}
 use Rattle.fa_ops.specs.Moves.{AfterReserve, Moves, Strays, after_pages, from_page, opened, with_fewer}
 use Rattle.fa_ops.specs.Ops.{Prepares}
 use Rattle.fa_ops.specs.Prepared.{IsMerged, IsWish, SortsPage, content, has_content, has_part}
