@@ -12,7 +12,7 @@ use Rattle.fa_mount.specs.Standings.{AreApart, place_on}
 use Rattle.fa_runs.proofs.DrivenRuns.{job_drives}
 use Rattle.fa_runs.proofs.JobCalls.{value_here, value_other}
 use Rattle.fa_runs.specs.Drives.{Drive, Driven, Drives, HasEvent, IsOwed, MakesCall, MakesEvent, OnlyMade, acts_of, told_by, works_after}
-use Rattle.fa_solo.specs.Deeds.{Goes, Makes, MakesJob, Runs, Stays}
+use Rattle.fa_solo.specs.Deeds.{Goes, IsForDies, IsForOrder, IsForRequests, Makes, MakesJob, Runs, Stays}
 use Rattle.fa_solo.specs.House.{House}
 use Rattle.fa_takes.specs.Fits.{IsJobFor}
 use Rattle.fa_types.specs.declared.geometry.Geometry.{Geometry}
@@ -35,6 +35,27 @@ got_other (x ∷ xs) zero zero new apart = absurd (apart refl)
 got_other (x ∷ xs) zero (suc j) new apart = refl
 got_other (x ∷ xs) (suc i) zero new apart = refl
 got_other (x ∷ xs) (suc i) (suc j) new apart = got_other xs i j new (λ e. apart (ap suc e))
+
+pub dies_plain : (act : Act) → IsForDies act → IsPlain act
+dies_plain (Take die seat None) may = tt
+dies_plain (Take die seat (Some job)) may = absurd may
+dies_plain (Done die outcome) may = absurd may
+dies_plain (ReserveCopy page seq payload (Ok done)) may = absurd may
+dies_plain act may = tt
+
+pub requests_plain : (act : Act) → IsForRequests act → IsPlain act
+requests_plain (Take die seat None) may = tt
+requests_plain (Take die seat (Some job)) may = absurd may
+requests_plain (Done die outcome) may = absurd may
+requests_plain (ReserveCopy page seq payload (Ok done)) may = absurd may
+requests_plain act may = tt
+
+pub order_plain : (act : Act) → IsForOrder act → IsPlain act
+order_plain (Take die seat None) may = tt
+order_plain (Take die seat (Some job)) may = absurd may
+order_plain (Done die outcome) may = absurd may
+order_plain (ReserveCopy page seq payload (Ok done)) may = absurd may
+order_plain act may = tt
 
 plain_owed : {I : Type 0} (act : Act) (s : Driven I) → IsPlain act → IsOwed s act
 plain_owed (Done die outcome) s plain = absurd plain
