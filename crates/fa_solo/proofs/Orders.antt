@@ -1,5 +1,6 @@
 -- What is done for the array's order, one after the other, and pages that get one more copy.
-use Rattle.std.proofs.Common.{◌≡◌, ◌∙◌, ℕ, Bool, true, false, List, [], ◌∷◌, ◌++◌, Option, Some, None, Result, Ok, Err, IfNone, IfSome, ap, inl, inr, option_map, refl, subst, sym, is_ok}
+use Rattle.std.proofs.Common.{◌≡◌, ◌∙◌, ℕ, Bool, true, false, List, [], ◌∷◌, ◌++◌, Option, Some, None, Result, Ok, Err, IfNone, IfSome, ap, inl, inr, map, option_map, refl, subst, sym, is_ok}
+use Rattle.std.proofs.lemmas.List.{map-append}
 use Rattle.std.specs.FinMap.{get}
 use Rattle.fa_headers.specs.declared.judging.Standing.{Standing}
 use Rattle.fa_image.specs.Image.{ImageAnswer, ImageCall}
@@ -34,6 +35,10 @@ orders_by made array other dies those seat same a b number standing by orders =
     subst (λ (n : ℕ). Orders made array dies n a b) by (subst (λ (d : List Standing). Orders made array d same a b) standing
     (subst (λ (x : List ℕ). Orders made x those same a b) number orders))
 
+-- the last element of a list in which each was put otherwise
+last_put : {X Y : Type 0} (f : X → Y) (old new : List X) (x : X) → old ≡ new ++ x ∷ [] → map f old ≡ map f new ++ f x ∷ []
+last_put f old new x is = ap (map f) is ∙ map-append f new (x ∷ [])
+
 pub if_none : {X : Type 0} {T : Type 0} (o : Option X) → T → IfNone o T
 if_none None t = t
 if_none (Some x) t = tt
@@ -54,6 +59,17 @@ module _ {L M I A : Type 0} where
   asked_for a b page (Some batch) answer is one =
       (is.0, subst (λ (r : Result Admitted AdmitRefused). DoesOne (Admit (page ∷ []) r) a b) is.1 one)
   asked_for a b page None answer is one = tt
+
+  -- a copy of what was answered last
+  pub reserved_last : {X : Type 0} (f : X → ℕ × List ℕ) (a b : Rig L M I A) (page seq : ℕ) (old new : List X) (x : X) (payload : List ℕ)
+      → old ≡ new ++ x ∷ [] → payload ≡ (f x).1 → DoesOne (ReserveCopy page seq payload (Ok tt)) a b → ReservesCopy page seq (map f old) a b
+  reserved_last f a b page seq old new x payload is bytes one = record {
+    others = map f new;
+    given = (f x).0;
+    bytes = (f x).1;
+    last = last_put f old new x is;
+    reserves = subst (λ (l : List ℕ). DoesOne (ReserveCopy page seq l (Ok tt)) a b) bytes one;
+  }
 
   pub reserved_yes : (a b : Rig L M I A) (page seq : ℕ) (bytes : List ℕ) (answer : Result (Unit {0}) ReserveCopyRefused) → is_ok answer ≡ true
       → DoesOne (ReserveCopy page seq bytes answer) a b → DoesOne (ReserveCopy page seq bytes (Ok tt)) a b

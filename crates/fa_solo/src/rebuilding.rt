@@ -70,10 +70,11 @@ fn rebuild_next<L: Ledger, M: Map + Drop, I: Image, A: Allocator + Copy>(
     let Some(answers) = end(rig, batch) else {
         return false;
     };
-    if state == ReadState::Ready {
-        return copy(rig, thin, answers);
+    match state {
+        ReadState::Ready => copy(rig, thin, answers),
+        ReadState::Torn => true,
+        ReadState::Waiting => false,
     }
-    state == ReadState::Torn
 }
 
 /// A batch of the page alone, if it is admitted.

@@ -1,22 +1,20 @@
 use Rattle.std.proofs.Common.{[], ◌∷◌, refl}
 use Rattle.fa_machine.specs.Step.{Admit}
 use Rattle.fa_reads.specs.Answers.{admit_answer}
-use Rattle.fa_solo.proofs.Chains.{does_option}
-use Rattle.fa_solo.proofs.Orders.{asked_for, if_none, one_if_some}
+use Rattle.fa_solo.proofs.Chains.{does_event, does_same}
+use Rattle.fa_solo.proofs.Orders.{asked_for, if_none}
 use Rattle.fa_solo.specs.Deeds.{IsForOrder}
 use Rattle.fa_solo.proofs.rebuilding.ask.Goals as goal
 
 pub returns-in-Some-clause-none : goal.returns-in-Some-clause-none
 returns-in-Some-clause-none g c =
-    if_none c.batch_of.result (does_option _ IsForOrder _ _ c.admit.result (λ answer. Admit (c.args.page.0 ∷ []) (admit_answer answer)) (λ _. tt)
-    c.admit.ensures.some c.admit.ensures.none c.admit.ensures.account refl refl)
+    if_none c.batch_of.result (does_event _ IsForOrder _ _ (Admit (c.args.page.0 ∷ []) (admit_answer c.in-Some.answer)) tt c.in-Some.ensures.some
+    c.admit.ensures.account refl refl)
 
 pub returns-in-Some-clause-some : goal.returns-in-Some-clause-some
 returns-in-Some-clause-some g c =
-    asked_for _ _ c.args.page.0 c.batch_of.result _ c.batch_of.ensures
-    (one_if_some _ _ c.admit.result (λ answer. Admit (c.args.page.0 ∷ []) (admit_answer answer)) c.admit.ensures.some c.admit.ensures.account refl refl)
+    asked_for _ _ c.args.page.0 c.batch_of.result (admit_answer c.in-Some.answer) c.batch_of.ensures
+    (record { step = c.in-Some.ensures.some; left = c.admit.ensures.account; images = refl; dies = refl })
 
 pub returns-in-None-clause-none : goal.returns-in-None-clause-none
-returns-in-None-clause-none g c =
-    does_option _ IsForOrder _ _ c.admit.result (λ answer. Admit (c.args.page.0 ∷ []) (admit_answer answer)) (λ _. tt) c.admit.ensures.some
-    c.admit.ensures.none c.admit.ensures.account refl refl
+returns-in-None-clause-none g c = does_same _ IsForOrder _ _ c.in-None.ensures.none c.admit.ensures.account refl refl

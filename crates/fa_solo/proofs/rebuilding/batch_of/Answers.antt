@@ -1,0 +1,6 @@
+use Rattle.std.proofs.Common.{Ok, ap, sym}
+use Rattle.fa_reads.specs.Answers.{admit_answer}
+use Rattle.fa_solo.proofs.rebuilding.batch_of.Goals as goal
+
+pub returns-in-Ok : goal.returns-in-Ok
+returns-in-Ok g c = (_, ap admit_answer c.in-Ok.is)
