@@ -1,4 +1,6 @@
 //! A heap that is filled, so that it refuses memory.
+use crate::desk::Desk;
+use crate::seen::Seen;
 use linked_list_allocator::LocalHeap;
 use std::alloc::{AllocError, Global};
 
@@ -49,5 +51,21 @@ impl<'a> Ballast<'a> {
             self.pieces.push(piece)?;
         }
         Ok(())
+    }
+}
+
+/// Leaves so much memory in the heap, if that is to be little.
+pub(crate) fn starve<'a>(
+    ballast: &mut Ballast<'a>,
+    heap: &'a LocalHeap,
+    desk: &mut Desk,
+    room: Option<usize>,
+) {
+    let Some(room) = room else {
+        return;
+    };
+    desk.count(Seen::Starved);
+    if ballast.fill_but(heap, room).is_err() {
+        desk.differ("no memory for the ballast", 0, 0);
     }
 }

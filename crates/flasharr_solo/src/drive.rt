@@ -12,9 +12,9 @@ use crate::seen::Seen;
 use crate::shape::{Shape, draw_shape, redraw_copies};
 use crate::store::Way;
 use crate::turn::{look_at_all, turn};
-use crate::view::HeldParts;
+use crate::view::{HeldParts, die_of};
 use fa_solo::Parts;
-use fa_types::{Copies, Die, Geometry};
+use fa_types::{Copies, Geometry};
 use linked_list_allocator::LocalHeap;
 
 /// The most lives of an array.
@@ -178,7 +178,7 @@ fn arm_one(parts: &mut HeldParts<'_>, desk: &mut Desk, life: Life)
     if !desk.random.one_in(life.armed_every) {
         return;
     }
-    let die = Die(desk.random.below(u64::from(life.geometry.dies)) as u8);
+    let die = die_of(desk.random.below(u64::from(life.geometry.dies)));
     let count = desk.random.below(MOST_COUNT).saturating_add(1);
     let lies = desk.random.one_in(3);
     let Some(place) = parts.mounted.image_of(die) else {

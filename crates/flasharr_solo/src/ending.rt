@@ -3,10 +3,11 @@ ghost use Rattle.std.specs.Prelude.{IfSome};
 ghost use Rattle.fa_core.specs.Array.{IsWhole};
 ghost use Rattle.fa_map.specs.PageView.{page_view};
 
+use crate::ballast::{Ballast, starve};
 use crate::desk::Desk;
 use crate::images::{DieImage, Images};
 use crate::seen::Seen;
-use crate::view::{HeldOver, HeldParts, View, bit, lost_outside};
+use crate::view::{HeldOver, HeldParts, View, lost_outside};
 use fa_headers::MountFault;
 use fa_image::Image;
 use fa_mount::{CloseFault, close_clean, mount};
@@ -67,6 +68,22 @@ fn close_over(mounted: &HeldOver<'_>, images: &mut [DieImage]) -> Result<u64, Cl
     }
 }
 
+/// The same with so much memory in one piece, if it is to be little.
+pub(crate) fn mount_with<'a>(
+    heap: &'a LocalHeap,
+    images: &mut Images<'a>,
+    copies: Copies,
+    desk: &mut Desk,
+    room: Option<usize>,
+) -> Option<HeldOver<'a>>
+    ensures { IfSome result (λ mounted. IsWhole page_view mounted.array) }
+{
+    let mut ballast = Ballast::new(desk.alloc);
+    desk.starved = room.is_some();
+    starve(&mut ballast, heap, desk, room);
+    mount_again(heap, images, copies, desk)
+}
+
 /// The array of these images, which was closed. None where it is not mounted, which is a difference unless an image told a fault, or there
 /// is little memory.
 pub(crate) fn mount_again<'a>(
@@ -110,9 +127,4 @@ fn all_faults(images: &[DieImage]) -> u64 {
         sum = sum.wrapping_add(image.faults());
     }
     sum
-}
-
-/// The dies of a view, by their bits.
-pub(crate) fn has_die(mask: u64, die: u64) -> bool {
-    mask & bit(die) != 0
 }

@@ -1,5 +1,4 @@
 //! How often each call, refusal and loss came.
-use std::alloc::Global;
 
 /// What is counted.
 #[derive(Clone, Copy)]
@@ -71,8 +70,8 @@ const NAMES: [&str; KINDS] = [
     "array",
 ];
 
-/// The kinds that need not come, by their places: a counter never ends here.
-const SELDOM: [usize; 1] = [10];
+/// The kinds that need not come, by their places: a counter never ends here, and a flush behind a write is seldom refused.
+const SELDOM: [usize; 3] = [10, 13, 14];
 
 /// How often each came.
 #[derive(Clone, Copy)]
@@ -119,9 +118,4 @@ impl Tally {
 /// A line of words and a number. What finds no memory is left out.
 pub(crate) fn tell_pair(text: &mut String, words: &str, number: u64) {
     let _ = write!(text, "{words} {number}\n");
-}
-
-/// No text.
-pub(crate) fn no_text(alloc: Global) -> String {
-    String::new(alloc)
 }

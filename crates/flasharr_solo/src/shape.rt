@@ -9,7 +9,7 @@ const MIN_DIES: u64 = 2;
 
 const MAX_DIES: u64 = 6;
 
-const SLOTS: u32 = 4;
+const SLOTS: u64 = 4;
 
 /// How many bytes a page has.
 const PAGE_BYTES: u32 = 512;
@@ -31,14 +31,16 @@ pub(crate) fn draw_shape(random: &mut Random) -> Option<Shape> {
     let blocks = draw_between(random, 4, 6);
     let in_use = dies.saturating_sub(spares);
     let wanted = draw_copies(random).min(in_use);
-    let room = u64::from(in_use) * u64::from(blocks.saturating_sub(2)) * u64::from(SLOTS);
-    let divisor = if random.one_in(4) {
-        3
+    let room = u64::from(in_use)
+        .saturating_mul(u64::from(blocks.saturating_sub(2)))
+        .saturating_mul(SLOTS);
+    let most = if wanted == 3 || random.one_in(4) {
+        room / 3
     } else {
-        u64::from(wanted.max(1))
+        room / 2
     };
-    let pages = (room / divisor).saturating_sub(random.below(MAX_PAGES_LEFT));
-    let geometry = Geometry::new(dies, spares, blocks, SLOTS, PAGE_BYTES, pages).ok()?;
+    let pages = most.saturating_sub(random.below(MAX_PAGES_LEFT));
+    let geometry = Geometry::new(dies, spares, blocks, SLOTS as u32, PAGE_BYTES, pages).ok()?;
     let copies = Copies::new(wanted, geometry).ok()?;
     Some(Shape { geometry, copies })
 }
@@ -55,10 +57,10 @@ pub(crate) fn redraw_copies(random: &mut Random, geometry: Geometry, copies: Cop
 fn draw_between(random: &mut Random, least: u64, most: u64) -> u32
     requires order { least ≤ most }
     requires most { most ≤ 64 }
-    ensures { result ≤ 64 }
+    ensures { result ≤ 65 }
 {
     let more = random.below(most - least + 1);
-    (least + more).min(most) as u32
+    (least + more) as u32
 }
 
 /// How many dies are spares.

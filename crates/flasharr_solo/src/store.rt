@@ -3,7 +3,7 @@ ghost use Rattle.std.specs.Prelude.{◌≡◌};
 ghost use Rattle.fa_core.specs.Array.{IsWhole};
 ghost use Rattle.fa_map.specs.PageView.{page_view};
 
-use crate::ballast::Ballast;
+use crate::ballast::{Ballast, starve};
 use crate::calls::{Call, Kind, make, read};
 use crate::desk::{Desk, Refused};
 use crate::images::DieImage;
@@ -97,22 +97,6 @@ fn begin<'a>(ballast: &mut Ballast<'a>, heap: &'a LocalHeap, desk: &mut Desk, wa
 fn fill<'a>(ballast: &mut Ballast<'a>, heap: &'a LocalHeap, desk: &mut Desk, way: Way) {
     if !way.early {
         starve(ballast, heap, desk, way.room);
-    }
-}
-
-/// Leaves so much memory in the heap, if that is to be little.
-fn starve<'a>(
-    ballast: &mut Ballast<'a>,
-    heap: &'a LocalHeap,
-    desk: &mut Desk,
-    room: Option<usize>,
-) {
-    let Some(room) = room else {
-        return;
-    };
-    desk.count(Seen::Starved);
-    if ballast.fill_but(heap, room).is_err() {
-        desk.differ("no memory for the ballast", 0, 0);
     }
 }
 

@@ -47,13 +47,28 @@ impl View {
         };
         for die in 0..MOST_DIES {
             if let Some(place) = parts.mounted.image_of(Die(die as u8)) {
-                view.faults[die] = faults_of(parts.images.as_slice(), place);
-                if has_lied(parts.images.as_slice(), place) {
-                    view.lied |= bit(die as u64);
-                }
+                view.note_image(parts.images.as_slice(), die, place);
             }
         }
         view
+    }
+
+    /// The image of a die, at its place.
+    fn note_image(&mut self, images: &[DieImage], die: usize, place: usize) {
+        if let Some(count) = self.faults.get_mut(die) {
+            *count = faults_of(images, place);
+        }
+        if has_lied(images, place) {
+            self.lied |= bit(die as u64);
+        }
+    }
+
+    /// How many faults the image of a die told.
+    fn faults_of(&self, die: usize) -> u64 {
+        match self.faults.get(die) {
+            Some(count) => *count,
+            None => 0,
+        }
     }
 
     /// Whether fewer dies have room than a write asks for.
@@ -66,12 +81,17 @@ impl View {
     pub(crate) fn faulted_since(self, before: View) -> u64 {
         let mut mask = 0;
         for die in 0..MOST_DIES {
-            if self.faults[die] != before.faults[die] {
+            if self.faults_of(die) != before.faults_of(die) {
                 mask |= bit(die as u64);
             }
         }
         mask
     }
+}
+
+/// The die of a number, or a die of no array where no die has it.
+pub(crate) fn die_of(number: u64) -> Die {
+    Die(u8::try_from(number).unwrap_or(u8::MAX))
 }
 
 /// The bit of a number, and none of one past 63.
@@ -121,6 +141,17 @@ pub(crate) fn room_of(array: &Held<'_>, die: Die) -> u32 {
         array.room(die)
     } else {
         0
+    }
+}
+
+/// The slot of a page's copy on a die.
+pub(crate) fn slot_on(array: &Held<'_>, page: Page, die: Die) -> Option<u32> {
+    if !array.is_page(page) || !array.is_die(die) {
+        return None;
+    }
+    match array.copy_on(page, die) {
+        Some(slot) => Some(slot.0),
+        None => None,
     }
 }
 
