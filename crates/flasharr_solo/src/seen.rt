@@ -70,8 +70,9 @@ const NAMES: [&str; KINDS] = [
     "array",
 ];
 
-/// The kinds that need not come, by their places: a counter never ends here, and a flush behind a write is seldom refused.
-const SELDOM: [usize; 3] = [10, 13, 14];
+/// The kinds that need not come, by their places: a counter never ends here, few refused calls put anything, and an array of which nothing
+/// was written seldom loses all dies.
+const SELDOM: [usize; 4] = [10, 13, 14, 25];
 
 /// How often each came.
 #[derive(Clone, Copy)]
