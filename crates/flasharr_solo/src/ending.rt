@@ -1,0 +1,130 @@
+//! An array that is closed, and mounted again.
+ghost use Rattle.std.specs.Prelude.{IfSome};
+ghost use Rattle.fa_core.specs.Array.{IsWhole};
+ghost use Rattle.fa_map.specs.PageView.{page_view};
+
+use crate::ballast::{Ballast, starve};
+use crate::desk::Desk;
+use crate::images::{DieImage, Images};
+use crate::seen::Seen;
+use crate::view::{HeldOver, HeldParts, View, lost_outside};
+use fa_headers::MountFault;
+use fa_image::Image;
+use fa_mount::{CloseFault, close_clean, mount};
+use fa_types::Copies;
+use linked_list_allocator::LocalHeap;
+
+/// Closes an array, and judges the answer. Whether it was closed.
+pub(crate) fn close(parts: &mut HeldParts<'_>, desk: &mut Desk) -> bool
+    requires { IsWhole page_view parts.old.mounted.array }
+{
+    let before = View::of(parts);
+    let closed = close_over(&parts.mounted, parts.images.as_mut_slice());
+    let after = View::of(parts);
+    let left = before.live & !after.faulted_since(before);
+    let lost = lost_outside(&parts.mounted.array, left);
+    judge_close(desk, closed, left, lost)
+}
+
+/// Judges how an array was closed of which these dies are left and these pages are lost then.
+fn judge_close(desk: &mut Desk, closed: Result<u64, CloseFault>, left: u64, lost: u64) -> bool {
+    match closed {
+        Ok(mask) => {
+            desk.count(Seen::Close);
+            if mask != left || mask == 0 || lost != 0 {
+                desk.differ("an array is closed otherwise", mask, left);
+            }
+            true
+        }
+        Err(CloseFault::Lost(page)) => {
+            desk.count(Seen::CloseLost);
+            if page.0 >= 64 || u64::from(lost.trailing_zeros()) != page.0 {
+                desk.differ("an array is not closed for another page", page.0, lost);
+            }
+            false
+        }
+        Err(CloseFault::NoDieLive) => {
+            desk.count(Seen::CloseNoDie);
+            if left != 0 {
+                desk.differ("an array with live dies is not closed", left, lost);
+            }
+            false
+        }
+        Err(CloseFault::Busy) => {
+            desk.differ("a store leaves something open", left, lost);
+            false
+        }
+    }
+}
+
+/// Closes an array over its images.
+fn close_over(mounted: &HeldOver<'_>, images: &mut [DieImage]) -> Result<u64, CloseFault>
+    requires { IsWhole page_view mounted.now.array }
+{
+    if mounted.has_images(images.len()) {
+        close_clean(mounted, images)
+    } else {
+        Err(CloseFault::Busy)
+    }
+}
+
+/// The same with so much memory in one piece, if it is to be little.
+pub(crate) fn mount_with<'a>(
+    heap: &'a LocalHeap,
+    images: &mut Images<'a>,
+    copies: Copies,
+    desk: &mut Desk,
+    room: Option<usize>,
+) -> Option<HeldOver<'a>>
+    ensures { IfSome result (λ mounted. IsWhole page_view mounted.array) }
+{
+    let mut ballast = Ballast::new(desk.alloc);
+    desk.starved = room.is_some();
+    starve(&mut ballast, heap, desk, room);
+    mount_again(heap, images, copies, desk)
+}
+
+/// The array of these images, which was closed. None where it is not mounted, which is a difference unless an image told a fault, or there
+/// is little memory.
+pub(crate) fn mount_again<'a>(
+    heap: &'a LocalHeap,
+    images: &mut Images<'a>,
+    copies: Copies,
+    desk: &mut Desk,
+) -> Option<HeldOver<'a>>
+    ensures { IfSome result (λ mounted. IsWhole page_view mounted.array) }
+{
+    let before = all_faults(images.as_slice());
+    match mount(heap, images.as_mut_slice(), copies, false) {
+        Ok(mounted) => {
+            desk.count(Seen::Mount);
+            Some(mounted)
+        }
+        Err(refused) => {
+            let faulted = all_faults(images.as_slice()) != before;
+            judge_unmounted(desk, refused.fault, faulted);
+            None
+        }
+    }
+}
+
+/// Judges why an array is not mounted.
+fn judge_unmounted(desk: &mut Desk, fault: MountFault, faulted: bool) {
+    let may = match fault {
+        MountFault::ImageFault => faulted,
+        MountFault::NoMemory => desk.starved,
+        _ => false,
+    };
+    if !may {
+        desk.differ("an array is not mounted", u64::from(fault.number()), 0);
+    }
+}
+
+/// The faults of all images.
+fn all_faults(images: &[DieImage]) -> u64 {
+    let mut sum = 0u64;
+    for image in images {
+        sum = sum.wrapping_add(image.faults());
+    }
+    sum
+}

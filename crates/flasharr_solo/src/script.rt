@@ -1,0 +1,319 @@
+//! A script of calls of a store of one thread, with one thing that goes wrong: each call of each image in turn, each read that may give
+//! wrong bytes, each growth of memory.
+ghost use Rattle.std.specs.Prelude.{IfSome};
+ghost use Rattle.fa_core.specs.Array.{IsWhole};
+ghost use Rattle.fa_map.specs.PageView.{page_view};
+
+use crate::calls::{Call, Kind};
+use crate::desk::Desk;
+use crate::ending::{close, mount_with};
+use crate::images::{
+    DieImage, Images, arm, arm_second, first_faults, has_lied, new_images, overwrites,
+};
+use crate::judge::PAGE_BYTES;
+use crate::store::Way;
+use crate::turn::{look_at_all, turn};
+use crate::view::{HeldOver, HeldParts, View, bit, bits, count_thin, lost_mask, room_of, slot_on};
+use fa_solo::Parts;
+use fa_types::{Copies, Die, Geometry, Page};
+use linked_list_allocator::LocalHeap;
+
+/// How many dies the array of the script has.
+pub(crate) const DIES: u64 = 4;
+
+/// How many pages it has.
+const PAGES: u64 = 8;
+
+/// The die that is lost.
+const LOST: u64 = 1;
+
+/// The calls before that die is lost, and behind it.
+const CALLS_BEFORE: usize = 7;
+
+const CALLS: usize = 9;
+
+/// How often a call is made again at most.
+const TIMES: u32 = 3;
+
+/// The step at which the array is mounted first, and the one at which it is mounted again.
+const FIRST_MOUNT: usize = 0;
+
+const SECOND_MOUNT: usize = CALLS + 1;
+
+/// How many steps there are.
+pub(crate) const STEPS: usize = CALLS + 2;
+
+/// What goes wrong in a run.
+#[derive(Clone, Copy)]
+pub(crate) struct Trial {
+    /// The die whose image does.
+    pub(crate) die: u64,
+    /// Which of its calls is refused, from 1; 0 for none.
+    pub(crate) call: u64,
+    /// Which of its reads of a slot gives wrong bytes, from 1; 0 for none.
+    pub(crate) read: u64,
+    /// The step that has little memory, if one has.
+    pub(crate) step: Option<usize>,
+    /// How much it has, in one piece.
+    pub(crate) room: usize,
+    /// Whether it has it before its store is made.
+    pub(crate) early: bool,
+}
+
+impl Trial {
+    /// Nothing goes wrong.
+    pub(crate) const NONE: Trial = Trial {
+        die: 0,
+        call: 0,
+        read: 0,
+        step: None,
+        room: 0,
+        early: false,
+    };
+
+    /// The memory of a step.
+    fn way(self, step: usize) -> Way {
+        if self.step == Some(step) {
+            Way {
+                rounds: 1,
+                room: Some(self.room),
+                early: self.early,
+            }
+        } else {
+            Way::of(1)
+        }
+    }
+
+    /// Whether nothing goes wrong.
+    fn is_none(self) -> bool {
+        self.call == 0 && self.read == 0 && self.step.is_none()
+    }
+}
+
+/// The array of the script. None where there is no memory.
+fn geometry() -> Option<Geometry> {
+    Geometry::new(DIES as u32, 0, 4, 4, PAGE_BYTES as u32, PAGES).ok()
+}
+
+/// The call of a step behind the first mounting, from 1.
+fn call_of(step: usize) -> Call {
+    match step {
+        1 => write_of(1, 0, PAGES),
+        2 => write_of(2, 1, PAGES - 1),
+        3 => write_of(3, 6, 1),
+        4 => write_of(4, 6, 1),
+        5 => Call::of(Kind::Trim, 3 * PAGE_BYTES, PAGE_BYTES),
+        6 => write_of(6, 3, 1),
+        7 => Call::of(Kind::Read, 0, PAGES * PAGE_BYTES),
+        8 => Call::of(Kind::Read, 0, PAGES * PAGE_BYTES),
+        _ => Call::of(Kind::Flush, 0, 0),
+    }
+}
+
+/// A write of some pages from one on.
+fn write_of(fill: u64, first: u64, pages: u64) -> Call {
+    Call {
+        kind: Kind::Write,
+        offset: first.saturating_mul(PAGE_BYTES),
+        len: pages.saturating_mul(PAGE_BYTES),
+        fua: false,
+        fill,
+    }
+}
+
+/// Plays the script. Whether what was to go wrong went wrong.
+pub(crate) fn play(heap: &LocalHeap, desk: &mut Desk, trial: Trial) -> bool {
+    let Some(geometry) = geometry() else {
+        desk.differ("no array of the script", 0, 0);
+        return false;
+    };
+    let Ok(copies) = Copies::new(2, geometry) else {
+        desk.differ("no copies of the script", 0, 0);
+        return false;
+    };
+    let Some(images) = new_images(desk.alloc, heap, geometry) else {
+        desk.differ("no images are formatted", 0, 0);
+        return false;
+    };
+    desk.begin(PAGES * PAGE_BYTES);
+    let mut images = images;
+    arm(&mut images, trial.die as usize, trial.call, trial.read);
+    play_on(heap, images, desk, trial, copies)
+}
+
+/// The same over these images.
+fn play_on<'a>(
+    heap: &'a LocalHeap,
+    images: Images<'a>,
+    desk: &mut Desk,
+    trial: Trial,
+    copies: Copies,
+) -> bool {
+    let mut images = images;
+    let Some(mounted) = mount_at(heap, &mut images, desk, trial, copies, FIRST_MOUNT) else {
+        return false;
+    };
+    let parts = Parts { mounted, images };
+    let mut parts = use_all(heap, parts, desk, trial, copies);
+    let is_closed = close(&mut parts, desk);
+    let images = images_of(parts);
+    let images = if is_closed {
+        mount_last(heap, images, desk, trial, copies)
+    } else {
+        images
+    };
+    judge_overwrites(desk, images.as_slice());
+    went_wrong(images.as_slice(), trial)
+}
+
+/// The images alone. The heap has the array's memory again.
+fn images_of<'a>(parts: HeldParts<'a>) -> Images<'a> {
+    let Parts { images, .. } = parts;
+    images
+}
+
+/// No slot is programmed that was not erased.
+fn judge_overwrites(desk: &mut Desk, images: &[DieImage]) {
+    let count = overwrites(images);
+    if count != 0 {
+        desk.differ("slots were programmed that were not erased", count, 0);
+    }
+}
+
+/// Whether the image failed or gave wrong bytes that was to.
+fn went_wrong(images: &[DieImage], trial: Trial) -> bool {
+    let place = trial.die as usize;
+    first_faults(images, place) != 0 || has_lied(images, place)
+}
+
+/// Mounts the array at a step: again where an image told a fault, or there was little memory.
+fn mount_at<'a>(
+    heap: &'a LocalHeap,
+    images: &mut Images<'a>,
+    desk: &mut Desk,
+    trial: Trial,
+    copies: Copies,
+    step: usize,
+) -> Option<HeldOver<'a>>
+    ensures { IfSome result (λ mounted. IsWhole page_view mounted.array) }
+{
+    let room = trial.way(step).room;
+    if let Some(mounted) = mount_with(heap, images, copies, desk, room) {
+        return Some(mounted);
+    }
+    if trial.is_none() {
+        desk.differ("an array is not mounted where nothing fails", 0, 0);
+    }
+    let again = mount_with(heap, images, copies, desk, None);
+    if again.is_none() {
+        desk.differ("an array is not mounted a second time", step as u64, 0);
+    }
+    again
+}
+
+/// The calls of the script, and the loss of a die between them.
+fn use_all<'a>(
+    heap: &'a LocalHeap,
+    parts: HeldParts<'a>,
+    desk: &mut Desk,
+    trial: Trial,
+    copies: Copies,
+) -> HeldParts<'a>
+    requires { IsWhole page_view parts.mounted.array }
+    ensures { IsWhole page_view result.mounted.array }
+{
+    let mut parts = parts;
+    for step in 1..CALLS + 1 {
+        if step == CALLS_BEFORE + 1 {
+            arm_second(parts.images.as_mut_slice(), LOST as usize);
+        }
+        parts = use_once(heap, parts, desk, trial, copies, step);
+        if trial.is_none() {
+            judge_step(&parts, desk, copies, step);
+        }
+    }
+    parts
+}
+
+/// The call of a step, which is made again where there was little memory.
+fn use_once<'a>(
+    heap: &'a LocalHeap,
+    parts: HeldParts<'a>,
+    desk: &mut Desk,
+    trial: Trial,
+    copies: Copies,
+    step: usize,
+) -> HeldParts<'a>
+    requires { IsWhole page_view parts.mounted.array }
+    ensures { IsWhole page_view result.mounted.array }
+{
+    desk.agenda.clear();
+    desk.put_first(call_of(step));
+    let mut parts = turn(heap, parts, desk, trial.way(step), copies);
+    for _ in 1..TIMES {
+        if !desk.agenda.is_empty() {
+            parts = turn(heap, parts, desk, Way::of(1), copies);
+        }
+    }
+    if !desk.agenda.is_empty() {
+        desk.differ("a call is not answered", step as u64, 0);
+    }
+    parts
+}
+
+/// Where nothing fails: what the collector did, and that nothing is lost or thin once a die is out.
+fn judge_step(parts: &HeldParts<'_>, desk: &mut Desk, copies: Copies, step: usize) {
+    let view = View::of(parts);
+    let array = &parts.mounted.array;
+    let live = if step > CALLS_BEFORE {
+        bits_but(LOST)
+    } else {
+        bits_but(DIES)
+    };
+    if view.live != live || view.lost != 0 {
+        desk.differ("a die or a page is lost", step as u64, view.live);
+    }
+    if count_thin(array, copies) != 0 {
+        desk.differ("a page is thin where nothing fails", step as u64, 0);
+    }
+    let as_told = match step {
+        // Die 2 has erased its block 0, and die 0 has not moved its slot 0.
+        3 => room_of(array, Die(2)) == 7 && slot_on(array, Page(0), Die(0)) == Some(0),
+        // Die 0 has moved its slot 0, and erased its block 0.
+        4 => room_of(array, Die(0)) == 6 && slot_on(array, Page(0), Die(0)) == Some(9),
+        _ => true,
+    };
+    if !as_told {
+        desk.differ("the collector did something else", step as u64, 0);
+    }
+}
+
+/// All dies of the script but one.
+fn bits_but(die: u64) -> u64 {
+    bits(0, DIES) & !bit(die)
+}
+
+/// Mounts the array that was closed, and looks at all pages.
+fn mount_last<'a>(
+    heap: &'a LocalHeap,
+    images: Images<'a>,
+    desk: &mut Desk,
+    trial: Trial,
+    copies: Copies,
+) -> Images<'a> {
+    let mut images = images;
+    let Some(mounted) = mount_at(heap, &mut images, desk, trial, copies, SECOND_MOUNT) else {
+        return images;
+    };
+    judge_last(&mounted, desk, trial, copies);
+    let parts = look_at_all(heap, Parts { mounted, images }, desk);
+    parts.images
+}
+
+/// Which pages are lost in the end; where nothing fails none is, and none is thin.
+fn judge_last(mounted: &HeldOver<'_>, desk: &mut Desk, trial: Trial, copies: Copies) {
+    desk.lost = lost_mask(&mounted.array);
+    if trial.is_none() && (count_thin(&mounted.array, copies) != 0 || desk.lost != 0) {
+        desk.differ("a page is thin in the end", 0, desk.lost);
+    }
+}

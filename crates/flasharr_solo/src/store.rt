@@ -1,0 +1,248 @@
+//! Calls that are made of a store of one thread.
+ghost use Rattle.std.specs.Prelude.{◌≡◌};
+ghost use Rattle.fa_core.specs.Array.{IsWhole};
+ghost use Rattle.fa_map.specs.PageView.{page_view};
+
+use crate::ballast::{Ballast, starve};
+use crate::calls::{Call, Kind, make, read};
+use crate::desk::{Desk, Refused};
+use crate::images::DieImage;
+use crate::judge::{PAGE_BYTES, Prefix, accept, compare, pages_met};
+use crate::seen::Seen;
+use crate::view::{HeldParts, bit};
+use fa_map::PageMap;
+use fa_solo::Solo;
+use fa_types::{BlockFault, Blocks};
+use linked_list_allocator::LocalHeap;
+use std::sync::ledger::{Blank, Ledger};
+
+/// The store of one thread over an array here.
+pub(crate) type Store<'a, L> = Solo<L, PageMap<&'a LocalHeap>, DieImage, &'a LocalHeap>;
+
+/// What is done with a store.
+#[derive(Clone, Copy, Debug, PartialEq, Eq)]
+pub(crate) enum Job {
+    /// The calls of the agenda are made, up to one that is refused.
+    Calls,
+    /// The pages that the refused call meets are looked at.
+    Settle,
+    /// All pages are looked at.
+    LookAtAll,
+}
+
+/// How a store is made.
+#[derive(Clone, Copy)]
+pub(crate) struct Way {
+    /// The rounds of a collector's window.
+    pub(crate) rounds: u64,
+    /// How much memory there is in one piece, if there is little.
+    pub(crate) room: Option<usize>,
+    /// Whether there is little before the store is made.
+    pub(crate) early: bool,
+}
+
+impl Way {
+    /// With windows of so many rounds, and all memory.
+    pub(crate) fn of(rounds: u64) -> Way {
+        Way {
+            rounds,
+            room: None,
+            early: false,
+        }
+    }
+}
+
+/// Makes a store of an array and its images, does something with it, and takes both back.
+pub(crate) fn on_store<'a, L: Ledger>(
+    heap: &'a LocalHeap,
+    blank: Blank,
+    parts: HeldParts<'a>,
+    desk: &mut Desk,
+    way: Way,
+    job: Job,
+) -> HeldParts<'a>
+    requires name { blank.name ≡ L.name }
+    requires parts { (blank.parts ≡ L.parts) × (blank.parts ≡ 257) }
+    requires whole { IsWhole page_view parts.mounted.array }
+    ensures { IsWhole page_view result.mounted.array }
+{
+    let mut ballast = Ballast::new(desk.alloc);
+    begin(&mut ballast, heap, desk, way);
+    match Solo::<L, PageMap<&'a LocalHeap>, DieImage, &'a LocalHeap>::new(
+        heap, blank, parts, way.rounds,
+    ) {
+        Ok(solo) => {
+            let mut solo = solo;
+            fill(&mut ballast, heap, desk, way);
+            work(&mut solo, desk, job);
+            solo.into_parts()
+        }
+        Err(parts) => {
+            note_refused(desk);
+            parts
+        }
+    }
+}
+
+/// Leaves little memory before a store is made, if the way is so.
+fn begin<'a>(ballast: &mut Ballast<'a>, heap: &'a LocalHeap, desk: &mut Desk, way: Way) {
+    desk.count(Seen::Store);
+    desk.starved = way.room.is_some();
+    if way.early {
+        starve(ballast, heap, desk, way.room);
+    }
+}
+
+/// Leaves little memory once a store was made, if the way is so.
+fn fill<'a>(ballast: &mut Ballast<'a>, heap: &'a LocalHeap, desk: &mut Desk, way: Way) {
+    if !way.early {
+        starve(ballast, heap, desk, way.room);
+    }
+}
+
+/// Counts a store that was not made.
+fn note_refused(desk: &mut Desk) {
+    desk.count(Seen::NotMade);
+    if !desk.starved {
+        desk.differ("no memory for a store, and there is some", 0, 0);
+    }
+}
+
+/// Does something with a store.
+fn work<L: Ledger>(solo: &mut Store<'_, L>, desk: &mut Desk, job: Job) {
+    match job {
+        Job::Calls => make_calls(solo, desk),
+        Job::Settle => settle(solo, desk),
+        Job::LookAtAll => look_at_all(solo, desk),
+    }
+}
+
+/// Makes the calls of the agenda, up to one that is refused.
+fn make_calls<L: Ledger>(solo: &mut Store<'_, L>, desk: &mut Desk) {
+    for _ in 0..u32::MAX {
+        let Some(call) = desk.agenda.pop() else {
+            return;
+        };
+        if !make_one(solo, desk, call) {
+            return;
+        }
+    }
+}
+
+/// Makes a call. False where it is refused.
+fn make_one<L: Ledger>(solo: &mut Store<'_, L>, desk: &mut Desk, call: Call) -> bool {
+    let Ok(data) = call.data(desk.alloc) else {
+        desk.differ("no memory for the bytes of a write", call.len, 0);
+        return false;
+    };
+    note_call(desk, call);
+    match make(solo, desk.alloc, call, data.as_slice()) {
+        Ok(answer) => {
+            accept(desk, call, data.as_slice(), answer.as_slice());
+            true
+        }
+        Err(fault) => {
+            refuse(desk, call, fault);
+            false
+        }
+    }
+}
+
+/// Counts a call.
+fn note_call(desk: &mut Desk, call: Call) {
+    desk.calls = desk.calls.saturating_add(1);
+    desk.count(match call.kind {
+        Kind::Read => Seen::Read,
+        Kind::Write => Seen::Write,
+        Kind::Zero => Seen::Zero,
+        Kind::Hole => Seen::Hole,
+        Kind::Trim => Seen::Trim,
+        Kind::Flush => Seen::Flush,
+    });
+    if call.fua {
+        desk.count(Seen::Forced);
+    }
+}
+
+/// Keeps a refusal.
+fn refuse(desk: &mut Desk, call: Call, fault: BlockFault) {
+    let starved = desk.starved;
+    desk.refused = Some(Refused {
+        call,
+        fault,
+        starved,
+    });
+}
+
+/// Looks at each page that the refused call meets.
+fn settle<L: Ledger>(solo: &mut Store<'_, L>, desk: &mut Desk) {
+    let Some(refused) = desk.refused else {
+        return;
+    };
+    let Ok(prefix) = Prefix::new(desk, refused.call) else {
+        desk.differ("no memory for a plain store", 0, 0);
+        return;
+    };
+    let mut prefix = prefix;
+    let met = pages_met(refused.call);
+    for page in 0..64 {
+        if met & bit(page) != 0 {
+            settle_page(solo, desk, &mut prefix, page);
+        }
+    }
+    prefix.finish(desk, refused);
+}
+
+/// Looks at a page that the refused call meets.
+fn settle_page<L: Ledger>(
+    solo: &mut Store<'_, L>,
+    desk: &mut Desk,
+    prefix: &mut Prefix,
+    page: u64,
+) {
+    match look(solo, desk, page) {
+        Some(bytes) => prefix.look(desk, page, bytes.as_slice()),
+        None => prefix.pass(),
+    }
+}
+
+/// Reads a page. None where it is lost.
+fn look<L: Ledger>(solo: &mut Store<'_, L>, desk: &mut Desk, page: u64) -> Option<Vec<u8>> {
+    let offset = page.saturating_mul(PAGE_BYTES);
+    let is_lost = desk.lost & bit(page) != 0;
+    match read(solo, desk.alloc, offset, PAGE_BYTES) {
+        Ok(bytes) => {
+            if is_lost {
+                desk.differ("a lost page is read", page, 0);
+            }
+            Some(bytes)
+        }
+        Err(fault) => {
+            desk.unread |= bit(page);
+            if fault != BlockFault::Lost {
+                desk.differ("a look is refused, and not as lost", page, 0);
+            }
+            None
+        }
+    }
+}
+
+/// Compares each page.
+fn look_at_all<L: Ledger>(solo: &mut Store<'_, L>, desk: &mut Desk) {
+    let pages = solo.size() / PAGE_BYTES;
+    for page in 0..pages {
+        look_at(solo, desk, page);
+    }
+}
+
+/// Compares a page, unless it is lost.
+fn look_at<L: Ledger>(solo: &mut Store<'_, L>, desk: &mut Desk, page: u64) {
+    if let Some(bytes) = look(solo, desk, page) {
+        compare(
+            desk,
+            page.saturating_mul(PAGE_BYTES),
+            bytes.as_slice(),
+            PAGE_BYTES,
+        );
+    }
+}

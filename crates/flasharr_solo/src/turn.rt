@@ -1,0 +1,91 @@
+//! A turn: some calls, and the judgement of what they were answered.
+ghost use Rattle.fa_core.specs.Array.{IsWhole};
+ghost use Rattle.fa_map.specs.PageView.{page_view};
+
+use crate::desk::{Desk, Refused};
+use crate::judge::{judge_dies, judge_refusal};
+use crate::seen::Seen;
+use crate::store::{Job, Way, on_store};
+use crate::view::{HeldParts, View};
+use fa_types::{BlockFault, Copies};
+use linked_list_allocator::LocalHeap;
+use std::marker::Brand;
+use std::sync::ledger::Blank;
+
+/// Makes the calls of the agenda, up to one that is refused, and judges the answers. A call that found no memory is the next one then.
+pub(crate) fn turn<'a>(
+    heap: &'a LocalHeap,
+    parts: HeldParts<'a>,
+    desk: &mut Desk,
+    way: Way,
+    copies: Copies,
+) -> HeldParts<'a>
+    requires { IsWhole page_view parts.mounted.array }
+    ensures { IsWhole page_view result.mounted.array }
+{
+    let parts = watched(heap, parts, desk, way, Job::Calls);
+    let Some(refused) = desk.refused else {
+        return parts;
+    };
+    judge_refusal(desk, refused, View::of(&parts), copies);
+    let parts = settled(heap, parts, desk, refused, way.rounds);
+    make_again(desk, refused);
+    parts
+}
+
+/// Looks at the pages that a refused call was to change.
+fn settled<'a>(
+    heap: &'a LocalHeap,
+    parts: HeldParts<'a>,
+    desk: &mut Desk,
+    refused: Refused,
+    rounds: u64,
+) -> HeldParts<'a>
+    requires { IsWhole page_view parts.mounted.array }
+    ensures { IsWhole page_view result.mounted.array }
+{
+    if !refused.call.is_put() {
+        return parts;
+    }
+    watched(heap, parts, desk, Way::of(rounds), Job::Settle)
+}
+
+/// A call that found no memory is made again.
+fn make_again(desk: &mut Desk, refused: Refused) {
+    desk.refused = None;
+    if refused.fault == BlockFault::NoMemory {
+        desk.count(Seen::Again);
+        desk.put_first(refused.call);
+    }
+}
+
+/// Compares all pages that are not lost.
+pub(crate) fn look_at_all<'a>(
+    heap: &'a LocalHeap,
+    parts: HeldParts<'a>,
+    desk: &mut Desk,
+) -> HeldParts<'a>
+    requires { IsWhole page_view parts.mounted.array }
+    ensures { IsWhole page_view result.mounted.array }
+{
+    watched(heap, parts, desk, Way::of(1), Job::LookAtAll)
+}
+
+/// Does something with a store of the array, and judges which dies are out behind it.
+fn watched<'a>(
+    heap: &'a LocalHeap,
+    parts: HeldParts<'a>,
+    desk: &mut Desk,
+    way: Way,
+    job: Job,
+) -> HeldParts<'a>
+    requires { IsWhole page_view parts.mounted.array }
+    ensures { IsWhole page_view result.mounted.array }
+{
+    let before = View::of(&parts);
+    let parts = on_store::<Brand>(heap, Blank::new(257), parts, desk, way, job);
+    let after = View::of(&parts);
+    judge_dies(desk, before, after);
+    desk.lost = after.lost;
+    parts
+}
