@@ -211,6 +211,19 @@ fn mount_at<'a>(
     again
 }
 
+/// The second fuse of the die that is lost between two calls is set.
+fn armed<'a>(parts: HeldParts<'a>) -> HeldParts<'a>
+    requires { IsWhole page_view parts.mounted.array }
+    ensures { IsWhole page_view result.mounted.array }
+{
+    let Parts {
+        mounted,
+        mut images,
+    } = parts;
+    arm_second(images.as_mut_slice(), LOST as usize);
+    Parts { mounted, images }
+}
+
 /// The calls of the script, and the loss of a die between them.
 fn use_all<'a>(
     heap: &'a LocalHeap,
@@ -225,7 +238,7 @@ fn use_all<'a>(
     let mut parts = parts;
     for step in 1..CALLS + 1 {
         if step == CALLS_BEFORE + 1 {
-            arm_second(parts.images.as_mut_slice(), LOST as usize);
+            parts = armed(parts);
         }
         parts = use_once(heap, parts, desk, trial, copies, step);
         if trial.is_none() {
