@@ -211,11 +211,14 @@ fn mount_at<'a>(
     again
 }
 
-/// The second fuse of the die that is lost between two calls is set.
-fn armed<'a>(parts: HeldParts<'a>) -> HeldParts<'a>
+/// The second fuse of the die that is lost is set, before the step at which it is.
+fn armed_for<'a>(parts: HeldParts<'a>, step: usize) -> HeldParts<'a>
     requires { IsWhole page_view parts.mounted.array }
     ensures { IsWhole page_view result.mounted.array }
 {
+    if step != CALLS_BEFORE + 1 {
+        return parts;
+    }
     let Parts {
         mounted,
         mut images,
@@ -237,10 +240,8 @@ fn use_all<'a>(
 {
     let mut parts = parts;
     for step in 1..CALLS + 1 {
-        if step == CALLS_BEFORE + 1 {
-            parts = armed(parts);
-        }
-        parts = use_once(heap, parts, desk, trial, copies, step);
+        let armed = armed_for(parts, step);
+        parts = use_once(heap, armed, desk, trial, copies, step);
         if trial.is_none() {
             judge_step(&parts, desk, copies, step);
         }
