@@ -7,7 +7,7 @@ ghost use Rattle.fa_ends.specs.Outcomes.{outcome_of};
 ghost use Rattle.fa_machine.specs.Cells.{is_of_kind};
 ghost use Rattle.fa_machine.specs.Conditions.{history_full};
 ghost use Rattle.fa_machine.specs.Step.{Step, is_die, is_sized};
-ghost use Rattle.fa_machine.specs.Step.{Admit, Advance, CommitCopy, Done, EndBatch, Release, ReserveCopy, SpareIn, Take, Window};
+ghost use Rattle.fa_machine.specs.Step.{Admit, Advance, CommitCopy, Done, EndBatch, Release, ReserveCopy, Take, Window};
 ghost use Rattle.fa_reads.specs.Answers.{admit_answer};
 ghost use Rattle.fa_shared.specs.Seats.{number_of};
 ghost use Rattle.fa_takes.specs.Fits.{IsJobFor};
@@ -18,7 +18,7 @@ use fa_core::{Answer, Call};
 use fa_ends::Outcome;
 use fa_machine::{
     AdmitRefused, AdvanceRefused, BatchId, ClaimId, CommitCopyRefused, Copied, ReserveCopyRefused,
-    SpareRefused, WindowRefused,
+    WindowRefused,
 };
 use fa_map::Map;
 use fa_reads::Admitted;
@@ -132,23 +132,6 @@ pub(crate) fn window<L: Ledger, M: Map + Drop, A: Allocator + Copy>(
         return None;
     };
     Some(answer)
-}
-
-/// A SpareIn of a die of the array.
-pub(crate) fn spare_in<L: Ledger, M: Map + Drop, A: Allocator + Copy>(
-    alloc: A,
-    locked: &mut Locked<L, M, A>,
-    seat: &mut Seat<L>,
-    die: Die,
-) -> Result<(), SpareRefused>
-    requires { die.0 < locked.old.core.page_map.geometry.dies }
-    ensures event { Step locked.old.core (SpareIn die.0 result) locked.new.core }
-    ensures account { LeavesRest locked.old seat.old locked.new seat.new }
-{
-    let Answer::SpareIn(answer) = make(locked, seat, plain(&alloc, Call::SpareIn(die))) else {
-        unreachable!()
-    };
-    answer
 }
 
 /// An Admit of one page. None where it is none of the array.

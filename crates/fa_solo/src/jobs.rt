@@ -5,10 +5,10 @@ ghost use Rattle.fa_solo.specs.Rigs.{Does};
 use crate::events::advance;
 use crate::rig::Rig;
 use crate::running::run_next;
-use crate::spares::bring_in_spare;
 use fa_image::Image;
 use fa_map::Map;
 use fa_types::Die;
+use fa_workers::bring_in_spare;
 use std::alloc::Allocator;
 use std::sync::ledger::Ledger;
 

@@ -9,7 +9,6 @@ mod requests;
 mod rig;
 mod running;
 mod solo;
-mod spares;
 mod whole;
 
 pub use rig::Parts;

@@ -27,4 +27,5 @@ pub use helping::{Helper, HelperRoom};
 pub use rebuilding::rebuild_worker;
 pub use room::Room;
 pub use running::run_job;
+pub use spares::bring_in_spare;
 pub use working::die_worker;

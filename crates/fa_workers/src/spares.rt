@@ -15,7 +15,7 @@ use std::alloc::Allocator;
 use std::sync::ledger::Ledger;
 
 /// Brings in the lowest spare, if a die is live and fewer dies are than are to be in use. Whether one was brought in.
-pub(crate) fn bring_in_spare<L: Ledger, M: Map + Drop, A: Allocator + Copy>(
+pub fn bring_in_spare<L: Ledger, M: Map + Drop, A: Allocator + Copy>(
     alloc: A,
     locked: &mut Locked<L, M, A>,
     seat: &mut Seat<L>,
