@@ -1,6 +1,6 @@
 -- A request with a flush ends without a fault only behind a sync of each die.
 use Rattle.fa_asks.proofs.Going.{Laws}
-use Rattle.fa_asks.specs.Asked.{Asked, IsAnothers, Makes, Meanwhile, Moment, Readies, Strayed, Turn, TurnsTo, happenings_of}
+use Rattle.fa_asks.specs.Asked.{Asked, GivesUp, IsAnothers, Makes, Meanwhile, Moment, Readies, Strayed, Turn, TurnsTo, happenings_of}
 use Rattle.fa_laws.proofs.Answering.{reached_holds}
 use Rattle.fa_laws.proofs.Returning.{run_out, spareless}
 use Rattle.fa_laws.proofs.Runs.{run_keeps, runs_on}
@@ -31,6 +31,7 @@ use Rattle.fa_ops.specs.Ranges.{covers, past_page}
 use Rattle.fa_ops.specs.declared.request.Task.{Task}
 use Rattle.fa_ops.specs.declared.stage.Held.{Held}
 use Rattle.fa_ops.specs.declared.stage.Purpose.TheVariants.{Answer, Merge}
+use Rattle.fa_ops.specs.Waiting.{without_room}
 use Rattle.fa_ops.specs.declared.stage.Stage.{Stage}
 use Rattle.fa_ops.specs.declared.stage.Stage.TheVariants.{Abandoning, Asking, BeginningFlush, Claiming, Committing, Ended, Filling, Flushing, Leaving}
 use Rattle.fa_ops.specs.declared.stage.Stage.TheVariants.{Listing, Reading, Releasing, Reserving, Sorting}
@@ -55,6 +56,8 @@ asked_run A t seat bytes before (Meanwhile happening ∷ turns) after asked =
 asked_run A t seat bytes before (Readies ∷ turns) after asked =
     subst (λ (w : World). Run w (happenings_of turns) after.world) asked.1.0 (asked_run A t seat bytes asked.0 turns after asked.2)
 asked_run A t seat bytes before (Strayed ∷ turns) after asked =
+    subst (λ (w : World). Run w (happenings_of turns) after.world) asked.1.0 (asked_run A t seat bytes asked.0 turns after asked.2)
+asked_run A t seat bytes before (GivesUp fault ∷ turns) after asked =
     subst (λ (w : World). Run w (happenings_of turns) after.world) asked.1.0 (asked_run A t seat bytes asked.0 turns after asked.2)
 
 -- a sync that was taken and has ended stays so, whatever comes before it or behind
@@ -305,6 +308,11 @@ module _ (A : Type 0) (laws : Laws) (syncs : SyncLaws) (t : Task) (seat : ℕ) (
   ready so_far w answer after (Ended fault) next is k made = subst (FlushedAt so_far w) (sym made.0) k
   ready so_far w answer after stage next is k made = absurd is
 
+  given_up : (so_far : List Happening) (w : World) (stage : Stage A) (fault : BlockFault) → FlushedAt so_far w stage
+      → FlushedAt so_far w (without_room fault stage)
+  given_up so_far w (Reserving held wish) fault k = tt
+  given_up so_far w stage fault k = k
+
   flushed_on : (P : Moment A → Type 0) → ((m : Moment A) → P m → IsWriting m.stage)
       → ((one two : Moment A) (turn : Turn) → P one → TurnsTo t seat bytes one turn two → P two)
       → ((one two : Moment A) → P one → TurnsTo t seat bytes one Strayed two → ⊥) → (so_far : List Happening) (before : Moment A) (turns : List Turn)
@@ -330,6 +338,11 @@ module _ (A : Type 0) (laws : Laws) (syncs : SyncLaws) (t : Task) (seat : ℕ) (
       (subst (λ (w : World). FlushedAt so_far w asked.0.stage) (sym asked.1.0)
       (ready so_far before.world before.answer asked.0.answer before.stage asked.0.stage (writing before p) k asked.1.1)) asked.2
   flushed_on P writing keeps strays so_far before (Strayed ∷ turns) after p run k asked = absurd (strays before asked.0 p asked.1)
+  flushed_on P writing keeps strays so_far before (GivesUp fault ∷ turns) after p run k asked =
+      flushed_on P writing keeps strays so_far asked.0 turns after (keeps before asked.0 (GivesUp fault) p asked.1)
+      (subst (λ (w : World). Run first so_far w) (sym asked.1.0) run)
+      (subst (λ (w : World). FlushedAt so_far w asked.0.stage) (sym asked.1.0)
+      (subst (FlushedAt so_far before.world) (sym asked.1.2) (given_up so_far before.world before.stage fault k))) asked.2
 
   -- each die that is live at the beginning and at the end has synced
   pub has_flushed : (P : Moment A → Type 0) → ((m : Moment A) → P m → IsWriting m.stage)

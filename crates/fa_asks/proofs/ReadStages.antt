@@ -7,7 +7,7 @@ use Rattle.fa_asks.proofs.Gone.{gone_lost}
 use Rattle.fa_asks.proofs.Pages.{among_from, pages_numbered, parts_there, range_allowed}
 use Rattle.fa_asks.proofs.PlainBytes.{export_long, page_long}
 use Rattle.fa_asks.proofs.RangePages.{IsInside, IsOf, of_back, of_front, page_low, page_met, page_of, part_fits, parts_are, upto, upto_past}
-use Rattle.fa_asks.specs.Asked.{Asked, IsAnothers, Moment, Turn, TurnsTo, Makes, Meanwhile, Readies, Strayed}
+use Rattle.fa_asks.specs.Asked.{Asked, GivesUp, IsAnothers, Makes, Meanwhile, Moment, Readies, Strayed, Turn, TurnsTo}
 use Rattle.fa_asks.specs.Shown.{store_of}
 use Rattle.fa_laws.proofs.Answering.{reached_holds}
 use Rattle.fa_machine.proofs.Lists.{among-filter, among-range, among_low, found_passes, none_passes}
@@ -28,6 +28,7 @@ use Rattle.fa_ops.specs.Ranges.{first_page, part_of, past_page}
 use Rattle.fa_ops.specs.declared.range.Range.{Range}
 use Rattle.fa_ops.specs.declared.request.Task.{Task}
 use Rattle.fa_ops.specs.declared.stage.Purpose.TheVariants.{Answer}
+use Rattle.fa_ops.specs.Waiting.{without_room}
 use Rattle.fa_ops.specs.declared.stage.Stage.{Stage}
 use Rattle.fa_ops.specs.declared.stage.Stage.TheVariants.{Asking, Ended, Leaving, Listing, Reading, Sorting}
 use Rattle.fa_types.specs.MemoryMeets.{length-bytes_at}
@@ -416,6 +417,11 @@ module _ (A : Type 0) (laws : Laws) (t : Task) (seat : ℕ) (bytes : List ℕ) (
   own_writes_nothing w answer (Ended fault) act next k m = absurd m
   own_writes_nothing w answer stage act next k m = absurd k
 
+  -- a read wants no room
+  given_up : (w : World) (answer : List ℕ) (stage : Stage A) (fault : BlockFault) → At w stage answer → At w (without_room fault stage) answer
+  given_up w answer (Reserving held wish) fault k = absurd k
+  given_up w answer stage fault k = k
+
   -- where a read is, with what it has
   pub record IsReading (m : Moment A) : Type 0 where
     pub goes : Goes first m.world
@@ -436,6 +442,11 @@ module _ (A : Type 0) (laws : Laws) (t : Task) (seat : ℕ) (bytes : List ℕ) (
         (ready before.world before.answer after.answer before.stage after.stage k.goes k.at made.1);
   }
   turn_reads before after Strayed k made = absurd (no_stray before.world before.answer before.stage after.stage k.goes k.at made.1 made.2)
+  turn_reads before after (GivesUp fault) k made = record {
+    goes = subst (Goes first) (sym made.0) k.goes;
+    at = subst (λ (v : World). At v after.stage after.answer) (sym made.0) (subst (At before.world after.stage) (sym made.3)
+        (subst (λ s. At before.world s before.answer) (sym made.2) (given_up before.world before.answer before.stage fault k.at)));
+  }
   turn_reads before after (Meanwhile happening) k made = record {
     goes = goes_on laws first before.world after.world k.goes happening made.0 made.1.writes_nothing;
     at = subst (At after.world after.stage) (sym made.3) (subst (λ s. At after.world s before.answer) (sym made.2)

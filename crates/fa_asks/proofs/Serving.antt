@@ -12,7 +12,7 @@ use Rattle.fa_asks.proofs.ReadStages.{Fits, no_stray as no_stray_read}
 use Rattle.fa_asks.proofs.Sized.{page_some, reached_sized}
 use Rattle.fa_asks.proofs.WriteServes.{begins, first_past, wrote_all, wrote_is, wrote_none}
 use Rattle.fa_asks.proofs.WriteStages.{EndsAt, IsAt, WritesAt, from_on, no_stray, turn_writes, writes_on}
-use Rattle.fa_asks.specs.Asked.{Asked, Makes, Meanwhile, Moment, Readies, Strayed, Turn, TurnsTo, happenings_of}
+use Rattle.fa_asks.specs.Asked.{Asked, GivesUp, Makes, Meanwhile, Moment, Readies, Strayed, Turn, TurnsTo, happenings_of}
 use Rattle.fa_asks.specs.Begun.{HasBegun, IsCalm}
 use Rattle.fa_asks.specs.Calls.{HasBytes, answer_of, call_of}
 use Rattle.fa_asks.specs.Shown.{store_of}
@@ -406,6 +406,7 @@ module _ (A : Type 0) (laws : Laws) (before : Moment A) where
       by_turn (Makes act) middle made = laws.geometry one.world.core middle.world.core act made.0.step
       by_turn Readies middle made = ap (λ (w : World). w.core.page_map.geometry) made.0
       by_turn Strayed middle made = ap (λ (w : World). w.core.page_map.geometry) made.0
+      by_turn (GivesUp fault) middle made = ap (λ (w : World). w.core.page_map.geometry) made.0
       by_turn (Meanwhile happening) middle made = geometry_kept laws.geometry one.world middle.world happening made.0
 
   -- runs lead from where a request begins to where it goes
@@ -418,6 +419,7 @@ module _ (A : Type 0) (laws : Laws) (before : Moment A) where
       by_turn (Makes act) middle made = reached_on one.world reached (Event act ∷ []) middle.world (middle.world, made.0, refl)
       by_turn Readies middle made = subst IsReached (sym made.0) reached
       by_turn Strayed middle made = subst IsReached (sym made.0) reached
+      by_turn (GivesUp fault) middle made = subst IsReached (sym made.0) reached
       by_turn (Meanwhile happening) middle made = reached_on one.world reached (happening ∷ []) middle.world (middle.world, made.0, refl)
 
   -- each request is a call of a store

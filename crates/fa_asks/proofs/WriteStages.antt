@@ -16,7 +16,7 @@ use Rattle.fa_asks.proofs.PutBytes.{put_sized}
 use Rattle.fa_asks.proofs.PutPage.{bytes_for, content_is, covered_whole, new_covered, new_long, written_on}
 use Rattle.fa_asks.proofs.RangePages.{IsOf, page_low, page_of, part_begins, part_ends, part_fits, upto}
 use Rattle.fa_asks.proofs.ReadStages.{Fits}
-use Rattle.fa_asks.specs.Asked.{Asked, IsAnothers, IsNoSpare, LeavesClaim, Makes, Meanwhile, Moment, Readies, Strayed, Turn}
+use Rattle.fa_asks.specs.Asked.{Asked, GivesUp, IsAnothers, IsNoSpare, LeavesClaim, Makes, Meanwhile, Moment, Readies, Strayed, Turn}
 use Rattle.fa_asks.specs.Asked.{TurnsTo}
 use Rattle.fa_laws.proofs.Answering.{reached_holds}
 use Rattle.fa_laws.specs.Reached.{IsReached}
@@ -55,6 +55,7 @@ use Rattle.fa_ops.specs.declared.request.Fill.TheVariants.{Bytes, Holes, Zeros}
 use Rattle.fa_ops.specs.declared.request.Task.{Task}
 use Rattle.fa_ops.specs.declared.stage.Held.{Held}
 use Rattle.fa_ops.specs.declared.stage.Purpose.TheVariants.{Merge}
+use Rattle.fa_ops.specs.Waiting.{HasNoWindow, without_room}
 use Rattle.fa_ops.specs.declared.stage.Stage.{Stage}
 use Rattle.fa_ops.specs.declared.stage.Stage.TheVariants.{Abandoning, Asking, BeginningFlush, Claiming, Committing, Ended, Filling, Flushing, Leaving}
 use Rattle.fa_ops.specs.declared.stage.Stage.TheVariants.{Listing, Reading, Releasing, Reserving, Sorting}
@@ -904,12 +905,21 @@ module _ (A : Type 0) (laws : Laws) (t : Task) (seat : ℕ) (bytes : List ℕ) (
   no_stray w (Ended fault) next k barred strays = strays
   no_stray w stage next k barred strays = k
 
+  -- one that wants room is refused
+  given_up : (w : World) (stage : Stage A) (fault : BlockFault) → WritesAt w stage → HasNoWindow w.core fault → WritesAt w (without_room fault stage)
+  given_up w (Reserving held wish) fault k (inl is) = (k.0, subst (Cause w) (sym is) (founds.no_memory w))
+  given_up w (Reserving held wish) fault k (inr (is, late)) = (k.0, subst (Cause w) (sym is) (founds.late w late))
+  given_up w stage fault k why = k
+
   pub turn_writes : (before after : Moment A) (turn : Turn) → WritesAt before.world before.stage → TurnsTo t seat bytes before turn after
       → WritesAt after.world after.stage
   turn_writes before after (Makes act) k made = own before.world after.world before.stage act after.stage k made.0 made.1 made.2
   turn_writes before after Readies k made =
       subst (λ (v : World). WritesAt v after.stage) (sym made.0) (ready before.world before.answer after.answer before.stage after.stage k made.1)
   turn_writes before after Strayed k made = absurd (no_stray before.world before.stage after.stage k made.1 made.2)
+  turn_writes before after (GivesUp fault) k made =
+      subst (λ (v : World). WritesAt v after.stage) (sym made.0)
+      (subst (WritesAt before.world) (sym made.2) (given_up before.world before.stage fault k made.1))
   turn_writes before after (Meanwhile happening) k made =
       subst (WritesAt after.world) (sym made.2) (other before.world after.world before.stage happening k made.0 made.1)
 

@@ -1,6 +1,6 @@
 -- How a request goes on over the array's world while nobody else writes: its own events, what it prepares without one, and what else happens
 -- meanwhile.
-use Rattle.std.specs.Prelude.{◌≡◌, ℕ, Bool, true, false, IsTrue, List, [], ◌∷◌, Option, Some, None, Ok}
+use Rattle.std.specs.Prelude.{◌≡◌, ℕ, IsTrue, List, [], ◌∷◌, Option, Some, None, Ok}
 use Rattle.fa_alone.specs.Unwritten.{EndsNoBatch, WritesNothing}
 use Rattle.fa_machine.specs.Run.{Happening, Event, Happens, HappensEvent}
 use Rattle.fa_machine.specs.Step.{Act, Abandon, Commit, Fold, Release, Reserve, ReserveFewer, ReserveHole, SpareIn}
@@ -8,12 +8,14 @@ use Rattle.fa_machine.specs.World.{World}
 use Rattle.fa_ops.specs.Founded.{IsBarred, IsFounded}
 use Rattle.fa_ops.specs.Moves.{Moves, Strays}
 use Rattle.fa_ops.specs.Ops.{Prepares}
+use Rattle.fa_ops.specs.Waiting.{HasNoWindow, waits, without_room}
 use Rattle.fa_ops.specs.declared.request.Task.{Task}
 use Rattle.fa_ops.specs.declared.stage.Purpose.{Purpose}
 use Rattle.fa_ops.specs.declared.stage.Purpose.TheVariants.{Answer, Merge}
 use Rattle.fa_ops.specs.declared.stage.Stage.{Stage}
 use Rattle.fa_ops.specs.declared.stage.Stage.TheVariants.{Listing, Asking, Reading, Leaving, Sorting, Claiming, Filling, Reserving}
 use Rattle.fa_ops.specs.declared.stage.Stage.TheVariants.{Committing, Abandoning, Releasing, Flushing}
+use Rattle.fa_types.specs.declared.blocks.BlockFault.{BlockFault}
 
 -- the array's world, how far the request is, and its answer so far
 pub record Moment (A : Type 0) : Type 0 where
@@ -28,6 +30,8 @@ pub data Turn : Type 0 where
   Readies : Turn
   -- it makes no event, as a condition of its event does not hold
   Strayed : Turn
+  -- it wants room and is refused so, as no window is to be had
+  GivesUp : (fault : BlockFault) → Turn
   -- something else happens
   Meanwhile : (happening : Happening) → Turn
 
@@ -75,17 +79,6 @@ module _ {A : Type 0} where
   batch_at (Leaving purpose batch fault) = Some batch.0
   batch_at stage = None
 
-  -- whether a request may have to wait at a stage
-  abbrev pub waits : Stage A → Bool
-  waits (Asking purpose pages) = true
-  waits (Reading purpose batch) = true
-  waits (Claiming page) = true
-  waits (Reserving held wish) = true
-  waits (Committing held wish) = true
-  waits (Abandoning held wish) = true
-  waits (Flushing flush) = true
-  waits stage = false
-
   -- Something else than a Fold happens only where the request may have to wait.
   abbrev pub IsInTime : Stage A → Happening → Type 0
   IsInTime stage (Event Fold) = Unit {0}
@@ -113,6 +106,9 @@ module _ {A : Type 0} where
       (after.world ≡ before.world) × Prepares t bytes before.stage before.answer after.stage after.answer
   TurnsTo t seat bytes before Strayed after =
       (after.world ≡ before.world) × IsBarred before.world.core before.stage × Strays before.world.core before.stage after.stage
+      × (after.answer ≡ before.answer)
+  TurnsTo t seat bytes before (GivesUp fault) after =
+      (after.world ≡ before.world) × HasNoWindow before.world.core fault × (after.stage ≡ without_room fault before.stage)
       × (after.answer ≡ before.answer)
   TurnsTo t seat bytes before (Meanwhile happening) after =
       Happens before.world happening after.world × IsAnothers before.stage happening × (after.stage ≡ before.stage)

@@ -1,1 +1,3 @@
 pub mod Driving
+pub mod Requests
+pub mod Served

@@ -6,3 +6,4 @@ pub mod Prepared
 pub mod Ranges
 pub mod Tallies
 pub mod Tasks
+pub mod Waiting

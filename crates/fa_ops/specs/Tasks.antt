@@ -1,5 +1,5 @@
 -- What a request comes to.
-use Rattle.std.specs.Prelude.{ℕ, ◌+◌, ◌-◌, ◌*◌, ◌/◌, Bool, true, false, nat_le, if◌then◌else◌, Some, None}
+use Rattle.std.specs.Prelude.{ℕ, ◌+◌, ◌-◌, ◌*◌, ◌/◌, Bool, true, false, nat_le, if◌then◌else◌, Option, Some, None}
 use Rattle.fa_ops.specs.declared.range.Range.{Range}
 use Rattle.fa_ops.specs.declared.request.Fill.{Fill}
 use Rattle.fa_ops.specs.declared.request.Fill.TheVariants.{Bytes, Zeros, Holes}
@@ -50,3 +50,11 @@ within (Write offset len fua) from to = Write from (to - from) false
 within (Zero offset len fua hole) from to = Zero from (to - from) false hole
 within (Trim offset len fua) from to = Trim from (to - from) false
 within Flush from to = Flush
+
+-- how many bytes a task answers: a read those of its range, anything else none
+abbrev pub answered_by : Option Fill → Range → ℕ
+answered_by None r = r.to - r.from
+answered_by (Some fill) r = 0
+
+abbrev pub answered : Task → ℕ
+answered t = answered_by t.fill t.range

@@ -6,7 +6,7 @@ use crate::kinds::{kind_of, turn_from};
 use crate::preparing::{content, fill_page, fill_with, list, sort_page};
 use crate::request::{Fill, Request, Task};
 use crate::stage::{Purpose, Stage};
-use crate::stages::{answer_len, begin, turn_stage};
+use crate::stages::{answer_len, begin, memory_for, turn_stage};
 use fa_machine::ReadState;
 use fa_map::Map;
 use fa_shared::{Awaits, Locked, Seat};
@@ -41,15 +41,16 @@ pub struct Op<A: Allocator = Global> {
 }
 
 impl<A: Allocator + Copy> Op<A> {
-    ghost use Rattle.std.specs.Prelude.{◌≡◌, ℕ, ◌^◌, ◌≤◌, [], IfOk};
+    ghost use Rattle.std.specs.Prelude.{◌≡◌, ℕ, ◌^◌, ◌<◌, ◌≤◌, [], IfErr, IfOk};
     ghost use Rattle.fa_ops.specs.Accounts.{IsAccounted};
     ghost use Rattle.fa_ops.specs.Moves.{Turned};
     ghost use Rattle.fa_ops.specs.Ops.{Prepares, answer_of, beginning, ended as rule_ended, stage_of, task_in};
     ghost use Rattle.fa_ops.specs.Tallies.{pages_in, tally_of};
-    ghost use Rattle.fa_ops.specs.Tasks.{end_of, task_of};
+    ghost use Rattle.fa_ops.specs.Tasks.{answered, end_of, task_of};
+    ghost use Rattle.fa_ops.specs.Waiting.{awaits_flush as rule_flush, waits, wants_room as rule_room, without_room};
 
     /// A request of a store whose pages have so many bytes, of which no turn was made. A read has all memory for its answer from the
-    /// beginning. The error is out of memory.
+    /// beginning. The error is out of memory, for a request that is to answer some bytes.
     pub fn new(alloc: A, request: Request, page_bytes: u64) -> Result<Op<A>, AllocError>
         requires some_bytes { 1 ≤ page_bytes }
         requires small { page_bytes ≤ 4096 }
@@ -57,12 +58,13 @@ impl<A: Allocator + Copy> Op<A> {
         ensures task { IfOk result (λ op. task_in op ≡ task_of page_bytes request) }
         ensures stage { IfOk result (λ op. stage_of op ≡ beginning (task_of page_bytes request)) }
         ensures answer { IfOk result (λ op. answer_of op ≡ []) }
+        ensures refused { IfErr result (λ error. 0 < answered (task_of page_bytes request)) }
         ensures tally { IfOk result (λ op. (commits : ℕ) → tally_of commits op
             ≡ record { commits = commits; left = pages_in (task_of page_bytes request); refused = 0 }) }
     {
         let task = request.task(page_bytes);
         let stage = begin(task);
-        let answer = Vec::with_capacity(alloc, answer_len(task))?;
+        let answer = memory_for(alloc, answer_len(task))?;
         Ok(Op {
             alloc,
             task,
@@ -159,6 +161,49 @@ impl<A: Allocator + Copy> Op<A> {
             Stage::Ended(fault) => Some(*fault),
             _ => None,
         }
+    }
+
+    /// Whether it may have to wait at its stage for what others do.
+    pub fn may_wait(&self) -> bool
+        ensures { result ≡ waits (stage_of self.now) }
+    {
+        matches!(
+            &self.stage,
+            Stage::Asking(_, _)
+                | Stage::Reading(_, _)
+                | Stage::Claiming(_)
+                | Stage::Reserving(_, _)
+                | Stage::Committing(_, _)
+                | Stage::Abandoning(_, _)
+                | Stage::Flushing(_)
+        )
+    }
+
+    /// Whether what it may have to wait for is room for a page.
+    pub fn wants_room(&self) -> bool
+        ensures { result ≡ rule_room (stage_of self.now) }
+    {
+        matches!(&self.stage, Stage::Reserving(_, _))
+    }
+
+    /// Whether what it may have to wait for is its flush.
+    pub fn awaits_flush(&self) -> bool
+        ensures { result ≡ rule_flush (stage_of self.now) }
+    {
+        matches!(&self.stage, Stage::Flushing(_))
+    }
+
+    /// Refuses it so, where it wants room and none can come: its next turn releases its page. At any other stage nothing is done.
+    pub fn refuse_room(&mut self, fault: BlockFault)
+        ensures stage { stage_of self.new ≡ without_room fault (stage_of self.old) }
+        ensures task { task_in self.new ≡ task_in self.old }
+        ensures answer { answer_of self.new ≡ answer_of self.old }
+    {
+        let stage = replace(&mut self.stage, Stage::Ended(None));
+        self.stage = match stage {
+            Stage::Reserving(held, _) => Stage::Releasing(held, Some(fault)),
+            stage => stage,
+        };
     }
 
     /// What it waits for, where its last turn came to [`Turn::Wait`]: its batch, the programs of its claim, its flush, or any change. A batch

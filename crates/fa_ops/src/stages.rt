@@ -1,9 +1,10 @@
 //! A turn at each stage.
-ghost use Rattle.std.specs.Prelude.{◌≡◌};
+ghost use Rattle.std.specs.Prelude.{◌≡◌, ◌<◌, [], IfErr, IfOk};
 ghost use Rattle.fa_ops.specs.Accounts.{IsAccounted};
 ghost use Rattle.fa_ops.specs.Moves.{Turned};
 ghost use Rattle.fa_ops.specs.Ops.{beginning};
 ghost use Rattle.fa_ops.specs.Ranges.{IsRange};
+ghost use Rattle.fa_ops.specs.Tasks.{answered};
 
 use crate::reading::{ask, leave, read};
 use crate::request::Task;
@@ -14,7 +15,7 @@ use crate::writing::{
 };
 use fa_map::Map;
 use fa_shared::{Locked, Seat};
-use std::alloc::Allocator;
+use std::alloc::{AllocError, Allocator};
 use std::sync::ledger::Ledger;
 
 /// A turn of a request that is so far.
@@ -65,10 +66,22 @@ pub(crate) fn begin<A: Allocator>(task: Task) -> Stage<A>
 /// How many bytes a request answers.
 pub(crate) fn answer_len(task: Task) -> usize
     requires { IsRange task.range }
+    ensures { result ≡ answered task }
 {
     if task.fill.is_some() {
         0
     } else {
         (task.range.to - task.range.from) as usize
     }
+}
+
+/// Memory for so many bytes of an answer. None is wanted for none.
+pub(crate) fn memory_for<A: Allocator>(alloc: A, len: usize) -> Result<Vec<u8, A>, AllocError>
+    ensures empty { IfOk result (λ answer. answer.items ≡ []) }
+    ensures refused { IfErr result (λ error. 0 < len) }
+{
+    if len == 0 {
+        return Ok(Vec::new(alloc));
+    }
+    Vec::with_capacity(alloc, len)
 }

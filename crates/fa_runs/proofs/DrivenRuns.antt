@@ -59,7 +59,7 @@ module _ {I : Type 0} (view : I → ImageState) (honest : I → Bool) (made : I 
     (meets : (before after : I) (call : ImageCall) (answer : ImageAnswer) → made before call answer after
     → ImageMeets (view before) (honest before) call answer (view after) (honest after)) (array : List ℕ) where
   -- what drives an array, and its world
-  record Follows (w : World) (s : Driven I) : Type 0 where
+  pub record Follows (w : World) (s : Driven I) : Type 0 where
     pub core : w.core ≡ s.core
     pub told : w.told ≡ s.told
     pub works : AreWorks s.works w
@@ -199,13 +199,13 @@ module _ {I : Type 0} (view : I → ImageState) (honest : I → Bool) (made : I 
         fair d image (ap (λ (x : Driven I). x.images d) makes.follows ∙ value_other die (Some makes.after) s.images d apart ∙ at)
   ]
 
-  honest_before : (s last : Driven I) (drives : List Drive) → Drives made array s drives last → AreHonest honest last.images → AreHonest honest s.images
+  pub honest_before : (s last : Driven I) (drives : List Drive) → Drives made array s drives last → AreHonest honest last.images → AreHonest honest s.images
   honest_before s last [] same fair = λ die image at. fair die image (ap (λ (x : Driven I). x.images die) same ∙ at)
   honest_before s last (drive ∷ drives) goes fair =
       honest_one s goes.0 drive goes.1 (honest_before goes.0 last drives goes.2 fair)
 
   -- a world to which a drive leads
-  abbrev Leads : World → List Drive → Driven I → Type 0
+  abbrev pub Leads : World → List Drive → Driven I → Type 0
   Leads w drives last = (happenings : List Happening) × (v : World) × Run w happenings v × Follows v last
       × (events_of happenings ≡ acts_of drives)
 
@@ -213,7 +213,7 @@ module _ {I : Type 0} (view : I → ImageState) (honest : I → Bool) (made : I 
       → Leads one.1 drives last → Leads w drives last
   behind w middle last die drives one later = (Calling die one.0 ∷ later.0, later.1, (one.1, one.2, later.2), later.3, later.4)
 
-  driven : GeometryLaw → (drives : List Drive) (s last : Driven I) (w : World) → Follows w s → Drives made array s drives last
+  pub driven : GeometryLaw → (drives : List Drive) (s last : Driven I) (w : World) → Follows w s → Drives made array s drives last
       → AreHonest honest last.images → Leads w drives last
   driven law [] s last w f same fair = ([], w, refl, subst (Follows w) (sym same) f, refl)
   driven law (MakesEvent act ∷ drives) s last w f goes fair =

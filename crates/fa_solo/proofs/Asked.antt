@@ -5,40 +5,45 @@ use Rattle.fa_blocks.proofs.Counts.{goes_further, prepared_on, turned_on}
 use Rattle.fa_blocks.specs.Counts.{Counts, GoesOn, IsMade}
 use Rattle.fa_headers.specs.declared.judging.Standing.{Standing}
 use Rattle.fa_image.specs.Image.{ImageAnswer, ImageCall}
-use Rattle.fa_machine.specs.Step.{Act}
 use Rattle.fa_ops.specs.Accounts.{IsAccounted}
 use Rattle.fa_ops.specs.Moves.{Turned}
 use Rattle.fa_ops.specs.Ops.{Prepares, answer_of, stage_of, task_in}
-use Rattle.fa_ops.specs.Tallies.{Tally, pages_in, tally_of}
+use Rattle.fa_ops.specs.Tallies.{Tally, pages_in, tally_at, tally_of}
 use Rattle.fa_ops.specs.Tasks.{task_of}
 use Rattle.fa_ops.specs.declared.request.Request.{Request}
 use Rattle.fa_ops.specs.declared.op.Op.{Op}
+use Rattle.fa_ops.specs.Waiting.{HasNoWindow, awaits_flush, waits, without_room}
 use Rattle.fa_ops.specs.declared.request.Task.{Task}
+use Rattle.fa_ops.specs.declared.stage.Stage.{Stage}
+use Rattle.fa_ops.specs.declared.stage.Stage.TheVariants.{Reserving}
 use Rattle.fa_shared.specs.Locked.{LockedState}
 use Rattle.fa_shared.specs.Seats.{commits_with, number_of}
 use Rattle.fa_shared.specs.declared.seat.Seat.{Seat}
-use Rattle.fa_solo.specs.Deeds.{IsForRequests}
-use Rattle.fa_solo.specs.Rigs.{Does}
-use Rattle.fa_solo.specs.Turns.{Asking, Asks, Begins, MakesReady, MakesTurn, PassesTime, Readies, RunsOn, Turns, Waits, asking_of}
+use Rattle.fa_solo.specs.Deeds.{Goes, IsMeanwhile}
+use Rattle.fa_solo.specs.Rigs.{Does, house_of}
+use Rattle.fa_solo.specs.Turns.{Asking, Asks, Begins, GivesUp, MakesReady, MakesTurn, PassesTime, Readies, Refuses, RunsOn, Turns, Waits, asking_of}
 use Rattle.fa_solo.specs.declared.rig.Rig.{Rig}
+use Rattle.fa_types.specs.declared.blocks.BlockFault.{BlockFault}
 
 module _ {L I A : Type 0} (made : I → ImageCall → ImageAnswer → I → Type 0) (array : List ℕ) (dies : List Standing) (seat : ℕ) (task : Task)
     (bytes : List ℕ) where
-  pub asks_more : (a b c : Asking L I A) → Asks made array dies seat task bytes a b → Asks made array dies seat task bytes b c
-      → Asks made array dies seat task bytes a c
-  asks_more a b c one Begins = one
-  asks_more a b c one (Turns middle new before turn) = Turns middle new (asks_more a b middle one before) turn
-  asks_more a b c one (Readies middle new before ready) = Readies middle new (asks_more a b middle one before) ready
-  asks_more a b c one (Waits middle new before time) = Waits middle new (asks_more a b middle one before) time
+  pub asks_more : (m n : ℕ) (a b c : Asking L I A) → Asks made array dies seat task bytes a m b → Asks made array dies seat task bytes b n c
+      → Asks made array dies seat task bytes a (m + n) c
+  asks_more m n a b c one Begins = one
+  asks_more m n a b c one (Turns turns middle new before turn) = Turns (m + turns) middle new (asks_more m turns a b middle one before) turn
+  asks_more m n a b c one (Readies turns middle new before ready) = Readies (m + turns) middle new (asks_more m turns a b middle one before) ready
+  asks_more m n a b c one (Waits turns middle new before time) = Waits (m + turns) middle new (asks_more m turns a b middle one before) time
+  asks_more m n a b c one (Refuses turns middle new before up) = Refuses (m + turns) middle new (asks_more m turns a b middle one before) up
 
 -- the same by other numbers that are equal
 pub asks_by : {L I A : Type 0} (made : I → ImageCall → ImageAnswer → I → Type 0) (array other : List ℕ) (dies those : List Standing)
-    (seat same : ℕ) (task again : Task) (bytes : List ℕ) (a b : Asking L I A) → other ≡ array → those ≡ dies → same ≡ seat → again ≡ task
-    → Asks made other those same again bytes a b → Asks made array dies seat task bytes a b
-asks_by made array other dies those seat same task again bytes a b number standing by kept asks =
-    subst (λ (t : Task). Asks made array dies seat t bytes a b) kept
-    (subst (λ (n : ℕ). Asks made array dies n again bytes a b) by (subst (λ (d : List Standing). Asks made array d same again bytes a b) standing
-    (subst (λ (x : List ℕ). Asks made x those same again bytes a b) number asks)))
+    (seat same : ℕ) (task again : Task) (bytes : List ℕ) (turns : ℕ) (a b : Asking L I A) → other ≡ array → those ≡ dies → same ≡ seat
+    → again ≡ task → Asks made other those same again bytes a turns b → Asks made array dies seat task bytes a turns b
+asks_by made array other dies those seat same task again bytes turns a b number standing by kept asks =
+    subst (λ (t : Task). Asks made array dies seat t bytes a turns b) kept
+    (subst (λ (n : ℕ). Asks made array dies n again bytes a turns b) by
+    (subst (λ (d : List Standing). Asks made array d same again bytes a turns b) standing
+    (subst (λ (x : List ℕ). Asks made x those same again bytes a turns b) number asks)))
 
 -- what leaves the rest leaves the book
 with_book : (a b : LockedState) → b ≡ record a { core = b.core } → b ≡ record a { core = b.core; book = b.book }
@@ -56,6 +61,29 @@ same_counts a b op commits number = record {
   };
   task = refl;
   number = number;
+}
+
+-- a request that is refused for want of room, which commits no page then
+refused_counts : {A : Type 0} (commits : ℕ) (t : Task) (fault : BlockFault) (stage : Stage A)
+    → Counts (tally_at commits t stage) (tally_at commits t (without_room fault stage))
+refused_counts commits t fault (Reserving held wish) = record {
+  rises = omega arith;
+  stays = omega arith;
+  most = omega arith;
+  all = λ same. omega (arith, same);
+}
+refused_counts commits t fault stage = record { rises = omega arith; stays = omega arith; most = omega arith; all = λ same. omega arith }
+
+refused_on : {L A : Type 0} (seat : Seat L) (op next : Op A) (fault : BlockFault) → stage_of next ≡ without_room fault (stage_of op)
+    → task_in next ≡ task_in op → GoesOn seat op seat next
+refused_on seat op next fault stage task = record {
+  counts =
+      let P : Task → Type 0 = λ t. Counts (tally_of (commits_with seat) op) (tally_at (commits_with seat) t (stage_of next)) in
+      subst P (sym task)
+      (subst (λ s. Counts (tally_of (commits_with seat) op) (tally_at (commits_with seat) (task_in op) s)) (sym stage)
+      (refused_counts (commits_with seat) (task_in op) fault (stage_of op)));
+  task = task;
+  number = refl;
 }
 
 -- a request that is refused, however far it is
@@ -86,14 +114,15 @@ none_made before after op next accepted begins goes =
 
 module _ {L M I A : Type 0} (made : I → ImageCall → ImageAnswer → I → Type 0) (bytes : List ℕ) where
   pub runs_none : (rig : Rig L M I A) (op : Op A) → RunsOn made bytes rig op rig op
-  runs_none rig op = record { asks = Begins; counts = same_counts rig.seat rig.seat op refl refl; rest = refl; dies = refl }
+  runs_none rig op = record { turns = 0; asks = Begins; counts = same_counts rig.seat rig.seat op refl refl; rest = refl; dies = refl }
 
   pub runs_more : (a b c : Rig L M I A) (x y z : Op A) → RunsOn made bytes a x b y → RunsOn made bytes b y c z → RunsOn made bytes a x c z
   runs_more a b c x y z one two = record {
-    asks = asks_more made a.locked.number a.dies.items (number_of a.seat) (task_in x) bytes (asking_of a x) (asking_of b y) (asking_of c z)
-        one.asks
+    turns = one.turns + two.turns;
+    asks = asks_more made a.locked.number a.dies.items (number_of a.seat) (task_in x) bytes one.turns two.turns (asking_of a x) (asking_of b y)
+        (asking_of c z) one.asks
         (asks_by made a.locked.number b.locked.number a.dies.items b.dies.items (number_of a.seat) (number_of b.seat) (task_in x) (task_in y)
-        bytes (asking_of b y) (asking_of c z) (ap (λ (l : LockedState). l.number) one.rest) one.dies one.counts.number one.counts.task
+        bytes two.turns (asking_of b y) (asking_of c z) (ap (λ (l : LockedState). l.number) one.rest) one.dies one.counts.number one.counts.task
         two.asks);
     counts = goes_further a.seat b.seat c.seat x y z one.counts two.counts;
     rest = two.rest ∙ ap (λ (l : LockedState). record l { core = c.locked.core; book = c.locked.book }) one.rest;
@@ -103,29 +132,67 @@ module _ {L M I A : Type 0} (made : I → ImageCall → ImageAnswer → I → Ty
   pub runs_turn : (a b : Rig L M I A) (x y : Op A)
       → Turned (task_in x) a.seat b.seat a.locked.core (stage_of x) b.locked.core (stage_of y) → task_in y ≡ task_in x
       → answer_of y ≡ answer_of x → IsAccounted a.locked a.seat b.locked b.seat → b.images.items ≡ a.images.items
-      → b.dies.items ≡ a.dies.items → RunsOn made bytes a x b y
-  runs_turn a b x y turned task answer account images dies = record {
-    asks = Turns (asking_of a x) (asking_of b y) Begins
-        (record { turned = turned; number = account.number; images = images; answer = answer });
-    counts = turned_on a.seat b.seat x y a.locked.core b.locked.core turned task account.number;
-    rest = account.rest;
-    dies = dies;
-  }
+      → b.dies.items ≡ a.dies.items → (runs : RunsOn made bytes a x b y) × (1 ≤ runs.turns)
+  runs_turn a b x y turned task answer account images dies = (
+    record {
+      turns = 1;
+      asks = Turns 0 (asking_of a x) (asking_of b y) Begins
+          (record { turned = turned; number = account.number; images = images; answer = answer });
+      counts = turned_on a.seat b.seat x y a.locked.core b.locked.core turned task account.number;
+      rest = account.rest;
+      dies = dies;
+    },
+    omega arith,
+  )
 
   pub runs_ready : (a : Rig L M I A) (x y : Op A)
       → Prepares (task_in x) bytes (stage_of x) (answer_of x) (stage_of y) (answer_of y) → task_in y ≡ task_in x → RunsOn made bytes a x a y
   runs_ready a x y prepares task = record {
-    asks = Readies (asking_of a x) (asking_of a y) Begins (record { prepares = prepares; same_house = refl; same_seat = refl });
+    turns = 0;
+    asks = Readies 0 (asking_of a x) (asking_of a y) Begins (record { prepares = prepares; same_house = refl; same_seat = refl });
     counts = prepared_on a.seat x y bytes prepares task;
     rest = refl;
     dies = refl;
   }
 
-  pub runs_time : (a b : Rig L M I A) (x : Op A) → Does made IsForRequests a b → RunsOn made bytes a x b x
-  runs_time a b x does = record {
-    asks = Waits (asking_of a x) (asking_of b x) Begins
-        (record { goes = does.goes; commits = does.left.commits; number = does.left.number; stage = refl; answer = refl });
+  pub runs_time : (a b : Rig L M I A) (x : Op A) (flush : Bool) → waits (stage_of x) ≡ true → awaits_flush (stage_of x) ≡ flush
+      → Does made (IsMeanwhile flush) a b → RunsOn made bytes a x b x
+  runs_time a b x flush in_time is does = record {
+    turns = 0;
+    asks = Waits 0 (asking_of a x) (asking_of b x) Begins
+        (record {
+          in_time = in_time;
+          goes = subst (λ (f : Bool). Goes made a.locked.number a.dies.items (number_of a.seat) (IsMeanwhile f) (house_of a) (house_of b)) (sym is)
+              does.goes;
+          commits = does.left.commits;
+          number = does.left.number;
+          stage = refl;
+          answer = refl;
+        });
     counts = same_counts a.seat b.seat x does.left.commits does.left.number;
     rest = with_book a.locked b.locked does.left.rest;
     dies = does.dies;
   }
+
+  pub runs_refused : (a : Rig L M I A) (x y : Op A) (fault : BlockFault)
+      → HasNoWindow a.locked.core fault → stage_of y ≡ without_room fault (stage_of x)
+      → task_in y ≡ task_in x → answer_of y ≡ answer_of x → RunsOn made bytes a x a y
+  runs_refused a x y fault cause stage task answer = record {
+    turns = 0;
+    asks = Refuses 0 (asking_of a x) (asking_of a y) Begins
+        (record { fault = fault; cause = cause; stage = stage; same_house = refl; same_seat = refl; answer = answer });
+    counts = refused_on a.seat x y fault stage task;
+    rest = refl;
+    dies = refl;
+  }
+
+  -- one step more of a request, of which some are turns
+  pub runs_step : (a b c d : Rig L M I A) (x y z : Op A) (n : ℕ) → (one : RunsOn made bytes a x b y) × (n ≤ one.turns)
+      → RunsOn made bytes b y c z → (w : Op A) → (two : RunsOn made bytes c z d w) × (1 ≤ two.turns)
+      → (all : RunsOn made bytes a x d w) × (n + 1 ≤ all.turns)
+  runs_step a b c d x y z n (one, some) ready w (two, turn) =
+      (runs_more a c d x z w (runs_more a b c x y z one ready) two, omega (arith, some, turn))
+
+  pub runs_behind : (a b c : Rig L M I A) (x y z : Op A) → (one : RunsOn made bytes a x b y) × (1 ≤ one.turns) → RunsOn made bytes b y c z
+      → (all : RunsOn made bytes a x c z) × (1 ≤ all.turns)
+  runs_behind a b c x y z (one, some) two = (runs_more a b c x y z one two, omega (arith, some))

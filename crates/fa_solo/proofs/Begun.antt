@@ -1,74 +1,137 @@
--- Requests as they are made from their beginning on.
-use Rattle.std.proofs.Common.{◌≡◌, ◌∙◌, ℕ, Bool, List, [], Result, Ok, Err, Some, None, Vec, refl, subst, sym, true, false}
-use Rattle.std.specs.Prelude.{IfOk, IfErr, OnOk, is_ok}
+-- Requests as they are made from their beginning on, and calls.
+use Rattle.std.proofs.Common.{◌≡◌, ◌∙◌, ◌⊎◌, ◌-◌, ◌^◌, ◌<◌, ◌≤◌, ℕ, Bool, List, [], length, Result, Ok, Err, Option, Some, None, Vec, ap, refl, subst, sym}
+use Rattle.std.proofs.Common.{true, false, inl, inr}
+use Rattle.std.specs.Prelude.{IfOk, IfErr, OnOk}
+use Rattle.std.proofs.lemmas.Bool.{false≢true}
 use Rattle.fa_image.specs.Image.{ImageAnswer, ImageCall}
 use Rattle.fa_ops.specs.Ops.{answer_of, beginning, ended, stage_of, task_in}
-use Rattle.fa_ops.specs.Tasks.{task_of}
+use Rattle.fa_ops.specs.Tasks.{answered, task_of}
 use Rattle.fa_ops.specs.declared.op.Op.{Op}
 use Rattle.fa_ops.specs.declared.request.Request.{Request}
+use Rattle.fa_ops.specs.declared.request.Request.TheVariants.{Flush, Read}
 use Rattle.fa_ops.specs.declared.request.Task.{Task}
-use Rattle.fa_solo.specs.Calls.{EndsBy, IsServed, Made, MakesRequest, MakesWhole}
-use Rattle.fa_solo.specs.Deeds.{IsForDies}
+use Rattle.fa_solo.specs.Calls.{Ended, EndsBy, answer_by, IsOfRead, IsRefused, Made, MakesRequest, MakesWhole, NotHandedOut, OfOtherLength, WithoutMemory, WithoutRoom}
+use Rattle.fa_solo.specs.Calls.{Endless, NoMemory as NoMemoryFor}
+use Rattle.fa_solo.specs.Deeds.{IsForRequests}
 use Rattle.fa_solo.specs.Rigs.{Does, Tidies}
 use Rattle.fa_solo.specs.Turns.{RunsOn}
 use Rattle.fa_solo.specs.declared.rig.Rig.{Rig}
-use Rattle.fa_types.specs.Store.{Gave, Refused}
+use Rattle.fa_types.specs.Store.{Answer, Done, Gave, Refused}
 use Rattle.fa_types.specs.declared.blocks.BlockFault.{BlockFault}
+use Rattle.fa_types.specs.declared.blocks.BlockFault.TheVariants.{Lost, NoMemory, NoRoom}
 
 module _ {L M I A : Type 0} (made : I → ImageCall → ImageAnswer → I → Type 0) where
-  pub made_request : (a b : Rig L M I A) (x y : Op A) (request : Request) (page_bytes same : ℕ) (bytes : List ℕ) (accepted : Bool)
-      (ends : Op A → Type 0) → same ≡ page_bytes → task_in x ≡ task_of same request → stage_of x ≡ beginning (task_of same request)
-      → answer_of x ≡ [] → RunsOn made bytes a x b y → ends y → MakesRequest made (task_of page_bytes request) bytes accepted ends a b
-  made_request a b x y request page_bytes same bytes accepted ends e task stage answer runs end =
-      let P : ℕ → Type 0 = λ n. MakesRequest made (task_of n request) bytes accepted ends a b in
-      subst P e (Made x y task stage answer runs end)
+  pub made_request : (a b : Rig L M I A) (x y : Op A) (request : Request) (page_bytes same : ℕ) (bytes : List ℕ) (answer : Answer)
+      → same ≡ page_bytes → task_in x ≡ task_of same request → stage_of x ≡ beginning (task_of same request) → answer_of x ≡ []
+      → (runs : RunsOn made bytes a x b y) → EndsBy answer runs.turns y → MakesRequest made (task_of page_bytes request) bytes answer a b
+  made_request a b x y request page_bytes same bytes answer e task stage none runs end =
+      let P : ℕ → Type 0 = λ n. MakesRequest made (task_of n request) bytes answer a b in
+      subst P e (Made x y task stage none runs end)
+
+  -- one for whose answer there is no memory
+  pub unmade_request : (a : Rig L M I A) (request : Request) (page_bytes same : ℕ) (bytes : List ℕ) → same ≡ page_bytes
+      → 0 < answered (task_of same request) → MakesRequest made (task_of page_bytes request) bytes (Refused NoMemory) a a
+  unmade_request a request page_bytes same bytes e some =
+      let P : ℕ → Type 0 = λ n. MakesRequest made (task_of n request) bytes (Refused NoMemory) a a in
+      subst P e (NoMemoryFor refl some refl)
 
   -- a read whose answer was handed out, or not
-  pub gave_request : {B : Type 0} (a b : Rig L M I A) (x y : Op A) (request : Request) (page_bytes same : ℕ) (bytes : List ℕ)
-      (result : Result (Vec ℕ B) BlockFault) → same ≡ page_bytes → task_in x ≡ task_of same request
-      → stage_of x ≡ beginning (task_of same request) → answer_of x ≡ [] → RunsOn made bytes a x b y → ended (stage_of y) ≡ Some None
-      → IfOk result (λ answer. answer.items ≡ answer_of y)
-      → IfOk result (λ answer. MakesRequest made (task_of page_bytes request) bytes true (EndsBy (Gave answer.items)) a b)
-  gave_request a b x y request page_bytes same bytes (Ok given) e task stage answer runs end is =
-      made_request a b x y request page_bytes same bytes true (EndsBy (Gave given.items)) e task stage answer runs (end, sym is)
-  gave_request a b x y request page_bytes same bytes (Err fault) e task stage answer runs end is = tt
+  module _ {B : Type 0} (a b : Rig L M I A) (x y : Op A) (offset len page_bytes same : ℕ) (e : same ≡ page_bytes)
+      (task : task_in x ≡ task_of same (Read offset len)) (stage : stage_of x ≡ beginning (task_of same (Read offset len)))
+      (none : answer_of x ≡ []) (runs : RunsOn made [] a x b y) where
+    its_task : task_in y ≡ task_of same (Read offset len)
+    its_task = task ∙ runs.counts.task
 
-  pub refused_request : {B : Type 0} (a b : Rig L M I A) (x y : Op A) (request : Request) (page_bytes same : ℕ) (bytes : List ℕ)
-      (result : Result (Vec ℕ B) BlockFault) → same ≡ page_bytes → task_in x ≡ task_of same request
-      → stage_of x ≡ beginning (task_of same request) → answer_of x ≡ [] → RunsOn made bytes a x b y
-      → IfErr result (λ fault. MakesRequest made (task_of page_bytes request) bytes false (EndsBy (Refused fault)) a b)
-  refused_request a b x y request page_bytes same bytes (Ok given) e task stage answer runs = tt
-  refused_request a b x y request page_bytes same bytes (Err fault) e task stage answer runs =
-      made_request a b x y request page_bytes same bytes false (EndsBy (Refused fault)) e task stage answer runs tt
+    read_with : (answer : Answer) → EndsBy answer runs.turns y → MakesRequest made (task_of page_bytes (Read offset len)) [] answer a b
+    read_with answer end = made_request a b x y (Read offset len) page_bytes same [] answer e task stage none runs end
+
+    refused_with : (fault : BlockFault) → ended (stage_of y) ≡ Some None
+        → (fault ≡ NoMemory) ⊎ ((fault ≡ Lost) × (length (answer_of y) ≡ len → ⊥)) → IsRefused fault runs.turns y
+    refused_with fault end (inl is) =
+        NotHandedOut is (ap (λ (t : Task). t.fill) its_task) (ap (λ (t : Task). t.flush) its_task) end
+    refused_with fault end (inr (is, other)) =
+        OfOtherLength is (ap (λ (t : Task). t.fill) its_task) (ap (λ (t : Task). t.flush) its_task) end (λ same_length.
+        let all : answered (task_in y) ≡ len = omega (arith, ap answered its_task) in other (all ∙ same_length))
+
+    pub gave_request : (result : Result (Vec ℕ B) BlockFault) → ended (stage_of y) ≡ Some None
+        → IfOk result (λ answer. answer.items ≡ answer_of y)
+        → IfOk result (λ answer. MakesRequest made (task_of page_bytes (Read offset len)) [] (Gave answer.items) a b)
+    gave_request (Ok given) end is = read_with (Gave given.items) (end, sym is)
+    gave_request (Err fault) end is = tt
+
+    pub refused_request : (result : Result (Vec ℕ B) BlockFault) → ended (stage_of y) ≡ Some None
+        → IfErr result (λ fault. (fault ≡ NoMemory) ⊎ ((fault ≡ Lost) × (length (answer_of y) ≡ len → ⊥)))
+        → IfErr result (λ fault. MakesRequest made (task_of page_bytes (Read offset len)) [] (Refused fault) a b)
+    refused_request (Ok given) end why = tt
+    refused_request (Err fault) end why = read_with (Refused fault) (refused_with fault end why)
+
+    -- one that has ended so
+    pub ended_request : (own fault : BlockFault) → ended (stage_of y) ≡ Some (Some own) → IsOfRead own fault
+        → MakesRequest made (task_of page_bytes (Read offset len)) [] (Refused fault) a b
+    ended_request own fault end (other, inl is) =
+        read_with (Refused fault) (Ended (ap (λ (f : BlockFault). Some (Some f)) (sym is) ∙ end))
+    ended_request own fault end (other, inr (room, is)) =
+        read_with (Refused fault) (WithoutRoom is (ap (λ (t : Task). t.fill) its_task) (ap (λ (f : BlockFault). Some (Some f)) room ∙ end))
+
+    pub endless_request : 2 ^ 64 - 1 ≤ runs.turns → MakesRequest made (task_of page_bytes (Read offset len)) [] (Refused Lost) a b
+    endless_request most = read_with (Refused Lost) (Endless refl most)
 
   -- what is done before a request and behind it
-  pub whole : (a b c d : Rig L M I A) (task : Task) (bytes : List ℕ) (accepted : Bool) (ends : Op A → Type 0) → Does made IsForDies a b
-      → MakesRequest made task bytes accepted ends b c → Tidies made c d → MakesWhole made task bytes accepted ends a d
-  whole a b c d task bytes accepted ends before request behind =
+  pub whole : (a b c d : Rig L M I A) (task : Task) (bytes : List ℕ) (answer : Answer) → Does made IsForRequests a b
+      → MakesRequest made task bytes answer b c → Tidies made c d → MakesWhole made task bytes answer a d
+  whole a b c d task bytes answer before request behind =
       record { begun = b; done = c; before = before; request = request; behind = behind }
 
-  pub whole_done : (a b c d : Rig L M I A) (task : Task) (bytes : List ℕ) (result : Result (Unit {0}) BlockFault) → Does made IsForDies a b
-      → MakesRequest made task bytes (is_ok result) (IsServed (is_ok result)) b c → Tidies made c d
-      → OnOk result (MakesWhole made task bytes true (IsServed true) a d)
-  whole_done a b c d task bytes (Ok x) before request behind = whole a b c d task bytes true (IsServed true) before request behind
+  pub whole_done : (a b c d : Rig L M I A) (task : Task) (bytes : List ℕ) (result : Result (Unit {0}) BlockFault)
+      → Does made IsForRequests a b → MakesRequest made task bytes (answer_by result) b c → Tidies made c d
+      → OnOk result (MakesWhole made task bytes Done a d)
+  whole_done a b c d task bytes (Ok x) before request behind = whole a b c d task bytes Done before request behind
   whole_done a b c d task bytes (Err fault) before request behind = tt
 
-  pub whole_refused : (a b c d : Rig L M I A) (task : Task) (bytes : List ℕ) (result : Result (Unit {0}) BlockFault) → Does made IsForDies a b
-      → MakesRequest made task bytes (is_ok result) (IsServed (is_ok result)) b c → Tidies made c d
-      → IfErr result (λ fault. MakesWhole made task bytes false (IsServed false) a d)
+  pub whole_refused : (a b c d : Rig L M I A) (task : Task) (bytes : List ℕ) (result : Result (Unit {0}) BlockFault)
+      → Does made IsForRequests a b → MakesRequest made task bytes (answer_by result) b c → Tidies made c d
+      → IfErr result (λ fault. MakesWhole made task bytes (Refused fault) a d)
   whole_refused a b c d task bytes (Ok x) before request behind = tt
-  whole_refused a b c d task bytes (Err fault) before request behind =
-      whole a b c d task bytes false (IsServed false) before request behind
+  whole_refused a b c d task bytes (Err fault) before request behind = whole a b c d task bytes (Refused fault) before request behind
 
-  pub whole_ok : {X : Type 0} (a b c d : Rig L M I A) (task : Task) (bytes : List ℕ) (result : Result X BlockFault) (ends : X → Op A → Type 0)
-      → Does made IsForDies a b → IfOk result (λ x. MakesRequest made task bytes true (ends x) b c) → Tidies made c d
-      → IfOk result (λ x. MakesWhole made task bytes true (ends x) a d)
-  whole_ok a b c d task bytes (Ok x) ends before request behind = whole a b c d task bytes true (ends x) before request behind
-  whole_ok a b c d task bytes (Err fault) ends before request behind = tt
+  pub whole_ok : {X : Type 0} (a b c d : Rig L M I A) (task : Task) (bytes : List ℕ) (result : Result X BlockFault) (answer : X → Answer)
+      → Does made IsForRequests a b → IfOk result (λ x. MakesRequest made task bytes (answer x) b c) → Tidies made c d
+      → IfOk result (λ x. MakesWhole made task bytes (answer x) a d)
+  whole_ok a b c d task bytes (Ok x) answer before request behind = whole a b c d task bytes (answer x) before request behind
+  whole_ok a b c d task bytes (Err fault) answer before request behind = tt
 
   pub whole_err : {X : Type 0} (a b c d : Rig L M I A) (task : Task) (bytes : List ℕ) (result : Result X BlockFault)
-      (ends : BlockFault → Op A → Type 0) → Does made IsForDies a b
-      → IfErr result (λ x. MakesRequest made task bytes false (ends x) b c) → Tidies made c d
-      → IfErr result (λ x. MakesWhole made task bytes false (ends x) a d)
-  whole_err a b c d task bytes (Ok x) ends before request behind = tt
-  whole_err a b c d task bytes (Err fault) ends before request behind = whole a b c d task bytes false (ends fault) before request behind
+      → Does made IsForRequests a b → IfErr result (λ fault. MakesRequest made task bytes (Refused fault) b c) → Tidies made c d
+      → IfErr result (λ fault. MakesWhole made task bytes (Refused fault) a d)
+  whole_err a b c d task bytes (Ok x) before request behind = tt
+  whole_err a b c d task bytes (Err fault) before request behind = whole a b c d task bytes (Refused fault) before request behind
+
+  -- A flush that was refused for room or memory is told as lost.
+  told : (own : BlockFault) (page_bytes turns : ℕ) (y : Op A) → task_in y ≡ task_of page_bytes Flush → (own ≡ NoRoom) ⊎ (own ≡ NoMemory)
+      → IsRefused own turns y → IsRefused Lost turns y
+  told own page_bytes turns y task (inl is) (Ended end) =
+      WithoutRoom refl (ap (λ (t : Task). t.fill) task) (ap (λ (f : BlockFault). Some (Some f)) is ∙ end)
+  told own page_bytes turns y task (inr is) (Ended end) =
+      WithoutMemory refl (ap (λ (t : Task). t.fill) task) (ap (λ (t : Task). t.flush) task) (ap (λ (f : BlockFault). Some (Some f)) is ∙ end)
+  told own page_bytes turns y task why (NotHandedOut is fill flush end) =
+      absurd (false≢true (ap (λ (t : Task). t.flush) task ∙ sym flush))
+  told own page_bytes turns y task why (OfOtherLength is fill flush end other) = OfOtherLength refl fill flush end other
+  told own page_bytes turns y task why (WithoutRoom is fill end) = WithoutRoom refl fill end
+  told own page_bytes turns y task why (WithoutMemory is fill flush end) = WithoutMemory refl fill flush end
+  told own page_bytes turns y task why (Endless is most) = Endless refl most
+
+  told_request : (a b : Rig L M I A) (own : BlockFault) (page_bytes : ℕ) → (own ≡ NoRoom) ⊎ (own ≡ NoMemory)
+      → MakesRequest made (task_of page_bytes Flush) [] (Refused own) a b → MakesRequest made (task_of page_bytes Flush) [] (Refused Lost) a b
+  told_request a b own page_bytes why (NoMemoryFor is some same) = absurd (omega (arith, some))
+  told_request a b own page_bytes why (Made x y task stage none runs end) =
+      Made x y task stage none runs (told own page_bytes runs.turns y (task ∙ runs.counts.task) why end)
+
+  pub told_whole : (a b : Rig L M I A) (own : BlockFault) (page_bytes : ℕ) → (own ≡ NoRoom) ⊎ (own ≡ NoMemory)
+      → MakesWhole made (task_of page_bytes Flush) [] (Refused own) a b → MakesWhole made (task_of page_bytes Flush) [] (Refused Lost) a b
+  told_whole a b own page_bytes why call = record {
+    begun = call.begun;
+    done = call.done;
+    before = call.before;
+    request = told_request call.begun call.done own page_bytes why call.request;
+    behind = call.behind;
+  }

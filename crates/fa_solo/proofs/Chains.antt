@@ -1,5 +1,5 @@
 -- Deeds one after the other.
-use Rattle.std.proofs.Common.{◌≡◌, ◌∙◌, ℕ, Bool, List, Option, Some, None, Ok, Result, IfNone, IfSome, ap, refl, sym, subst}
+use Rattle.std.proofs.Common.{◌≡◌, ◌∙◌, ℕ, Bool, true, false, List, Option, Some, None, Ok, Result, IfNone, IfSome, ap, refl, sym, subst}
 use Rattle.fa_headers.specs.declared.judging.Standing.{Standing}
 use Rattle.fa_image.specs.Image.{ImageAnswer, ImageCall}
 use Rattle.fa_machine.specs.State.{Core}
@@ -8,7 +8,7 @@ use Rattle.fa_machine.specs.declared.refusals.SpareRefused.{SpareRefused}
 use Rattle.fa_shared.specs.Locked.{LockedState}
 use Rattle.fa_shared.specs.Seats.{commits_with, number_of}
 use Rattle.fa_shared.specs.declared.seat.Seat.{Seat}
-use Rattle.fa_solo.specs.Deeds.{Goes, IsForDies, IsForOrder, IsForRequests, Makes, MakesJob, Runs, Stays}
+use Rattle.fa_solo.specs.Deeds.{Goes, IsForDies, IsForOrder, IsForRequests, IsMeanwhile, Makes, MakesJob, Runs, Stays}
 use Rattle.fa_solo.specs.House.{House}
 use Rattle.fa_solo.specs.Rigs.{Does, house_of}
 use Rattle.fa_solo.specs.declared.rig.Rig.{Rig}
@@ -109,22 +109,29 @@ module _ {L M I A : Type 0} (made : I → ImageCall → ImageAnswer → I → Ty
   does_spare P a b brought may (WantsNone is wants same) left images dies = does_same P a b same left images dies
   does_spare P a b brought may (HasNone is none same) left images dies = does_same P a b same left images dies
 
--- what is for dies is for the array's order, and for requests
-pub for_order : (act : Act) → IsForDies act → IsForOrder act
-for_order (Take die seat None) may = may
-for_order (Window die rounds answer) may = may
-for_order (Advance answer) may = may
-for_order (SpareIn die answer) may = may
-for_order Fold may = may
-for_order act may = absurd may
-
+-- what is for dies is for requests, and what is for these is for the array's order
 pub for_requests : (act : Act) → IsForDies act → IsForRequests act
 for_requests (Take die seat None) may = may
 for_requests (Window die rounds answer) may = may
 for_requests (Advance answer) may = may
-for_requests (SpareIn die answer) may = may
 for_requests Fold may = may
 for_requests act may = absurd may
+
+pub requests_for_order : (act : Act) → IsForRequests act → IsForOrder act
+requests_for_order (Take die seat None) may = may
+requests_for_order (Window die rounds answer) may = may
+requests_for_order (Advance answer) may = may
+requests_for_order (SpareIn die answer) may = may
+requests_for_order Fold may = may
+requests_for_order act may = absurd may
+
+pub for_order : (act : Act) → IsForDies act → IsForOrder act
+for_order act may = requests_for_order act (for_requests act may)
+
+-- what is for dies is made at any time
+pub for_meanwhile : (flush : Bool) (act : Act) → IsForDies act → IsMeanwhile flush act
+for_meanwhile true act may = may
+for_meanwhile false act may = for_requests act may
 
 -- a Fold leaves the geometry
 pub fold_geometry : (old new : Core) → Folds old new → new.page_map.geometry ≡ old.page_map.geometry

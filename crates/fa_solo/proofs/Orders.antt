@@ -13,8 +13,8 @@ use Rattle.fa_machine.specs.declared.refusals.AdmitRefused.{AdmitRefused}
 use Rattle.fa_machine.specs.declared.refusals.ReserveCopyRefused.{ReserveCopyRefused}
 use Rattle.fa_shared.specs.Locked.{LockedState}
 use Rattle.fa_shared.specs.Seats.{number_of}
-use Rattle.fa_solo.proofs.Chains.{does_event, does_more, does_same, does_wider, for_order, goes_by, join_rest, rest_same}
-use Rattle.fa_solo.specs.Deeds.{Goes, IsForDies, IsForOrder}
+use Rattle.fa_solo.proofs.Chains.{does_event, does_more, does_same, does_wider, for_order, goes_by, join_rest, requests_for_order, rest_same}
+use Rattle.fa_solo.specs.Deeds.{Goes, IsForDies, IsForOrder, IsForRequests}
 use Rattle.fa_solo.specs.House.{House}
 use Rattle.fa_solo.specs.Orders.{Copies, CopiesPage, Deals, Orders, Rests}
 use Rattle.fa_solo.specs.Rigs.{Does, DoesOne, ReservesCopy, Tidies, TriesCopy, house_of}
@@ -109,6 +109,9 @@ module _ {L M I A : Type 0} (made : I → ImageCall → ImageAnswer → I → Ty
 
   pub tidies_for_dies : (a b : Rig L M I A) → Does made IsForDies a b → Tidies made a b
   tidies_for_dies a b does = tidies_deeds a b (does_wider made IsForDies IsForOrder for_order a b does)
+
+  pub tidies_for_requests : (a b : Rig L M I A) → Does made IsForRequests a b → Tidies made a b
+  tidies_for_requests a b does = tidies_deeds a b (does_wider made IsForRequests IsForOrder requests_for_order a b does)
 
   -- a batch of a page from its Admit to its end
   module _ (a b c d : Rig L M I A) (page : ℕ) (admitted : Admitted) (answers : List (ℕ × List ℕ)) (asks : DoesOne (Admit (page ∷ []) (Ok admitted)) a b)

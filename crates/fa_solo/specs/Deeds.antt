@@ -1,38 +1,43 @@
 -- What is done with an array and its images by one thread: events, and jobs of dies from their Takes to their Dones. No two jobs are under
 -- way at once, and each Done tells what the job's own calls of its image gave.
-use Rattle.std.specs.Prelude.{◌≡◌, ℕ, List, [], ◌∷◌, Option, Some, None, Err, slice_get, slice_set}
+use Rattle.std.specs.Prelude.{◌≡◌, ℕ, Bool, true, false, List, [], ◌∷◌, Option, Some, None, Err, slice_get, slice_set}
 use Rattle.fa_headers.specs.declared.judging.Standing.{Standing}
 use Rattle.fa_image.specs.Image.{ImageAnswer, ImageCall}
 use Rattle.fa_machine.specs.Cells.{Outcome}
 use Rattle.fa_machine.specs.State.{Core}
-use Rattle.fa_machine.specs.Step.{Act, Step, Admit, Advance, CommitCopy, Done, EndBatch, Fold, Release, ReserveCopy, SpareIn, Take, Window}
+use Rattle.fa_machine.specs.Step.{Act, Step, Admit, Advance, CommitCopy, Done, EndBatch, Fold, ReserveCopy, SpareIn, Take, Window}
 use Rattle.fa_machine.specs.Taking.{Handed}
 use Rattle.fa_mount.specs.Standings.{place_on}
 use Rattle.fa_solo.specs.House.{House}
 use Rattle.fa_takes.specs.Fits.{IsJobFor}
 use Rattle.fa_workers.specs.Made.{Ran}
 
--- The events that are made for dies whatever is asked: a Take that gives no job, windows, rounds that pass, spares, and the history's Fold.
+-- The events that are made for dies whatever is asked: a Take that gives no job, windows, rounds that pass, and the history's Fold.
 abbrev pub IsForDies : Act → Type 0
 IsForDies (Take die seat None) = Unit {0}
 IsForDies (Window die rounds answer) = Unit {0}
 IsForDies (Advance answer) = Unit {0}
-IsForDies (SpareIn die answer) = Unit {0}
 IsForDies Fold = Unit {0}
 IsForDies act = ⊥
 
--- Those, and the events by which a thin page is read and a copy of it becomes current. A slot is reserved for one more copy by `CopiesPage` alone.
+-- Those, and spares that are brought in.
+abbrev pub IsForRequests : Act → Type 0
+IsForRequests (SpareIn die answer) = Unit {0}
+IsForRequests act = IsForDies act
+
+-- What is made while a request waits. While a flush is waited for no spare is brought in, as that would be a die that the flush did not ask.
+abbrev pub IsMeanwhile : Bool → Act → Type 0
+IsMeanwhile true act = IsForDies act
+IsMeanwhile false act = IsForRequests act
+
+-- All those, and the events by which a thin page is read and a copy of it becomes current. A slot is reserved for one more copy by `CopiesPage`
+-- alone.
 abbrev pub IsForOrder : Act → Type 0
 IsForOrder (Admit (page ∷ []) answer) = Unit {0}
 IsForOrder (EndBatch batch answers) = Unit {0}
 IsForOrder (ReserveCopy page seq payload (Err refused)) = Unit {0}
 IsForOrder (CommitCopy answer) = Unit {0}
-IsForOrder act = IsForDies act
-
--- Those for dies, and the Release of a page whose request cannot go on.
-abbrev pub IsForRequests : Act → Type 0
-IsForRequests (Release claim) = Unit {0}
-IsForRequests act = IsForDies act
+IsForOrder act = IsForRequests act
 
 module _ {I : Type 0} (made : I → ImageCall → ImageAnswer → I → Type 0) (array : List ℕ) (dies : List Standing) (seat : ℕ) where
   -- A job of a die: it is taken, its calls are made of the die's image, and it ends as they gave.

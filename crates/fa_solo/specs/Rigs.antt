@@ -1,7 +1,9 @@
 -- What contracts see of what the store of one thread owns, and what is done with it besides its requests.
 use Rattle.std.specs.Prelude.{◌≡◌, ◌⊎◌, ℕ, ◌+◌, ◌<◌, List, [], ◌∷◌, ◌++◌, Some, Ok, length, slice_get, slice_set}
 use Rattle.fa_image.specs.Image.{ImageAnswer, ImageCall, ImageState}
+use Rattle.fa_core.specs.Array.{state_of}
 use Rattle.fa_machine.specs.Cells.{Outcome}
+use Rattle.fa_machine.specs.State.{MapState}
 use Rattle.fa_machine.specs.Step.{Act, Done, ReserveCopy, Step}
 use Rattle.fa_machine.specs.Taking.{Handed}
 use Rattle.fa_mount.specs.Standings.{place_on}
@@ -9,6 +11,7 @@ use Rattle.fa_shared.specs.Seats.{number_of}
 use Rattle.fa_solo.specs.Deeds.{Goes, IsForOrder}
 use Rattle.fa_solo.specs.House.{House}
 use Rattle.fa_solo.specs.Orders.{Orders}
+use Rattle.fa_solo.specs.declared.rig.Parts.{Parts}
 use Rattle.fa_solo.specs.declared.rig.Rig.{Rig}
 use Rattle.fa_workers.specs.Held.{LeavesRest}
 use Rattle.fa_workers.specs.Made.{Ran}
@@ -16,6 +19,10 @@ use Rattle.fa_workers.specs.Made.{Ran}
 module _ {L M I A : Type 0} where
   abbrev pub house_of : Rig L M I A → House I
   house_of rig = record { core = rig.locked.core; images = rig.images.items }
+
+  -- the same of an array with its images that are not in use
+  abbrev pub house_in : (M → MapState) → Parts M I A → House I
+  house_in view parts = record { core = state_of view parts.mounted.array; images = parts.images.items }
 
   -- The die has this image, at this place of the list, and it is of the array's geometry.
   pub record IsPlaced (view : I → ImageState) (rig : Rig L M I A) (die place : ℕ) : Type 0 where

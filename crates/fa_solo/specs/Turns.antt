@@ -1,19 +1,21 @@
 -- A request from its beginning to its end, by one thread: its turns, what it prepares, and what is done for dies while it waits.
-use Rattle.std.specs.Prelude.{◌≡◌, ℕ, List}
+use Rattle.std.specs.Prelude.{◌≡◌, ℕ, ◌+◌, IsTrue, List, true}
 use Rattle.fa_blocks.specs.Counts.{GoesOn}
 use Rattle.fa_headers.specs.declared.judging.Standing.{Standing}
 use Rattle.fa_image.specs.Image.{ImageAnswer, ImageCall}
 use Rattle.fa_ops.specs.Moves.{Turned}
 use Rattle.fa_ops.specs.Ops.{Prepares, answer_of, stage_of, task_in}
+use Rattle.fa_ops.specs.Waiting.{HasNoWindow, awaits_flush, waits, without_room}
 use Rattle.fa_ops.specs.declared.op.Op.{Op}
 use Rattle.fa_ops.specs.declared.request.Task.{Task}
 use Rattle.fa_ops.specs.declared.stage.Stage.{Stage}
 use Rattle.fa_shared.specs.Seats.{commits_with, number_of}
 use Rattle.fa_shared.specs.declared.seat.Seat.{Seat}
-use Rattle.fa_solo.specs.Deeds.{Goes, IsForRequests}
+use Rattle.fa_solo.specs.Deeds.{Goes, IsMeanwhile}
 use Rattle.fa_solo.specs.House.{House}
 use Rattle.fa_solo.specs.Rigs.{house_of}
 use Rattle.fa_solo.specs.declared.rig.Rig.{Rig}
+use Rattle.fa_types.specs.declared.blocks.BlockFault.{BlockFault}
 
 -- How far a request is: the array with its images, the seat by which its events are made, its stage, and its answer so far.
 pub record Asking (L I A : Type 0) : Type 0 where
@@ -37,20 +39,31 @@ module _ {L I A : Type 0} (made : I → ImageCall → ImageAnswer → I → Type
     pub same_house : new.house ≡ old.house
     pub same_seat : new.seat ≡ old.seat
 
-  -- what is done meanwhile, which leaves the request as it is
+  -- what is done while it may have to wait, which leaves the request as it is
   pub record PassesTime (old new : Asking L I A) : Type 0 where
-    pub goes : Goes made array dies seat IsForRequests old.house new.house
+    pub in_time : IsTrue (waits old.stage)
+    pub goes : Goes made array dies seat (IsMeanwhile (awaits_flush old.stage)) old.house new.house
     pub commits : commits_with new.seat ≡ commits_with old.seat
     pub number : number_of new.seat ≡ number_of old.seat
     pub stage : new.stage ≡ old.stage
     pub answer : new.answer ≡ old.answer
 
-  -- any number of these, one after the other
-  pub data Asks (old : Asking L I A) : Asking L I A → Type 0 where
-    Begins : Asks old old
-    Turns : (middle new : Asking L I A) → Asks old middle → MakesTurn middle new → Asks old new
-    Readies : (middle new : Asking L I A) → Asks old middle → MakesReady middle new → Asks old new
-    Waits : (middle new : Asking L I A) → Asks old middle → PassesTime middle new → Asks old new
+  -- A write that wants room is refused, as no window is to be had by which a die would be collected.
+  pub record GivesUp (old new : Asking L I A) : Type 0 where
+    pub fault : BlockFault
+    pub cause : HasNoWindow old.house.core fault
+    pub stage : new.stage ≡ without_room fault old.stage
+    pub same_house : new.house ≡ old.house
+    pub same_seat : new.seat ≡ old.seat
+    pub answer : new.answer ≡ old.answer
+
+  -- any number of these, one after the other, and how many of them are turns
+  pub data Asks (old : Asking L I A) : ℕ → Asking L I A → Type 0 where
+    Begins : Asks old 0 old
+    Turns : (turns : ℕ) (middle new : Asking L I A) → Asks old turns middle → MakesTurn middle new → Asks old (turns + 1) new
+    Readies : (turns : ℕ) (middle new : Asking L I A) → Asks old turns middle → MakesReady middle new → Asks old turns new
+    Waits : (turns : ℕ) (middle new : Asking L I A) → Asks old turns middle → PassesTime middle new → Asks old turns new
+    Refuses : (turns : ℕ) (middle new : Asking L I A) → Asks old turns middle → GivesUp middle new → Asks old turns new
 
 module _ {L M I A : Type 0} where
   abbrev pub asking_of : Rig L M I A → Op A → Asking L I A
@@ -60,7 +73,8 @@ module _ {L M I A : Type 0} where
   -- changed.
   pub record RunsOn (made : I → ImageCall → ImageAnswer → I → Type 0) (bytes : List ℕ) (rig : Rig L M I A) (op : Op A) (new : Rig L M I A)
       (next : Op A) : Type 0 where
-    pub asks : Asks made rig.locked.number rig.dies.items (number_of rig.seat) (task_in op) bytes (asking_of rig op) (asking_of new next)
+    pub turns : ℕ
+    pub asks : Asks made rig.locked.number rig.dies.items (number_of rig.seat) (task_in op) bytes (asking_of rig op) turns (asking_of new next)
     pub counts : GoesOn rig.seat op new.seat next
     pub rest : new.locked ≡ record rig.locked { core = new.locked.core; book = new.locked.book }
     pub dies : new.dies.items ≡ rig.dies.items

@@ -9,7 +9,7 @@ use fa_core::Array;
 use fa_image::Image;
 use fa_machine::WindowRefused;
 use fa_map::Map;
-use fa_types::{BlockFault, Die, Round};
+use fa_types::{Die, Round};
 use std::alloc::Allocator;
 use std::sync::ledger::Ledger;
 
@@ -100,12 +100,4 @@ fn is_wanted<M: Map, A: Allocator + Copy>(array: &Array<M, A>, die: Die, for_roo
         && array.is_live(die)
         && array.wants_window(die)
         && (!for_room || array.room(die) == 0)
-}
-
-/// Why a request is refused that waits for room, where a window was refused so.
-pub(crate) fn fault_of(refused: WindowRefused) -> BlockFault {
-    match refused {
-        WindowRefused::NoMemory => BlockFault::NoMemory,
-        WindowRefused::Busy | WindowRefused::HasOne => BlockFault::Spent,
-    }
 }

@@ -202,20 +202,3 @@ pub(crate) fn commit_copy<L: Ledger, M: Map + Drop, A: Allocator + Copy>(
     };
     Some(answer)
 }
-
-/// A Release. None where the claim is not open, or something is reserved under it.
-pub(crate) fn release<L: Ledger, M: Map + Drop, A: Allocator + Copy>(
-    alloc: A,
-    locked: &mut Locked<L, M, A>,
-    seat: &mut Seat<L>,
-    claim: ClaimId,
-) -> Option<()>
-    ensures some { IfSome result (λ answer. Step locked.old.core (Release claim.0) locked.new.core) }
-    ensures none { IfNone result (locked.new.core ≡ locked.old.core) }
-    ensures account { LeavesRest locked.old seat.old locked.new seat.new }
-{
-    let Answer::Release = make(locked, seat, plain(&alloc, Call::Release(claim))) else {
-        return None;
-    };
-    Some(())
-}

@@ -1,5 +1,5 @@
 //! All work that dies have.
-ghost use Rattle.fa_solo.specs.Deeds.{IsForDies};
+ghost use Rattle.fa_solo.specs.Deeds.{IsForDies, IsForRequests};
 ghost use Rattle.fa_solo.specs.Rigs.{Does};
 
 use crate::events::advance;
@@ -12,15 +12,13 @@ use fa_workers::bring_in_spare;
 use std::alloc::Allocator;
 use std::sync::ledger::Ledger;
 
-/// Makes a job of each die that has one, and brings in a spare where one is wanted. Where no die had a job the round passes, if it may.
-/// Whether anything was done.
+/// Makes a job of each die that has one. Where no die had a job the round passes, if it may. Whether anything was done.
 pub(crate) fn work<L: Ledger, M: Map + Drop, I: Image, A: Allocator + Copy>(
     rig: &mut Rig<L, M, I, A>,
 ) -> bool
     ensures { Does I.made IsForDies rig.old rig.new }
 {
     if make_jobs(rig) {
-        bring_in(rig);
         return true;
     }
     pass_round(rig)
@@ -58,7 +56,7 @@ fn make_jobs<L: Ledger, M: Map + Drop, I: Image, A: Allocator + Copy>(
 pub(crate) fn bring_in<L: Ledger, M: Map + Drop, I: Image, A: Allocator + Copy>(
     rig: &mut Rig<L, M, I, A>,
 )
-    ensures { Does I.made IsForDies rig.old rig.new }
+    ensures { Does I.made IsForRequests rig.old rig.new }
 {
     bring_in_spare(rig.alloc, &mut rig.locked, &mut rig.seat);
 }

@@ -1,42 +1,34 @@
 //! Requests, from their beginning to their end.
-ghost use Rattle.std.specs.Prelude.{◌≡◌, ◌+◌, ◌^◌, ◌≤◌, ℕ, List, [], length, is_ok, true, false, IfOk, IfErr, Some, None};
+ghost use Rattle.std.specs.Prelude.{◌≡◌, ◌⊎◌, ◌+◌, ◌-◌, ◌^◌, ◌≤◌, ℕ, IsTrue, List, [], length, is_ok, true, false, IfOk, IfErr, IfSome, Some, None};
 ghost use Rattle.fa_blocks.specs.Counts.{IsMade};
-ghost use Rattle.fa_ops.specs.Ops.{answer_of, ended, stage_of};
+ghost use Rattle.fa_core.specs.Array.{state_of};
+ghost use Rattle.fa_machine.specs.Reading.{is_late as rule_late};
+ghost use Rattle.fa_ops.specs.Ops.{answer_of, ended, stage_of, task_in};
 ghost use Rattle.fa_ops.specs.Tallies.{pages_in};
 ghost use Rattle.fa_ops.specs.Tasks.{end_of, task_of};
+ghost use Rattle.fa_ops.specs.Waiting.{HasNoWindow, awaits_flush, waits};
 ghost use Rattle.fa_ops.specs.declared.request.Request.TheVariants.{Read};
-ghost use Rattle.fa_solo.specs.Calls.{EndsBy, IsServed, MakesRequest};
-ghost use Rattle.fa_solo.specs.Deeds.{IsForRequests};
+ghost use Rattle.fa_solo.specs.Calls.{IsOfRead, MakesRequest, answer_by};
+ghost use Rattle.fa_solo.specs.Deeds.{IsForDies, IsMeanwhile};
 ghost use Rattle.fa_solo.specs.Rigs.{Does};
 ghost use Rattle.fa_solo.specs.Turns.{RunsOn};
 ghost use Rattle.fa_types.specs.Store.{Gave, Refused};
-ghost use Rattle.fa_types.specs.declared.blocks.BlockFault.TheVariants.{NoRoom};
+ghost use Rattle.fa_types.specs.declared.blocks.BlockFault.TheVariants.{Lost, NoMemory, NoRoom, Spent};
 
-use crate::collecting::{Windows, fault_of, give_windows};
-use crate::events::release;
-use crate::jobs::work;
+use crate::collecting::{Windows, give_windows};
+use crate::jobs::{bring_in, work};
 use crate::rig::Rig;
+use fa_core::Array;
 use fa_image::Image;
-use fa_machine::ClaimId;
+use fa_machine::WindowRefused;
 use fa_map::Map;
 use fa_ops::{Op, Request, Turn};
 use fa_types::BlockFault;
 use std::alloc::Allocator;
 use std::sync::ledger::Ledger;
 
-/// How many turns a request makes at most that has to end, once its page is claimed no more.
-const LAST_TURNS: u32 = 16;
-
-/// What came of waiting.
-#[derive(Clone, Copy, Debug, PartialEq, Eq)]
-enum Passed {
-    /// Something was done.
-    Some,
-    /// There was nothing to be done.
-    Nothing,
-    /// What is waited for was refused, and the request is refused so.
-    Refused(BlockFault),
-}
+/// The last round in which something is planned.
+const LAST_ROUND: u64 = (1 << 56) - (1 << 24);
 
 /// A request that answers no bytes.
 pub(crate) fn run<L: Ledger, M: Map + Drop, I: Image, A: Allocator + Copy>(
@@ -49,15 +41,16 @@ pub(crate) fn run<L: Ledger, M: Map + Drop, I: Image, A: Allocator + Copy>(
     requires small { page_bytes ≤ 4096 }
     requires inside { end_of request ≤ 2 ^ 32 }
     ensures made { IsMade (pages_in (task_of page_bytes request)) rig.old.seat (is_ok result) rig.new.seat }
-    ensures request { MakesRequest I.made (task_of page_bytes request) bytes.now (is_ok result) (IsServed (is_ok result)) rig.old rig.new }
+    ensures request { MakesRequest I.made (task_of page_bytes request) bytes.now (answer_by result) rig.old rig.new }
 {
     let mut op = match Op::new(rig.alloc, request, u64::from(page_bytes)) {
         Ok(op) => op,
         Err(_) => return Err(BlockFault::NoMemory),
     };
-    match finish(rig, page_bytes, request, &mut op, bytes) {
-        None => Ok(()),
-        Some(fault) => Err(fault),
+    match finish(rig, &mut op, bytes) {
+        Some(None) => Ok(()),
+        Some(Some(fault)) => Err(fault),
+        None => Err(BlockFault::Lost),
     }
 }
 
@@ -75,19 +68,18 @@ pub(crate) fn run_read<L: Ledger, M: Map + Drop, I: Image, A: Allocator + Copy, 
     ensures length { IfOk result (λ answer. length answer.items ≡ len) }
     ensures room { IfErr result (λ fault. fault ≡ NoRoom → ⊥) }
     ensures made { IsMade 0 rig.old.seat (is_ok result) rig.new.seat }
-    ensures gave { IfOk result (λ answer. MakesRequest I.made (task_of page_bytes (Read offset len)) [] true (EndsBy (Gave answer.items))
-        rig.old rig.new) }
-    ensures refused { IfErr result (λ fault. MakesRequest I.made (task_of page_bytes (Read offset len)) [] false (EndsBy (Refused fault))
-        rig.old rig.new) }
+    ensures gave { IfOk result (λ answer. MakesRequest I.made (task_of page_bytes (Read offset len)) [] (Gave answer.items) rig.old rig.new) }
+    ensures refused { IfErr result (λ fault. MakesRequest I.made (task_of page_bytes (Read offset len)) [] (Refused fault) rig.old rig.new) }
 {
     let request = Request::Read { offset, len };
     let mut op = match Op::new(rig.alloc, request, u64::from(page_bytes)) {
         Ok(op) => op,
         Err(_) => return Err(BlockFault::NoMemory),
     };
-    match finish(rig, page_bytes, request, &mut op, &[]) {
-        None => handed_out(op, len, into),
-        Some(fault) => Err(of_read(fault)),
+    match finish(rig, &mut op, &[]) {
+        Some(None) => handed_out(op, len, into),
+        Some(Some(fault)) => Err(of_read(fault)),
+        None => Err(BlockFault::Lost),
     }
 }
 
@@ -99,7 +91,7 @@ fn handed_out<A: Allocator + Copy, B: Allocator>(
 ) -> Result<Vec<u8, B>, BlockFault>
     ensures length { IfOk result (λ answer. length answer.items ≡ len) }
     ensures answer { IfOk result (λ answer. answer.items ≡ answer_of op) }
-    ensures room { IfErr result (λ fault. fault ≡ NoRoom → ⊥) }
+    ensures refused { IfErr result (λ fault. (fault ≡ NoMemory) ⊎ ((fault ≡ Lost) × (length (answer_of op) ≡ len → ⊥))) }
 {
     let answer = op.into_answer();
     if answer.len() as u64 != len {
@@ -111,9 +103,9 @@ fn handed_out<A: Allocator + Copy, B: Allocator>(
     }
 }
 
-/// Why a read was refused. No read wants room.
+/// Why a read is refused that ended so. No read wants room.
 fn of_read(fault: BlockFault) -> BlockFault
-    ensures { result ≡ NoRoom → ⊥ }
+    ensures { IsOfRead fault result }
 {
     match fault {
         BlockFault::NoRoom => BlockFault::Lost,
@@ -121,86 +113,36 @@ fn of_read(fault: BlockFault) -> BlockFault
     }
 }
 
-/// Goes on with a request until it has ended, and tells how.
+/// Goes on with a request until it has ended, and tells how. None where it has not ended within 2^64 - 1 turns.
 fn finish<L: Ledger, M: Map + Drop, I: Image, A: Allocator + Copy>(
     rig: &mut Rig<L, M, I, A>,
-    page_bytes: u32,
-    request: Request,
     op: &mut Op<A>,
     bytes: &[u8],
-) -> Option<BlockFault>
-    requires some { 1 ≤ page_bytes }
-    requires inside { end_of request ≤ 2 ^ 32 }
-    ensures runs { RunsOn I.made bytes.now rig.old op.old rig.new op.new }
-    ensures ended { result ≡ None → ended (stage_of op.new) ≡ Some None }
+) -> Option<Option<BlockFault>>
+    ensures runs { (runs : RunsOn I.made bytes.now rig.old op.old rig.new op.new) × (result ≡ None → 2 ^ 64 - 1 ≤ runs.turns) }
+    ensures ended { IfSome result (λ end. ended (stage_of op.new) ≡ Some end) }
 {
-    for _ in 0..u64::MAX {
+    for turns in 0..u64::MAX {
         if let Some(end) = op.ended() {
-            return end;
+            return Some(end);
         }
         op.prepare(bytes);
-        if let Some(fault) = make_turns(rig, op) {
-            give_up(rig, page_bytes, request, op, bytes);
-            return Some(fault);
-        }
+        step(rig, op);
     }
-    Some(BlockFault::Lost)
+    None
 }
 
-/// Makes turns until the request has something to prepare, or has ended. Where it waits, what it waits for is made. Why it cannot go on, if
-/// it cannot.
-fn make_turns<L: Ledger, M: Map + Drop, I: Image, A: Allocator + Copy>(
+/// A turn of a request. Where it comes to waiting, what there is to be done for dies is made.
+fn step<L: Ledger, M: Map + Drop, I: Image, A: Allocator + Copy>(
     rig: &mut Rig<L, M, I, A>,
     op: &mut Op<A>,
-) -> Option<BlockFault>
-    ensures { (bytes : List ℕ) → RunsOn I.made bytes rig.old op.old rig.new op.new }
+)
+    ensures { (bytes : List ℕ) → (runs : RunsOn I.made bytes rig.old op.old rig.new op.new) × (1 ≤ runs.turns) }
 {
-    let mut is_idle = false;
-    for _ in 0..u64::MAX {
-        let came = turn(rig, op);
-        if leads_on(came) {
-            return None;
-        }
-        let passed = pass_after(rig, came);
-        if let Some(fault) = refusal(passed, is_idle) {
-            return Some(fault);
-        }
-        is_idle = passed == Passed::Nothing;
+    let came = turn(rig, op);
+    if came == Turn::Wait {
+        pass_time(rig, op);
     }
-    Some(BlockFault::Lost)
-}
-
-/// Whether the request has something to prepare, or has ended.
-fn leads_on(came: Turn) -> bool {
-    matches!(came, Turn::Prepare | Turn::End)
-}
-
-/// Why a request cannot go on that waited so, and that could do nothing before, or could.
-fn refusal(passed: Passed, was_idle: bool) -> Option<BlockFault> {
-    match passed {
-        Passed::Refused(fault) => Some(fault),
-        Passed::Some => None,
-        Passed::Nothing => {
-            if was_idle {
-                Some(BlockFault::Lost)
-            } else {
-                None
-            }
-        }
-    }
-}
-
-/// Makes what there is to be done for dies, where the request waits.
-fn pass_after<L: Ledger, M: Map + Drop, I: Image, A: Allocator + Copy>(
-    rig: &mut Rig<L, M, I, A>,
-    came: Turn,
-) -> Passed
-    ensures { Does I.made IsForRequests rig.old rig.new }
-{
-    if came != Turn::Wait {
-        return Passed::Some;
-    }
-    pass_time(rig)
 }
 
 /// A turn of a request.
@@ -208,71 +150,82 @@ fn turn<L: Ledger, M: Map + Drop, I: Image, A: Allocator + Copy>(
     rig: &mut Rig<L, M, I, A>,
     op: &mut Op<A>,
 ) -> Turn
-    ensures { (bytes : List ℕ) → RunsOn I.made bytes rig.old op.old rig.new op.new }
+    ensures { (bytes : List ℕ) → (runs : RunsOn I.made bytes rig.old op.old rig.new op.new) × (1 ≤ runs.turns) }
 {
     op.turn(&mut rig.locked, &mut rig.seat)
 }
 
-/// Makes what there is to be done for dies. Where there is nothing, those without room are collected.
+/// Makes what there is to be done for dies, where the request may have to wait. Where there is nothing, and it wants room, dies without room
+/// are collected.
 fn pass_time<L: Ledger, M: Map + Drop, I: Image, A: Allocator + Copy>(
     rig: &mut Rig<L, M, I, A>,
-) -> Passed
-    ensures { Does I.made IsForRequests rig.old rig.new }
-{
-    if work(rig) {
-        return Passed::Some;
-    }
-    match give_windows(rig, true) {
-        Windows::Given => Passed::Some,
-        Windows::Unwanted => Passed::Nothing,
-        Windows::Refused(refused) => Passed::Refused(fault_of(refused)),
-    }
-}
-
-/// Ends a request that cannot go on: the page that it has claimed is released, and its last turns are made.
-fn give_up<L: Ledger, M: Map + Drop, I: Image, A: Allocator + Copy>(
-    rig: &mut Rig<L, M, I, A>,
-    page_bytes: u32,
-    request: Request,
     op: &mut Op<A>,
-    bytes: &[u8],
 )
-    requires some { 1 ≤ page_bytes }
-    requires inside { end_of request ≤ 2 ^ 32 }
-    ensures { RunsOn I.made bytes.now rig.old op.old rig.new op.new }
+    ensures { (bytes : List ℕ) → RunsOn I.made bytes rig.old op.old rig.new op.new }
 {
-    let (offset, len) = request.extent();
-    let first = offset / u64::from(page_bytes);
-    let past = (offset + len) / u64::from(page_bytes) + 1;
-    release_all(rig, first, past);
-    for _ in 0..LAST_TURNS {
-        if op.ended().is_some() {
-            return;
+    if !op.may_wait() {
+        return;
+    }
+    if op.awaits_flush() {
+        work(rig);
+        return;
+    }
+    if work_at_once(rig) {
+        return;
+    }
+    if op.wants_room() {
+        collect_for(rig, op);
+    }
+}
+
+/// Makes what there is to be done for dies. Behind jobs a spare is brought in, where one is wanted. Whether anything was done.
+fn work_at_once<L: Ledger, M: Map + Drop, I: Image, A: Allocator + Copy>(
+    rig: &mut Rig<L, M, I, A>,
+) -> bool
+    ensures { Does I.made (IsMeanwhile false) rig.old rig.new }
+{
+    let worked = work(rig);
+    bring_in(rig);
+    worked
+}
+
+/// Gives windows to dies without room, for a request that wants some. Where that is refused, so is the request.
+fn collect_for<L: Ledger, M: Map + Drop, I: Image, A: Allocator + Copy>(
+    rig: &mut Rig<L, M, I, A>,
+    op: &mut Op<A>,
+)
+    requires waits { waits (stage_of op.old) ≡ true }
+    requires flush { awaits_flush (stage_of op.old) ≡ false }
+    ensures { (bytes : List ℕ) → RunsOn I.made bytes rig.old op.old rig.new op.new }
+{
+    if let Some(fault) = give_room(rig) {
+        op.refuse_room(fault);
+    }
+}
+
+/// Gives windows to dies without room. Why a request is refused that waits for room, if none was given.
+fn give_room<L: Ledger, M: Map + Drop, I: Image, A: Allocator + Copy>(
+    rig: &mut Rig<L, M, I, A>,
+) -> Option<BlockFault>
+    ensures does { Does I.made IsForDies rig.old rig.new }
+    ensures cause { IfSome result (λ fault. HasNoWindow rig.new.locked.core fault) }
+{
+    match give_windows(rig, true) {
+        Windows::Refused(WindowRefused::NoMemory) => Some(BlockFault::NoMemory),
+        Windows::Refused(_) => {
+            if is_late(rig.locked.array()) {
+                Some(BlockFault::Spent)
+            } else {
+                None
+            }
         }
-        op.prepare(bytes);
-        turn(rig, op);
+        Windows::Given | Windows::Unwanted => None,
     }
 }
 
-/// Releases each claimed page from one to before another under whose claim nothing is reserved.
-fn release_all<L: Ledger, M: Map + Drop, I: Image, A: Allocator + Copy>(
-    rig: &mut Rig<L, M, I, A>,
-    first: u64,
-    past: u64,
-)
-    ensures { Does I.made IsForRequests rig.old rig.new }
+/// Whether so few rounds are left that no window is given.
+fn is_late<M: Map, A: Allocator + Copy>(array: &Array<M, A>) -> bool
+    ensures { result ≡ rule_late (state_of M.view array.now).calendar }
 {
-    for page in first..past {
-        release_one(rig, page);
-    }
-}
-
-/// Releases a page, if it is claimed and nothing is reserved under its claim.
-fn release_one<L: Ledger, M: Map + Drop, I: Image, A: Allocator + Copy>(
-    rig: &mut Rig<L, M, I, A>,
-    page: u64,
-)
-    ensures { Does I.made IsForRequests rig.old rig.new }
-{
-    let _ = release(rig.alloc, &mut rig.locked, &mut rig.seat, ClaimId(page));
+    LAST_ROUND < array.now().0
 }

@@ -1,9 +1,10 @@
 //! The store of one thread.
-ghost use Rattle.std.specs.Prelude.{◌≡◌, ◌*◌, ◌^◌, ◌≤◌, IfErr};
-ghost use Rattle.fa_core.specs.Array.{IsWhole};
+ghost use Rattle.std.specs.Prelude.{◌≡◌, ◌*◌, ◌^◌, ◌≤◌, IfErr, IfOk};
+ghost use Rattle.fa_core.specs.Array.{IsWhole, number_of as array_number};
+ghost use Rattle.fa_solo.specs.Rigs.{house_in, house_of};
 
 use crate::rig::{Parts, Rig};
-use crate::whole::{call, call_read};
+use crate::whole::{call, call_flush, call_read};
 use fa_image::Image;
 use fa_map::Map;
 use fa_ops::Request;
@@ -36,6 +37,9 @@ impl<L: Ledger, M: Map + Drop, I: Image, A: Allocator + Copy> Solo<L, M, I, A> {
         requires name { blank.name ≡ L.name }
         requires parts { (blank.parts ≡ L.parts) × (blank.parts ≡ 257) }
         requires whole { IsWhole M.view parts.mounted.array }
+        ensures house { IfOk result (λ store. house_of store.rig ≡ house_in M.view parts) }
+        ensures number { IfOk result (λ store. store.rig.locked.number ≡ array_number parts.mounted.array) }
+        ensures dies { IfOk result (λ store. store.rig.dies ≡ parts.mounted.dies) }
         ensures refused { IfErr result (λ back. back ≡ parts) }
     {
         let (bytes, page_bytes) = store_bytes(parts.mounted.array.geometry());
@@ -51,7 +55,10 @@ impl<L: Ledger, M: Map + Drop, I: Image, A: Allocator + Copy> Solo<L, M, I, A> {
 
     /// The array and its images.
     pub fn into_parts(self) -> Parts<M, I, A>
-        ensures { IsWhole M.view result.mounted.array }
+        ensures whole { IsWhole M.view result.mounted.array }
+        ensures house { house_in M.view result ≡ house_of self.rig }
+        ensures number { array_number result.mounted.array ≡ self.rig.locked.number }
+        ensures dies { result.mounted.dies ≡ self.rig.dies }
     {
         let Solo { rig, .. } = self;
         rig.into_parts()
@@ -134,9 +141,6 @@ impl<L: Ledger, M: Map + Drop, I: Image, A: Allocator + Copy> Blocks for Solo<L,
     }
 
     fn flush(&mut self) -> Result<(), BlockFault> {
-        match call(&mut self.rig, self.page_bytes, Request::Flush, &[]) {
-            Err(BlockFault::NoRoom | BlockFault::NoMemory) => Err(BlockFault::Lost),
-            answer => answer,
-        }
+        call_flush(&mut self.rig, self.page_bytes)
     }
 }

@@ -3,11 +3,11 @@ ghost use Rattle.std.specs.Prelude.{◌≡◌, ◌+◌, ◌^◌, ◌≤◌, [], 
 ghost use Rattle.fa_blocks.specs.Counts.{IsMade};
 ghost use Rattle.fa_ops.specs.Tallies.{pages_in};
 ghost use Rattle.fa_ops.specs.Tasks.{end_of, task_of};
-ghost use Rattle.fa_ops.specs.declared.request.Request.TheVariants.{Read};
-ghost use Rattle.fa_solo.specs.Calls.{EndsBy, IsServed, MakesWhole};
+ghost use Rattle.fa_ops.specs.declared.request.Request.TheVariants.{Flush, Read};
+ghost use Rattle.fa_solo.specs.Calls.{MakesWhole};
 ghost use Rattle.fa_solo.specs.Rigs.{Tidies};
-ghost use Rattle.fa_types.specs.Store.{Gave, Refused};
-ghost use Rattle.fa_types.specs.declared.blocks.BlockFault.TheVariants.{NoRoom};
+ghost use Rattle.fa_types.specs.Store.{Done, Gave, Refused};
+ghost use Rattle.fa_types.specs.declared.blocks.BlockFault.TheVariants.{NoMemory, NoRoom};
 
 use crate::jobs::bring_in;
 use crate::rebuilding::tidy;
@@ -31,8 +31,8 @@ pub(crate) fn call<L: Ledger, M: Map + Drop, I: Image, A: Allocator + Copy>(
     requires small { page_bytes ≤ 4096 }
     requires inside { end_of request ≤ 2 ^ 32 }
     ensures made { IsMade (pages_in (task_of page_bytes request)) rig.old.seat (is_ok result) rig.new.seat }
-    ensures done { OnOk result (MakesWhole I.made (task_of page_bytes request) bytes.now true (IsServed true) rig.old rig.new) }
-    ensures refused { IfErr result (λ fault. MakesWhole I.made (task_of page_bytes request) bytes.now false (IsServed false) rig.old rig.new) }
+    ensures done { OnOk result (MakesWhole I.made (task_of page_bytes request) bytes.now Done rig.old rig.new) }
+    ensures refused { IfErr result (λ fault. MakesWhole I.made (task_of page_bytes request) bytes.now (Refused fault) rig.old rig.new) }
 {
     bring_in(rig);
     let answer = run(rig, page_bytes, request, bytes);
@@ -55,15 +55,31 @@ pub(crate) fn call_read<L: Ledger, M: Map + Drop, I: Image, A: Allocator + Copy,
     ensures length { IfOk result (λ answer. length answer.items ≡ len) }
     ensures room { IfErr result (λ fault. fault ≡ NoRoom → ⊥) }
     ensures made { IsMade 0 rig.old.seat (is_ok result) rig.new.seat }
-    ensures gave { IfOk result (λ answer. MakesWhole I.made (task_of page_bytes (Read offset len)) [] true (EndsBy (Gave answer.items))
-        rig.old rig.new) }
-    ensures refused { IfErr result (λ fault. MakesWhole I.made (task_of page_bytes (Read offset len)) [] false (EndsBy (Refused fault))
-        rig.old rig.new) }
+    ensures gave { IfOk result (λ answer. MakesWhole I.made (task_of page_bytes (Read offset len)) [] (Gave answer.items) rig.old rig.new) }
+    ensures refused { IfErr result (λ fault. MakesWhole I.made (task_of page_bytes (Read offset len)) [] (Refused fault) rig.old rig.new) }
 {
     bring_in(rig);
     let answer = run_read(rig, page_bytes, offset, len, into);
     tidy(rig);
     answer
+}
+
+/// A flush. Behind it all is done that the array wants. It is never refused for want of room or memory.
+pub(crate) fn call_flush<L: Ledger, M: Map + Drop, I: Image, A: Allocator + Copy>(
+    rig: &mut Rig<L, M, I, A>,
+    page_bytes: u32,
+) -> Result<(), BlockFault>
+    requires some { 1 ≤ page_bytes }
+    requires small { page_bytes ≤ 4096 }
+    ensures room { IfErr result (λ fault. (fault ≡ NoRoom → ⊥) × (fault ≡ NoMemory → ⊥)) }
+    ensures made { IsMade 0 rig.old.seat (is_ok result) rig.new.seat }
+    ensures done { OnOk result (MakesWhole I.made (task_of page_bytes Flush) [] Done rig.old rig.new) }
+    ensures refused { IfErr result (λ fault. MakesWhole I.made (task_of page_bytes Flush) [] (Refused fault) rig.old rig.new) }
+{
+    match call(rig, page_bytes, Request::Flush, &[]) {
+        Err(BlockFault::NoRoom | BlockFault::NoMemory) => Err(BlockFault::Lost),
+        answer => answer,
+    }
 }
 
 /// Does what the array wants, unless there was no room.

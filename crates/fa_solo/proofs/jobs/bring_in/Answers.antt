@@ -1,7 +1,7 @@
 use Rattle.std.proofs.Common.{refl}
 use Rattle.fa_solo.proofs.Chains.{does_spare}
-use Rattle.fa_solo.specs.Deeds.{IsForDies}
+use Rattle.fa_solo.specs.Deeds.{IsForRequests}
 use Rattle.fa_solo.proofs.jobs.bring_in.Goals as goal
 
 pub returns : goal.returns
-returns g c = does_spare _ IsForDies _ _ _ (λ die answer. tt) c.bring_in_spare.ensures.brings c.bring_in_spare.ensures.account refl refl
+returns g c = does_spare _ IsForRequests _ _ _ (λ die answer. tt) c.bring_in_spare.ensures.brings c.bring_in_spare.ensures.account refl refl

@@ -1,0 +1,25 @@
+-- A world that the store of one thread stands for, and how many turns its request had.
+use Rattle.std.specs.Prelude.{◌≡◌, ℕ, List, None}
+use Rattle.fa_deeds.specs.Driving.{image_on}
+use Rattle.fa_image.specs.Image.{ImageAnswer, ImageCall, ImageState}
+use Rattle.fa_laws.specs.Reached.{IsReached}
+use Rattle.fa_machine.specs.World.{World}
+use Rattle.fa_ops.specs.declared.request.Task.{Task}
+use Rattle.fa_runs.specs.Drives.{AreImages}
+use Rattle.fa_solo.specs.Calls.{Made, MakesRequest, NoMemory}
+use Rattle.fa_solo.specs.Turns.{RunsOn}
+use Rattle.fa_solo.specs.declared.rig.Rig.{Rig}
+use Rattle.fa_types.specs.Store.{Answer}
+
+module _ {L M I A : Type 0} where
+  -- Runs lead to the world, its state is the store's, it sees what stands in the slots of the store's images, and no job is in flight.
+  pub record IsWorldOf (view : I → ImageState) (rig : Rig L M I A) (w : World) : Type 0 where
+    pub reached : IsReached w
+    pub core : w.core ≡ rig.locked.core
+    pub images : AreImages view w (image_on rig.dies.items rig.images.items)
+    pub idle : (die : ℕ) → w.works die ≡ None
+
+  module _ (made : I → ImageCall → ImageAnswer → I → Type 0) (task : Task) (bytes : List ℕ) (answer : Answer) (old new : Rig L M I A) where
+    abbrev pub turns_in : MakesRequest made task bytes answer old new → ℕ
+    turns_in (NoMemory is some same) = 0
+    turns_in (Made op next its_task stage none runs end) = runs.turns

@@ -1,0 +1,5 @@
+use Rattle.fa_solo.proofs.Asked.{runs_behind}
+use Rattle.fa_solo.proofs.requests.step.Goals as goal
+
+pub returns-then-eq : goal.returns-then-eq
+returns-then-eq g c = λ bytes. runs_behind _ bytes _ _ _ _ _ _ (c.turn-came.ensures bytes) (c.pass_time.ensures bytes)
