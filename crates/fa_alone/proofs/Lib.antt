@@ -4,3 +4,4 @@ pub mod Given
 pub mod Listed
 pub mod Reserved
 pub mod ReadBack
+pub mod Tells

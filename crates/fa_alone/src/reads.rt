@@ -19,6 +19,7 @@ ghost use Rattle.fa_machine.specs.Taking.{Handed};
 ghost use Rattle.fa_machine.specs.World.{Told, World, plain_page};
 
 use fa_laws::reads::{a_read_gives_the_page_of_its_take, what_was_told_is_the_numbers_bytes};
+use fa_laws::steps::numbers_are_kept;
 
 /// While no Commit is accepted the plain array stays as it is, and each answer of a batch gives its page of the plain array as it was
 /// at the batch's Admit, whatever other events there are and whatever calls of images fail. A batch that is ready answers each page of its
@@ -66,4 +67,18 @@ pub fn a_told_page_while_nothing_is_written()
 {
     a_read_gives_the_page_of_its_take();
     what_was_told_is_the_numbers_bytes();
+}
+
+/// While no Commit is accepted a page keeps its number, and what a batch answers for it is told with that number as the batch ends. So one more
+/// copy of the page may be reserved of these bytes.
+pub fn what_a_batch_answers_is_told()
+    ensures { (w opened last after : World) (pages : List ℕ) (admitted : Admitted) (happenings : List Happening)
+        (answer : List (ℕ × List ℕ)) (page : ℕ) (bytes : List ℕ) (version : Version) → IsReached w
+        → HappensEvent w (Admit pages (Ok admitted)) opened → Run opened happenings last → AllByRecursion WritesNothing happenings
+        → HappensEvent last (EndBatch admitted.batch.0 answer) after → Contains answer (page, bytes)
+        → get w.core.page_map.versions page ≡ Some version
+        → Contains after.told (record { page = page; seq = version.seq.0; bytes = bytes })
+        × (get after.core.page_map.versions page ≡ Some version) }
+{
+    numbers_are_kept();
 }
