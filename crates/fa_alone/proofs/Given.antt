@@ -80,7 +80,7 @@ with_due_values die (Program page version slot) w = refl
 with_due_values die (Sync flushes) w = refl
 
 -- the job of the state is one that the world is at
-at_work : (o : Option Work) (flight : Flight) → option_map {T = Work} (λ k. k.job.flight) o ≡ Some flight
+pub at_work : (o : Option Work) (flight : Flight) → option_map {T = Work} (λ k. k.job.flight) o ≡ Some flight
     → (work : Work) × (o ≡ Some work) × (work.job.flight ≡ flight)
 at_work None flight e = absurd (none-some flight e)
 at_work (Some work) flight e = (work, refl, same_Some work.job.flight flight e)

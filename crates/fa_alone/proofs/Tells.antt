@@ -32,7 +32,7 @@ use Rattle.fa_machine.specs.declared.places.Version.{Version}
 use Rattle.fa_machine.specs.declared.refusals.CommitRefused.{CommitRefused}
 use Rattle.fa_types.specs.declared.numbers.Page.{Page}
 use Rattle.fa_types.specs.declared.numbers.Slot.{Slot}
-use Rattle.std.proofs.Common.{Bool, List, None, Option, Some, [], ap, eq-eqb, false, inl, inr, length, refl, suc, subst, sym, true, ℕ}
+use Rattle.std.proofs.Common.{Bool, List, None, Option, Some, [], ap, arith, eq-eqb, false, inl, inr, length, refl, suc, subst, sym, true, ℕ}
 use Rattle.std.proofs.Common.{◌++◌, ◌<◌, ◌||◌, ◌∙◌, ◌∷◌, ◌≡◌, ◌⊎◌}
 use Rattle.std.proofs.lemmas.Bool.{cases_eq, false≢true, not-true, or_parts}
 use Rattle.std.proofs.lemmas.Option.{none-some, same_Some}
@@ -99,7 +99,7 @@ contains_it x (y ∷ xs) (inl is) = (0, omega arith, is)
 contains_it x (y ∷ xs) (inr rest) = let later = contains_it x xs rest in (suc later.0, let n = later.1 in omega (arith, n), later.2)
 
 -- A Take of a read is of the page's last write.
-is_read : Flight → Bool
+abbrev is_read : Flight → Bool
 is_read (Read batch page version slot) = true
 is_read flight = false
 
@@ -142,14 +142,14 @@ module _ (batch : ℕ) (versions : Versions) where
         elim (cases_eq d die) [
           | inl here ↦
               let is = same_Some _ work (sym (one_value_same die (Some (record { job = job; gave = [] })) w.works d here) ∙ e) in
-              elsewhere (takes_now w.core die seat job b page version slot
+              elsewhere page.0 version (takes_now w.core die seat job b page version slot
               (sym (ap (λ (p : Option Handed × Core). p.0) step.does)) (ap (λ (k : Work). k.job.flight) is ∙ flight))
           | inr apart ↦
               g.reads d work b page version slot (sym (one_value_other die (Some (record { job = job; gave = [] })) w.works d apart) ∙ e) flight of_batch
         ]
       where
-        elsewhere : {page : ℕ} {version : Version} → get w.core.page_map.versions page ≡ Some version → get versions page ≡ Some version
-        elsewhere {page} is = ap (λ (m : Versions). get m page) (sym g.same) ∙ is
+        elsewhere : (page : ℕ) (version : Version) → get w.core.page_map.versions page ≡ Some version → get versions page ≡ Some version
+        elsewhere page version is = ap (λ (m : Versions). get m page) (sym g.same) ∙ is
 
     done_now : (die : ℕ) → AreNow batch versions (with_value die None w.works)
     done_now die d work b page version slot e flight of_batch =
@@ -331,11 +331,12 @@ fresh_tells w h batch fresh = record {
     named = or_parts (contains_key w.core.batches batch || list_any (λ (k : Booking). k.batch.0 == batch) (values w.core.calendar.bookings))
         (list_any (names_batch batch) (values w.core.jobs)) (not-true _ fresh)
 
-answer_at : (page : ℕ) (o : Option (List ℕ)) (given : ℕ) (bytes : List ℕ) → option_map (λ bytes. (page, bytes)) o ≡ Some (given, bytes)
+answer_at : (page : ℕ) (o : Option (List ℕ)) (given : ℕ) (bytes : List ℕ)
+    → option_map {U = ℕ × List ℕ} (λ it. (page, it)) o ≡ Some (given, bytes)
     → (page ≡ given) × (o ≡ Some bytes)
 answer_at page None given bytes e = absurd (none-some _ e)
 answer_at page (Some it) given bytes e =
-    let same = same_Some (page, it) (given, bytes) e in
+    let same : ◌≡◌ {A = ℕ × List ℕ} (page, it) (given, bytes) = same_Some _ _ e in
     (ap (λ (a : ℕ × List ℕ). a.0) same, ap (λ (a : ℕ × List ℕ). Some a.1) same)
 
 answered_told : (batch : ℕ) (versions : Versions) (last : World) → Tells batch versions last → (o : Option OpenBatch)
