@@ -30,7 +30,7 @@ use Rattle.fa_ops.specs.declared.request.Task.{Task}
 use Rattle.fa_ops.specs.declared.stage.Purpose.TheVariants.{Answer}
 use Rattle.fa_ops.specs.Waiting.{without_room}
 use Rattle.fa_ops.specs.declared.stage.Stage.{Stage}
-use Rattle.fa_ops.specs.declared.stage.Stage.TheVariants.{Asking, Ended, Leaving, Listing, Reading, Sorting}
+use Rattle.fa_ops.specs.declared.stage.Stage.TheVariants.{Asking, Ended, Leaving, Listing, Reading, Reserving, Sorting}
 use Rattle.fa_types.specs.MemoryMeets.{length-bytes_at}
 use Rattle.fa_types.specs.Plain.{HasPages, export}
 use Rattle.fa_types.specs.Store.{HasCause, IsMet, bytes_at}

@@ -16,13 +16,14 @@ use Rattle.fa_solo.specs.declared.rig.Rig.{Rig}
 use Rattle.fa_workers.specs.Held.{LeavesRest}
 use Rattle.fa_workers.specs.Made.{Ran}
 
+-- an array with its images that is not in use
+abbrev pub house_in : {M I A : Type 0} → (M → MapState) → Parts M I A → House I
+house_in view parts = record { core = state_of view parts.mounted.array; images = parts.images.items }
+
 module _ {L M I A : Type 0} where
+  -- one in use
   abbrev pub house_of : Rig L M I A → House I
   house_of rig = record { core = rig.locked.core; images = rig.images.items }
-
-  -- the same of an array with its images that are not in use
-  abbrev pub house_in : (M → MapState) → Parts M I A → House I
-  house_in view parts = record { core = state_of view parts.mounted.array; images = parts.images.items }
 
   -- The die has this image, at this place of the list, and it is of the array's geometry.
   pub record IsPlaced (view : I → ImageState) (rig : Rig L M I A) (die place : ℕ) : Type 0 where
