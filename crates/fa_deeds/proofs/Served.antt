@@ -154,7 +154,7 @@ module _ {L M I A : Type 0} (view : I → ImageState) (honest : I → Bool) (mad
     begun = record { reached = of_old.reached; calm = calm; inside = inside; stage = stage; answer = none }
 
     its_task : task_in next ≡ task_of size request
-    its_task = task ∙ runs.counts.task
+    its_task = runs.counts.task ∙ task
 
     world_of : IsWorldOf view new one.last
     world_of = record {

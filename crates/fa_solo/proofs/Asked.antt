@@ -27,13 +27,16 @@ use Rattle.fa_types.specs.declared.blocks.BlockFault.{BlockFault}
 
 module _ {L I A : Type 0} (made : I → ImageCall → ImageAnswer → I → Type 0) (array : List ℕ) (dies : List Standing) (seat : ℕ) (task : Task)
     (bytes : List ℕ) where
-  pub asks_more : (m n : ℕ) (a b c : Asking L I A) → Asks made array dies seat task bytes a m b → Asks made array dies seat task bytes b n c
-      → Asks made array dies seat task bytes a (m + n) c
-  asks_more m n a b c one Begins = one
-  asks_more m n a b c one (Turns turns middle new before turn) = Turns (m + turns) middle new (asks_more m turns a b middle one before) turn
-  asks_more m n a b c one (Readies turns middle new before ready) = Readies (m + turns) middle new (asks_more m turns a b middle one before) ready
-  asks_more m n a b c one (Waits turns middle new before time) = Waits (m + turns) middle new (asks_more m turns a b middle one before) time
-  asks_more m n a b c one (Refuses turns middle new before up) = Refuses (m + turns) middle new (asks_more m turns a b middle one before) up
+  pub asks_more : (m : ℕ) (a b : Asking L I A) → Asks made array dies seat task bytes a m b → (n : ℕ) (c : Asking L I A)
+      → Asks made array dies seat task bytes b n c → Asks made array dies seat task bytes a (m + n) c
+  asks_more m a b one n c Begins =
+      subst (λ (k : ℕ). Asks made array dies seat task bytes a k c) (let e : m ≡ m + 0 = omega arith in e) one
+  asks_more m a b one n c (Turns turns middle new before turn) =
+      subst (λ (k : ℕ). Asks made array dies seat task bytes a k c) (let e : (m + turns) + 1 ≡ m + (turns + 1) = omega arith in e)
+      (Turns (m + turns) middle new (asks_more m a b one turns middle before) turn)
+  asks_more m a b one n c (Readies turns middle new before ready) = Readies (m + turns) middle new (asks_more m a b one turns middle before) ready
+  asks_more m a b one n c (Waits turns middle new before time) = Waits (m + turns) middle new (asks_more m a b one turns middle before) time
+  asks_more m a b one n c (Refuses turns middle new before up) = Refuses (m + turns) middle new (asks_more m a b one turns middle before) up
 
 -- the same by other numbers that are equal
 pub asks_by : {L I A : Type 0} (made : I → ImageCall → ImageAnswer → I → Type 0) (array other : List ℕ) (dies those : List Standing)
@@ -116,18 +119,25 @@ module _ {L M I A : Type 0} (made : I → ImageCall → ImageAnswer → I → Ty
   pub runs_none : (rig : Rig L M I A) (op : Op A) → RunsOn made bytes rig op rig op
   runs_none rig op = record { turns = 0; asks = Begins; counts = same_counts rig.seat rig.seat op refl refl; rest = refl; dies = refl }
 
+  runs_both : (a b c : Rig L M I A) (x y z : Op A) (one : RunsOn made bytes a x b y) (two : RunsOn made bytes b y c z)
+      → (all : RunsOn made bytes a x c z) × (all.turns ≡ one.turns + two.turns)
+  runs_both a b c x y z one two = (
+    record {
+      turns = one.turns + two.turns;
+      asks = asks_more made a.locked.number a.dies.items (number_of a.seat) (task_in x) bytes one.turns (asking_of a x) (asking_of b y) one.asks
+          two.turns (asking_of c z)
+          (asks_by made a.locked.number b.locked.number a.dies.items b.dies.items (number_of a.seat) (number_of b.seat) (task_in x) (task_in y)
+          bytes two.turns (asking_of b y) (asking_of c z) (ap (λ (l : LockedState). l.number) one.rest) one.dies one.counts.number one.counts.task
+          two.asks);
+      counts = goes_further a.seat b.seat c.seat x y z one.counts two.counts;
+      rest = two.rest ∙ ap (λ (l : LockedState). record l { core = c.locked.core; book = c.locked.book }) one.rest;
+      dies = two.dies ∙ one.dies;
+    },
+    refl,
+  )
+
   pub runs_more : (a b c : Rig L M I A) (x y z : Op A) → RunsOn made bytes a x b y → RunsOn made bytes b y c z → RunsOn made bytes a x c z
-  runs_more a b c x y z one two = record {
-    turns = one.turns + two.turns;
-    asks = asks_more made a.locked.number a.dies.items (number_of a.seat) (task_in x) bytes one.turns two.turns (asking_of a x) (asking_of b y)
-        (asking_of c z) one.asks
-        (asks_by made a.locked.number b.locked.number a.dies.items b.dies.items (number_of a.seat) (number_of b.seat) (task_in x) (task_in y)
-        bytes two.turns (asking_of b y) (asking_of c z) (ap (λ (l : LockedState). l.number) one.rest) one.dies one.counts.number one.counts.task
-        two.asks);
-    counts = goes_further a.seat b.seat c.seat x y z one.counts two.counts;
-    rest = two.rest ∙ ap (λ (l : LockedState). record l { core = c.locked.core; book = c.locked.book }) one.rest;
-    dies = two.dies ∙ one.dies;
-  }
+  runs_more a b c x y z one two = (runs_both a b c x y z one two).0
 
   pub runs_turn : (a b : Rig L M I A) (x y : Op A)
       → Turned (task_in x) a.seat b.seat a.locked.core (stage_of x) b.locked.core (stage_of y) → task_in y ≡ task_in x
@@ -191,8 +201,9 @@ module _ {L M I A : Type 0} (made : I → ImageCall → ImageAnswer → I → Ty
       → RunsOn made bytes b y c z → (w : Op A) → (two : RunsOn made bytes c z d w) × (1 ≤ two.turns)
       → (all : RunsOn made bytes a x d w) × (n + 1 ≤ all.turns)
   runs_step a b c d x y z n (one, some) ready w (two, turn) =
-      (runs_more a c d x z w (runs_more a b c x y z one ready) two, omega (arith, some, turn))
+      let first = runs_both a b c x y z one ready in
+      let all = runs_both a c d x z w first.0 two in (all.0, omega (arith, some, turn, first.1, all.1))
 
   pub runs_behind : (a b c : Rig L M I A) (x y z : Op A) → (one : RunsOn made bytes a x b y) × (1 ≤ one.turns) → RunsOn made bytes b y c z
       → (all : RunsOn made bytes a x c z) × (1 ≤ all.turns)
-  runs_behind a b c x y z (one, some) two = (runs_more a b c x y z one two, omega (arith, some))
+  runs_behind a b c x y z (one, some) two = let all = runs_both a b c x y z one two in (all.0, omega (arith, some, all.1))

@@ -1,6 +1,6 @@
 -- Requests as they are made from their beginning on, and calls.
 use Rattle.std.proofs.Common.{◌≡◌, ◌∙◌, ◌⊎◌, ◌-◌, ◌^◌, ◌<◌, ◌≤◌, ℕ, Bool, List, [], length, Result, Ok, Err, Option, Some, None, Vec, ap, refl, subst, sym}
-use Rattle.std.proofs.Common.{true, false, inl, inr}
+use Rattle.std.proofs.Common.{arith, true, false, inl, inr}
 use Rattle.std.specs.Prelude.{IfOk, IfErr, OnOk}
 use Rattle.std.proofs.lemmas.Bool.{false≢true}
 use Rattle.fa_image.specs.Image.{ImageAnswer, ImageCall}
@@ -20,6 +20,19 @@ use Rattle.fa_types.specs.Store.{Answer, Done, Gave, Refused}
 use Rattle.fa_types.specs.declared.blocks.BlockFault.{BlockFault}
 use Rattle.fa_types.specs.declared.blocks.BlockFault.TheVariants.{Lost, NoMemory, NoRoom}
 
+-- A flush that was refused for room or memory is told as lost.
+told : {A : Type 0} (own : BlockFault) (page_bytes turns : ℕ) (y : Op A) → task_in y ≡ task_of page_bytes Flush
+    → (own ≡ NoRoom) ⊎ (own ≡ NoMemory) → IsRefused own turns y → IsRefused Lost turns y
+told own page_bytes turns y task (inl is) (Ended end) =
+    WithoutRoom refl (ap (λ (t : Task). t.fill) task) (end ∙ ap (λ (f : BlockFault). Some (Some f)) is)
+told own page_bytes turns y task (inr is) (Ended end) =
+    WithoutMemory refl (ap (λ (t : Task). t.fill) task) (ap (λ (t : Task). t.flush) task) (end ∙ ap (λ (f : BlockFault). Some (Some f)) is)
+told own page_bytes turns y task why (NotHandedOut is fill flush end) = absurd (false≢true (sym flush ∙ ap (λ (t : Task). t.flush) task))
+told own page_bytes turns y task why (OfOtherLength is fill flush end other) = OfOtherLength refl fill flush end other
+told own page_bytes turns y task why (WithoutRoom is fill end) = WithoutRoom refl fill end
+told own page_bytes turns y task why (WithoutMemory is fill flush end) = WithoutMemory refl fill flush end
+told own page_bytes turns y task why (Endless is most) = Endless refl most
+
 module _ {L M I A : Type 0} (made : I → ImageCall → ImageAnswer → I → Type 0) where
   pub made_request : (a b : Rig L M I A) (x y : Op A) (request : Request) (page_bytes same : ℕ) (bytes : List ℕ) (answer : Answer)
       → same ≡ page_bytes → task_in x ≡ task_of same request → stage_of x ≡ beginning (task_of same request) → answer_of x ≡ []
@@ -36,11 +49,11 @@ module _ {L M I A : Type 0} (made : I → ImageCall → ImageAnswer → I → Ty
       subst P e (NoMemoryFor refl some refl)
 
   -- a read whose answer was handed out, or not
-  module _ {B : Type 0} (a b : Rig L M I A) (x y : Op A) (offset len page_bytes same : ℕ) (e : same ≡ page_bytes)
+  module _ (a b : Rig L M I A) (x y : Op A) (offset len page_bytes same : ℕ) (e : same ≡ page_bytes)
       (task : task_in x ≡ task_of same (Read offset len)) (stage : stage_of x ≡ beginning (task_of same (Read offset len)))
       (none : answer_of x ≡ []) (runs : RunsOn made [] a x b y) where
     its_task : task_in y ≡ task_of same (Read offset len)
-    its_task = task ∙ runs.counts.task
+    its_task = runs.counts.task ∙ task
 
     read_with : (answer : Answer) → EndsBy answer runs.turns y → MakesRequest made (task_of page_bytes (Read offset len)) [] answer a b
     read_with answer end = made_request a b x y (Read offset len) page_bytes same [] answer e task stage none runs end
@@ -51,15 +64,15 @@ module _ {L M I A : Type 0} (made : I → ImageCall → ImageAnswer → I → Ty
         NotHandedOut is (ap (λ (t : Task). t.fill) its_task) (ap (λ (t : Task). t.flush) its_task) end
     refused_with fault end (inr (is, other)) =
         OfOtherLength is (ap (λ (t : Task). t.fill) its_task) (ap (λ (t : Task). t.flush) its_task) end (λ same_length.
-        let all : answered (task_in y) ≡ len = omega (arith, ap answered its_task) in other (all ∙ same_length))
+        let all : answered (task_in y) ≡ len = omega (arith, ap answered its_task) in other (same_length ∙ all))
 
-    pub gave_request : (result : Result (Vec ℕ B) BlockFault) → ended (stage_of y) ≡ Some None
+    pub gave_request : {B : Type 0} (result : Result (Vec ℕ B) BlockFault) → ended (stage_of y) ≡ Some None
         → IfOk result (λ answer. answer.items ≡ answer_of y)
         → IfOk result (λ answer. MakesRequest made (task_of page_bytes (Read offset len)) [] (Gave answer.items) a b)
     gave_request (Ok given) end is = read_with (Gave given.items) (end, sym is)
     gave_request (Err fault) end is = tt
 
-    pub refused_request : (result : Result (Vec ℕ B) BlockFault) → ended (stage_of y) ≡ Some None
+    pub refused_request : {B : Type 0} (result : Result (Vec ℕ B) BlockFault) → ended (stage_of y) ≡ Some None
         → IfErr result (λ fault. (fault ≡ NoMemory) ⊎ ((fault ≡ Lost) × (length (answer_of y) ≡ len → ⊥)))
         → IfErr result (λ fault. MakesRequest made (task_of page_bytes (Read offset len)) [] (Refused fault) a b)
     refused_request (Ok given) end why = tt
@@ -69,9 +82,9 @@ module _ {L M I A : Type 0} (made : I → ImageCall → ImageAnswer → I → Ty
     pub ended_request : (own fault : BlockFault) → ended (stage_of y) ≡ Some (Some own) → IsOfRead own fault
         → MakesRequest made (task_of page_bytes (Read offset len)) [] (Refused fault) a b
     ended_request own fault end (other, inl is) =
-        read_with (Refused fault) (Ended (ap (λ (f : BlockFault). Some (Some f)) (sym is) ∙ end))
+        read_with (Refused fault) (Ended (end ∙ ap (λ (f : BlockFault). Some (Some f)) (sym is)))
     ended_request own fault end (other, inr (room, is)) =
-        read_with (Refused fault) (WithoutRoom is (ap (λ (t : Task). t.fill) its_task) (ap (λ (f : BlockFault). Some (Some f)) room ∙ end))
+        read_with (Refused fault) (WithoutRoom is (ap (λ (t : Task). t.fill) its_task) (end ∙ ap (λ (f : BlockFault). Some (Some f)) room))
 
     pub endless_request : 2 ^ 64 - 1 ≤ runs.turns → MakesRequest made (task_of page_bytes (Read offset len)) [] (Refused Lost) a b
     endless_request most = read_with (Refused Lost) (Endless refl most)
@@ -106,25 +119,11 @@ module _ {L M I A : Type 0} (made : I → ImageCall → ImageAnswer → I → Ty
   whole_err a b c d task bytes (Ok x) before request behind = tt
   whole_err a b c d task bytes (Err fault) before request behind = whole a b c d task bytes (Refused fault) before request behind
 
-  -- A flush that was refused for room or memory is told as lost.
-  told : (own : BlockFault) (page_bytes turns : ℕ) (y : Op A) → task_in y ≡ task_of page_bytes Flush → (own ≡ NoRoom) ⊎ (own ≡ NoMemory)
-      → IsRefused own turns y → IsRefused Lost turns y
-  told own page_bytes turns y task (inl is) (Ended end) =
-      WithoutRoom refl (ap (λ (t : Task). t.fill) task) (ap (λ (f : BlockFault). Some (Some f)) is ∙ end)
-  told own page_bytes turns y task (inr is) (Ended end) =
-      WithoutMemory refl (ap (λ (t : Task). t.fill) task) (ap (λ (t : Task). t.flush) task) (ap (λ (f : BlockFault). Some (Some f)) is ∙ end)
-  told own page_bytes turns y task why (NotHandedOut is fill flush end) =
-      absurd (false≢true (ap (λ (t : Task). t.flush) task ∙ sym flush))
-  told own page_bytes turns y task why (OfOtherLength is fill flush end other) = OfOtherLength refl fill flush end other
-  told own page_bytes turns y task why (WithoutRoom is fill end) = WithoutRoom refl fill end
-  told own page_bytes turns y task why (WithoutMemory is fill flush end) = WithoutMemory refl fill flush end
-  told own page_bytes turns y task why (Endless is most) = Endless refl most
-
   told_request : (a b : Rig L M I A) (own : BlockFault) (page_bytes : ℕ) → (own ≡ NoRoom) ⊎ (own ≡ NoMemory)
       → MakesRequest made (task_of page_bytes Flush) [] (Refused own) a b → MakesRequest made (task_of page_bytes Flush) [] (Refused Lost) a b
   told_request a b own page_bytes why (NoMemoryFor is some same) = absurd (omega (arith, some))
   told_request a b own page_bytes why (Made x y task stage none runs end) =
-      Made x y task stage none runs (told own page_bytes runs.turns y (task ∙ runs.counts.task) why end)
+      Made x y task stage none runs (told own page_bytes runs.turns y (runs.counts.task ∙ task) why end)
 
   pub told_whole : (a b : Rig L M I A) (own : BlockFault) (page_bytes : ℕ) → (own ≡ NoRoom) ⊎ (own ≡ NoMemory)
       → MakesWhole made (task_of page_bytes Flush) [] (Refused own) a b → MakesWhole made (task_of page_bytes Flush) [] (Refused Lost) a b
