@@ -1,5 +1,5 @@
 -- Requests that go on, step by step.
-use Rattle.std.proofs.Common.{◌≡◌, ◌∙◌, ◌+◌, ◌≤◌, ℕ, Bool, IsTrue, List, Some, None, true, false, ap, arith, refl, subst, sym}
+use Rattle.std.proofs.Common.{◌≡◌, ◌∙◌, ◌+◌, ◌≤◌, ℕ, Bool, List, true, false, ap, arith, refl, subst, sym}
 use Rattle.std.proofs.lemmas.Bool.{false≢true}
 use Rattle.fa_blocks.proofs.Counts.{goes_further, prepared_on, turned_on}
 use Rattle.fa_blocks.specs.Counts.{Counts, GoesOn, IsMade}
@@ -21,7 +21,7 @@ use Rattle.fa_shared.specs.Seats.{commits_with, number_of}
 use Rattle.fa_shared.specs.declared.seat.Seat.{Seat}
 use Rattle.fa_solo.specs.Deeds.{Goes, IsMeanwhile}
 use Rattle.fa_solo.specs.Rigs.{Does, house_of}
-use Rattle.fa_solo.specs.Turns.{Asking, Asks, Begins, GivesUp, MakesReady, MakesTurn, PassesTime, Readies, Refuses, RunsOn, Turns, Waits, asking_of}
+use Rattle.fa_solo.specs.Turns.{Asking, Asks, Begins, Readies, Refuses, RunsOn, Turns, Waits, asking_of}
 use Rattle.fa_solo.specs.declared.rig.Rig.{Rig}
 use Rattle.fa_types.specs.declared.blocks.BlockFault.{BlockFault}
 

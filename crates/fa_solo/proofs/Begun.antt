@@ -1,6 +1,6 @@
 -- Requests as they are made from their beginning on, and calls.
-use Rattle.std.proofs.Common.{◌≡◌, ◌∙◌, ◌⊎◌, ◌-◌, ◌^◌, ◌<◌, ◌≤◌, ℕ, Bool, List, [], length, Result, Ok, Err, Option, Some, None, Vec, ap, refl, subst, sym}
-use Rattle.std.proofs.Common.{arith, true, false, inl, inr}
+use Rattle.std.proofs.Common.{◌≡◌, ◌∙◌, ◌⊎◌, ◌-◌, ◌^◌, ◌<◌, ◌≤◌, ℕ, List, [], length, Result, Ok, Err, Some, None, Vec, ap, refl, subst, sym}
+use Rattle.std.proofs.Common.{arith, inl, inr}
 use Rattle.std.specs.Prelude.{IfOk, IfErr, OnOk}
 use Rattle.std.proofs.lemmas.Bool.{false≢true}
 use Rattle.fa_image.specs.Image.{ImageAnswer, ImageCall}
@@ -10,7 +10,7 @@ use Rattle.fa_ops.specs.declared.op.Op.{Op}
 use Rattle.fa_ops.specs.declared.request.Request.{Request}
 use Rattle.fa_ops.specs.declared.request.Request.TheVariants.{Flush, Read}
 use Rattle.fa_ops.specs.declared.request.Task.{Task}
-use Rattle.fa_solo.specs.Calls.{Ended, EndsBy, answer_by, IsOfRead, IsRefused, Made, MakesRequest, MakesWhole, NotHandedOut, OfOtherLength, WithoutMemory, WithoutRoom}
+use Rattle.fa_solo.specs.Calls.{Ended, EndsBy, answer_by, IsOfFlush, IsOfRead, IsRefused, Made, MakesRequest, MakesWhole, NotHandedOut, OfOtherLength, WithoutMemory, WithoutRoom}
 use Rattle.fa_solo.specs.Calls.{Endless, NoMemory as NoMemoryFor}
 use Rattle.fa_solo.specs.Deeds.{IsForRequests}
 use Rattle.fa_solo.specs.Rigs.{Does, Tidies}
@@ -125,7 +125,7 @@ module _ {L M I A : Type 0} (made : I → ImageCall → ImageAnswer → I → Ty
   told_request a b own page_bytes why (Made x y task stage none runs end) =
       Made x y task stage none runs (told own page_bytes runs.turns y (runs.counts.task ∙ task) why end)
 
-  pub told_whole : (a b : Rig L M I A) (own : BlockFault) (page_bytes : ℕ) → (own ≡ NoRoom) ⊎ (own ≡ NoMemory)
+  told_whole : (a b : Rig L M I A) (own : BlockFault) (page_bytes : ℕ) → (own ≡ NoRoom) ⊎ (own ≡ NoMemory)
       → MakesWhole made (task_of page_bytes Flush) [] (Refused own) a b → MakesWhole made (task_of page_bytes Flush) [] (Refused Lost) a b
   told_whole a b own page_bytes why call = record {
     begun = call.begun;
@@ -134,3 +134,10 @@ module _ {L M I A : Type 0} (made : I → ImageCall → ImageAnswer → I → Ty
     request = told_request call.begun call.done own page_bytes why call.request;
     behind = call.behind;
   }
+
+  pub flush_refused : (a b : Rig L M I A) (own fault : BlockFault) (page_bytes : ℕ) → IsOfFlush own fault
+      → MakesWhole made (task_of page_bytes Flush) [] (Refused own) a b → MakesWhole made (task_of page_bytes Flush) [] (Refused fault) a b
+  flush_refused a b own fault page_bytes (room, memory, inl is) call =
+      subst (λ (f : BlockFault). MakesWhole made (task_of page_bytes Flush) [] (Refused f) a b) (sym is) call
+  flush_refused a b own fault page_bytes (room, memory, inr (why, is)) call =
+      subst (λ (f : BlockFault). MakesWhole made (task_of page_bytes Flush) [] (Refused f) a b) (sym is) (told_whole a b own page_bytes why call)

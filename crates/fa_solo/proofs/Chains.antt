@@ -6,9 +6,9 @@ use Rattle.fa_machine.specs.State.{Core}
 use Rattle.fa_machine.specs.Step.{Act, Advance, Fold, SpareIn, Step, Take, Window}
 use Rattle.fa_machine.specs.declared.refusals.SpareRefused.{SpareRefused}
 use Rattle.fa_shared.specs.Locked.{LockedState}
-use Rattle.fa_shared.specs.Seats.{commits_with, number_of}
+use Rattle.fa_shared.specs.Seats.{number_of}
 use Rattle.fa_shared.specs.declared.seat.Seat.{Seat}
-use Rattle.fa_solo.specs.Deeds.{Goes, IsForDies, IsForOrder, IsForRequests, IsMeanwhile, Makes, MakesJob, Runs, Stays}
+use Rattle.fa_solo.specs.Deeds.{Goes, IsForDies, IsForOrder, IsForRequests, IsMeanwhile, Makes, Runs, Stays}
 use Rattle.fa_solo.specs.House.{House}
 use Rattle.fa_solo.specs.Rigs.{Does, house_of}
 use Rattle.fa_solo.specs.declared.rig.Rig.{Rig}

@@ -1,5 +1,5 @@
 -- The outcome that a job's own calls gave is one of the job's kind.
-use Rattle.std.proofs.Common.{◌≡◌, ◌∙◌, ℕ, Bool, true, false, List, [], ◌∷◌, ◌++◌, Option, Some, None, ap, cond, is_some, refl, sym}
+use Rattle.std.proofs.Common.{◌≡◌, ◌∙◌, ℕ, Bool, true, false, List, [], ◌∷◌, Some, None, ap, cond, is_some, refl, sym}
 use Rattle.std.proofs.lemmas.Option.{none-some, same_Some}
 use Rattle.fa_image.specs.Image.{ImageAnswer, ImageCall}
 use Rattle.fa_machine.specs.Cells.{Cell, Outcome, Wrong, is_of_kind, moved_payload}

@@ -1,5 +1,5 @@
 -- What is done for the array's order, one after the other, and pages that get one more copy.
-use Rattle.std.proofs.Common.{◌≡◌, ◌∙◌, ℕ, Bool, true, false, List, [], ◌∷◌, ◌++◌, Option, Some, None, Result, Ok, Err, IfNone, IfSome, ap, inl, inr, map, option_map, refl, subst, sym, is_ok}
+use Rattle.std.proofs.Common.{◌≡◌, ◌∙◌, ℕ, true, false, List, [], ◌∷◌, ◌++◌, Option, Some, None, Result, Ok, Err, IfNone, IfSome, ap, inl, inr, map, option_map, refl, subst, sym, is_ok}
 use Rattle.std.proofs.lemmas.List.{map-append}
 use Rattle.std.specs.FinMap.{get}
 use Rattle.fa_headers.specs.declared.judging.Standing.{Standing}
@@ -14,7 +14,7 @@ use Rattle.fa_machine.specs.declared.refusals.ReserveCopyRefused.{ReserveCopyRef
 use Rattle.fa_shared.specs.Locked.{LockedState}
 use Rattle.fa_shared.specs.Seats.{number_of}
 use Rattle.fa_solo.proofs.Chains.{does_event, does_more, does_same, does_wider, for_order, goes_by, join_rest, requests_for_order, rest_same}
-use Rattle.fa_solo.specs.Deeds.{Goes, IsForDies, IsForOrder, IsForRequests}
+use Rattle.fa_solo.specs.Deeds.{IsForDies, IsForOrder, IsForRequests}
 use Rattle.fa_solo.specs.House.{House}
 use Rattle.fa_solo.specs.Orders.{Copies, CopiesPage, Deals, Orders, Rests}
 use Rattle.fa_solo.specs.Rigs.{Does, DoesOne, ReservesCopy, Tidies, TriesCopy, house_of}

@@ -1,5 +1,5 @@
 -- What a Take leaves: the job that it hands out is in flight.
-use Rattle.std.proofs.Common.{◌≡◌, ◌∙◌, ℕ, Bool, true, false, List, Option, Some, None, ap, refl, slice_get, slice_set, subst, sym, if◌then◌else◌}
+use Rattle.std.proofs.Common.{◌≡◌, ◌∙◌, ℕ, Bool, true, false, List, Option, Some, None, ap, slice_get, slice_set, subst, sym, if◌then◌else◌}
 use Rattle.std.specs.Option.{option_map_or}
 use Rattle.std.proofs.lemmas.Option.{none-some, same_Some}
 use Rattle.std.specs.FinMap.{get}
@@ -10,7 +10,7 @@ use Rattle.fa_machine.proofs.Maps.{get-insert_same}
 use Rattle.fa_machine.specs.Cells.{Outcome, is_of_kind}
 use Rattle.fa_machine.specs.State.{Core}
 use Rattle.fa_machine.specs.Step.{Step, Take}
-use Rattle.fa_machine.specs.Taking.{Handed, after_urgent, begins, entered, handed, is_idle, other_job, urgent_job, without_stale_booking}
+use Rattle.fa_machine.specs.Taking.{Handed, after_urgent, begins, handed, is_idle, other_job, urgent_job, without_stale_booking}
 use Rattle.fa_machine.specs.declared.jobs.Flight.{Flight}
 use Rattle.fa_mount.specs.Standings.{place_on}
 use Rattle.fa_shared.specs.Locked.{LockedState}

@@ -1,5 +1,5 @@
 -- What a call of the store of one thread does, from its beginning to its answer.
-use Rattle.std.specs.Prelude.{◌≡◌, ◌⊎◌, ℕ, ◌+◌, ◌-◌, ◌^◌, ◌<◌, ◌≤◌, true, false, List, [], length, Option, Some, None, Result, Ok, Err}
+use Rattle.std.specs.Prelude.{◌≡◌, ◌⊎◌, ℕ, ◌-◌, ◌^◌, ◌<◌, ◌≤◌, true, false, List, [], length, Some, None, Result, Ok, Err}
 use Rattle.fa_blocks.specs.Counts.{request_of}
 use Rattle.fa_image.specs.Image.{ImageAnswer, ImageCall}
 use Rattle.fa_ops.specs.Ops.{answer_of, beginning, ended, stage_of, task_in}
@@ -10,7 +10,7 @@ use Rattle.fa_solo.specs.Deeds.{IsForRequests}
 use Rattle.fa_solo.specs.Rigs.{Does, Tidies}
 use Rattle.fa_solo.specs.Turns.{RunsOn}
 use Rattle.fa_solo.specs.declared.rig.Rig.{Rig}
-use Rattle.fa_types.specs.Store.{Call, Reading, Writing, Zeroing, Trimming, Flushing, Answer, Gave, Done, Refused}
+use Rattle.fa_types.specs.Store.{Call, Writing, Answer, Gave, Done, Refused}
 use Rattle.fa_types.specs.declared.blocks.BlockFault.{BlockFault}
 use Rattle.fa_types.specs.declared.blocks.BlockFault.TheVariants.{Lost, NoMemory as OutOfMemory, NoRoom}
 
@@ -27,6 +27,12 @@ answer_by (Err fault) = Refused fault
 -- how a read is refused that ended so: as it ended, or as lost where that was for room
 abbrev pub IsOfRead : BlockFault → BlockFault → Type 0
 IsOfRead own fault = (fault ≡ NoRoom → ⊥) × ((fault ≡ own) ⊎ ((own ≡ NoRoom) × (fault ≡ Lost)))
+
+-- the same of a flush, for room or memory
+abbrev pub IsOfFlush : BlockFault → BlockFault → Type 0
+IsOfFlush own fault =
+    (fault ≡ NoRoom → ⊥) × (fault ≡ OutOfMemory → ⊥)
+    × ((fault ≡ own) ⊎ (((own ≡ NoRoom) ⊎ (own ≡ OutOfMemory)) × (fault ≡ Lost)))
 
 module _ {A : Type 0} where
   -- Why a call is refused: its request has ended so; or a read found no memory for its answer, or has an answer of another length; or a read

@@ -1,5 +1,5 @@
 -- A request from its beginning to its end, by one thread: its turns, what it prepares, and what is done for dies while it waits.
-use Rattle.std.specs.Prelude.{◌≡◌, ℕ, ◌+◌, IsTrue, List, true}
+use Rattle.std.specs.Prelude.{◌≡◌, ℕ, ◌+◌, IsTrue, List}
 use Rattle.fa_blocks.specs.Counts.{GoesOn}
 use Rattle.fa_headers.specs.declared.judging.Standing.{Standing}
 use Rattle.fa_image.specs.Image.{ImageAnswer, ImageCall}

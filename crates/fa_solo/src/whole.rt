@@ -4,7 +4,7 @@ ghost use Rattle.fa_blocks.specs.Counts.{IsMade};
 ghost use Rattle.fa_ops.specs.Tallies.{pages_in};
 ghost use Rattle.fa_ops.specs.Tasks.{end_of, task_of};
 ghost use Rattle.fa_ops.specs.declared.request.Request.TheVariants.{Flush, Read};
-ghost use Rattle.fa_solo.specs.Calls.{MakesWhole};
+ghost use Rattle.fa_solo.specs.Calls.{IsOfFlush, MakesWhole};
 ghost use Rattle.fa_solo.specs.Rigs.{Tidies};
 ghost use Rattle.fa_types.specs.Store.{Done, Gave, Refused};
 ghost use Rattle.fa_types.specs.declared.blocks.BlockFault.TheVariants.{NoMemory, NoRoom};
@@ -77,8 +77,19 @@ pub(crate) fn call_flush<L: Ledger, M: Map + Drop, I: Image, A: Allocator + Copy
     ensures refused { IfErr result (λ fault. MakesWhole I.made (task_of page_bytes Flush) [] (Refused fault) rig.old rig.new) }
 {
     match call(rig, page_bytes, Request::Flush, &[]) {
-        Err(BlockFault::NoRoom | BlockFault::NoMemory) => Err(BlockFault::Lost),
-        answer => answer,
+        Ok(()) => Ok(()),
+        Err(fault) => Err(of_flush(fault)),
+    }
+}
+
+/// Why a flush is refused that ended so. No flush wants room or memory.
+fn of_flush(fault: BlockFault) -> BlockFault
+    ensures { IsOfFlush fault result }
+{
+    match fault {
+        BlockFault::NoRoom => BlockFault::Lost,
+        BlockFault::NoMemory => BlockFault::Lost,
+        fault => fault,
     }
 }
 

@@ -1,4 +1,4 @@
-use Rattle.std.proofs.Common.{Ok, ap, sym}
+use Rattle.std.proofs.Common.{ap}
 use Rattle.fa_reads.specs.Answers.{admit_answer}
 use Rattle.fa_solo.proofs.rebuilding.batch_of.Goals as goal
 

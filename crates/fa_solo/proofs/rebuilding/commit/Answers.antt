@@ -1,7 +1,7 @@
 use Rattle.std.proofs.Common.{refl}
 use Rattle.fa_solo.proofs.Chains.{does_option}
 use Rattle.fa_machine.specs.Step.{CommitCopy}
-use Rattle.fa_solo.specs.Deeds.{IsForDies, IsForOrder}
+use Rattle.fa_solo.specs.Deeds.{IsForOrder}
 use Rattle.fa_solo.proofs.rebuilding.commit.Goals as goal
 
 pub returns : goal.returns

@@ -1,5 +1,4 @@
-use Rattle.std.proofs.Common.{Some, ap, refl, ◌∙◌}
-use Rattle.fa_solo.proofs.Asked.{none_made}
+use Rattle.std.proofs.Common.{Some, ap, ◌∙◌}
 use Rattle.fa_solo.proofs.Begun.{ended_request, endless_request, gave_request, refused_request}
 use Rattle.fa_solo.proofs.requests.run_read.Goals as goal
 

@@ -1,7 +1,5 @@
-use Rattle.std.proofs.Common.{◌∙◌, ◌+◌, ap, refl, sym}
 use Rattle.fa_solo.proofs.Chains.{does_more, does_none}
 use Rattle.fa_solo.specs.Deeds.{IsForDies}
-use Rattle.fa_types.specs.declared.geometry.Geometry.{Geometry}
 use Rattle.fa_solo.proofs.running.run_next.Goals as goal
 
 pub returns-then-not-is_ready : goal.returns-then-not-is_ready

@@ -1,4 +1,4 @@
-use Rattle.std.proofs.Common.{◌≡◌, ◌∙◌, ap, refl, rules, sym}
+use Rattle.std.proofs.Common.{rules}
 use Rattle.fa_solo.proofs.Ended.{ran_kind}
 use Rattle.fa_solo.proofs.Taken.{kept_flight, kind_at}
 use Rattle.fa_solo.proofs.running.run_taken.Goals as goal

@@ -1,6 +1,5 @@
-use Rattle.std.proofs.Common.{inl, inr, refl}
-use Rattle.fa_solo.proofs.Begun.{told_whole}
+use Rattle.fa_solo.proofs.Begun.{flush_refused}
 use Rattle.fa_solo.proofs.whole.call_flush.Goals as goal
 
-pub returns-in-Err-NoRoom-clause-refused : goal.returns-in-Err-NoRoom-clause-refused
-returns-in-Err-NoRoom-clause-refused g c = told_whole _ _ _ _ _ ? c.in-Err-NoRoom.ensures.refused
+pub returns-in-Err-clause-refused : goal.returns-in-Err-clause-refused
+returns-in-Err-clause-refused g c = flush_refused _ _ _ _ _ _ c.of_flush.ensures c.in-Err.ensures.refused

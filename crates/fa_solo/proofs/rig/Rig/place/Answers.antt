@@ -1,4 +1,4 @@
-use Rattle.std.proofs.Common.{◌≡◌, ◌∙◌, ◌<◌, ap, length, rules, sym, Some}
+use Rattle.std.proofs.Common.{◌∙◌, ◌<◌, ap, length, rules, sym, Some}
 use Rattle.std.proofs.lemmas.Option.{slice_get-get_or}
 use Rattle.fa_solo.proofs.rig.Rig.place.Goals as goal
 
