@@ -1,3 +1,3 @@
 pub mod Driving
-pub mod Requests
+pub mod Asking
 pub mod Served

@@ -3,7 +3,7 @@ use Rattle.fa_asks.specs.Asked.{Asked, Moment, Turn}
 use Rattle.fa_asks.specs.Begun.{HasBegun, IsCalm}
 use Rattle.fa_asks.specs.Calls.{HasBytes, answer_of as answer_at, call_of}
 use Rattle.fa_asks.specs.Shown.{store_of}
-use Rattle.fa_deeds.proofs.Requests.{Stands, Went, went}
+use Rattle.fa_deeds.proofs.Asking.{Stands, Went, went}
 use Rattle.fa_deeds.specs.Driving.{image_on}
 use Rattle.fa_deeds.specs.Standing.{IsWorldOf, turns_in}
 use Rattle.fa_headers.specs.declared.judging.Standing.{Standing}
@@ -30,7 +30,7 @@ use Rattle.fa_solo.specs.declared.rig.Rig.{Rig}
 use Rattle.fa_types.specs.Store.{Answer, Done, Gave, IsAnswer, IsUnwritten, Meets, Refused, Serves, Store}
 use Rattle.fa_types.specs.declared.blocks.BlockFault.{BlockFault}
 use Rattle.fa_types.specs.declared.blocks.BlockFault.TheVariants.{Lost, NoMemory as OutOfMemory, NoRoom}
-use Rattle.std.proofs.Common.{Bool, List, None, Option, Some, [], ap, false, length, refl, subst, sym, true, ℕ, ◌*◌, ◌-◌, ◌^◌, ◌<◌, ◌≤◌, ◌∙◌, ◌≡◌}
+use Rattle.std.proofs.Common.{Bool, List, None, Option, Some, [], ap, arith, false, length, refl, subst, sym, true, ℕ, ◌*◌, ◌-◌, ◌^◌, ◌<◌, ◌≤◌, ◌∙◌, ◌≡◌}
 use Rattle.std.proofs.lemmas.Bool.{false≢true}
 use Rattle.std.proofs.lemmas.Option.{none-some, same_Some}
 
@@ -76,7 +76,7 @@ by_answer request bytes given before after (Refused fault) fits done gave refuse
 unhanded : (request : Request) (page_bytes : ℕ) (bytes given : List ℕ) (before after : Store) → (task_of page_bytes request).fill ≡ None
     → (task_of page_bytes request).flush ≡ false → Serves before (call_of request bytes) (answer_at request None given) after
     → Serves before (call_of request bytes) (Refused OutOfMemory) after
-unhanded (Read offset len) page_bytes bytes given before after fill flush serves = (tt, serves.1.1)
+unhanded (Read offset len) page_bytes bytes given before after fill flush serves = (tt, serves.2)
 unhanded (Write offset len fua) page_bytes bytes given before after fill flush serves = absurd (none-some _ (sym fill))
 unhanded (Zero offset len fua hole) page_bytes bytes given before after fill flush serves = absurd (none-some _ (sym fill))
 unhanded (Trim offset len fua) page_bytes bytes given before after fill flush serves = absurd (none-some _ (sym fill))
@@ -132,13 +132,13 @@ module _ {L M I A : Type 0} (view : I → ImageState) (honest : I → Bool) (mad
   -- how a request that went to its end serves
   module _ (op next : Op A) (task : task_in op ≡ task_of size request) (stage : stage_of op ≡ beginning (task_of size request))
       (none : answer_of op ≡ []) (runs : RunsOn made bytes old op new next) (few : runs.turns < 2 ^ 64 - 1) where
-    stands : Stands view honest made whole meets old.locked.number old.dies.items (number_of old.seat) (task_in op) bytes law apart (house_of old) w
+    stands : Stands view old.dies.items (house_of old) w
     stands = record { core = of_old.core; images = of_old.images; idle = of_old.idle }
 
-    one : Went view honest made whole meets old.locked.number old.dies.items (number_of old.seat) (task_in op) bytes law apart (asking_of old op) w
+    one : Went view honest made whole meets old.locked.number old.dies.items (number_of old.seat) law apart (task_in op) bytes (asking_of old op) w
         (asking_of new next)
-    one = went view honest made whole meets old.locked.number old.dies.items (number_of old.seat) (task_in op) bytes law apart runs.turns
-        (asking_of old op) (asking_of new next) runs.asks w stands refl
+    one = went view honest made whole meets old.locked.number old.dies.items (number_of old.seat) law apart (task_in op) bytes
+        (asking_of old op) runs.turns (asking_of new next) runs.asks w stands refl
         (subst (λ (d : List Standing). AreHonest honest (image_on d new.images.items)) runs.dies fair)
 
     abbrev before : Moment A

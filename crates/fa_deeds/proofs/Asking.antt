@@ -11,7 +11,7 @@ use Rattle.fa_laws.proofs.Within.{GeometryLaw}
 use Rattle.fa_machine.specs.Run.{Event, Happening, ImageCall as CallsImage, Run}
 use Rattle.fa_machine.specs.State.{Core}
 use Rattle.fa_machine.specs.Step.{Act, Advance, Done, Fold, SpareIn, Take, Window}
-use Rattle.fa_machine.specs.World.{DieImage, Told, Work, World}
+use Rattle.fa_machine.specs.World.{DieImage, Gave, Told, Work, World}
 use Rattle.fa_mount.specs.Standings.{AreApart}
 use Rattle.fa_ops.specs.Moves.{Folded, Moved, Rested, Strayed, Turned}
 use Rattle.fa_ops.specs.Waiting.{HasNoWindow, awaits_flush, waits}
@@ -115,13 +115,13 @@ brings_none : {A : Type 0} (stage : Stage A) (act : Act) → IsQuiet (awaits_flu
 brings_none (Flushing flush) act quiet = no_spare act quiet
 brings_none stage act quiet = tt
 
-calls_none : {A : Type 0} (stage : Stage A) (die : ℕ) {gave : _} → BringsNoSpare stage (CallsImage die gave)
-calls_none (Flushing flush) die = tt
-calls_none stage die = tt
+calls_none : {A : Type 0} (stage : Stage A) (die : ℕ) (gave : Gave) → BringsNoSpare stage (CallsImage die gave)
+calls_none (Flushing flush) die gave = tt
+calls_none stage die gave = tt
 
-leaves_both : (o : Option ℕ) (die : ℕ) {gave : _} → OfOne EndsNoBatch o (CallsImage die gave) × OfOne LeavesClaim o (CallsImage die gave)
-leaves_both None die = (tt, tt)
-leaves_both (Some n) die = (tt, tt)
+leaves_both : (o : Option ℕ) (die : ℕ) (gave : Gave) → OfOne EndsNoBatch o (CallsImage die gave) × OfOne LeavesClaim o (CallsImage die gave)
+leaves_both None die gave = (tt, tt)
+leaves_both (Some n) die gave = (tt, tt)
 
 module _ {A : Type 0} (stage : Stage A) (is : IsTrue (waits stage)) where
   anothers : (happening : Happening) (rest : List Act)
@@ -135,10 +135,10 @@ module _ {A : Type 0} (stage : Stage A) (is : IsTrue (waits stage)) where
   }
   anothers (CallsImage die gave) rest all = record {
     writes_nothing = tt;
-    batch = (leaves_both (batch_at stage) die).0;
-    claim = (leaves_both (claim_at stage) die).1;
+    batch = (leaves_both (batch_at stage) die gave).0;
+    claim = (leaves_both (claim_at stage) die gave).1;
     in_time = is;
-    no_spare = calls_none stage die;
+    no_spare = calls_none stage die gave;
   }
 
   -- a run of these is what happens meanwhile
@@ -173,17 +173,51 @@ turn_shape law t before after old stage new next (Folded between act full fold s
     law between new act step ∙ law old between Fold fold
 turn_shape law t before after old stage new next (Strayed same commits strays barred) = ap (λ (c : Core). c.page_map.geometry) same
 
+-- a world of an array with its images, of which no job is in flight
+pub record Stands {I : Type 0} (view : I → ImageState) (dies : List Standing) (house : House I) (w : World) : Type 0 where
+  pub core : w.core ≡ house.core
+  pub images : AreImages view w (image_on dies house.images)
+  pub idle : (die : ℕ) → w.works die ≡ None
+
+-- the images of another world of the same shape
+images_kept : {I : Type 0} (view : I → ImageState) (w v : World) (images : ℕ → Option I) → v.images ≡ w.images → v.core.page_map.geometry ≡ w.core.page_map.geometry
+    → AreImages view w images → AreImages view v images
+images_kept view w v images same shape are die image is =
+    let one = are die image is in record {
+      shape = one.shape ∙ sym shape;
+      cells = λ slot within.
+          subst (λ (i : ℕ → DieImage). IsCellOf (slot_at slot (view image)) ((i die).seen slot)) (sym same)
+          (one.cells slot (subst (λ (g : Geometry). slot < g.blocks * g.slots) shape within));
+    }
+
+-- an array with its images as what drives one, where nothing is under way
+abbrev first : {I : Type 0} → List Standing → List Told → House I → Driven I
+first dies told house = record { core = house.core; images = image_on dies house.images; works = λ die. None; told = told }
+
+-- what is done meanwhile drives the array
+module _ {I : Type 0} (view : I → ImageState) (honest : I → Bool) (made : I → ImageCall → ImageAnswer → I → Type 0)
+    (whole : (image : I) → IsImage (view image))
+    (meets : (before after : I) (call : ImageCall) (answer : ImageAnswer) → made before call answer after
+    → ImageMeets (view before) (honest before) call answer (view after) (honest after)) (array : List ℕ) (dies : List Standing) (seat : ℕ)
+    (law : GeometryLaw) (apart : AreApart dies) where
+  module _ (flush : Bool) (old new : House I) (goes : Goes made array dies seat (IsMeanwhile flush) old new)
+      (fair : AreHonest honest (image_on dies new.images)) (told : List Told) where
+    led : (drives : List Drive) × (last : Driven I) × Drives made array (first dies told old) drives last × StandsFor dies new last
+        × AllByRecursion (IsQuiet flush) (acts_of drives)
+    led = deeds_drive made array dies seat (IsMeanwhile flush) law (meanwhile_plain flush) apart old new (first dies told old)
+        (record { core = refl; images = λ die. refl; works = λ die. refl }) goes
+
+    fair_last : AreHonest honest (led.1).images
+    fair_last die image is = fair die image (sym (led.3.images die) ∙ is)
+
+    fair_before : AreHonest honest (image_on dies old.images)
+    fair_before = honest_before view honest made whole meets array (first dies told old) led.1 led.0 led.2 fair_last
+
 module _ {L I A : Type 0} (view : I → ImageState) (honest : I → Bool) (made : I → ImageCall → ImageAnswer → I → Type 0)
     (whole : (image : I) → IsImage (view image))
     (meets : (before after : I) (call : ImageCall) (answer : ImageAnswer) → made before call answer after
     → ImageMeets (view before) (honest before) call answer (view after) (honest after)) (array : List ℕ) (dies : List Standing) (seat : ℕ)
-    (task : Task) (bytes : List ℕ) (law : GeometryLaw) (apart : AreApart dies) where
-  -- a world of an array with its images, of which no job is in flight
-  pub record Stands (house : House I) (w : World) : Type 0 where
-    pub core : w.core ≡ house.core
-    pub images : AreImages view w (image_on dies house.images)
-    pub idle : (die : ℕ) → w.works die ≡ None
-
+    (law : GeometryLaw) (apart : AreApart dies) (task : Task) (bytes : List ℕ) where
   abbrev pub at : World → Asking L I A → Moment A
   at w x = record { world = w; stage = x.stage; answer = x.answer }
 
@@ -192,7 +226,7 @@ module _ {L I A : Type 0} (view : I → ImageState) (honest : I → Bool) (made 
     pub last : World
     pub turns : List Turn
     pub asked : Asked task seat bytes (at w a) turns (at last b)
-    pub stands : Stands b.house last
+    pub stands : Stands view dies b.house last
     pub number : number_of b.seat ≡ seat
 
   went_on : (a middle b : Asking L I A) (w : World) (one : Went a w middle) → Went middle one.last b → Went a w b
@@ -204,18 +238,7 @@ module _ {L I A : Type 0} (view : I → ImageState) (honest : I → Bool) (made 
     number = two.number;
   }
 
-  -- the images of another world of the same shape
-  images_kept : (w v : World) (images : ℕ → Option I) → v.images ≡ w.images → v.core.page_map.geometry ≡ w.core.page_map.geometry
-      → AreImages view w images → AreImages view v images
-  images_kept w v images same shape are die image is =
-      let one = are die image is in record {
-        shape = one.shape ∙ sym shape;
-        cells = λ slot within.
-            subst (λ (i : ℕ → DieImage). IsCellOf (slot_at slot (view image)) ((i die).seen slot)) (sym same)
-            (one.cells slot (subst (λ (g : Geometry). slot < g.blocks * g.slots) shape within));
-      }
-
-  turn_went : (a b : Asking L I A) (w : World) → Stands a.house w → number_of a.seat ≡ seat → MakesTurn made array dies seat task bytes a b
+  turn_went : (a b : Asking L I A) (w : World) → Stands view dies a.house w → number_of a.seat ≡ seat → MakesTurn made array dies seat task bytes a b
       → Went a w b
   turn_went a b w stands number turn =
       let was : Turned task a.seat b.seat w.core a.stage b.house.core b.stage =
@@ -233,23 +256,23 @@ module _ {L I A : Type 0} (view : I → ImageState) (honest : I → Bool) (made 
         stands = record {
           core = one.2;
           images = subst (λ (l : List I). AreImages view v (image_on dies l)) (sym turn.images)
-              (images_kept w v (image_on dies a.house.images) one.3 shape stands.images);
+              (images_kept view w v (image_on dies a.house.images) one.3 shape stands.images);
           idle = λ die. ap (λ (f : ℕ → Option Work). f die) one.4 ∙ stands.idle die;
         };
         number = turn.number ∙ number;
       }
 
-  ready_went : (a b : Asking L I A) (w : World) → Stands a.house w → number_of a.seat ≡ seat → MakesReady made array dies seat task bytes a b
+  ready_went : (a b : Asking L I A) (w : World) → Stands view dies a.house w → number_of a.seat ≡ seat → MakesReady made array dies seat task bytes a b
       → Went a w b
   ready_went a b w stands number ready = record {
     last = w;
     turns = Readies ∷ [];
     asked = (at w b, (refl, ready.prepares), refl);
-    stands = subst (λ (h : House I). Stands h w) (sym ready.same_house) stands;
+    stands = subst (λ (h : House I). Stands view dies h w) (sym ready.same_house) stands;
     number = ap (λ (s : Seat L). number_of s) ready.same_seat ∙ number;
   }
 
-  given_up_went : (a b : Asking L I A) (w : World) → Stands a.house w → number_of a.seat ≡ seat → IsGivenUp made array dies seat task bytes a b
+  given_up_went : (a b : Asking L I A) (w : World) → Stands view dies a.house w → number_of a.seat ≡ seat → IsGivenUp made array dies seat task bytes a b
       → Went a w b
   given_up_went a b w stands number up = record {
     last = w;
@@ -259,36 +282,19 @@ module _ {L I A : Type 0} (view : I → ImageState) (honest : I → Bool) (made 
       (refl, subst (λ (c : Core). HasNoWindow c up.fault) (sym stands.core) up.cause, up.stage, up.answer),
       refl,
     );
-    stands = subst (λ (h : House I). Stands h w) (sym up.same_house) stands;
+    stands = subst (λ (h : House I). Stands view dies h w) (sym up.same_house) stands;
     number = ap (λ (s : Seat L). number_of s) up.same_seat ∙ number;
   }
 
-  -- what drives the array meanwhile
-  abbrev first : List Told → House I → Driven I
-  first told house = record { core = house.core; images = image_on dies house.images; works = λ die. None; told = told }
-
-  module _ (flush : Bool) (old new : House I) (goes : Goes made array dies seat (IsMeanwhile flush) old new)
-      (fair : AreHonest honest (image_on dies new.images)) (told : List Told) where
-    led : (drives : List Drive) × (last : Driven I) × Drives made array (first told old) drives last × StandsFor dies new last
-        × AllByRecursion (IsQuiet flush) (acts_of drives)
-    led = deeds_drive made array dies seat (IsMeanwhile flush) law (meanwhile_plain flush) apart old new (first told old)
-        (record { core = refl; images = λ die. refl; works = λ die. refl }) goes
-
-    fair_last : AreHonest honest (led.1).images
-    fair_last die image is = fair die image (sym (led.3.images die) ∙ is)
-
-    fair_before : AreHonest honest (image_on dies old.images)
-    fair_before = honest_before view honest made whole meets array (first told old) led.1 led.0 led.2 fair_last
-
-  time_went : (a b : Asking L I A) (w : World) → Stands a.house w → number_of a.seat ≡ seat → PassesTime made array dies seat task bytes a b
+  time_went : (a b : Asking L I A) (w : World) → Stands view dies a.house w → number_of a.seat ≡ seat → PassesTime made array dies seat task bytes a b
       → AreHonest honest (image_on dies b.house.images) → Went a w b
   time_went a b w stands number time fair =
       let flush = awaits_flush a.stage in
-      let drove = led flush a.house b.house time.goes fair w.told in
-      let follows : Follows view honest made whole meets array w (first w.told a.house) =
+      let drove = led view honest made whole meets array dies seat law apart flush a.house b.house time.goes fair w.told in
+      let follows : Follows view honest made whole meets array w (first dies w.told a.house) =
       record { core = stands.core; told = refl; works = stands.idle; given = λ die. tt; images = stands.images } in
-      let run = driven view honest made whole meets array law drove.0 (first w.told a.house) drove.1 w follows drove.2
-      (fair_last flush a.house b.house time.goes fair w.told) in
+      let run = driven view honest made whole meets array law drove.0 (first dies w.told a.house) drove.1 w follows drove.2
+      (fair_last view honest made whole meets array dies seat law apart flush a.house b.house time.goes fair w.told) in
       let v : World = run.1 in
       record {
         last = v;
@@ -307,21 +313,21 @@ module _ {L I A : Type 0} (view : I → ImageState) (honest : I → Bool) (made 
         number = time.number ∙ number;
       }
 
-  pub went : (n : ℕ) (a b : Asking L I A) → Asks made array dies seat task bytes a n b → (w : World) → Stands a.house w → number_of a.seat ≡ seat
+  pub went : (a : Asking L I A) (n : ℕ) (b : Asking L I A) → Asks made array dies seat task bytes a n b → (w : World) → Stands view dies a.house w → number_of a.seat ≡ seat
       → AreHonest honest (image_on dies b.house.images) → Went a w b
-  went n a b Begins w stands number fair = record { last = w; turns = []; asked = refl; stands = stands; number = number }
-  went n a b (Turns turns middle new before turn) w stands number fair =
-      let one = went turns a middle before w stands number (subst (λ (l : List I). AreHonest honest (image_on dies l)) turn.images fair) in
+  went a n b Begins w stands number fair = record { last = w; turns = []; asked = refl; stands = stands; number = number }
+  went a n b (Turns turns middle new before turn) w stands number fair =
+      let one = went a turns middle before w stands number (subst (λ (l : List I). AreHonest honest (image_on dies l)) turn.images fair) in
       went_on a middle b w one (turn_went middle b one.last one.stands one.number turn)
-  went n a b (ReadiesIt turns middle new before ready) w stands number fair =
-      let one = went turns a middle before w stands number
+  went a n b (ReadiesIt turns middle new before ready) w stands number fair =
+      let one = went a turns middle before w stands number
       (subst (λ (h : House I). AreHonest honest (image_on dies h.images)) ready.same_house fair) in
       went_on a middle b w one (ready_went middle b one.last one.stands one.number ready)
-  went n a b (Waits turns middle new before time) w stands number fair =
-      let one = went turns a middle before w stands number
-      (fair_before (awaits_flush middle.stage) middle.house b.house time.goes fair []) in
+  went a n b (Waits turns middle new before time) w stands number fair =
+      let one = went a turns middle before w stands number
+      (fair_before view honest made whole meets array dies seat law apart (awaits_flush middle.stage) middle.house b.house time.goes fair []) in
       went_on a middle b w one (time_went middle b one.last one.stands one.number time fair)
-  went n a b (Refuses turns middle new before up) w stands number fair =
-      let one = went turns a middle before w stands number
+  went a n b (Refuses turns middle new before up) w stands number fair =
+      let one = went a turns middle before w stands number
       (subst (λ (h : House I). AreHonest honest (image_on dies h.images)) up.same_house fair) in
       went_on a middle b w one (given_up_went middle b one.last one.stands one.number up)
