@@ -180,7 +180,7 @@ pub record Stands {I : Type 0} (view : I → ImageState) (dies : List Standing) 
   pub idle : (die : ℕ) → w.works die ≡ None
 
 -- the images of another world of the same shape
-images_kept : {I : Type 0} (view : I → ImageState) (w v : World) (images : ℕ → Option I) → v.images ≡ w.images → v.core.page_map.geometry ≡ w.core.page_map.geometry
+pub images_kept : {I : Type 0} (view : I → ImageState) (w v : World) (images : ℕ → Option I) → v.images ≡ w.images → v.core.page_map.geometry ≡ w.core.page_map.geometry
     → AreImages view w images → AreImages view v images
 images_kept view w v images same shape are die image is =
     let one = are die image is in record {
@@ -191,7 +191,7 @@ images_kept view w v images same shape are die image is =
     }
 
 -- an array with its images as what drives one, where nothing is under way
-abbrev first : {I : Type 0} → List Standing → List Told → House I → Driven I
+abbrev pub first : {I : Type 0} → List Standing → List Told → House I → Driven I
 first dies told house = record { core = house.core; images = image_on dies house.images; works = λ die. None; told = told }
 
 -- what is done meanwhile drives the array

@@ -1,3 +1,4 @@
 pub mod Driving
 pub mod Asking
 pub mod Served
+pub mod Quiet
