@@ -13,12 +13,12 @@ use std::alloc::{AllocError, Allocator};
 use std::fmt::Display;
 
 /// Prints the answer of an event whose first number is this. The error is out of memory.
-pub(crate) fn show_answer<M: Map, A: Allocator + Copy, B: Allocator>(
+pub(crate) fn show_answer<M: Map, A: Allocator + Copy>(
     array: &Array<M, A>,
     heap: A,
     first: u64,
     answer: &Answer<A>,
-    desk: &mut Desk<B>,
+    desk: &mut Desk,
 ) -> Result<(), AllocError>
     requires { IsWhole M.view array.now }
 {
@@ -34,7 +34,7 @@ pub(crate) fn show_answer<M: Map, A: Allocator + Copy, B: Allocator>(
 }
 
 /// The answers that are a few words.
-fn show_short<A: Allocator + Copy, B: Allocator>(answer: &Answer<A>, told: &mut Told<B>) {
+fn show_short<A: Allocator + Copy>(answer: &Answer<A>, told: &mut Told) {
     match answer {
         Answer::Stranger(_) => told.word("stranger"),
         Answer::Claim(answer) => show_numbered("claim", answer.map(|claim| claim.0), told),
@@ -62,11 +62,7 @@ fn show_short<A: Allocator + Copy, B: Allocator>(answer: &Answer<A>, told: &mut 
 }
 
 /// A word with a number, or why it was refused.
-fn show_numbered<E: Display + Drop, B: Allocator>(
-    word: &str,
-    answer: Result<u64, E>,
-    told: &mut Told<B>,
-) {
+fn show_numbered<E: Display + Drop>(word: &str, answer: Result<u64, E>, told: &mut Told) {
     match answer {
         Ok(number) => told.pair(word, number),
         Err(refused) => told.refusal(&refused),
@@ -74,18 +70,14 @@ fn show_numbered<E: Display + Drop, B: Allocator>(
 }
 
 /// A word, or why it was refused.
-fn show_word<E: Display + Drop, B: Allocator>(
-    word: &str,
-    answer: Result<(), E>,
-    told: &mut Told<B>,
-) {
+fn show_word<E: Display + Drop>(word: &str, answer: Result<(), E>, told: &mut Told) {
     match answer {
         Ok(()) => told.word(word),
         Err(refused) => told.refusal(&refused),
     }
 }
 
-fn show_copied<B: Allocator>(answer: Result<Copied, CommitCopyRefused>, told: &mut Told<B>) {
+fn show_copied(answer: Result<Copied, CommitCopyRefused>, told: &mut Told) {
     match answer {
         Ok(Copied::Current) => told.word("current"),
         Ok(Copied::Late) => told.word("late"),
@@ -102,11 +94,11 @@ fn flush_word(state: FlushState) -> &'static str {
 }
 
 /// An Admit's answer. The batch is the last of the desk's.
-fn show_admitted<M: Map, A: Allocator + Copy, B: Allocator>(
+fn show_admitted<M: Map, A: Allocator + Copy>(
     array: &Array<M, A>,
     heap: A,
     answer: &Result<Admitted<A>, AdmitRefused>,
-    desk: &mut Desk<B>,
+    desk: &mut Desk,
 ) -> Result<(), AllocError>
     requires { IsWhole M.view array.now }
 {
@@ -130,12 +122,12 @@ fn show_admitted<M: Map, A: Allocator + Copy, B: Allocator>(
 }
 
 /// A Replan's answer.
-fn show_replanned<M: Map, A: Allocator + Copy, B: Allocator>(
+fn show_replanned<M: Map, A: Allocator + Copy>(
     array: &Array<M, A>,
     heap: A,
     batch: BatchId,
     answer: &Result<Planned<A>, AdmitRefused>,
-    told: &mut Told<B>,
+    told: &mut Told,
 ) -> Result<(), AllocError>
     requires { IsWhole M.view array.now }
 {
@@ -148,7 +140,7 @@ fn show_replanned<M: Map, A: Allocator + Copy, B: Allocator>(
     }
 }
 
-fn show_admit_refused<B: Allocator>(refused: AdmitRefused, told: &mut Told<B>) {
+fn show_admit_refused(refused: AdmitRefused, told: &mut Told) {
     told.refusal(&refused);
     if let AdmitRefused::Lost(page) = refused {
         told.number(page.0);
@@ -156,7 +148,7 @@ fn show_admit_refused<B: Allocator>(refused: AdmitRefused, told: &mut Told<B>) {
 }
 
 /// The pages that a batch answers, each with its bytes.
-fn show_pages<A: Allocator, B: Allocator>(pages: &[(Page, Vec<u8, A>)], told: &mut Told<B>) {
+fn show_pages<A: Allocator>(pages: &[(Page, Vec<u8, A>)], told: &mut Told) {
     told.pair("pages", pages.len() as u64);
     for page in pages {
         told.pair("page", page.0.0);
@@ -165,7 +157,7 @@ fn show_pages<A: Allocator, B: Allocator>(pages: &[(Page, Vec<u8, A>)], told: &m
 }
 
 /// Bytes of a page behind a word: the one that all of them are.
-pub(crate) fn show_bytes<B: Allocator>(word: &str, bytes: &[u8], told: &mut Told<B>) {
+pub(crate) fn show_bytes(word: &str, bytes: &[u8], told: &mut Told) {
     told.word(word);
     let first = bytes.first().copied().unwrap_or(0);
     if bytes.iter().all(|byte| *byte == first) {
@@ -176,7 +168,7 @@ pub(crate) fn show_bytes<B: Allocator>(word: &str, bytes: &[u8], told: &mut Told
 }
 
 /// A Take's answer.
-fn show_job<A: Allocator + Clone, B: Allocator>(job: &Option<Job<A>>, told: &mut Told<B>) {
+fn show_job<A: Allocator + Clone>(job: &Option<Job<A>>, told: &mut Told) {
     match job {
         Some(job) => {
             show_flight(job.flight, told);
@@ -188,7 +180,7 @@ fn show_job<A: Allocator + Clone, B: Allocator>(job: &Option<Job<A>>, told: &mut
     }
 }
 
-fn show_flight<B: Allocator>(flight: Flight, told: &mut Told<B>) {
+fn show_flight(flight: Flight, told: &mut Told) {
     match flight {
         Flight::Header { epoch, live } => show_header(epoch, live, told),
         Flight::Move {
@@ -218,26 +210,20 @@ fn show_flight<B: Allocator>(flight: Flight, told: &mut Told<B>) {
     }
 }
 
-fn show_slot<B: Allocator>(
-    word: &str,
-    page: Page,
-    version: Version,
-    slot: Slot,
-    told: &mut Told<B>,
-) {
+fn show_slot(word: &str, page: Page, version: Version, slot: Slot, told: &mut Told) {
     told.pair(word, page.0);
     show_version(version, told);
     told.pair("slot", u64::from(slot.0));
 }
 
 /// A header's epoch, and its live dies.
-fn show_header<B: Allocator>(epoch: u64, live: u64, told: &mut Told<B>) {
+fn show_header(epoch: u64, live: u64, told: &mut Told) {
     told.pair("header epoch", epoch);
     show_live(live, told);
 }
 
 /// The live dies of a mask.
-pub(crate) fn show_live<B: Allocator>(mask: u64, told: &mut Told<B>) {
+pub(crate) fn show_live(mask: u64, told: &mut Told) {
     told.word("live");
     for die in 0..64u32 {
         if mask >> die & 1 == 1 {

@@ -1,7 +1,7 @@
 //! A heap that is filled, so that it refuses memory.
 ghost use Rattle.std.specs.Prelude.{◌<◌, IsTrue, vec_len};
 
-use std::alloc::{AllocError, Allocator};
+use std::alloc::{AllocError, Allocator, Global};
 
 /// The bytes of the least piece of a heap.
 const GRAIN: usize = 16;
@@ -14,12 +14,12 @@ const LARGEST: usize = 32 * 1024 * 1024;
 
 /// What a heap is filled with. Its last pieces are grains.
 #[derive(Drop)]
-pub(crate) struct Ballast<A: Allocator, B: Allocator> {
-    pieces: Vec<Vec<u8, A>, B>,
+pub(crate) struct Ballast<A: Allocator> {
+    pieces: Vec<Vec<u8, A>>,
 }
 
-impl<A: Allocator + Copy, B: Allocator + Copy> Ballast<A, B> {
-    pub(crate) fn new(alloc: B) -> Ballast<A, B> {
+impl<A: Allocator + Copy> Ballast<A> {
+    pub(crate) fn new(alloc: Global) -> Ballast<A> {
         Ballast {
             pieces: Vec::new(alloc),
         }

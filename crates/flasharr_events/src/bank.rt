@@ -1,36 +1,32 @@
 //! What is kept beside an array over images.
-use crate::images::{DieImage, formatted};
+use crate::images::{DieImage, formatted, with_wrong_read};
 use crate::taken::Taken;
 use fa_core::Outcome;
-use fa_image::FuseImage;
 use fa_types::{Die, Geometry, TAG_BYTES};
-use std::alloc::{AllocError, Allocator};
+use std::alloc::{AllocError, Allocator, Global};
 
 /// The images of an array, by their dies, and the jobs that the dies have taken.
 #[derive(Drop)]
-pub(crate) struct Bank<A: Allocator, B: Allocator> {
+pub(crate) struct Bank<A: Allocator> {
     pub(crate) geometry: Geometry,
-    pub(crate) images: Vec<DieImage<B>, B>,
-    taken: Vec<Option<Taken<A>>, B>,
+    pub(crate) images: Vec<DieImage>,
+    taken: Vec<Option<Taken<A>>>,
     /// The bytes of a slot, for the calls of images.
-    pub(crate) scratch: Vec<u8, B>,
+    pub(crate) scratch: Vec<u8>,
 }
 
-impl<A: Allocator, B: Allocator + Copy> Bank<A, B> {
+impl<A: Allocator> Bank<A> {
     /// The formatted images of an array, with headers of format 1 where it is an old one. None where an image refuses. The error is out of
     /// memory.
     pub(crate) fn new(
-        alloc: B,
+        alloc: Global,
         geometry: Geometry,
         is_old: bool,
-    ) -> Result<Option<Bank<A, B>>, AllocError> {
+    ) -> Result<Option<Bank<A>>, AllocError> {
         let scratch = vec![in alloc; 0u8; (geometry.page_bytes as usize).saturating_add(
             TAG_BYTES
         )]?;
-        let mut taken = Vec::new(alloc);
-        for _ in 0..geometry.dies {
-            taken.push(None)?;
-        }
+        let taken = no_jobs(alloc, geometry.dies)?;
         match formatted(alloc, geometry, is_old)? {
             Some(images) => Ok(Some(Bank {
                 geometry,
@@ -41,11 +37,9 @@ impl<A: Allocator, B: Allocator + Copy> Bank<A, B> {
             None => Ok(None),
         }
     }
-}
 
-impl<A: Allocator, B: Allocator> Bank<A, B> {
     /// The image of a die.
-    pub(crate) fn image(&mut self, die: Die) -> Option<&mut DieImage<B>> {
+    pub(crate) fn image(&mut self, die: Die) -> Option<&mut DieImage> {
         self.images.get_mut(die.0 as usize)
     }
 
@@ -56,9 +50,8 @@ impl<A: Allocator, B: Allocator> Bank<A, B> {
         if self.images.len() <= place {
             return Ok(false);
         }
-        let mut image = self.images.remove(place).into_inner();
-        image.arm(k);
-        self.images.insert(place, FuseImage::new(image))?;
+        let image = with_wrong_read(self.images.remove(place), k);
+        self.images.insert(place, image)?;
         Ok(true)
     }
 
@@ -101,4 +94,13 @@ impl<A: Allocator, B: Allocator> Bank<A, B> {
             None => Outcome::Wrong,
         }
     }
+}
+
+/// The jobs of so many dies, none of which has taken one. The error is out of memory.
+fn no_jobs<A: Allocator>(alloc: Global, dies: u32) -> Result<Vec<Option<Taken<A>>>, AllocError> {
+    let mut taken = Vec::new(alloc);
+    for _ in 0..dies {
+        taken.push(None)?;
+    }
+    Ok(taken)
 }

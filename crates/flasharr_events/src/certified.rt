@@ -12,21 +12,17 @@ use fa_types::{Die, Page};
 use std::alloc::{AllocError, Allocator};
 
 /// Prints the rounds of a batch's plan, the verdict on it, its places, and its shortage. The error is out of memory.
-pub(crate) fn show_planned<M: Map, A: Allocator + Copy, B: Allocator>(
+pub(crate) fn show_planned<M: Map, A: Allocator + Copy>(
     array: &Array<M, A>,
     heap: A,
     batch: BatchId,
     planned: &Planned<A>,
-    told: &mut Told<B>,
+    told: &mut Told,
 ) -> Result<(), AllocError>
     requires { IsWhole M.view array.now }
 {
     told.pair("rounds", planned.rounds);
-    if array.batch_open(batch) {
-        let closed = array.closed_without(heap, batch)?;
-        let held = held_pages(array, heap, planned.plan.places.as_slice())?;
-        show_verdict(heap, &held, &closed, planned, told)?;
-    }
+    show_check(array, heap, batch, planned, told)?;
     for place in planned.plan.places.as_slice() {
         show_place(*place, told);
     }
@@ -34,13 +30,31 @@ pub(crate) fn show_planned<M: Map, A: Allocator + Copy, B: Allocator>(
     Ok(())
 }
 
+/// Prints the verdict on a batch's plan, if the batch is open. The error is out of memory.
+fn show_check<M: Map, A: Allocator + Copy>(
+    array: &Array<M, A>,
+    heap: A,
+    batch: BatchId,
+    planned: &Planned<A>,
+    told: &mut Told,
+) -> Result<(), AllocError>
+    requires { IsWhole M.view array.now }
+{
+    if !array.batch_open(batch) {
+        return Ok(());
+    }
+    let closed = array.closed_without(heap, batch)?;
+    let held = held_pages(array, heap, planned.plan.places.as_slice())?;
+    show_verdict(heap, &held, &closed, planned, told)
+}
+
 /// What the checker says of a plan for a batch.
-fn show_verdict<A: Allocator + Copy, B: Allocator>(
+fn show_verdict<A: Allocator + Copy>(
     heap: A,
     batch: &Batch<A>,
     closed: &Closed<A>,
     planned: &Planned<A>,
-    told: &mut Told<B>,
+    told: &mut Told,
 ) -> Result<(), AllocError> {
     if !batch.is_sound() {
         told.word("unsound");
@@ -85,13 +99,13 @@ fn holds<M: Map, A: Allocator + Copy>(array: &Array<M, A>, page: Page, die: Die)
     array.is_page(page) && array.is_die(die) && array.copy_on(page, die).is_some()
 }
 
-fn show_place<B: Allocator>(place: Place, told: &mut Told<B>) {
+fn show_place(place: Place, told: &mut Told) {
     told.pair("place", place.page.0);
     told.number(u64::from(place.die.0));
     told.number(place.round.0);
 }
 
-fn show_shortage<B: Allocator>(pages: &[Page], told: &mut Told<B>) {
+fn show_shortage(pages: &[Page], told: &mut Told) {
     if !pages.is_empty() {
         told.word("short");
     }

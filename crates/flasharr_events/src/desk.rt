@@ -1,5 +1,5 @@
 //! What is kept beside the array from one event to the next.
-use crate::event::Ending;
+use crate::event::{Ending, Event};
 use crate::tally::Tally;
 use crate::told::Told;
 use fa_core::{Answer, Job, Outcome};
@@ -7,7 +7,7 @@ use fa_image::ImageFault;
 use fa_machine::{BatchId, Flight, Flush, Version};
 use fa_tag::{Opened, Tag};
 use fa_types::{Die, Page, Slot};
-use std::alloc::{AllocError, Allocator};
+use std::alloc::{AllocError, Allocator, Global};
 
 /// The most dies that an array has.
 pub(crate) const MAX_DIES: u8 = 64;
@@ -15,16 +15,16 @@ pub(crate) const MAX_DIES: u8 = 64;
 /// What is kept from one event to the next: what the dies are at, the flushes that were begun, the batches in the order in which they
 /// were admitted, how often memory was refused where it is to be, and what is printed.
 #[derive(Drop)]
-pub(crate) struct Desk<A: Allocator> {
+pub(crate) struct Desk {
     flights: [Option<Flight>; 64],
-    flushes: Vec<Flush, A>,
-    batches: Vec<BatchId, A>,
+    flushes: Vec<Flush>,
+    batches: Vec<BatchId>,
     pub(crate) tally: Option<Tally>,
-    pub(crate) told: Told<A>,
+    pub(crate) told: Told,
 }
 
-impl<A: Allocator + Copy> Desk<A> {
-    pub(crate) fn new(alloc: A, refusing: bool) -> Desk<A> {
+impl Desk {
+    pub(crate) fn new(alloc: Global, refusing: bool) -> Desk {
         Desk {
             flights: [None; 64],
             flushes: Vec::new(alloc),
@@ -33,9 +33,7 @@ impl<A: Allocator + Copy> Desk<A> {
             told: Told::new(alloc),
         }
     }
-}
 
-impl<A: Allocator> Desk<A> {
     /// The batch that was admitted as the one of this number, from 0. No batch has the id that stands for one that was not.
     pub(crate) fn batch(&self, number: u64) -> BatchId {
         for (index, batch) in self.batches.iter().enumerate() {
@@ -50,6 +48,17 @@ impl<A: Allocator> Desk<A> {
     pub(crate) fn begin_anew(&mut self) {
         self.flushes.clear();
         self.batches.clear();
+    }
+
+    /// An event was refused memory, and changed what the array shows or not.
+    pub(crate) fn count_refusal(&mut self, event: Event, is_same: bool) {
+        if let Some(tally) = &mut self.tally {
+            tally.count(event);
+        }
+        if !is_same {
+            self.told.word("changed");
+            self.told.end();
+        }
     }
 
     /// The last line where memory is to be refused.
@@ -92,10 +101,10 @@ impl<A: Allocator> Desk<A> {
     }
 
     /// Keeps what an event answered, as far as a later one asks for it. The error is out of memory.
-    pub(crate) fn keep<B: Allocator>(
+    pub(crate) fn keep<A: Allocator>(
         &mut self,
         die: Die,
-        answer: &Answer<B>,
+        answer: &Answer<A>,
     ) -> Result<(), AllocError> {
         match answer {
             Answer::Take(Some(job)) => self.keep_flight(die, job),
@@ -106,7 +115,7 @@ impl<A: Allocator> Desk<A> {
         Ok(())
     }
 
-    fn keep_flight<B: Allocator>(&mut self, die: Die, job: &Job<B>) {
+    fn keep_flight<A: Allocator>(&mut self, die: Die, job: &Job<A>) {
         if let Some(place) = self.flights.get_mut(die.0 as usize) {
             *place = Some(job.flight);
         }

@@ -1,7 +1,7 @@
 //! What a line asks for.
 
 /// An event or a look, without its numbers.
-#[derive(Clone, Copy, Debug, PartialEq, Eq)]
+#[derive(Clone, Copy)]
 pub(crate) enum Wish {
     /// One event of the array.
     Make(Event),
@@ -18,7 +18,7 @@ pub(crate) enum Wish {
 }
 
 /// An event.
-#[derive(Clone, Copy, Debug, PartialEq, Eq)]
+#[derive(Clone, Copy)]
 pub(crate) enum Event {
     Claim,
     Release,
@@ -43,7 +43,7 @@ pub(crate) enum Event {
 }
 
 /// What is done to images.
-#[derive(Clone, Copy, Debug, PartialEq, Eq)]
+#[derive(Clone, Copy)]
 pub(crate) enum Deed {
     /// A call is to fail.
     Arm,
@@ -60,7 +60,7 @@ pub(crate) enum Deed {
 }
 
 /// How a job ended.
-#[derive(Clone, Copy, Debug, PartialEq, Eq)]
+#[derive(Clone, Copy)]
 pub(crate) enum Ending {
     /// What is no read did its work.
     Well,
@@ -79,7 +79,7 @@ pub(crate) enum Ending {
 }
 
 /// A look.
-#[derive(Clone, Copy, Debug, PartialEq, Eq)]
+#[derive(Clone, Copy)]
 pub(crate) enum Look {
     Array,
     Page,

@@ -9,21 +9,21 @@ use fa_headers::{format, format_1};
 use fa_image::{FuseImage, Image, MemImage, WrongImage};
 use fa_tag::{Tag, seal_1};
 use fa_types::{Geometry, Kind, TAG_BYTES};
-use std::alloc::{AllocError, Allocator};
+use std::alloc::{AllocError, Global};
 
 /// The number of each array.
 const ARRAY: [u8; 16] = [7; 16];
 
 /// The image of a die, of which one call can be made to fail and one read to give wrong bytes.
-pub(crate) type DieImage<B> = FuseImage<WrongImage<MemImage<B>>>;
+pub(crate) type DieImage = FuseImage<WrongImage<MemImage>>;
 
 /// The formatted images of an array, by their dies, with headers of format 1 where it is an old one. None where an image refuses. The
 /// error is out of memory.
-pub(crate) fn formatted<B: Allocator + Copy>(
-    alloc: B,
+pub(crate) fn formatted(
+    alloc: Global,
     geometry: Geometry,
     is_old: bool,
-) -> Result<Option<Vec<DieImage<B>, B>>, AllocError> {
+) -> Result<Option<Vec<DieImage>>, AllocError> {
     let mut images = erased(alloc, geometry)?;
     let formatted = if is_old {
         format_1(&mut images, geometry, ARRAY)
@@ -37,10 +37,7 @@ pub(crate) fn formatted<B: Allocator + Copy>(
 }
 
 /// An erased image for each die. The error is out of memory.
-fn erased<B: Allocator + Copy>(
-    alloc: B,
-    geometry: Geometry,
-) -> Result<Vec<DieImage<B>, B>, AllocError>
+fn erased(alloc: Global, geometry: Geometry) -> Result<Vec<DieImage>, AllocError>
     ensures long { IfOk result (λ images. length images.items ≡ geometry.dies) }
     ensures shape { IfOk result (λ images. AllByRecursion
         (λ image. (fused_view (wrong_view mem_image_view) image).geometry ≡ geometry) images.items) }
@@ -53,11 +50,28 @@ fn erased<B: Allocator + Copy>(
 }
 
 /// An erased image. The error is out of memory.
-fn erased_one<B: Allocator + Copy>(alloc: B, geometry: Geometry) -> Result<DieImage<B>, AllocError>
+fn erased_one(alloc: Global, geometry: Geometry) -> Result<DieImage, AllocError>
     ensures { IfOk result (λ image. (fused_view (wrong_view mem_image_view) image).geometry ≡ geometry) }
 {
     let image = MemImage::new(alloc, geometry)?;
-    Ok(FuseImage::new(WrongImage::new(image)))
+    Ok(with_fuse(image))
+}
+
+/// An image of which one call can be made to fail and one read to give wrong bytes.
+fn with_fuse<I: Image>(image: I) -> FuseImage<WrongImage<I>>
+    ensures { (fused_view (wrong_view I.view) result).geometry ≡ (I.view image).geometry }
+{
+    FuseImage::new(WrongImage::new(image))
+}
+
+/// The image, of which the `k`-th read of a slot from now on gives wrong bytes and no call fails.
+pub(crate) fn with_wrong_read<I: Image>(
+    image: FuseImage<WrongImage<I>>,
+    k: u64,
+) -> FuseImage<WrongImage<I>> {
+    let mut image = image.into_inner();
+    image.arm(k);
+    FuseImage::new(image)
 }
 
 /// Programs data with its tag into its slot in version 1, and tells whether that was possible.

@@ -16,34 +16,48 @@ use crate::touching::touch;
 use crate::words::{Words, number_at};
 use fa_map::{Map, PageMap};
 use fa_mount::MountedArray;
-use std::alloc::{AllocError, Allocator};
+use std::alloc::{AllocError, Allocator, Global};
 
 /// Formats the images of a text, and makes its other lines. Answers whether the text has no wrong line. The error is out of memory.
-pub(crate) fn run_over_images<A: Allocator + Copy, B: Allocator + Copy>(
+pub(crate) fn run_over_images<A: Allocator + Copy>(
     heap: A,
-    alloc: B,
+    alloc: Global,
     text: &str,
     wanted: Images,
-    desk: &mut Desk<B>,
+    desk: &mut Desk,
 ) -> Result<bool, AllocError> {
     match Bank::new(alloc, wanted.geometry, wanted.is_old)? {
-        Some(bank) => run_lines(heap, alloc, text, bank, desk),
+        Some(bank) => run_with(heap, alloc, text, bank, desk),
         None => Ok(false),
     }
 }
 
-/// The lines behind the first. Nothing is mounted yet.
-fn run_lines<A: Allocator + Copy, B: Allocator + Copy>(
+/// Makes the lines behind the first over these images. Nothing is mounted yet.
+fn run_with<A: Allocator + Copy>(
     heap: A,
-    alloc: B,
+    alloc: Global,
     text: &str,
-    bank: Bank<A, B>,
-    desk: &mut Desk<B>,
+    bank: Bank<A>,
+    desk: &mut Desk,
 ) -> Result<bool, AllocError> {
     let mut bank = bank;
     let mut mounted = None;
+    run_lines(&mut mounted, heap, alloc, text, &mut bank, desk)
+}
+
+/// The lines behind the first.
+fn run_lines<A: Allocator + Copy>(
+    mounted: &mut Option<MountedArray<PageMap<A>, A>>,
+    heap: A,
+    alloc: Global,
+    text: &str,
+    bank: &mut Bank<A>,
+    desk: &mut Desk,
+) -> Result<bool, AllocError>
+    requires { IfSome mounted.old (λ mounted. IsWhole page_view mounted.array) }
+{
     for (index, line) in text.lines().enumerate().skip(1) {
-        if !run_line(&mut mounted, heap, alloc, line, &mut bank, desk)? {
+        if !run_line(mounted, heap, alloc, line, bank, desk)? {
             tell_wrong(index, desk);
             return Ok(false);
         }
@@ -52,19 +66,34 @@ fn run_lines<A: Allocator + Copy, B: Allocator + Copy>(
 }
 
 /// One line. False where it is none of a text's over images.
-fn run_line<A: Allocator + Copy, B: Allocator + Copy>(
+fn run_line<A: Allocator + Copy>(
     mounted: &mut Option<MountedArray<PageMap<A>, A>>,
     heap: A,
-    alloc: B,
+    alloc: Global,
     line: &str,
-    bank: &mut Bank<A, B>,
-    desk: &mut Desk<B>,
+    bank: &mut Bank<A>,
+    desk: &mut Desk,
 ) -> Result<bool, AllocError>
     requires { IfSome mounted.old (λ mounted. IsWhole page_view mounted.array) }
     ensures { IfSome mounted.new (λ mounted. IsWhole page_view mounted.array) }
 {
     let words = Words::of(alloc, line)?;
-    match wish_of(&words) {
+    run_words(mounted, heap, alloc, &words, bank, desk)
+}
+
+/// The words of a line. False where they are none of a text's over images.
+fn run_words<A: Allocator + Copy>(
+    mounted: &mut Option<MountedArray<PageMap<A>, A>>,
+    heap: A,
+    alloc: Global,
+    words: &Words,
+    bank: &mut Bank<A>,
+    desk: &mut Desk,
+) -> Result<bool, AllocError>
+    requires { IfSome mounted.old (λ mounted. IsWhole page_view mounted.array) }
+    ensures { IfSome mounted.new (λ mounted. IsWhole page_view mounted.array) }
+{
+    match wish_of(words) {
         None | Some(Wish::Make(Event::Done(_))) => Ok(false),
         Some(wish) => {
             run_wish(
@@ -82,14 +111,14 @@ fn run_line<A: Allocator + Copy, B: Allocator + Copy>(
 }
 
 /// What a line asks for. The error is out of memory.
-fn run_wish<A: Allocator + Copy, B: Allocator + Copy>(
+fn run_wish<A: Allocator + Copy>(
     mounted: &mut Option<MountedArray<PageMap<A>, A>>,
     heap: A,
-    alloc: B,
+    alloc: Global,
     wish: Wish,
     numbers: &[u64],
-    bank: &mut Bank<A, B>,
-    desk: &mut Desk<B>,
+    bank: &mut Bank<A>,
+    desk: &mut Desk,
 ) -> Result<(), AllocError>
     requires { IfSome mounted.old (λ mounted. IsWhole page_view mounted.array) }
     ensures { IfSome mounted.new (λ mounted. IsWhole page_view mounted.array) }
@@ -112,14 +141,14 @@ fn run_wish<A: Allocator + Copy, B: Allocator + Copy>(
 }
 
 /// What a line asks of the array that is mounted. The error is out of memory.
-fn run_mounted<M: Map + Drop, A: Allocator + Copy, B: Allocator + Copy>(
+fn run_mounted<M: Map + Drop, A: Allocator + Copy>(
     mounted: &mut MountedArray<M, A>,
     heap: A,
-    alloc: B,
+    alloc: Global,
     wish: Wish,
     numbers: &[u64],
-    bank: &mut Bank<A, B>,
-    desk: &mut Desk<B>,
+    bank: &mut Bank<A>,
+    desk: &mut Desk,
 ) -> Result<(), AllocError>
     requires { IsWhole M.view mounted.old.array }
     ensures { IsWhole M.view mounted.new.array }

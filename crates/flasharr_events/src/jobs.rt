@@ -18,12 +18,12 @@ use fa_types::{Die, Geometry};
 use std::alloc::{AllocError, Allocator};
 
 /// A die takes its next job. The error is out of memory.
-pub(crate) fn take<M: Map, A: Allocator + Copy, B: Allocator>(
+pub(crate) fn take<M: Map, A: Allocator + Copy>(
     array: &mut Array<M, A>,
     heap: A,
     die: Die,
-    bank: &mut Bank<A, B>,
-    desk: &mut Desk<B>,
+    bank: &mut Bank<A>,
+    desk: &mut Desk,
 ) -> Result<(), AllocError>
     requires { IsWhole M.view array.old }
     ensures { IsWhole M.view array.new }
@@ -62,12 +62,12 @@ fn handed_out<A: Allocator>(
 }
 
 /// Makes the calls of the job that a die has taken, ends it, and prints how it ended. The error is out of memory.
-pub(crate) fn run_taken<M: Map, A: Allocator + Copy, B: Allocator>(
+pub(crate) fn run_taken<M: Map, A: Allocator + Copy>(
     array: &mut Array<M, A>,
     heap: A,
     die: Die,
-    bank: &mut Bank<A, B>,
-    told: &mut Told<B>,
+    bank: &mut Bank<A>,
+    told: &mut Told,
 ) -> Result<(), AllocError>
     requires { IsWhole M.view array.old }
     ensures { IsWhole M.view array.new }
@@ -83,12 +83,12 @@ pub(crate) fn run_taken<M: Map, A: Allocator + Copy, B: Allocator>(
 }
 
 /// The same of a job that was taken.
-fn run_job_of<M: Map, A: Allocator + Copy, B: Allocator>(
+fn run_job_of<M: Map, A: Allocator + Copy>(
     array: &mut Array<M, A>,
     heap: A,
     taken: &Taken<A>,
-    bank: &mut Bank<A, B>,
-    told: &mut Told<B>,
+    bank: &mut Bank<A>,
+    told: &mut Told,
 ) -> Result<(), AllocError>
     requires { IsWhole M.view array.old }
     ensures { IsWhole M.view array.new }
@@ -111,12 +111,7 @@ fn done_of<A: Allocator>(die: Die, outcome: Outcome, buffer: Vec<u8, A>, _heap: 
 }
 
 /// Prints how a job ended. What a read gave is in the buffer.
-fn show_outcome<A: Allocator, B: Allocator>(
-    taken: &Taken<A>,
-    outcome: Outcome,
-    buffer: &[u8],
-    told: &mut Told<B>,
-) {
+fn show_outcome<A: Allocator>(taken: &Taken<A>, outcome: Outcome, buffer: &[u8], told: &mut Told) {
     told.word("done");
     match outcome {
         Outcome::Read(Opened::Good(tag)) => {

@@ -15,12 +15,12 @@ use std::alloc::{AllocError, Allocator};
 const MAX_ROUNDS: u64 = 4096;
 
 /// Prints a look. The error is out of memory.
-pub(crate) fn show<M: Map, A: Allocator + Copy, B: Allocator>(
+pub(crate) fn show<M: Map, A: Allocator + Copy>(
     array: &Array<M, A>,
     heap: A,
     look: Look,
     numbers: &[u64],
-    desk: &mut Desk<B>,
+    desk: &mut Desk,
 ) -> Result<(), AllocError>
     requires { IsWhole M.view array.now }
 {
@@ -44,10 +44,10 @@ pub(crate) fn show<M: Map, A: Allocator + Copy, B: Allocator>(
 }
 
 /// Prints all looks that take no memory.
-pub(crate) fn show_all<M: Map, A: Allocator + Copy, B: Allocator>(
+pub(crate) fn show_all<M: Map, A: Allocator + Copy>(
     array: &Array<M, A>,
     batches: &[BatchId],
-    told: &mut Told<B>,
+    told: &mut Told,
 )
     requires { IsWhole M.view array.now }
 {
@@ -72,7 +72,7 @@ pub(crate) fn die_of(number: u64) -> Die {
     Die(u8::try_from(number).unwrap_or(u8::MAX))
 }
 
-fn show_array<M: Map, A: Allocator + Copy, B: Allocator>(array: &Array<M, A>, told: &mut Told<B>) {
+fn show_array<M: Map, A: Allocator + Copy>(array: &Array<M, A>, told: &mut Told) {
     told.pair("round", array.now().0);
     told.pair("epoch", array.epoch());
     told.word(if array.is_busy() { "busy" } else { "idle" });
@@ -83,11 +83,7 @@ fn show_array<M: Map, A: Allocator + Copy, B: Allocator>(array: &Array<M, A>, to
     });
 }
 
-fn show_page<M: Map, A: Allocator + Copy, B: Allocator>(
-    array: &Array<M, A>,
-    page: Page,
-    told: &mut Told<B>,
-) {
+fn show_page<M: Map, A: Allocator + Copy>(array: &Array<M, A>, page: Page, told: &mut Told) {
     told.pair("page", page.0);
     if !array.is_page(page) {
         told.word("none");
@@ -103,7 +99,7 @@ fn show_page<M: Map, A: Allocator + Copy, B: Allocator>(
 }
 
 /// A write of a page: its number, and whether it made the page a hole.
-pub(crate) fn show_version<B: Allocator>(version: Version, told: &mut Told<B>) {
+pub(crate) fn show_version(version: Version, told: &mut Told) {
     told.pair("seq", version.seq.0);
     if version.kind == Kind::Hole {
         told.word("hole");
@@ -111,21 +107,17 @@ pub(crate) fn show_version<B: Allocator>(version: Version, told: &mut Told<B>) {
 }
 
 /// The die and the slot of each current copy of a page.
-fn show_copies<M: Map, A: Allocator + Copy, B: Allocator>(
-    array: &Array<M, A>,
-    page: Page,
-    told: &mut Told<B>,
-) {
+fn show_copies<M: Map, A: Allocator + Copy>(array: &Array<M, A>, page: Page, told: &mut Told) {
     for die in 0..MAX_DIES {
         show_copy(array, page, Die(die), told);
     }
 }
 
-fn show_copy<M: Map, A: Allocator + Copy, B: Allocator>(
+fn show_copy<M: Map, A: Allocator + Copy>(
     array: &Array<M, A>,
     page: Page,
     die: Die,
-    told: &mut Told<B>,
+    told: &mut Told,
 ) {
     if !array.is_die(die) || !array.is_page(page) {
         return;
@@ -136,11 +128,7 @@ fn show_copy<M: Map, A: Allocator + Copy, B: Allocator>(
     }
 }
 
-fn show_die<M: Map, A: Allocator + Copy, B: Allocator>(
-    array: &Array<M, A>,
-    die: Die,
-    told: &mut Told<B>,
-) {
+fn show_die<M: Map, A: Allocator + Copy>(array: &Array<M, A>, die: Die, told: &mut Told) {
     if !array.is_die(die) {
         return;
     }
@@ -172,11 +160,7 @@ fn job_word(kind: JobKind) -> &'static str {
     }
 }
 
-fn show_claim<M: Map, A: Allocator + Copy, B: Allocator>(
-    array: &Array<M, A>,
-    claim: ClaimId,
-    told: &mut Told<B>,
-) {
+fn show_claim<M: Map, A: Allocator + Copy>(array: &Array<M, A>, claim: ClaimId, told: &mut Told) {
     told.word(if array.is_reserved(claim) {
         "reserved"
     } else if array.claim_open(claim) {
@@ -186,11 +170,7 @@ fn show_claim<M: Map, A: Allocator + Copy, B: Allocator>(
     });
 }
 
-fn show_results<M: Map, A: Allocator + Copy, B: Allocator>(
-    array: &Array<M, A>,
-    batch: BatchId,
-    told: &mut Told<B>,
-)
+fn show_results<M: Map, A: Allocator + Copy>(array: &Array<M, A>, batch: BatchId, told: &mut Told)
     requires { IsWhole M.view array.now }
 {
     told.word(match array.results(batch) {
@@ -200,10 +180,7 @@ fn show_results<M: Map, A: Allocator + Copy, B: Allocator>(
     });
 }
 
-fn show_next_thin<M: Map, A: Allocator + Copy, B: Allocator>(
-    array: &Array<M, A>,
-    told: &mut Told<B>,
-) {
+fn show_next_thin<M: Map, A: Allocator + Copy>(array: &Array<M, A>, told: &mut Told) {
     match array.next_thin() {
         Some((page, die)) => {
             told.pair("page", page.0);
@@ -214,7 +191,7 @@ fn show_next_thin<M: Map, A: Allocator + Copy, B: Allocator>(
 }
 
 /// Which of the next `count` rounds are closed on a die, the current one first.
-fn show_closed<R: Rounds, B: Allocator>(rounds: &R, die: u64, count: u64, told: &mut Told<B>) {
+fn show_closed<R: Rounds>(rounds: &R, die: u64, count: u64, told: &mut Told) {
     told.pair("closed", die);
     let now = rounds.now().0;
     for later in 0..count.min(MAX_ROUNDS) {
@@ -226,12 +203,12 @@ fn show_closed<R: Rounds, B: Allocator>(rounds: &R, die: u64, count: u64, told: 
 }
 
 /// The same without the bookings of a batch.
-fn show_closed_without<M: Map, A: Allocator + Copy, B: Allocator>(
+fn show_closed_without<M: Map, A: Allocator + Copy>(
     array: &Array<M, A>,
     heap: A,
     batch: BatchId,
     numbers: &[u64],
-    told: &mut Told<B>,
+    told: &mut Told,
 ) -> Result<(), AllocError>
     requires { IsWhole M.view array.now }
 {
@@ -244,20 +221,20 @@ fn show_closed_without<M: Map, A: Allocator + Copy, B: Allocator>(
     Ok(())
 }
 
-fn show_counts<M: Map, A: Allocator + Copy, B: Allocator>(array: &Array<M, A>, told: &mut Told<B>) {
+fn show_counts<M: Map, A: Allocator + Copy>(array: &Array<M, A>, told: &mut Told) {
     let (commits, starts) = array.counts();
     told.pair("commits", commits);
     told.pair("starts", starts);
 }
 
-fn show_history<B: Allocator>(history: &[HistoryEntry], told: &mut Told<B>) {
+fn show_history(history: &[HistoryEntry], told: &mut Told) {
     told.pair("entries", history.len() as u64);
     for entry in history {
         show_entry(*entry, told);
     }
 }
 
-fn show_entry<B: Allocator>(entry: HistoryEntry, told: &mut Told<B>) {
+fn show_entry(entry: HistoryEntry, told: &mut Told) {
     let (word, page, seq) = match entry {
         HistoryEntry::Commit { page, seq, .. } => ("commit", page, seq),
         HistoryEntry::Start { page, seq, .. } => ("start", page, seq),

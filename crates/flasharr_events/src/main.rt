@@ -36,20 +36,42 @@ const FAULTY: u8 = 2;
 const HEAP_BYTES: usize = 64 * 1024 * 1024;
 
 fn main(rt: HostRuntime) -> io::Result<ExitCode> {
-    let words: Vec<String> = env::args(&rt)?.skip(1).collect(rt.alloc())?;
-    let refusing = match words.as_slice() {
-        [] => false,
-        [word] if word.as_str() == "--refuse" => true,
-        _ => {
+    match is_refusing(&rt)? {
+        Some(refusing) => run_input(&rt, refusing),
+        None => {
             println!(rt; "usage: flasharr_events [--refuse]")?;
-            return Ok(ExitCode::from(FAULTY));
+            Ok(ExitCode::from(FAULTY))
         }
-    };
+    }
+}
+
+/// Whether the words ask for each growth to be refused. None where they are not this program's.
+fn is_refusing(rt: &HostRuntime) -> io::Result<Option<bool>> {
+    let words: Vec<String> = env::args(rt)?.skip(1).collect(rt.alloc())?;
+    Ok(match words.as_slice() {
+        [] => Some(false),
+        [word] if word.as_str() == "--refuse" => Some(true),
+        _ => None,
+    })
+}
+
+/// Makes the events of the text on standard input.
+fn run_input(rt: &HostRuntime, refusing: bool) -> io::Result<ExitCode> {
     let mut text = String::new(rt.alloc());
     rt.stdin().read_to_string(&mut text)?;
+    run_text(rt, text.as_str(), refusing)
+}
+
+/// Makes the events of a text on a heap of their own.
+fn run_text(rt: &HostRuntime, text: &str, refusing: bool) -> io::Result<ExitCode> {
     let heap = LocalHeap::new(rt.alloc(), HEAP_BYTES)?;
     let mut desk = Desk::new(rt.alloc(), refusing);
-    let is_read = run(&heap, rt.alloc(), text.as_str(), &mut desk)?;
+    run_at(rt, &heap, text, &mut desk)
+}
+
+/// Makes the events of a text, and prints what they were answered.
+fn run_at(rt: &HostRuntime, heap: &LocalHeap, text: &str, desk: &mut Desk) -> io::Result<ExitCode> {
+    let is_read = run(heap, rt.alloc(), text, desk)?;
     desk.finish();
     rt.print(desk.told.text())?;
     Ok(if is_read {

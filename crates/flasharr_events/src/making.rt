@@ -14,32 +14,32 @@ use fa_machine::{
 use fa_map::Map;
 use fa_tag::Payload;
 use fa_types::{Die, Page, Seq};
-use std::alloc::{AllocError, Allocator};
+use std::alloc::{AllocError, Allocator, Global};
 
 /// Who makes all events.
 pub(crate) const SEAT: u32 = 0;
 
 /// An event with its numbers, and what it lends the array.
 #[derive(Drop)]
-pub(crate) struct Asked<'a, A: Allocator, B: Allocator> {
+pub(crate) struct Asked<'a, A: Allocator> {
     event: Event,
     numbers: &'a [u64],
-    pages: Vec<Page, B>,
+    pages: Vec<Page>,
     payload: Payload<A>,
     page_bytes: u32,
 }
 
-impl<'a, A: Allocator + Copy, B: Allocator> Asked<'a, A, B> {
+impl<'a, A: Allocator + Copy> Asked<'a, A> {
     /// An event on an array with pages of this size. Its payload is full of the last number. The error is out of memory.
     pub(crate) fn new(
         heap: A,
-        alloc: B,
+        alloc: Global,
         event: Event,
         numbers: &'a [u64],
         page_bytes: u32,
-    ) -> Result<Asked<'a, A, B>, AllocError> {
+    ) -> Result<Asked<'a, A>, AllocError> {
+        let payload = payload_of(heap, numbers, page_bytes)?;
         let pages = numbers.iter().map(|number| Page(*number)).collect(alloc)?;
-        let payload = Payload::new(full_page(heap, numbers, page_bytes)?)?;
         Ok(Asked {
             event,
             numbers,
@@ -50,7 +50,7 @@ impl<'a, A: Allocator + Copy, B: Allocator> Asked<'a, A, B> {
     }
 }
 
-impl<A: Allocator, B: Allocator> Asked<'_, A, B> {
+impl<A: Allocator> Asked<'_, A> {
     /// The number that stands first.
     pub(crate) fn number(&self) -> u64 {
         number_at(self.numbers, 0)
@@ -67,7 +67,7 @@ impl<A: Allocator, B: Allocator> Asked<'_, A, B> {
     }
 
     /// The event as a call. None where it is the end of a job, and its buffer is gone.
-    fn call(&self, desk: &Desk<B>, buffer: &mut Option<Vec<u8, A>>) -> Option<Call<'_, A>> {
+    fn call(&self, desk: &Desk, buffer: &mut Option<Vec<u8, A>>) -> Option<Call<'_, A>> {
         let first = self.number();
         Some(match self.event {
             Event::Claim => Call::Claim(Page(first)),
@@ -97,6 +97,15 @@ impl<A: Allocator, B: Allocator> Asked<'_, A, B> {
     }
 }
 
+/// A payload full of the last of these numbers. The error is out of memory.
+fn payload_of<A: Allocator + Copy>(
+    heap: A,
+    numbers: &[u64],
+    page_bytes: u32,
+) -> Result<Payload<A>, AllocError> {
+    Payload::new(full_page(heap, numbers, page_bytes)?)
+}
+
 /// A page full of the last of these numbers. The error is out of memory.
 pub(crate) fn full_page<A: Allocator>(
     heap: A,
@@ -109,31 +118,47 @@ pub(crate) fn full_page<A: Allocator>(
 
 /// Makes an event. Where memory is to be refused, the event is asked for again and again, each time with a little more of it. A refusal
 /// that changes what the array shows prints a line. The error is that what is printed finds no memory.
-pub(crate) fn make<M: Map, A: Allocator + Copy, B: Allocator + Copy>(
+pub(crate) fn make<M: Map, A: Allocator + Copy>(
     array: &mut Array<M, A>,
     heap: A,
-    alloc: B,
-    asked: &Asked<'_, A, B>,
-    desk: &mut Desk<B>,
+    alloc: Global,
+    asked: &Asked<'_, A>,
+    desk: &mut Desk,
 ) -> Result<Answer<A>, AllocError>
     requires { IsWhole M.view array.old }
     ensures { IsWhole M.view array.new }
 {
     let mut buffer = Some(full_page(heap, asked.numbers, asked.page_bytes)?);
-    if desk.tally.is_none() {
-        return Ok(make_once(array, heap, asked, desk, &mut buffer));
+    if desk.tally.is_some() {
+        make_filled(array, heap, alloc, asked, desk, &mut buffer)
+    } else {
+        Ok(make_once(array, heap, asked, desk, &mut buffer))
     }
+}
+
+/// Makes an event with the heap filled first. The error is that what the heap is filled with finds no list.
+fn make_filled<M: Map, A: Allocator + Copy>(
+    array: &mut Array<M, A>,
+    heap: A,
+    alloc: Global,
+    asked: &Asked<'_, A>,
+    desk: &mut Desk,
+    buffer: &mut Option<Vec<u8, A>>,
+) -> Result<Answer<A>, AllocError>
+    requires { IsWhole M.view array.old }
+    ensures { IsWhole M.view array.new }
+{
     let mut ballast = Ballast::new(alloc);
     ballast.fill(heap)?;
-    Ok(make_refused(array, heap, alloc, asked, desk, &mut buffer, &mut ballast))
+    Ok(make_refused(array, heap, alloc, asked, desk, buffer, &mut ballast))
 }
 
 /// Makes an event once.
-fn make_once<M: Map, A: Allocator + Copy, B: Allocator>(
+fn make_once<M: Map, A: Allocator + Copy>(
     array: &mut Array<M, A>,
     heap: A,
-    asked: &Asked<'_, A, B>,
-    desk: &Desk<B>,
+    asked: &Asked<'_, A>,
+    desk: &Desk,
     buffer: &mut Option<Vec<u8, A>>,
 ) -> Answer<A>
     requires { IsWhole M.view array.old }
@@ -146,14 +171,14 @@ fn make_once<M: Map, A: Allocator + Copy, B: Allocator>(
 }
 
 /// Makes an event until it is not refused memory, or the ballast is gone.
-fn make_refused<M: Map, A: Allocator + Copy, B: Allocator + Copy>(
+fn make_refused<M: Map, A: Allocator + Copy>(
     array: &mut Array<M, A>,
     heap: A,
-    alloc: B,
-    asked: &Asked<'_, A, B>,
-    desk: &mut Desk<B>,
+    alloc: Global,
+    asked: &Asked<'_, A>,
+    desk: &mut Desk,
     buffer: &mut Option<Vec<u8, A>>,
-    ballast: &mut Ballast<A, B>,
+    ballast: &mut Ballast<A>,
 ) -> Answer<A>
     requires { IsWhole M.view array.old }
     ensures { IsWhole M.view array.new }
@@ -161,19 +186,14 @@ fn make_refused<M: Map, A: Allocator + Copy, B: Allocator + Copy>(
     let before = shown(array, alloc, desk);
     let mut answer = make_once(array, heap, asked, desk, buffer);
     while is_out_of_memory(&answer) && ballast.lessen() {
-        let now = shown(array, alloc, desk);
-        note_refusal(asked.event, before.text() == now.text(), desk);
+        note_refusal(array, alloc, asked.event, before.text(), desk);
         answer = make_once(array, heap, asked, desk, buffer);
     }
     answer
 }
 
 /// All that the array shows without memory.
-fn shown<M: Map, A: Allocator + Copy, B: Allocator + Copy>(
-    array: &Array<M, A>,
-    alloc: B,
-    desk: &Desk<B>,
-) -> Told<B>
+fn shown<M: Map, A: Allocator + Copy>(array: &Array<M, A>, alloc: Global, desk: &Desk) -> Told
     requires { IsWhole M.view array.now }
 {
     let mut told = Told::new(alloc);
@@ -181,15 +201,18 @@ fn shown<M: Map, A: Allocator + Copy, B: Allocator + Copy>(
     told
 }
 
-/// An event was refused memory.
-fn note_refusal<B: Allocator>(event: Event, is_same: bool, desk: &mut Desk<B>) {
-    if let Some(tally) = &mut desk.tally {
-        tally.count(event);
-    }
-    if !is_same {
-        desk.told.word("changed");
-        desk.told.end();
-    }
+/// An event was refused memory, before which the array showed this.
+fn note_refusal<M: Map, A: Allocator + Copy>(
+    array: &Array<M, A>,
+    alloc: Global,
+    event: Event,
+    before: &str,
+    desk: &mut Desk,
+)
+    requires { IsWhole M.view array.now }
+{
+    let now = shown(array, alloc, desk);
+    desk.count_refusal(event, before == now.text());
 }
 
 /// Whether an event was refused for want of memory.

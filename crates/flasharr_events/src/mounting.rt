@@ -15,13 +15,13 @@ use fa_types::{Copies, Die};
 use std::alloc::Allocator;
 
 /// Mounts the images, in place of the array that was mounted before, and prints which dies are live or why they are not mounted.
-pub(crate) fn mount_again<A: Allocator + Copy, B: Allocator>(
+pub(crate) fn mount_again<A: Allocator + Copy>(
     mounted: &mut Option<MountedArray<PageMap<A>, A>>,
     heap: A,
     copies: u64,
     unclean: bool,
-    bank: &mut Bank<A, B>,
-    desk: &mut Desk<B>,
+    bank: &mut Bank<A>,
+    desk: &mut Desk,
 )
     ensures { IfSome mounted.new (λ mounted. IsWhole page_view mounted.array) }
 {
@@ -33,12 +33,12 @@ pub(crate) fn mount_again<A: Allocator + Copy, B: Allocator>(
 }
 
 /// Mounts the images. None where they are refused.
-fn mount_images<A: Allocator + Copy, B: Allocator>(
+fn mount_images<A: Allocator + Copy>(
     heap: A,
     copies: u64,
     unclean: bool,
-    bank: &mut Bank<A, B>,
-    told: &mut Told<B>,
+    bank: &mut Bank<A>,
+    told: &mut Told,
 ) -> Option<MountedArray<PageMap<A>, A>>
     ensures { IfSome result (λ mounted. IsWhole page_view mounted.array) }
 {
@@ -62,10 +62,7 @@ fn mount_images<A: Allocator + Copy, B: Allocator>(
 }
 
 /// The live dies of an array that was mounted.
-fn show_mounted<M: Map, A: Allocator + Copy, B: Allocator>(
-    array: &Array<M, A>,
-    told: &mut Told<B>,
-) {
+fn show_mounted<M: Map, A: Allocator + Copy>(array: &Array<M, A>, told: &mut Told) {
     told.word("mounted live");
     for die in 0..MAX_DIES {
         if array.is_die(Die(die)) && array.is_live(Die(die)) {
@@ -89,7 +86,7 @@ pub(crate) fn close<M: Map + Drop, A: Allocator + Copy, I: Image>(
 }
 
 /// Prints which dies are marked, or why the array is not closed.
-pub(crate) fn show_closed<B: Allocator>(closed: Result<u64, CloseFault>, told: &mut Told<B>) {
+pub(crate) fn show_closed(closed: Result<u64, CloseFault>, told: &mut Told) {
     match closed {
         Ok(mask) => {
             told.word("closed");

@@ -1,13 +1,12 @@
 //! The names of events and looks.
 use crate::event::{Deed, Ending, Event, Look, Wish};
 use crate::words::Words;
-use std::alloc::Allocator;
 
 /// Stands for any number of numbers.
 const ANY: usize = usize::MAX;
 
 /// The names, each with how many numbers stand in its line.
-const NAMES: [(&str, usize, Wish); 46] = [
+static NAMES: [(&str, usize, Wish); 46] = [
     ("claim", 1, Wish::Make(Event::Claim)),
     ("release", 1, Wish::Make(Event::Release)),
     ("reserve", 2, Wish::Make(Event::Reserve)),
@@ -57,7 +56,7 @@ const NAMES: [(&str, usize, Wish); 46] = [
 ];
 
 /// What the words ask for. None where they are no line of a text.
-pub(crate) fn wish_of<A: Allocator>(words: &Words<A>) -> Option<Wish> {
+pub(crate) fn wish_of(words: &Words) -> Option<Wish> {
     for form in &NAMES {
         if form.0 == words.name.as_str() && (form.1 == ANY || form.1 == words.numbers.len()) {
             return Some(form.2);

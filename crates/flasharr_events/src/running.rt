@@ -10,17 +10,17 @@ use crate::making::{Asked, make};
 use crate::naming::wish_of;
 use crate::shape::{First, array_of, first_of};
 use crate::words::Words;
-use fa_core::Array;
+use fa_core::{Answer, Array};
 use fa_map::Map;
-use std::alloc::{AllocError, Allocator};
+use std::alloc::{AllocError, Allocator, Global};
 
 /// Makes the array of a text on a heap, and its events, with a line of words for each. Answers whether the text has no wrong line; the
 /// first one is told, and nothing behind it is made. The error is out of memory.
-pub(crate) fn run<A: Allocator + Copy, B: Allocator + Copy>(
+pub(crate) fn run<A: Allocator + Copy>(
     heap: A,
-    alloc: B,
+    alloc: Global,
     text: &str,
-    desk: &mut Desk<B>,
+    desk: &mut Desk,
 ) -> Result<bool, AllocError> {
     match first_line(alloc, text)? {
         Some(First::Alone(shape)) => {
@@ -36,7 +36,7 @@ pub(crate) fn run<A: Allocator + Copy, B: Allocator + Copy>(
 }
 
 /// What the first line asks for. The error is out of memory.
-fn first_line<B: Allocator + Copy>(alloc: B, text: &str) -> Result<Option<First>, AllocError> {
+fn first_line(alloc: Global, text: &str) -> Result<Option<First>, AllocError> {
     match text.lines().next() {
         Some(line) => Ok(first_of(&Words::of(alloc, line)?)),
         None => Ok(None),
@@ -44,12 +44,12 @@ fn first_line<B: Allocator + Copy>(alloc: B, text: &str) -> Result<Option<First>
 }
 
 /// The lines behind the first.
-fn run_events<M: Map, A: Allocator + Copy, B: Allocator + Copy>(
+fn run_events<M: Map, A: Allocator + Copy>(
     array: &mut Array<M, A>,
     heap: A,
-    alloc: B,
+    alloc: Global,
     text: &str,
-    desk: &mut Desk<B>,
+    desk: &mut Desk,
 ) -> Result<bool, AllocError>
     requires { IsWhole M.view array.old }
 {
@@ -63,19 +63,33 @@ fn run_events<M: Map, A: Allocator + Copy, B: Allocator + Copy>(
 }
 
 /// One line. False where it is none of a text's.
-fn run_line<M: Map, A: Allocator + Copy, B: Allocator + Copy>(
+fn run_line<M: Map, A: Allocator + Copy>(
     array: &mut Array<M, A>,
     heap: A,
-    alloc: B,
+    alloc: Global,
     line: &str,
-    desk: &mut Desk<B>,
+    desk: &mut Desk,
 ) -> Result<bool, AllocError>
     requires { IsWhole M.view array.old }
     ensures { IsWhole M.view array.new }
 {
     let words = Words::of(alloc, line)?;
+    run_words(array, heap, alloc, &words, desk)
+}
+
+/// The words of a line. False where they are none of a text's.
+fn run_words<M: Map, A: Allocator + Copy>(
+    array: &mut Array<M, A>,
+    heap: A,
+    alloc: Global,
+    words: &Words,
+    desk: &mut Desk,
+) -> Result<bool, AllocError>
+    requires { IsWhole M.view array.old }
+    ensures { IsWhole M.view array.new }
+{
     let numbers = words.numbers.as_slice();
-    match wish_of(&words) {
+    match wish_of(words) {
         Some(Wish::Make(event)) => run_event(array, heap, alloc, event, numbers, desk)?,
         Some(Wish::Show(look)) => show(array, heap, look, numbers, desk)?,
         _ => return Ok(false),
@@ -84,25 +98,52 @@ fn run_line<M: Map, A: Allocator + Copy, B: Allocator + Copy>(
 }
 
 /// An event, and its answer. The error is out of memory.
-pub(crate) fn run_event<M: Map, A: Allocator + Copy, B: Allocator + Copy>(
+pub(crate) fn run_event<M: Map, A: Allocator + Copy>(
     array: &mut Array<M, A>,
     heap: A,
-    alloc: B,
+    alloc: Global,
     event: Event,
     numbers: &[u64],
-    desk: &mut Desk<B>,
+    desk: &mut Desk,
 ) -> Result<(), AllocError>
     requires { IsWhole M.view array.old }
     ensures { IsWhole M.view array.new }
 {
     let asked = Asked::new(heap, alloc, event, numbers, array.geometry().page_bytes)?;
-    let answer = make(array, heap, alloc, &asked, desk)?;
-    desk.keep(asked.die(), &answer)?;
-    show_answer(array, heap, asked.number(), &answer, desk)
+    run_asked(array, heap, alloc, &asked, desk)
+}
+
+/// The same of an event with what it lends the array.
+fn run_asked<M: Map, A: Allocator + Copy>(
+    array: &mut Array<M, A>,
+    heap: A,
+    alloc: Global,
+    asked: &Asked<'_, A>,
+    desk: &mut Desk,
+) -> Result<(), AllocError>
+    requires { IsWhole M.view array.old }
+    ensures { IsWhole M.view array.new }
+{
+    let answer = make(array, heap, alloc, asked, desk)?;
+    tell_answer(array, heap, asked, &answer, desk)
+}
+
+/// Keeps and prints what an event was answered. The error is out of memory.
+fn tell_answer<M: Map, A: Allocator + Copy>(
+    array: &Array<M, A>,
+    heap: A,
+    asked: &Asked<'_, A>,
+    answer: &Answer<A>,
+    desk: &mut Desk,
+) -> Result<(), AllocError>
+    requires { IsWhole M.view array.now }
+{
+    desk.keep(asked.die(), answer)?;
+    show_answer(array, heap, asked.number(), answer, desk)
 }
 
 /// A line that is none of a text's, by its index.
-pub(crate) fn tell_wrong<B: Allocator>(index: usize, desk: &mut Desk<B>) {
+pub(crate) fn tell_wrong(index: usize, desk: &mut Desk) {
     desk.told
         .pair("no line of a text:", (index as u64).saturating_add(1));
     desk.told.end();

@@ -57,7 +57,7 @@ pub(crate) struct Shape {
 }
 
 /// What a line asks for as the first of a text. None where there is no such array.
-pub(crate) fn first_of<A: Allocator>(words: &Words<A>) -> Option<First> {
+pub(crate) fn first_of(words: &Words) -> Option<First> {
     let is_old = words.name.as_str() == OLD_IMAGES;
     if !is_old && words.name.as_str() != IMAGES {
         return Some(First::Alone(shape_of(words)?));
@@ -70,7 +70,7 @@ pub(crate) fn first_of<A: Allocator>(words: &Words<A>) -> Option<First> {
 }
 
 /// The shape of which a line speaks. None where it speaks of none that an array may have.
-fn shape_of<A: Allocator>(words: &Words<A>) -> Option<Shape> {
+fn shape_of(words: &Words) -> Option<Shape> {
     if words.name.as_str() != NAME || words.numbers.len() != 9 {
         return None;
     }

@@ -1,10 +1,9 @@
 //! How often memory was refused to each kind of event.
 use crate::event::Event;
 use crate::told::Told;
-use std::alloc::Allocator;
 
 /// How often each kind of event that takes memory was refused it.
-#[derive(Clone, Copy, Debug, Default)]
+#[derive(Clone, Copy)]
 pub(crate) struct Tally {
     claim: u64,
     reserve: u64,
@@ -46,7 +45,7 @@ impl Tally {
     }
 
     /// A line of all numbers.
-    pub(crate) fn tell<A: Allocator>(&self, told: &mut Told<A>) {
+    pub(crate) fn tell(&self, told: &mut Told) {
         told.word("refused memory:");
         told.pair("claim", self.claim);
         told.pair("reserve", self.reserve);

@@ -1,17 +1,17 @@
 //! What is printed.
-use std::alloc::Allocator;
+use std::alloc::Global;
 use std::fmt::Display;
 
 /// Lines that are printed, a word after the other. What finds no memory is left out, and `is_whole` tells that.
 #[derive(Drop)]
-pub(crate) struct Told<A: Allocator> {
-    text: String<A>,
+pub(crate) struct Told {
+    text: String,
     is_fresh: bool,
     is_whole: bool,
 }
 
-impl<A: Allocator> Told<A> {
-    pub(crate) fn new(alloc: A) -> Told<A> {
+impl Told {
+    pub(crate) fn new(alloc: Global) -> Told {
         Told {
             text: String::new(alloc),
             is_fresh: true,

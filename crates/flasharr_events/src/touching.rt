@@ -11,18 +11,18 @@ use fa_image::Image;
 use fa_machine::Version;
 use fa_tag::{Opened, Tag, open, open_header};
 use fa_types::{Die, HEADER_BYTES, Kind, Page, Seq, Slot, TAG_BYTES};
-use std::alloc::{AllocError, Allocator};
+use std::alloc::{AllocError, Allocator, Global};
 
 /// The byte of a header that has its format.
 const FORMAT_AT: usize = 11;
 
 /// Does what a line asks of images, and prints a line. The error is out of memory.
-pub(crate) fn touch<A: Allocator, B: Allocator + Copy>(
-    alloc: B,
+pub(crate) fn touch<A: Allocator>(
+    alloc: Global,
     deed: Deed,
     numbers: &[u64],
-    bank: &mut Bank<A, B>,
-    told: &mut Told<B>,
+    bank: &mut Bank<A>,
+    told: &mut Told,
 ) -> Result<(), AllocError> {
     let die = die_of(number_at(numbers, 0));
     match deed {
@@ -41,7 +41,7 @@ pub(crate) fn touch<A: Allocator, B: Allocator + Copy>(
 }
 
 /// A call of the die's image from now on fails.
-fn arm<A: Allocator, B: Allocator>(die: Die, k: u64, bank: &mut Bank<A, B>, told: &mut Told<B>) {
+fn arm<A: Allocator>(die: Die, k: u64, bank: &mut Bank<A>, told: &mut Told) {
     match bank.image(die) {
         Some(image) => {
             image.arm(k);
@@ -57,12 +57,12 @@ fn slot_of(numbers: &[u64]) -> Slot {
 }
 
 /// Writes a slot in version 1, full of the last number. The error is out of memory.
-fn write_old<A: Allocator, B: Allocator + Copy>(
-    alloc: B,
+fn write_old<A: Allocator>(
+    alloc: Global,
     die: Die,
     numbers: &[u64],
-    bank: &mut Bank<A, B>,
-    told: &mut Told<B>,
+    bank: &mut Bank<A>,
+    told: &mut Told,
 ) -> Result<(), AllocError> {
     let tag = Tag {
         page: Page(number_at(numbers, 2)),
@@ -81,7 +81,7 @@ fn write_old<A: Allocator, B: Allocator + Copy>(
 }
 
 /// Prints what the header of a die's image says.
-fn show_header<A: Allocator, B: Allocator>(die: Die, bank: &mut Bank<A, B>, told: &mut Told<B>) {
+fn show_header<A: Allocator>(die: Die, bank: &mut Bank<A>, told: &mut Told) {
     let Some(image) = bank.image(die) else {
         told.word("no die");
         return;
@@ -103,12 +103,7 @@ fn show_header<A: Allocator, B: Allocator>(die: Die, bank: &mut Bank<A, B>, told
 }
 
 /// Prints what stands in a slot of a die's image.
-fn show_slot<A: Allocator, B: Allocator>(
-    die: Die,
-    slot: Slot,
-    bank: &mut Bank<A, B>,
-    told: &mut Told<B>,
-) {
+fn show_slot<A: Allocator>(die: Die, slot: Slot, bank: &mut Bank<A>, told: &mut Told) {
     match bank.images.get_mut(die.0 as usize) {
         Some(image) => show_slot_of(image, slot, bank.scratch.as_mut_slice(), told),
         None => told.word("no die"),
@@ -116,12 +111,7 @@ fn show_slot<A: Allocator, B: Allocator>(
 }
 
 /// The same of an image.
-fn show_slot_of<I: Image, B: Allocator>(
-    image: &mut I,
-    slot: Slot,
-    scratch: &mut [u8],
-    told: &mut Told<B>,
-) {
+fn show_slot_of<I: Image>(image: &mut I, slot: Slot, scratch: &mut [u8], told: &mut Told) {
     let geometry = image.geometry();
     let page_bytes = geometry.page_bytes as usize;
     if geometry.blocks * geometry.slots <= slot.0 || scratch.len() != page_bytes + TAG_BYTES {

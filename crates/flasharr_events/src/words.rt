@@ -1,16 +1,16 @@
 //! The words of a line.
-use std::alloc::{AllocError, Allocator};
+use std::alloc::{AllocError, Global};
 
 /// A line taken apart: its numbers in their order, and its name, which is all other words.
 #[derive(Drop)]
-pub(crate) struct Words<A: Allocator> {
-    pub(crate) name: String<A>,
-    pub(crate) numbers: Vec<u64, A>,
+pub(crate) struct Words {
+    pub(crate) name: String,
+    pub(crate) numbers: Vec<u64>,
 }
 
-impl<A: Allocator + Copy> Words<A> {
+impl Words {
     /// The words of a line, one space between two of them.
-    pub(crate) fn of(alloc: A, line: &str) -> Result<Words<A>, AllocError> {
+    pub(crate) fn of(alloc: Global, line: &str) -> Result<Words, AllocError> {
         let mut words = Words {
             name: String::new(alloc),
             numbers: Vec::new(alloc),

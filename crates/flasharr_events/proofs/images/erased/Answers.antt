@@ -10,7 +10,7 @@ all_pushed P [] x all here = (here, tt)
 all_pushed P (y ∷ xs) x all here = (all.0, all_pushed P xs x all.1 here)
 
 pub loop-die-preserved : goal.loop-die-preserved
-loop-die-preserved g c = record {
+loop-die-preserved c = record {
   long = search rules;
   end = search rules;
   order = search rules;

@@ -6,7 +6,7 @@ use Rattle.fa_image.specs.Wrong.{wrong_view}
 use Rattle.flasharr_events.proofs.images.erased.Given as goal
 
 abbrev pub invariant-loop-die : goal.invariant-loop-die
-invariant-loop-die g l = record {
+invariant-loop-die l = record {
   long : length l.images.items ≡ l.die;
   end : l.die-end ≡ l.geometry.dies;
   order : l.die ≤ l.die-end;
