@@ -13,7 +13,7 @@ use fa_map::Map;
 use fa_tag::Payload;
 use fa_types::{Geometry, Page};
 use linked_list_allocator::LocalHeap;
-use std::alloc::{AllocError, Allocator};
+use std::alloc::{AllocError, Allocator, Global};
 use std::io::{self, ErrorKind};
 use std::rt::Clock;
 
@@ -42,32 +42,62 @@ pub fn measure(rt: &(impl Clock + Print + AllocGlobal), pages: &str) -> io::Resu
     println!(rt; "pages {pages}")?;
     println!(rt; "slots {slots}")?;
     tell_bytes(rt, geometry)?;
-    let mut bench = bench_of(rt.alloc(), rt.alloc())?;
-    let mut array = array_of(rt.alloc(), geometry)?;
-    time_clock(rt, &mut bench, TURNS as u32);
-    fill(rt, &mut array, rt.alloc(), &mut bench);
-    run(rt, &mut array, rt.alloc(), rt.alloc(), &mut bench)?;
-    bench.timings.tell(rt)
+    tell_times(rt, geometry)
 }
 
-/// Prints the bytes that an array has on a heap of its own: as it is new, and as all its pages were written.
+/// Prints the bytes that an array has: as it is new, and as all its pages were written.
 fn tell_bytes(rt: &(impl Clock + Print + AllocGlobal), geometry: Geometry) -> io::Result<()> {
-    let heap = LocalHeap::new(rt.alloc(), HEAP_BYTES)?;
-    let mut bench = bench_of(&heap, rt.alloc())?;
-    let before = heap.used();
-    let mut array = array_of(&heap, geometry)?;
-    let new = heap.used().saturating_sub(before);
-    fill(rt, &mut array, &heap, &mut bench);
-    let full = heap.used().saturating_sub(before);
+    let (new, full) = bytes_of(rt, geometry)?;
     println!(rt; "new_bytes {new}")?;
     println!(rt; "full_bytes {full}")
 }
 
-/// What is kept beside an array. The error is out of memory.
-fn bench_of<A: Allocator + Copy, B: Allocator + Copy>(
+/// The bytes that an array has on a heap of its own: as it is new, and as all its pages were written.
+fn bytes_of(rt: &(impl Clock + AllocGlobal), geometry: Geometry) -> io::Result<(usize, usize)> {
+    let heap = LocalHeap::new(rt.alloc(), HEAP_BYTES)?;
+    bytes_on(rt, &heap, geometry)
+}
+
+/// The same on this heap.
+fn bytes_on(
+    rt: &(impl Clock + AllocGlobal),
+    heap: &LocalHeap,
+    geometry: Geometry,
+) -> io::Result<(usize, usize)> {
+    let mut bench = bench_of(heap, rt.alloc())?;
+    let before = heap.used();
+    let mut array = array_of(heap, geometry)?;
+    let new = heap.used().saturating_sub(before);
+    fill(rt, &mut array, heap, &mut bench);
+    let full = heap.used().saturating_sub(before);
+    Ok((new, full))
+}
+
+/// Times the calls of an array, and prints a line for each.
+fn tell_times(rt: &(impl Clock + Print + AllocGlobal), geometry: Geometry) -> io::Result<()> {
+    let mut bench = bench_of(rt.alloc(), rt.alloc())?;
+    let mut array = array_of(rt.alloc(), geometry)?;
+    time_all(rt, &mut array, rt.alloc(), rt.alloc(), &mut bench)
+}
+
+/// Times the calls of a new array.
+fn time_all<M: Map, A: Allocator + Copy>(
+    rt: &(impl Clock + Print),
+    array: &mut Array<M, A>,
     heap: A,
-    alloc: B,
-) -> Result<Bench<A, B>, AllocError> {
+    alloc: Global,
+    bench: &mut Bench<A>,
+) -> io::Result<()>
+    requires { IsWhole M.view array.old }
+{
+    time_clock(rt, bench, TURNS as u32);
+    fill(rt, array, heap, bench);
+    run(rt, array, heap, alloc, bench)?;
+    bench.timings.tell(rt)
+}
+
+/// What is kept beside an array. The error is out of memory.
+fn bench_of<A: Allocator + Copy>(heap: A, alloc: Global) -> Result<Bench<A>, AllocError> {
     Ok(Bench {
         mode: Mode::Nothing,
         random: Random::new(SEED),
@@ -78,11 +108,11 @@ fn bench_of<A: Allocator + Copy, B: Allocator + Copy>(
 }
 
 /// Each page is written once. Nothing is timed.
-fn fill<M: Map, A: Allocator + Copy, B: Allocator>(
+fn fill<M: Map, A: Allocator + Copy>(
     rt: &impl Clock,
     array: &mut Array<M, A>,
     heap: A,
-    bench: &mut Bench<A, B>,
+    bench: &mut Bench<A>,
 )
     requires { IsWhole M.view array.old }
     ensures { IsWhole M.view array.new }
@@ -94,12 +124,12 @@ fn fill<M: Map, A: Allocator + Copy, B: Allocator>(
 }
 
 /// Pages are written again, a quarter of them before anything is timed. The error is out of memory.
-fn run<M: Map, A: Allocator + Copy, B: Allocator + Copy>(
+fn run<M: Map, A: Allocator + Copy>(
     rt: &impl Clock,
     array: &mut Array<M, A>,
     heap: A,
-    alloc: B,
-    bench: &mut Bench<A, B>,
+    alloc: Global,
+    bench: &mut Bench<A>,
 ) -> Result<(), AllocError>
     requires { IsWhole M.view array.old }
     ensures { IsWhole M.view array.new }
@@ -122,11 +152,11 @@ fn run<M: Map, A: Allocator + Copy, B: Allocator + Copy>(
 }
 
 /// A random page is written again, and then a round passes in which windows are kept.
-fn rewrite<M: Map, A: Allocator + Copy, B: Allocator>(
+fn rewrite<M: Map, A: Allocator + Copy>(
     rt: &impl Clock,
     array: &mut Array<M, A>,
     heap: A,
-    bench: &mut Bench<A, B>,
+    bench: &mut Bench<A>,
 )
     requires { IsWhole M.view array.old }
     ensures { IsWhole M.view array.new }
@@ -139,12 +169,12 @@ fn rewrite<M: Map, A: Allocator + Copy, B: Allocator>(
 }
 
 /// What else is timed at a turn. The error is out of memory.
-fn do_other<M: Map, A: Allocator + Copy, B: Allocator + Copy>(
+fn do_other<M: Map, A: Allocator + Copy>(
     rt: &impl Clock,
     array: &mut Array<M, A>,
     heap: A,
-    alloc: B,
-    bench: &mut Bench<A, B>,
+    alloc: Global,
+    bench: &mut Bench<A>,
     number: u64,
 ) -> Result<(), AllocError>
     requires { IsWhole M.view array.old }
@@ -170,11 +200,11 @@ fn do_other<M: Map, A: Allocator + Copy, B: Allocator + Copy>(
 }
 
 /// A write of a random page is reserved and given up.
-fn give_up_some<M: Map, A: Allocator + Copy, B: Allocator>(
+fn give_up_some<M: Map, A: Allocator + Copy>(
     rt: &impl Clock,
     array: &mut Array<M, A>,
     heap: A,
-    bench: &mut Bench<A, B>,
+    bench: &mut Bench<A>,
 )
     requires { IsWhole M.view array.old }
     ensures { IsWhole M.view array.new }
@@ -184,11 +214,11 @@ fn give_up_some<M: Map, A: Allocator + Copy, B: Allocator>(
 }
 
 /// A random die that has no work is asked for some.
-fn take_nothing<M: Map, A: Allocator + Copy, B: Allocator>(
+fn take_nothing<M: Map, A: Allocator + Copy>(
     rt: &impl Clock,
     array: &mut Array<M, A>,
     heap: A,
-    bench: &mut Bench<A, B>,
+    bench: &mut Bench<A>,
 )
     requires { IsWhole M.view array.old }
     ensures { IsWhole M.view array.new }

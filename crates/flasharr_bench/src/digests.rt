@@ -18,21 +18,49 @@ type Digest = [u8; DIGEST_BYTES];
 /// together.
 pub fn tell(rt: &(impl Print + Input + AllocGlobal)) -> io::Result<()> {
     let mut list: Vec<Vec<u8>> = Vec::new(rt.alloc());
-    for line in BufReader::new(rt.alloc(), rt.reader())?.lines(rt.alloc()) {
-        let line = line?;
-        let Ok(message) = hex::decode(rt.alloc(), line.as_bytes()) else {
-            return Err(ErrorKind::InvalidData.into());
-        };
-        if list
-            .first()
-            .is_some_and(|first| first.len() != message.len())
-        {
-            tell_list(rt, list.as_slice())?;
-            list.clear();
-        }
-        list.push(message)?;
-    }
+    read_all(rt, &mut list)?;
     tell_list(rt, list.as_slice())
+}
+
+/// Reads all messages. The last ones of one length are left in the list, and the others are told.
+fn read_all(rt: &(impl Print + Input + AllocGlobal), list: &mut Vec<Vec<u8>>) -> io::Result<()> {
+    for line in BufReader::new(rt.alloc(), rt.reader())?.lines(rt.alloc()) {
+        add_line(rt, list, line)?;
+    }
+    Ok(())
+}
+
+/// One more line.
+fn add_line(
+    rt: &(impl Print + AllocGlobal),
+    list: &mut Vec<Vec<u8>>,
+    line: io::Result<String>,
+) -> io::Result<()> {
+    let line = line?;
+    add(rt, list, line.as_str())
+}
+
+/// One more message. Those of another length are told before.
+fn add(rt: &(impl Print + AllocGlobal), list: &mut Vec<Vec<u8>>, line: &str) -> io::Result<()> {
+    let Ok(message) = hex::decode(rt.alloc(), line.as_bytes()) else {
+        return Err(ErrorKind::InvalidData.into());
+    };
+    tell_others(rt, list, message.len())?;
+    list.push(message)?;
+    Ok(())
+}
+
+/// Tells the messages of the list and empties it, where they have another length.
+fn tell_others(
+    rt: &(impl Print + AllocGlobal),
+    list: &mut Vec<Vec<u8>>,
+    bytes: usize,
+) -> io::Result<()> {
+    if list.first().is_some_and(|first| first.len() != bytes) {
+        tell_list(rt, list.as_slice())?;
+        list.clear();
+    }
+    Ok(())
 }
 
 /// Prints a line for each of these messages, which are of one length. No clause says which digests it prints; the script
@@ -45,11 +73,20 @@ fn tell_list(rt: &(impl Print + AllocGlobal), messages: &[Vec<u8>]) -> io::Resul
     let whole = all_at_once(rt.alloc(), messages, bytes)?;
     let begun = begun_and_finished(rt.alloc(), messages, bytes)?;
     for (digest, again) in whole.iter().zip(begun.iter()) {
-        let digest = hex::encode(rt.alloc(), digest.as_slice())?;
-        let again = hex::encode(rt.alloc(), again.as_slice())?;
-        println!(rt; "{digest} {again}")?;
+        tell_digests(rt, digest, again)?;
     }
     Ok(())
+}
+
+/// Prints a line of two digests.
+fn tell_digests(
+    rt: &(impl Print + AllocGlobal),
+    digest: &Digest,
+    again: &Digest,
+) -> io::Result<()> {
+    let digest = hex::encode(rt.alloc(), digest.as_slice())?;
+    let again = hex::encode(rt.alloc(), again.as_slice())?;
+    println!(rt; "{digest} {again}")
 }
 
 /// The digests of the messages of this length.

@@ -7,7 +7,7 @@ use crate::slots::{HASHED_BYTES, PAGE_BYTES, SLOT_BYTES};
 use fa_core::{Job, Outcome};
 use fa_image::{FileImage, Image};
 use fa_machine::{BatchId, Flight, Version};
-use fa_tag::{Opened, Payload, open};
+use fa_tag::{Opened, Payload};
 use fa_types::{Die, Geometry, Kind, Page, Seq, Slot};
 use fa_workers::{Open, run_job};
 use sha2::{Digest, Sha256};
@@ -46,7 +46,7 @@ const DIGEST_BYTES: usize = 32;
 const NAMES: [&str; 2] = ["flasharr-jobs-image", "flasharr-jobs-bare"];
 
 /// The best times, each of all slots.
-#[derive(Clone, Copy, Debug)]
+#[derive(Clone, Copy)]
 struct Times {
     program: Duration,
     bare_program: Duration,
@@ -69,18 +69,39 @@ pub fn measure(
     rt: &(impl Clock + Print + AllocGlobal + Files<File = File>),
     folder: &str,
 ) -> io::Result<()> {
+    let times = times_in(rt, folder)?;
+    tell(rt, &times)
+}
+
+/// The best times of the jobs and of the bare calls, by files in a folder.
+fn times_in(
+    rt: &(impl Clock + AllocGlobal + Files<File = File>),
+    folder: &str,
+) -> io::Result<Times> {
+    let mut image = image_in(rt, folder)?;
+    let bare = bare_in(rt, folder)?;
+    times_of(rt, &mut image, &bare)
+}
+
+/// The image in a folder.
+fn image_in(rt: &(impl AllocGlobal + Files<File = File>), folder: &str) -> io::Result<FileImage> {
     let geometry = shape()?;
-    let mut path = String::new(rt.alloc());
-    push_path(&mut path, folder, NAMES[0])?;
-    let mut image = FileImage::create(rt, Path::new(path.as_str()), geometry)?;
-    path.clear();
-    push_path(&mut path, folder, NAMES[1])?;
-    let bare = OpenOptions::new()
+    let path = path_in(rt.alloc(), folder, NAMES[0])?;
+    FileImage::create(rt, Path::new(path.as_str()), geometry)
+}
+
+/// The file in a folder that is written and read by bare calls.
+fn bare_in(rt: &(impl AllocGlobal + Files<File = File>), folder: &str) -> io::Result<File> {
+    let path = path_in(rt.alloc(), folder, NAMES[1])?;
+    OpenOptions::new()
         .read(true)
         .write(true)
         .create(true)
-        .open(rt, Path::new(path.as_str()))?;
-    let times = times_of(rt, &mut image, &bare)?;
+        .open(rt, Path::new(path.as_str()))
+}
+
+/// Prints the best times.
+fn tell(rt: &impl Print, times: &Times) -> io::Result<()> {
     let program = times.program.as_nanos();
     let bare_program = times.bare_program.as_nanos();
     let read = times.read.as_nanos();
@@ -92,11 +113,9 @@ pub fn measure(
     println!(rt; "bare_read_nanoseconds {bare_read}")
 }
 
-fn push_path(path: &mut String, folder: &str, name: &str) -> io::Result<()> {
-    path.push_str(folder)?;
-    path.push_str("/")?;
-    path.push_str(name)?;
-    Ok(())
+/// The path of a file in a folder.
+fn path_in(alloc: Global, folder: &str, name: &str) -> io::Result<String> {
+    Ok(format!(in alloc; "{folder}/{name}")?)
 }
 
 /// The geometry of the image.
@@ -125,25 +144,51 @@ fn times_of(
         bare_read: Duration::MAX,
     };
     for turn in 0..TURNS {
-        let mut pages = pages_of(rt.alloc(), turn)?;
-        let mut written = Vec::with_capacity(rt.alloc(), SLOTS as usize)?;
-        let start = Instant::now(rt)?;
-        program_all(image, &mut pages, &mut written, &mut buffers)?;
-        let programmed = Instant::now(rt)?;
-        program_bare(bare, &mut buffers)?;
-        let bare_programmed = Instant::now(rt)?;
-        read_all(image, &mut buffers)?;
-        let read = Instant::now(rt)?;
-        read_bare(bare, &mut buffers)?;
-        let bare_read = Instant::now(rt)?;
-        times.program = times.program.min(programmed.duration_since(start));
-        times.bare_program = times
-            .bare_program
-            .min(bare_programmed.duration_since(programmed));
-        times.read = times.read.min(read.duration_since(bare_programmed));
-        times.bare_read = times.bare_read.min(bare_read.duration_since(read));
+        make_turn(rt, image, bare, turn, &mut buffers, &mut times)?;
     }
     Ok(times)
+}
+
+/// A turn. Its payloads are freed behind its times.
+fn make_turn(
+    rt: &(impl Clock + AllocGlobal),
+    image: &mut FileImage,
+    bare: &File,
+    turn: u32,
+    buffers: &mut Buffers,
+    times: &mut Times,
+) -> io::Result<()> {
+    let mut pages = pages_of(rt.alloc(), turn)?;
+    let mut written = Vec::with_capacity(rt.alloc(), SLOTS as usize)?;
+    time_turn(rt, image, bare, &mut pages, &mut written, buffers, times)
+}
+
+/// The jobs and the bare calls of a turn.
+fn time_turn(
+    rt: &impl Clock,
+    image: &mut FileImage,
+    bare: &File,
+    pages: &mut Vec<Vec<u8>>,
+    written: &mut Vec<Payload>,
+    buffers: &mut Buffers,
+    times: &mut Times,
+) -> io::Result<()> {
+    let start = Instant::now(rt)?;
+    program_all(image, pages, written, buffers)?;
+    let programmed = Instant::now(rt)?;
+    program_bare(bare, buffers)?;
+    let bare_programmed = Instant::now(rt)?;
+    read_all(image, buffers)?;
+    let read = Instant::now(rt)?;
+    read_bare(bare, buffers)?;
+    let bare_read = Instant::now(rt)?;
+    times.program = times.program.min(programmed.duration_since(start));
+    times.bare_program = times
+        .bare_program
+        .min(bare_programmed.duration_since(programmed));
+    times.read = times.read.min(read.duration_since(bare_programmed));
+    times.bare_read = times.bare_read.min(bare_read.duration_since(read));
+    Ok(())
 }
 
 /// The bytes of a page for each slot.

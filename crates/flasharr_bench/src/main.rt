@@ -19,7 +19,10 @@ mod timings;
 mod words;
 mod writes;
 
+use std::fs::File;
 use std::process::ExitCode;
+use std::rt::{Clock, Files};
+use std::thread::Threads;
 use std::{env, io};
 use words::{Task, task_named};
 
@@ -28,36 +31,58 @@ const FAULTY: u8 = 2;
 
 fn main(rt: HostRuntime) -> io::Result<ExitCode> {
     let words: Vec<String> = env::args(&rt)?.skip(1).collect(rt.alloc())?;
-    if let [word, more] = words.as_slice() {
-        if word.as_str() == "core" {
-            calls::measure(&rt, more.as_str())?;
-            return Ok(ExitCode::SUCCESS);
-        }
-        if word.as_str() == "jobs" {
-            jobs::measure(&rt, more.as_str())?;
-            return Ok(ExitCode::SUCCESS);
-        }
-    }
-    let wanted = match words.as_slice() {
-        [] => {
-            tell_usage(&rt)?;
-            return Ok(ExitCode::SUCCESS);
-        }
-        [word] => task_named(word.as_str()),
-        _ => None,
+    run(&rt, words.as_slice())
+}
+
+/// Does the task that the words name, or prints the usage.
+fn run(
+    rt: &(impl Clock + Print + Input + AllocGlobal + Files<File = File> + Threads + Sync),
+    words: &[String],
+) -> io::Result<ExitCode> {
+    let is_task = match words {
+        [word] => run_task(rt, word.as_str())?,
+        [word, more] => run_task_on(rt, word.as_str(), more.as_str())?,
+        _ => false,
     };
-    match wanted {
-        Some(Task::Digests) => digests::tell(&rt)?,
-        Some(Task::Mount) => mount::measure(&rt)?,
-        Some(Task::Plan) => plans::measure(&rt)?,
-        Some(Task::Session) => session::measure(&rt)?,
-        Some(Task::Slots) => slots::measure(&rt)?,
-        None => {
-            tell_usage(&rt)?;
-            return Ok(ExitCode::from(FAULTY));
-        }
+    if is_task {
+        return Ok(ExitCode::SUCCESS);
     }
-    Ok(ExitCode::SUCCESS)
+    tell_usage(rt)?;
+    Ok(if words.is_empty() {
+        ExitCode::SUCCESS
+    } else {
+        ExitCode::from(FAULTY)
+    })
+}
+
+/// Does the task of this name. False where none has it.
+fn run_task(
+    rt: &(impl Clock + Print + Input + AllocGlobal + Threads + Sync),
+    name: &str,
+) -> io::Result<bool> {
+    match task_named(name) {
+        Some(Task::Digests) => digests::tell(rt)?,
+        Some(Task::Mount) => mount::measure(rt)?,
+        Some(Task::Plan) => plans::measure(rt)?,
+        Some(Task::Session) => session::measure(rt)?,
+        Some(Task::Slots) => slots::measure(rt)?,
+        None => return Ok(false),
+    }
+    Ok(true)
+}
+
+/// Does the task of this name that wants one more word. False where none has it.
+fn run_task_on(
+    rt: &(impl Clock + Print + AllocGlobal + Files<File = File>),
+    name: &str,
+    word: &str,
+) -> io::Result<bool> {
+    match name {
+        "core" => calls::measure(rt, word)?,
+        "jobs" => jobs::measure(rt, word)?,
+        _ => return Ok(false),
+    }
+    Ok(true)
 }
 
 fn tell_usage(rt: &impl Print) -> io::Result<()> {

@@ -38,7 +38,7 @@ const TURNS: u32 = 15;
 type Images = [MemImage; DIES as usize];
 
 /// What was measured: the best times.
-#[derive(Clone, Copy, Debug)]
+#[derive(Clone, Copy)]
 struct Times {
     sealing: Duration,
     opening: Duration,
@@ -55,10 +55,20 @@ struct Times {
 /// in all the digests are, the least nanoseconds that sealing, opening and each mounting took, how many of
 /// the slots were found good, and how many pages were found written.
 pub fn measure(rt: &(impl Clock + Print + AllocGlobal + Threads + Sync)) -> io::Result<()> {
+    let times = best_times(rt)?;
+    tell(rt, &times)
+}
+
+/// The best times of all turns.
+fn best_times(rt: &(impl Clock + AllocGlobal + Threads + Sync)) -> io::Result<Times> {
     let mut slots = vec![in rt.alloc(); [0u8; SLOT_BYTES]; SLOTS as usize]?;
     seal_all(&mut slots);
     let mut images = written(rt.alloc(), slots.as_slice())?;
-    let times = times_of(rt, &mut slots, &mut images)?;
+    times_of(rt, &mut slots, &mut images)
+}
+
+/// Prints what was measured.
+fn tell(rt: &impl Print, times: &Times) -> io::Result<()> {
     let bytes = SLOTS as usize * HASHED_BYTES;
     let sealing = times.sealing.as_nanos();
     let opening = times.opening.as_nanos();

@@ -2,15 +2,15 @@
 ghost use Rattle.fa_core.specs.Array.{IsWhole};
 
 use crate::random::Random;
-use crate::steps::{Bench, Mode, make, make_plain, plain, turn, work_all};
+use crate::steps::{Bench, Mode, do_plain, make, make_plain, plain, turn, work_all};
 use crate::timings::{Timed, moment};
 use fa_batch::Batch;
 use fa_core::{Answer, Array, Call};
-use fa_machine::{BatchId, ReadState};
+use fa_machine::{BatchId, Flush, ReadState};
 use fa_map::Map;
 use fa_plan::plan;
 use fa_types::{Die, Page};
-use std::alloc::{AllocError, Allocator};
+use std::alloc::{AllocError, Allocator, Global};
 use std::rt::Clock;
 
 /// The most rounds until a batch is read.
@@ -54,12 +54,12 @@ pub(crate) const MANY: Amount = Amount {
 
 /// A batch of random pages is admitted, planned anew, read and ended. One of many pages is planned alone before. The error is out of
 /// memory.
-pub(crate) fn read<M: Map, A: Allocator + Copy, B: Allocator + Copy>(
+pub(crate) fn read<M: Map, A: Allocator + Copy>(
     rt: &impl Clock,
     array: &mut Array<M, A>,
     heap: A,
-    alloc: B,
-    bench: &mut Bench<A, B>,
+    alloc: Global,
+    bench: &mut Bench<A>,
     amount: Amount,
 ) -> Result<(), AllocError>
     requires { IsWhole M.view array.old }
@@ -75,12 +75,12 @@ pub(crate) fn read<M: Map, A: Allocator + Copy, B: Allocator + Copy>(
 }
 
 /// So many pages of these, rising: one of each part of them. The error is out of memory.
-fn drawn_pages<B: Allocator>(
-    alloc: B,
+fn drawn_pages(
+    alloc: Global,
     random: &mut Random,
     all: u64,
     count: u64,
-) -> Result<Vec<Page, B>, AllocError> {
+) -> Result<Vec<Page>, AllocError> {
     let mut pages = Vec::new(alloc);
     let part = all / count.max(1);
     for index in 0..count {
@@ -91,11 +91,11 @@ fn drawn_pages<B: Allocator>(
 }
 
 /// The pages are planned as a batch that has nothing to do with the array. The error is out of memory.
-fn plan_alone<M: Map, A: Allocator + Copy, B: Allocator>(
+fn plan_alone<M: Map, A: Allocator + Copy>(
     rt: &impl Clock,
     array: &Array<M, A>,
     heap: A,
-    bench: &mut Bench<A, B>,
+    bench: &mut Bench<A>,
     pages: &[Page],
 ) -> Result<(), AllocError> {
     let closed = array.closed(heap)?;
@@ -146,11 +146,11 @@ fn holds<M: Map, A: Allocator + Copy>(array: &Array<M, A>, page: Page, die: Die)
 }
 
 /// The pages are admitted, planned anew, read and answered.
-fn read_pages<M: Map, A: Allocator + Copy, B: Allocator>(
+fn read_pages<M: Map, A: Allocator + Copy>(
     rt: &impl Clock,
     array: &mut Array<M, A>,
     heap: A,
-    bench: &mut Bench<A, B>,
+    bench: &mut Bench<A>,
     amount: Amount,
     pages: &[Page],
 )
@@ -161,18 +161,18 @@ fn read_pages<M: Map, A: Allocator + Copy, B: Allocator>(
         return;
     };
     let call = plain(&heap, Call::Replan(batch));
-    let _ = make_plain(rt, array, heap, bench, amount.replan, call);
+    do_plain(rt, array, heap, bench, amount.replan, call);
     read_out(rt, array, heap, bench, batch);
     let call = plain(&heap, Call::EndBatch(batch));
-    let _ = make_plain(rt, array, heap, bench, amount.end_batch, call);
+    do_plain(rt, array, heap, bench, amount.end_batch, call);
 }
 
 /// The batch of these pages, if they may be read.
-fn admit<M: Map, A: Allocator + Copy, B: Allocator>(
+fn admit<M: Map, A: Allocator + Copy>(
     rt: &impl Clock,
     array: &mut Array<M, A>,
     heap: A,
-    bench: &mut Bench<A, B>,
+    bench: &mut Bench<A>,
     timed: Timed,
     pages: &[Page],
 ) -> Option<BatchId>
@@ -195,11 +195,11 @@ fn admit<M: Map, A: Allocator + Copy, B: Allocator>(
 }
 
 /// The rounds pass until all reads of a batch have ended.
-fn read_out<M: Map, A: Allocator + Copy, B: Allocator>(
+fn read_out<M: Map, A: Allocator + Copy>(
     rt: &impl Clock,
     array: &mut Array<M, A>,
     heap: A,
-    bench: &mut Bench<A, B>,
+    bench: &mut Bench<A>,
     batch: BatchId,
 )
     requires { IsWhole M.view array.old }
@@ -215,10 +215,10 @@ fn read_out<M: Map, A: Allocator + Copy, B: Allocator>(
 }
 
 /// How a batch stands.
-fn results<M: Map, A: Allocator + Copy, B: Allocator>(
+fn results<M: Map, A: Allocator + Copy>(
     rt: &impl Clock,
     array: &Array<M, A>,
-    bench: &mut Bench<A, B>,
+    bench: &mut Bench<A>,
     batch: BatchId,
 ) -> ReadState
     requires { IsWhole M.view array.now }
@@ -231,31 +231,46 @@ fn results<M: Map, A: Allocator + Copy, B: Allocator>(
 }
 
 /// A flush is begun, and the dies sync.
-pub(crate) fn flush<M: Map, A: Allocator + Copy, B: Allocator>(
+pub(crate) fn flush<M: Map, A: Allocator + Copy>(
     rt: &impl Clock,
     array: &mut Array<M, A>,
     heap: A,
-    bench: &mut Bench<A, B>,
+    bench: &mut Bench<A>,
 )
     requires { IsWhole M.view array.old }
     ensures { IsWhole M.view array.new }
 {
-    let call = plain(&heap, Call::FlushBegin);
-    let answer = make_plain(rt, array, heap, bench, Timed::FlushBegin, call);
-    let Answer::FlushBegin(Ok(flush)) = answer else {
+    let Some(flush) = begin_flush(rt, array, heap, bench) else {
         return;
     };
     work_all(rt, array, heap, bench);
     let call = plain(&heap, Call::FlushState(flush));
-    let _ = make_plain(rt, array, heap, bench, Timed::FlushState, call);
+    do_plain(rt, array, heap, bench, Timed::FlushState, call);
 }
 
-/// The history is folded once it has so many entries.
-pub(crate) fn fold_from<M: Map, A: Allocator + Copy, B: Allocator>(
+/// The flush that is begun, if it may be.
+fn begin_flush<M: Map, A: Allocator + Copy>(
     rt: &impl Clock,
     array: &mut Array<M, A>,
     heap: A,
-    bench: &mut Bench<A, B>,
+    bench: &mut Bench<A>,
+) -> Option<Flush>
+    requires { IsWhole M.view array.old }
+    ensures { IsWhole M.view array.new }
+{
+    let call = plain(&heap, Call::FlushBegin);
+    match make_plain(rt, array, heap, bench, Timed::FlushBegin, call) {
+        Answer::FlushBegin(Ok(flush)) => Some(flush),
+        _ => None,
+    }
+}
+
+/// The history is folded once it has so many entries.
+pub(crate) fn fold_from<M: Map, A: Allocator + Copy>(
+    rt: &impl Clock,
+    array: &mut Array<M, A>,
+    heap: A,
+    bench: &mut Bench<A>,
     entries: usize,
 )
     requires { IsWhole M.view array.old }
@@ -263,15 +278,15 @@ pub(crate) fn fold_from<M: Map, A: Allocator + Copy, B: Allocator>(
 {
     if array.history().len() >= entries {
         let call = plain(&heap, Call::Fold);
-        let _ = make_plain(rt, array, heap, bench, Timed::Fold, call);
+        do_plain(rt, array, heap, bench, Timed::Fold, call);
     }
 }
 
 /// The next thin page, and the die that is to have one more copy of it.
-pub(crate) fn next_thin<M: Map, A: Allocator + Copy, B: Allocator>(
+pub(crate) fn next_thin<M: Map, A: Allocator + Copy>(
     rt: &impl Clock,
     array: &Array<M, A>,
-    bench: &mut Bench<A, B>,
+    bench: &mut Bench<A>,
 ) -> Option<(Page, Die)> {
     let start = bench.moment(rt, Mode::Calls);
     let found = array.next_thin();
@@ -286,11 +301,7 @@ pub(crate) fn next_thin<M: Map, A: Allocator + Copy, B: Allocator>(
 }
 
 /// The clock is looked at twice, again and again.
-pub(crate) fn time_clock<A: Allocator, B: Allocator>(
-    rt: &impl Clock,
-    bench: &mut Bench<A, B>,
-    times: u32,
-) {
+pub(crate) fn time_clock<A: Allocator>(rt: &impl Clock, bench: &mut Bench<A>, times: u32) {
     for _ in 0..times {
         let start = moment(rt);
         let end = moment(rt);

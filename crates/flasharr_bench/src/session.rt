@@ -26,14 +26,14 @@ const REPLY_BYTES: u64 = 16;
 const GREETED_BYTES: u64 = 18 + 32 + 20;
 
 /// What the requests of a measurement ask for.
-#[derive(Clone, Copy, Debug, PartialEq, Eq)]
+#[derive(Clone, Copy)]
 enum Asked {
     Read,
     Write,
 }
 
 /// Requests that are alike.
-#[derive(Clone, Copy, Debug)]
+#[derive(Clone, Copy)]
 struct Load {
     asked: Asked,
     /// The bytes of each.
@@ -43,7 +43,7 @@ struct Load {
 }
 
 /// The best times of a load.
-#[derive(Clone, Copy, Debug)]
+#[derive(Clone, Copy)]
 struct Times {
     session: Duration,
     copy: Duration,
@@ -90,15 +90,29 @@ fn times_of(rt: &(impl Clock + AllocGlobal), load: Load) -> io::Result<Times> {
         copy: Duration::MAX,
     };
     for _ in 0..ROUNDS {
-        let start = Instant::now(rt)?;
-        serve(alloc, &mut store, &mut room, &said, load)?;
-        let served = Instant::now(rt)?;
-        copy(alloc, &mut store, &mut room, &said, load)?;
-        let copied = Instant::now(rt)?;
-        best.session = best.session.min(served.duration_since(start));
-        best.copy = best.copy.min(copied.duration_since(served));
+        make_round(rt, alloc, &mut store, &mut room, &said, load, &mut best)?;
     }
     Ok(best)
+}
+
+/// Measures a load once with a session and once without.
+fn make_round(
+    rt: &impl Clock,
+    alloc: Global,
+    store: &mut MemBlocks,
+    room: &mut [u8],
+    said: &[u8],
+    load: Load,
+    best: &mut Times,
+) -> io::Result<()> {
+    let start = Instant::now(rt)?;
+    serve(alloc, store, room, said, load)?;
+    let served = Instant::now(rt)?;
+    copy(alloc, store, room, said, load)?;
+    let copied = Instant::now(rt)?;
+    best.session = best.session.min(served.duration_since(start));
+    best.copy = best.copy.min(copied.duration_since(served));
+    Ok(())
 }
 
 /// Serves a load, and fails where the server did not say all that it should.

@@ -36,7 +36,7 @@ const SLOTS: u32 = ROUNDS * ROUND_SLOTS;
 pub static PAYLOAD: [u8; PAGE_BYTES] = [0x5a; PAGE_BYTES];
 
 /// What was measured.
-#[derive(Clone, Copy, Debug)]
+#[derive(Clone, Copy)]
 struct Times {
     sealing: Duration,
     opening: Duration,
@@ -53,6 +53,11 @@ struct Times {
 pub fn measure(rt: &(impl Clock + Print + AllocGlobal)) -> io::Result<()> {
     let mut slots = vec![in rt.alloc(); [0u8; SLOT_BYTES]; ROUND_SLOTS as usize]?;
     let times = times_of(rt, &mut slots)?;
+    tell(rt, &times)
+}
+
+/// Prints what was measured.
+fn tell(rt: &impl Print, times: &Times) -> io::Result<()> {
     let bytes = SLOTS as usize * HASHED_BYTES;
     let sealing = times.sealing.as_nanos();
     let opening = times.opening.as_nanos();

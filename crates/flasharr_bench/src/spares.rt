@@ -3,7 +3,7 @@ ghost use Rattle.fa_core.specs.Array.{IsWhole};
 
 use crate::making::die_of;
 use crate::reads::next_thin;
-use crate::steps::{Bench, end, make, make_plain, plain, take, turn, work, work_all};
+use crate::steps::{Bench, do_plain, end, make, plain, take, turn, work, work_all};
 use crate::timings::Timed;
 use fa_core::{Answer, Array, Call, Outcome};
 use fa_image::ImageFault;
@@ -19,17 +19,17 @@ const LOST: Die = Die(0);
 const COPIES: u32 = 2048;
 
 /// A die goes out at its sync, the spare comes in, and some pages that are thin then get one more copy.
-pub(crate) fn replace<M: Map, A: Allocator + Copy, B: Allocator>(
+pub(crate) fn replace<M: Map, A: Allocator + Copy>(
     rt: &impl Clock,
     array: &mut Array<M, A>,
     heap: A,
-    bench: &mut Bench<A, B>,
+    bench: &mut Bench<A>,
 )
     requires { IsWhole M.view array.old }
     ensures { IsWhole M.view array.new }
 {
     let call = plain(&heap, Call::FlushBegin);
-    let _ = make_plain(rt, array, heap, bench, Timed::FlushBegin, call);
+    do_plain(rt, array, heap, bench, Timed::FlushBegin, call);
     if take(rt, array, heap, bench, LOST).is_none() {
         return;
     }
@@ -37,7 +37,7 @@ pub(crate) fn replace<M: Map, A: Allocator + Copy, B: Allocator>(
     end(rt, array, heap, bench, Timed::DoneFault, LOST, outcome);
     let spare = die_of(u64::from(array.geometry().dies.saturating_sub(1)));
     let call = plain(&heap, Call::SpareIn(spare));
-    let _ = make_plain(rt, array, heap, bench, Timed::SpareIn, call);
+    do_plain(rt, array, heap, bench, Timed::SpareIn, call);
     work_all(rt, array, heap, bench);
     turn(rt, array, heap, bench);
     'copies: for _ in 0..COPIES {
@@ -46,11 +46,11 @@ pub(crate) fn replace<M: Map, A: Allocator + Copy, B: Allocator>(
 }
 
 /// The next thin page gets one more copy.
-fn copy_next<M: Map, A: Allocator + Copy, B: Allocator>(
+fn copy_next<M: Map, A: Allocator + Copy>(
     rt: &impl Clock,
     array: &mut Array<M, A>,
     heap: A,
-    bench: &mut Bench<A, B>,
+    bench: &mut Bench<A>,
 )
     requires { IsWhole M.view array.old }
     ensures { IsWhole M.view array.new }
@@ -64,7 +64,7 @@ fn copy_next<M: Map, A: Allocator + Copy, B: Allocator>(
     if reserve_copy(rt, array, heap, bench, page, seq) {
         let _ = work(rt, array, heap, bench, die);
         let call = plain(&heap, Call::CommitCopy);
-        let _ = make_plain(rt, array, heap, bench, Timed::CommitCopy, call);
+        do_plain(rt, array, heap, bench, Timed::CommitCopy, call);
     }
 }
 
@@ -77,11 +77,11 @@ fn seq_of<M: Map, A: Allocator + Copy>(array: &Array<M, A>, page: Page) -> Optio
 }
 
 /// Whether a copy of the page is reserved.
-fn reserve_copy<M: Map, A: Allocator + Copy, B: Allocator>(
+fn reserve_copy<M: Map, A: Allocator + Copy>(
     rt: &impl Clock,
     array: &mut Array<M, A>,
     heap: A,
-    bench: &mut Bench<A, B>,
+    bench: &mut Bench<A>,
     page: Page,
     seq: Seq,
 ) -> bool

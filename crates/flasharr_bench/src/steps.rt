@@ -17,7 +17,7 @@ use std::time::Instant;
 const SEAT: u32 = 0;
 
 /// What is timed now.
-#[derive(Clone, Copy, Debug, PartialEq, Eq)]
+#[derive(Clone, Copy, PartialEq, Eq)]
 pub(crate) enum Mode {
     Nothing,
     /// Each call alone.
@@ -28,17 +28,17 @@ pub(crate) enum Mode {
 
 /// What is kept beside the array.
 #[derive(Drop)]
-pub(crate) struct Bench<A: Allocator, B: Allocator> {
+pub(crate) struct Bench<A: Allocator> {
     pub(crate) mode: Mode,
     pub(crate) random: Random,
-    pub(crate) timings: Timings<B>,
+    pub(crate) timings: Timings,
     /// What each page is written with.
     pub(crate) payload: Payload<A>,
     /// A page's bytes, which a die that ends its job hands over.
     pub(crate) buffer: Option<Vec<u8, A>>,
 }
 
-impl<A: Allocator, B: Allocator> Bench<A, B> {
+impl<A: Allocator> Bench<A> {
     /// The moment, if this is timed now.
     pub(crate) fn moment(&self, rt: &impl Clock, mode: Mode) -> Option<Instant> {
         if self.mode == mode { moment(rt) } else { None }
@@ -51,11 +51,11 @@ pub(crate) fn plain<'a, A: Allocator>(_heap: &'a A, call: Call<'a, A>) -> Call<'
 }
 
 /// Makes an event, and keeps how long it took if it was not refused.
-pub(crate) fn make<M: Map, A: Allocator + Copy, B: Allocator>(
+pub(crate) fn make<M: Map, A: Allocator + Copy>(
     rt: &impl Clock,
     array: &mut Array<M, A>,
     heap: A,
-    timings: &mut Timings<B>,
+    timings: &mut Timings,
     mode: Mode,
     timed: Timed,
     call: Call<'_, A>,
@@ -119,11 +119,11 @@ fn done_of(flight: Flight) -> Timed {
 }
 
 /// Makes an event that is lent nothing.
-pub(crate) fn make_plain<M: Map, A: Allocator + Copy, B: Allocator>(
+pub(crate) fn make_plain<M: Map, A: Allocator + Copy>(
     rt: &impl Clock,
     array: &mut Array<M, A>,
     heap: A,
-    bench: &mut Bench<A, B>,
+    bench: &mut Bench<A>,
     timed: Timed,
     call: Call<'_, A>,
 ) -> Answer<A>
@@ -134,12 +134,27 @@ pub(crate) fn make_plain<M: Map, A: Allocator + Copy, B: Allocator>(
     make(rt, array, heap, &mut bench.timings, mode, timed, call)
 }
 
-/// The die takes a job.
-pub(crate) fn take<M: Map, A: Allocator + Copy, B: Allocator>(
+/// Makes an event that is lent nothing, whatever it is answered.
+pub(crate) fn do_plain<M: Map, A: Allocator + Copy>(
     rt: &impl Clock,
     array: &mut Array<M, A>,
     heap: A,
-    bench: &mut Bench<A, B>,
+    bench: &mut Bench<A>,
+    timed: Timed,
+    call: Call<'_, A>,
+)
+    requires { IsWhole M.view array.old }
+    ensures { IsWhole M.view array.new }
+{
+    let _ = make_plain(rt, array, heap, bench, timed, call);
+}
+
+/// The die takes a job.
+pub(crate) fn take<M: Map, A: Allocator + Copy>(
+    rt: &impl Clock,
+    array: &mut Array<M, A>,
+    heap: A,
+    bench: &mut Bench<A>,
     die: Die,
 ) -> Option<Flight>
     requires { IsWhole M.view array.old }
@@ -153,11 +168,11 @@ pub(crate) fn take<M: Map, A: Allocator + Copy, B: Allocator>(
 }
 
 /// The die ends its job by this.
-pub(crate) fn end<M: Map, A: Allocator + Copy, B: Allocator>(
+pub(crate) fn end<M: Map, A: Allocator + Copy>(
     rt: &impl Clock,
     array: &mut Array<M, A>,
     heap: A,
-    bench: &mut Bench<A, B>,
+    bench: &mut Bench<A>,
     timed: Timed,
     die: Die,
     outcome: Outcome,
@@ -176,11 +191,11 @@ pub(crate) fn end<M: Map, A: Allocator + Copy, B: Allocator>(
 }
 
 /// The die takes a job and ends it well. What the job was.
-pub(crate) fn work<M: Map, A: Allocator + Copy, B: Allocator>(
+pub(crate) fn work<M: Map, A: Allocator + Copy>(
     rt: &impl Clock,
     array: &mut Array<M, A>,
     heap: A,
-    bench: &mut Bench<A, B>,
+    bench: &mut Bench<A>,
     die: Die,
 ) -> Option<Flight>
     requires { IsWhole M.view array.old }
@@ -220,11 +235,11 @@ fn tag_of(die: Die, page: Page, version: Version, slot: Slot) -> Tag {
 }
 
 /// Each die that has work does one job.
-pub(crate) fn work_all<M: Map, A: Allocator + Copy, B: Allocator>(
+pub(crate) fn work_all<M: Map, A: Allocator + Copy>(
     rt: &impl Clock,
     array: &mut Array<M, A>,
     heap: A,
-    bench: &mut Bench<A, B>,
+    bench: &mut Bench<A>,
 )
     requires { IsWhole M.view array.old }
     ensures { IsWhole M.view array.new }
@@ -242,26 +257,26 @@ fn has_job<M: Map, A: Allocator + Copy>(array: &Array<M, A>, die: Die) -> bool {
 }
 
 /// The round rises, and each die that has work then does one job.
-pub(crate) fn turn<M: Map, A: Allocator + Copy, B: Allocator>(
+pub(crate) fn turn<M: Map, A: Allocator + Copy>(
     rt: &impl Clock,
     array: &mut Array<M, A>,
     heap: A,
-    bench: &mut Bench<A, B>,
+    bench: &mut Bench<A>,
 )
     requires { IsWhole M.view array.old }
     ensures { IsWhole M.view array.new }
 {
     let call = plain(&heap, Call::Advance);
-    let _ = make_plain(rt, array, heap, bench, Timed::Advance, call);
+    do_plain(rt, array, heap, bench, Timed::Advance, call);
     work_all(rt, array, heap, bench);
 }
 
 /// A page is claimed, if it may be.
-pub(crate) fn claim<M: Map, A: Allocator + Copy, B: Allocator>(
+pub(crate) fn claim<M: Map, A: Allocator + Copy>(
     rt: &impl Clock,
     array: &mut Array<M, A>,
     heap: A,
-    bench: &mut Bench<A, B>,
+    bench: &mut Bench<A>,
     page: Page,
 ) -> Option<ClaimId>
     requires { IsWhole M.view array.old }
@@ -275,11 +290,11 @@ pub(crate) fn claim<M: Map, A: Allocator + Copy, B: Allocator>(
 }
 
 /// A write is reserved under a claim.
-pub(crate) fn reserve<M: Map, A: Allocator + Copy, B: Allocator>(
+pub(crate) fn reserve<M: Map, A: Allocator + Copy>(
     rt: &impl Clock,
     array: &mut Array<M, A>,
     heap: A,
-    bench: &mut Bench<A, B>,
+    bench: &mut Bench<A>,
     claim: ClaimId,
 )
     requires { IsWhole M.view array.old }

@@ -2,7 +2,9 @@
 ghost use Rattle.fa_core.specs.Array.{IsWhole};
 
 use crate::making::die_of;
-use crate::steps::{Bench, Mode, claim, make_plain, plain, reserve, turn, work, work_all};
+use crate::steps::{
+    Bench, Mode, claim, do_plain, make_plain, plain, reserve, turn, work, work_all,
+};
 use crate::timings::Timed;
 use fa_core::{Answer, Array, Call};
 use fa_machine::{ClaimId, Flight};
@@ -21,11 +23,11 @@ const MOST_ROUNDS: u32 = 4096;
 const MOST_TURNS: u32 = 64;
 
 /// A page is written. Where it is timed whole, no other job comes between.
-pub(crate) fn write<M: Map, A: Allocator + Copy, B: Allocator>(
+pub(crate) fn write<M: Map, A: Allocator + Copy>(
     rt: &impl Clock,
     array: &mut Array<M, A>,
     heap: A,
-    bench: &mut Bench<A, B>,
+    bench: &mut Bench<A>,
     page: Page,
 )
     requires { IsWhole M.view array.old }
@@ -43,11 +45,11 @@ pub(crate) fn write<M: Map, A: Allocator + Copy, B: Allocator>(
 }
 
 /// A page is written, which is to have copies on these dies. Whether it has, and they had no other job before.
-fn write_on<M: Map, A: Allocator + Copy, B: Allocator>(
+fn write_on<M: Map, A: Allocator + Copy>(
     rt: &impl Clock,
     array: &mut Array<M, A>,
     heap: A,
-    bench: &mut Bench<A, B>,
+    bench: &mut Bench<A>,
     page: Page,
     homes: (Die, Die),
 ) -> bool
@@ -75,11 +77,11 @@ fn is_program(flight: Option<Flight>) -> bool {
 }
 
 /// What is reserved under a claim is committed, if its programs end.
-fn settle<M: Map, A: Allocator + Copy, B: Allocator>(
+fn settle<M: Map, A: Allocator + Copy>(
     rt: &impl Clock,
     array: &mut Array<M, A>,
     heap: A,
-    bench: &mut Bench<A, B>,
+    bench: &mut Bench<A>,
     claim: ClaimId,
 )
     requires { IsWhole M.view array.old }
@@ -94,11 +96,11 @@ fn settle<M: Map, A: Allocator + Copy, B: Allocator>(
 }
 
 /// Whether what is reserved under a claim is committed now.
-fn commit<M: Map, A: Allocator + Copy, B: Allocator>(
+fn commit<M: Map, A: Allocator + Copy>(
     rt: &impl Clock,
     array: &mut Array<M, A>,
     heap: A,
-    bench: &mut Bench<A, B>,
+    bench: &mut Bench<A>,
     claim: ClaimId,
 ) -> bool
     requires { IsWhole M.view array.old }
@@ -112,26 +114,26 @@ fn commit<M: Map, A: Allocator + Copy, B: Allocator>(
 }
 
 /// The claim is closed.
-fn release<M: Map, A: Allocator + Copy, B: Allocator>(
+fn release<M: Map, A: Allocator + Copy>(
     rt: &impl Clock,
     array: &mut Array<M, A>,
     heap: A,
-    bench: &mut Bench<A, B>,
+    bench: &mut Bench<A>,
     claim: ClaimId,
 )
     requires { IsWhole M.view array.old }
     ensures { IsWhole M.view array.new }
 {
     let call = plain(&heap, Call::Release(claim));
-    let _ = make_plain(rt, array, heap, bench, Timed::Release, call);
+    do_plain(rt, array, heap, bench, Timed::Release, call);
 }
 
 /// A write is reserved and given up.
-pub(crate) fn give_up<M: Map, A: Allocator + Copy, B: Allocator>(
+pub(crate) fn give_up<M: Map, A: Allocator + Copy>(
     rt: &impl Clock,
     array: &mut Array<M, A>,
     heap: A,
-    bench: &mut Bench<A, B>,
+    bench: &mut Bench<A>,
     page: Page,
 )
     requires { IsWhole M.view array.old }
@@ -142,7 +144,7 @@ pub(crate) fn give_up<M: Map, A: Allocator + Copy, B: Allocator>(
     };
     reserve(rt, array, heap, bench, claim);
     let call = plain(&heap, Call::Abandon(claim));
-    let _ = make_plain(rt, array, heap, bench, Timed::Abandon, call);
+    do_plain(rt, array, heap, bench, Timed::Abandon, call);
     release(rt, array, heap, bench, claim);
 }
 
@@ -159,11 +161,11 @@ fn homes_of<M: Map, A: Allocator + Copy>(array: &Array<M, A>, page: Page) -> (Di
 }
 
 /// Dies that want a window get one and work in it, until this die has room for a write.
-fn make_room<M: Map, A: Allocator + Copy, B: Allocator>(
+fn make_room<M: Map, A: Allocator + Copy>(
     rt: &impl Clock,
     array: &mut Array<M, A>,
     heap: A,
-    bench: &mut Bench<A, B>,
+    bench: &mut Bench<A>,
     die: Die,
 )
     requires { IsWhole M.view array.old }
@@ -183,11 +185,11 @@ fn has_room<M: Map, A: Allocator + Copy>(array: &Array<M, A>, die: Die) -> bool 
 }
 
 /// Each die that wants a window and has none gets one.
-pub(crate) fn open_windows<M: Map, A: Allocator + Copy, B: Allocator>(
+pub(crate) fn open_windows<M: Map, A: Allocator + Copy>(
     rt: &impl Clock,
     array: &mut Array<M, A>,
     heap: A,
-    bench: &mut Bench<A, B>,
+    bench: &mut Bench<A>,
 )
     requires { IsWhole M.view array.old }
     ensures { IsWhole M.view array.new }
@@ -198,11 +200,11 @@ pub(crate) fn open_windows<M: Map, A: Allocator + Copy, B: Allocator>(
 }
 
 /// The die gets a window, if it wants one and has none.
-fn open_window<M: Map, A: Allocator + Copy, B: Allocator>(
+fn open_window<M: Map, A: Allocator + Copy>(
     rt: &impl Clock,
     array: &mut Array<M, A>,
     heap: A,
-    bench: &mut Bench<A, B>,
+    bench: &mut Bench<A>,
     die: Die,
 )
     requires { IsWhole M.view array.old }
@@ -210,7 +212,7 @@ fn open_window<M: Map, A: Allocator + Copy, B: Allocator>(
 {
     if is_short(array, die) {
         let call = plain(&heap, Call::Window(die, WINDOW_ROUNDS));
-        let _ = make_plain(rt, array, heap, bench, Timed::Window, call);
+        do_plain(rt, array, heap, bench, Timed::Window, call);
     }
 }
 
