@@ -3,7 +3,7 @@
 ghost use Rattle.std.specs.Prelude.{◌≡◌, ◌<◌};
 
 use fa_machine::{Block, Version};
-use fa_map::{BlockCounts, Map, PageMap, SlotState};
+use fa_map::{Map, PageMap};
 use fa_plain_map::PlainMap;
 use fa_types::{Die, Geometry, Kind, Page, Seq, Slot};
 use flasharr_tests::ensure;
@@ -39,6 +39,25 @@ struct Call {
     block: u32,
     page: u64,
     seq: u64,
+}
+
+/// The kinds of some calls: a slot becomes stale, a page is written anew, and one more copy is held.
+const STALE: u64 = 43;
+
+const RENEWED: u64 = 109;
+
+const HELD: u64 = 129;
+
+/// A call that concerns page 40, and block 0.
+fn about_page_40(kind: u64, die: u8, slot: u32, seq: u64) -> Call {
+    Call {
+        kind,
+        die,
+        slot,
+        block: 0,
+        page: 40,
+        seq,
+    }
 }
 
 fn drawn(draws: &mut Draws, seq: u64) -> Call {
@@ -98,21 +117,6 @@ fn copy_new<M: Map>(map: &mut M, page: Page, version: Version, die: Die, slot: S
     }
 }
 
-/// A die is live from now on.
-fn bring_in<M: Map>(map: &mut M, die: Die) {
-    if (die.0 as u32) < map.geometry().dies && !map.is_live(die) {
-        map.bring_in(die);
-    }
-}
-
-/// A slot is stale from now on, if its die is live.
-fn waste<M: Map>(map: &mut M, die: Die, slot: Slot) {
-    let g = map.geometry();
-    if slot.0 < g.blocks * g.slots && map.is_live(die) {
-        map.make_stale(die, slot);
-    }
-}
-
 /// Makes a write the page's last, with no copy so far.
 fn renew<M: Map>(map: &mut M, page: Page, version: Version) {
     if page.0 < map.geometry().pages {
@@ -156,27 +160,47 @@ fn make<M: Map>(map: &mut M, call: Call) -> Option<Slot> {
     None
 }
 
-/// What a map answers of a page.
-fn page_of<M: Map>(map: &M, page: u64) -> Option<(Option<Version>, Option<Seq>, u32)> {
-    if page >= map.geometry().pages {
-        return None;
-    }
-    let page = Page(page);
-    Some((map.version(page), map.seq(page), map.copies_of(page)))
+/// Whether two writes, or none, are the same.
+fn is_same_write(a: Option<Version>, b: Option<Version>) -> bool {
+    a == b
 }
 
-/// The first two copies of a page.
-fn first_copies<M: Map>(map: &M, page: u64) -> Option<(Option<(Die, Slot)>, Option<(Die, Slot)>)> {
-    if page >= map.geometry().pages {
-        return None;
+/// Whether two slots, or none, are the same.
+fn is_same_slot(a: Option<Slot>, b: Option<Slot>) -> bool {
+    a == b
+}
+
+/// Whether two copies, or none, are the same.
+fn is_same_copy(a: Option<(Die, Slot)>, b: Option<(Die, Slot)>) -> bool {
+    a == b
+}
+
+/// Whether two slots hold the same copy, or none.
+fn is_same_content(a: Option<(Page, Version)>, b: Option<(Page, Version)>) -> bool {
+    a == b
+}
+
+/// Whether two maps answer of a page alike: its last write, and its first two copies.
+fn is_page_alike<A: Map, B: Map>(a: &A, b: &B, page: u64) -> bool {
+    if page >= a.geometry().pages || page >= b.geometry().pages {
+        return false;
     }
     let page = Page(page);
-    let first = map.first_copy(page);
-    let second = match first {
+    is_same_write(a.version(page), b.version(page))
+        && a.seq(page) == b.seq(page)
+        && a.copies_of(page) == b.copies_of(page)
+        && is_same_copy(a.first_copy(page), b.first_copy(page))
+        && is_same_copy(second_copy(a, page), second_copy(b, page))
+}
+
+/// The second copy of a page.
+fn second_copy<M: Map>(map: &M, page: Page) -> Option<(Die, Slot)>
+    requires { page.0 < (M.view map.now).geometry.pages }
+{
+    match map.first_copy(page) {
         Some((die, slot)) => map.next_copy(page, die, slot),
         None => None,
-    };
-    Some((first, second))
+    }
 }
 
 /// The pages from one on that have one copy, and those that have two: the lowest of each.
@@ -184,95 +208,94 @@ fn few_from<M: Map>(map: &M, page: u64) -> (Option<Page>, Option<Page>) {
     (map.next_with(1, Page(page)), map.next_with(2, Page(page)))
 }
 
-/// What a map answers of a page's copy on a die.
-fn copy_of<M: Map>(map: &M, page: u64, die: u8) -> Option<Option<Slot>> {
-    let g = map.geometry();
-    if page >= g.pages || die as u32 >= g.dies {
-        return None;
-    }
-    Some(map.copy_on(Page(page), Die(die)))
+/// Whether these are the lowest pages with one copy and with two from one on.
+fn has_few<M: Map>(map: &M, page: u64, few: (Option<Page>, Option<Page>)) -> bool {
+    few_from(map, page) == few
 }
 
-/// What a map answers of a slot.
-fn slot_of<M: Map>(map: &M, die: u8, slot: u32) -> Option<(SlotState, Option<(Page, Version)>)> {
-    let g = map.geometry();
-    if die as u32 >= g.dies || slot >= g.blocks * g.slots {
-        return None;
+/// Whether two maps answer of a page's copy on a die alike.
+fn is_place_alike<A: Map, B: Map>(a: &A, b: &B, page: u64, die: u8) -> bool {
+    let (g, h) = (a.geometry(), b.geometry());
+    if page >= g.pages || die as u32 >= g.dies || page >= h.pages || die as u32 >= h.dies {
+        return false;
+    }
+    let (page, die) = (Page(page), Die(die));
+    is_same_slot(a.copy_on(page, die), b.copy_on(page, die))
+}
+
+/// Whether two maps answer of a slot alike.
+fn is_slot_alike<A: Map, B: Map>(a: &A, b: &B, die: u8, slot: u32) -> bool {
+    let (g, h) = (a.geometry(), b.geometry());
+    if die as u32 >= g.dies
+        || slot >= g.blocks * g.slots
+        || die as u32 >= h.dies
+        || slot >= h.blocks * h.slots
+    {
+        return false;
     }
     let (die, slot) = (Die(die), Slot(slot));
-    Some((map.state(die, slot), map.copy_in(die, slot)))
+    a.state(die, slot) == b.state(die, slot)
+        && is_same_content(a.copy_in(die, slot), b.copy_in(die, slot))
 }
 
-/// What a map answers of a die, and of one of its blocks.
-fn block_of<M: Map>(map: &M, die: u8, block: u32) -> Option<(BlockCounts, bool, u32, u32)> {
-    let g = map.geometry();
-    if die as u32 >= g.dies || block >= g.blocks {
-        return None;
+/// Whether two maps answer of a die and one of its blocks alike: the slots that they offer to a writer and for
+/// a move from the block too.
+fn is_block_alike<A: Map, B: Map>(a: &A, b: &B, die: u8, block: u32) -> bool {
+    let (g, h) = (a.geometry(), b.geometry());
+    if die as u32 >= g.dies || block >= g.blocks || die as u32 >= h.dies || block >= h.blocks {
+        return false;
     }
     let (die, block) = (Die(die), Block(block));
-    Some((
-        map.counts(die, block),
-        map.is_live(die),
-        map.free(die),
-        map.room(die),
-    ))
+    a.counts(die, block) == b.counts(die, block)
+        && a.is_live(die) == b.is_live(die)
+        && a.free(die) == b.free(die)
+        && a.room(die) == b.room(die)
+        && is_same_slot(a.writers_slot(die), b.writers_slot(die))
+        && is_same_slot(a.slot_for_move(die, block), b.slot_for_move(die, block))
 }
 
-/// The slots that a map offers on a die: to a writer, and for a move from one of its blocks.
-fn offers_of<M: Map>(map: &M, die: u8, block: u32) -> Option<(Option<Slot>, Option<Slot>)> {
-    let g = map.geometry();
-    if die as u32 >= g.dies || block >= g.blocks {
-        return None;
-    }
-    Some((
-        map.writers_slot(Die(die)),
-        map.slot_for_move(Die(die), Block(block)),
-    ))
-}
-
-/// Whether both maps answer, and alike.
-fn are_same<T: PartialEq + Drop>(a: Option<T>, b: Option<T>) -> bool {
-    a.is_some() && a == b
-}
-
-/// Whether two maps of four dies of 12 blocks of 4 slots and of 64 pages answer every look alike.
-fn are_alike<A: Map, B: Map>(a: &A, b: &B) -> bool {
-    let mut alike = a.live_dies() == b.live_dies();
+/// Whether two maps of 64 pages, and of dies of 12 blocks of 4 slots, answer of a die alike.
+fn is_die_alike<A: Map, B: Map>(a: &A, b: &B, die: u8) -> bool {
+    let mut alike = true;
     for page in 0..64u64 {
-        alike = alike && are_same(page_of(a, page), page_of(b, page));
-        alike = alike && are_same(first_copies(a, page), first_copies(b, page));
-        alike = alike && few_from(a, page) == few_from(b, page);
+        alike = alike && is_place_alike(a, b, page, die);
     }
-    alike = alike && few_from(a, 64) == (None, None) && few_from(b, u64::MAX) == (None, None);
-    for die in 0..4u8 {
-        for page in 0..64u64 {
-            alike = alike && are_same(copy_of(a, page, die), copy_of(b, page, die));
-        }
-        for slot in 0..48u32 {
-            alike = alike && are_same(slot_of(a, die, slot), slot_of(b, die, slot));
-        }
-        for block in 0..12u32 {
-            alike = alike && are_same(block_of(a, die, block), block_of(b, die, block));
-            alike = alike && are_same(offers_of(a, die, block), offers_of(b, die, block));
-        }
+    for slot in 0..48u32 {
+        alike = alike && is_slot_alike(a, b, die, slot);
+    }
+    for block in 0..12u32 {
+        alike = alike && is_block_alike(a, b, die, block);
     }
     alike
 }
 
-#[test]
-fn ten_thousand_calls(rt: HostRuntime) -> Result<(), Fail> {
-    let geometry = Geometry::new(4, 0, 12, 4, 512, 64)?;
-    let mut tables = PageMap::new(rt.alloc(), geometry)?;
-    let mut plain = PlainMap::new(rt.alloc(), geometry)?;
+/// Whether two maps of four such dies answer every look alike.
+fn are_alike<A: Map, B: Map>(a: &A, b: &B) -> bool {
+    let mut alike = a.live_dies() == b.live_dies()
+        && has_few(a, 64, (None, None))
+        && has_few(b, u64::MAX, (None, None));
+    for page in 0..64u64 {
+        alike = alike && is_page_alike(a, b, page) && has_few(a, page, few_from(b, page));
+    }
+    for die in 0..4u8 {
+        alike = alike && is_die_alike(a, b, die);
+    }
+    alike
+}
+
+/// Makes 10,000 calls of both maps, which answer alike, and comes to a page with one copy and to one with two.
+fn answer_alike<A: Map, B: Map>(a: &mut A, b: &mut B) -> Result<(), Fail> {
     let mut draws = Draws { state: 7 };
     let mut one = false;
     let mut two = false;
     for number in 0..10_000u64 {
         let call = drawn(&mut draws, number + 1);
-        let slot = make(&mut tables, call);
-        ensure!(make(&mut plain, call) == slot, at number);
-        ensure!(number % 50 != 0 || are_alike(&tables, &plain), at number);
-        let few = few_from(&tables, 0);
+        let slots = (make(a, call), make(b, call));
+        ensure!(
+            is_same_slot(slots.0, slots.1) && (number % 50 != 0 || are_alike(a, b)),
+            at number
+        );
+        let few = few_from(a, 0);
         one = one || few.0.is_some();
         two = two || few.1.is_some();
     }
@@ -280,33 +303,50 @@ fn ten_thousand_calls(rt: HostRuntime) -> Result<(), Fail> {
     Ok(())
 }
 
+#[test]
+fn ten_thousand_calls(rt: HostRuntime) -> Result<(), Fail> {
+    let geometry = Geometry::new(4, 0, 12, 4, 512, 64)?;
+    let mut tables = PageMap::new(rt.alloc(), geometry)?;
+    let mut plain = PlainMap::new(rt.alloc(), geometry)?;
+    answer_alike(&mut tables, &mut plain)
+}
+
+/// Makes calls of a new map of four dies, and looks for page 40 after each: whether it is found with one copy,
+/// and with two.
+fn copies_come_and_go<M: Map>(map: &mut M) -> Result<(), Fail> {
+    for die in 0..4u8 {
+        make(map, about_page_40(0, die, 0, 0));
+    }
+    let page = Some(Page(40));
+    let steps = [
+        (RENEWED, 0, 0, 1, None, None),
+        (HELD, 2, 5, 1, page, None),
+        (HELD, 0, 5, 1, None, page),
+        (HELD, 1, 0, 1, None, None),
+        (HELD, 3, 15, 1, None, None),
+        (STALE, 1, 0, 1, None, None),
+        (STALE, 0, 5, 1, None, page),
+        (STALE, 3, 15, 1, page, None),
+        (RENEWED, 0, 0, 2, None, None),
+    ];
+    for (kind, die, slot, seq, one, two) in steps {
+        make(map, about_page_40(kind, die, slot, seq));
+        ensure!(
+            has_few(map, 0, (one, two))
+                && has_few(map, 40, (one, two))
+                && has_few(map, 41, (None, None)),
+            at slot
+        );
+    }
+    ensure!(map.live_dies() == 4);
+    Ok(())
+}
+
 // A page is found with one copy, with two, with neither when it has a third, and again as its copies go.
 #[test]
 fn pages_with_few_copies(rt: HostRuntime) -> Result<(), Fail> {
     let mut map = PageMap::new(rt.alloc(), Geometry::new(4, 0, 12, 4, 512, 64)?)?;
-    let page = Page(40);
-    for die in 0..4u8 {
-        bring_in(&mut map, Die(die));
-    }
-    renew(&mut map, page, write(1));
-    ensure!(few_from(&map, 0) == (None, None));
-    copy_more(&mut map, page, Die(2), Slot(5), true);
-    ensure!(few_from(&map, 40) == (Some(page), None) && few_from(&map, 41) == (None, None));
-    copy_more(&mut map, page, Die(0), Slot(5), true);
-    ensure!(few_from(&map, 0) == (None, Some(page)) && few_from(&map, 41) == (None, None));
-    copy_more(&mut map, page, Die(1), Slot(0), true);
-    ensure!(few_from(&map, 0) == (None, None));
-    copy_more(&mut map, page, Die(3), Slot(15), true);
-    ensure!(few_from(&map, 0) == (None, None));
-    waste(&mut map, Die(1), Slot(0));
-    ensure!(few_from(&map, 0) == (None, None));
-    waste(&mut map, Die(0), Slot(5));
-    ensure!(few_from(&map, 0) == (None, Some(page)));
-    waste(&mut map, Die(3), Slot(15));
-    ensure!(few_from(&map, 0) == (Some(page), None));
-    renew(&mut map, page, write(2));
-    ensure!(few_from(&map, 0) == (None, None) && map.live_dies() == 4);
-    Ok(())
+    copies_come_and_go(&mut map)
 }
 
 /// The slot that a writer takes of the die, if it is live.
@@ -318,29 +358,27 @@ fn take<M: Map>(map: &mut M, die: Die) -> Option<Slot> {
     }
 }
 
+/// Takes the slots of die 0 of a new map in their order, so many, each with this many looks, until the die has no
+/// room, which takes one look.
+fn slots_come_in_order(map: &mut PageMap, slots: u32, least: u32, most: u32) -> Result<(), Fail> {
+    make(map, about_page_40(0, 0, 0, 1));
+    ensure!(map.last_looks() == 0);
+    for slot in 0..slots {
+        let taken = take(map, Die(0));
+        let looks = map.last_looks();
+        ensure!(
+            is_same_slot(taken, Some(Slot(slot))) && least <= looks && looks <= most,
+            at slot
+        );
+    }
+    ensure!(take(map, Die(0)).is_none() && map.last_looks() == 1);
+    Ok(())
+}
+
 #[test]
 fn the_last_slot_of_a_large_die(rt: HostRuntime) -> Result<(), Fail> {
-    let geometry = Geometry::new(2, 0, 64, 64, 512, 64)?;
-    let mut map = PageMap::new(rt.alloc(), geometry)?;
-    let call = Call {
-        kind: 0,
-        die: 0,
-        slot: 0,
-        block: 0,
-        page: 0,
-        seq: 1,
-    };
-    let none = make(&mut map, call);
-    ensure!(none == None && map.last_looks() == 0);
-    for number in 0..4_031u32 {
-        ensure!(take(&mut map, Die(0)) == Some(Slot(number)), at number);
-    }
-    ensure!(
-        take(&mut map, Die(0)) == Some(Slot(4_031))
-            && map.last_looks() <= 129
-            && take(&mut map, Die(0)) == None
-    );
-    Ok(())
+    let mut map = PageMap::new(rt.alloc(), Geometry::new(2, 0, 64, 64, 512, 64)?)?;
+    slots_come_in_order(&mut map, 4_032, 1, 129)
 }
 
 // A slot is found by the die's count and a look at the erased slots. Where the die has no room, its count is all
@@ -348,21 +386,7 @@ fn the_last_slot_of_a_large_die(rt: HostRuntime) -> Result<(), Fail> {
 #[test]
 fn looks_for_a_slot(rt: HostRuntime) -> Result<(), Fail> {
     let mut map = PageMap::new(rt.alloc(), Geometry::new(2, 0, 4, 4, 512, 4)?)?;
-    let call = Call {
-        kind: 0,
-        die: 0,
-        slot: 0,
-        block: 0,
-        page: 0,
-        seq: 1,
-    };
-    make(&mut map, call);
-    for slot in 0..12u32 {
-        ensure!(take(&mut map, Die(0)) == Some(Slot(slot)), at slot);
-        ensure!(map.last_looks() == 2, at slot);
-    }
-    ensure!(take(&mut map, Die(0)) == None && map.last_looks() == 1);
-    Ok(())
+    slots_come_in_order(&mut map, 12, 2, 2)
 }
 
 // The map's memory is a heap that grows by little from run to run, so that each of its allocations is the

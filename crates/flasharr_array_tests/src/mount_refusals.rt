@@ -1,15 +1,14 @@
 //! Each call of an image and each allocation, refused in turn while images are formatted and mounted, and
 //! images in two formats side by side.
-use crate::mounting::{Images, images};
+use crate::mounting::{Images, formatted, new_array};
 use crate::slots::{put, tag};
-use fa_headers::{MountFault, MountRefused, format, format_1};
+use fa_headers::{MountFault, MountRefused};
 use fa_image::Image;
 use fa_scan::{Report, scan, scan_side_by_side};
-use fa_tag::{Tag, seal_1};
-use fa_types::{Copies, Die, Geometry, HEADER_BYTES, Kind, Page, Seq, Slot};
+use fa_types::{Copies, Geometry, HEADER_BYTES, Kind, Slot};
 use flasharr_tests::ensure;
 use linked_list_allocator::LocalHeap;
-use std::alloc::Allocator;
+use std::alloc::{Allocator, Global};
 use std::test::Fail;
 use std::thread::Threads;
 
@@ -20,14 +19,12 @@ fn shape() -> Result<Geometry, Fail> {
 
 /// Which image is told as refusing while images are formatted, of which one refuses this call.
 fn format_refused(rt: &HostRuntime, image: usize, call: u64) -> Result<Option<usize>, Fail> {
-    let geometry = shape()?;
-    ensure!(geometry.dies == 4);
     let mut calls = [0; 4];
     if image < 4 {
         calls[image] = call;
     }
-    let mut images = images(rt, geometry, calls)?;
-    match format(&mut images, geometry, [7; 16]) {
+    let (_, came) = formatted(rt, shape()?, calls, false)?;
+    match came {
         Ok(()) => Ok(None),
         Err(fault) => Ok(Some(fault.image)),
     }
@@ -45,43 +42,11 @@ fn each_call_of_format_is_refused_in_turn(rt: HostRuntime) -> Result<(), Fail> {
     Ok(())
 }
 
-/// Gives a slot a write of a page, whose bytes are zeros, in the older version of slots.
-fn put_1<I: Image>(image: &mut I, page: u64, seq: u64, die: u8, slot: u32) -> Result<(), Fail> {
-    let geometry = image.geometry();
-    ensure!(geometry.page_bytes == 512);
-    ensure!(slot < geometry.blocks * geometry.slots);
-    ensure!(page < 1_048_576 && 1 <= seq && seq < 1 << 62 && die < 64 && slot < 1_048_576);
-    let mut bytes = [0u8; 576];
-    let tag = Tag {
-        page: Page(page),
-        seq: Seq(seq),
-        kind: Kind::Data,
-        die: Die(die),
-        slot: Slot(slot),
-    };
-    seal_1(tag, &[0; 512], &mut bytes);
-    Ok(image.program(Slot(slot), &bytes)?)
-}
-
 /// Gives an image the header of another one.
 fn copy_header<I: Image>(from: &mut I, to: &mut I) -> Result<(), Fail> {
     let mut header = [0; HEADER_BYTES];
     from.read_header(&mut header)?;
     Ok(to.write_header(&header)?)
-}
-
-/// Makes images an array in this format.
-fn formatted(rt: &HostRuntime, older: bool) -> Result<Images, Fail> {
-    let geometry = shape()?;
-    ensure!(geometry.dies == 4);
-    let mut images = images(rt, geometry, [0; 4])?;
-    let came = if older {
-        format_1(&mut images, geometry, [7; 16])
-    } else {
-        format(&mut images, geometry, [7; 16])
-    };
-    ensure!(came == Ok(()));
-    Ok(images)
 }
 
 /// Gives dies 1 and 3 their headers of another array.
@@ -90,44 +55,74 @@ fn copy_headers(from: &mut Images, to: &mut Images) -> Result<(), Fail> {
     copy_header(&mut from[3], &mut to[3])
 }
 
-/// An array whose dies 0 and 2 have headers of format 1, and dies 1 and 3 headers of format 2.
-fn in_both_formats(rt: &HostRuntime) -> Result<Images, Fail> {
-    let mut older = formatted(rt, true)?;
-    let mut newer = formatted(rt, false)?;
-    copy_headers(&mut newer, &mut older)?;
-    Ok(older)
+/// Gives dies 1 and 3 of an array headers of format 2.
+fn renew_headers(rt: &HostRuntime, images: &mut Images) -> Result<(), Fail> {
+    let mut newer = new_array(rt, shape()?, false)?;
+    copy_headers(&mut newer, images)
 }
 
 /// Writes two copies of each page: one on die 0 in the older version of slots and one on die 1 in the newer
 /// one. Page 7 becomes a hole then, on dies 2 and 3.
 fn write_pages(images: &mut Images) -> Result<(), Fail> {
-    for page in 0..8u32 {
-        let seq = u64::from(page) + 1;
-        put_1(&mut images[0], u64::from(page), seq, 0, page)?;
-        let newer = tag(u64::from(page), seq, Kind::Data, 1, page);
-        put(&mut images[1], page, newer)?;
+    for slot in 0..8u32 {
+        let page = u64::from(slot);
+        put(images, slot, tag(page, page + 1, Kind::Data, 0, slot), true)?;
+        put(
+            images,
+            slot,
+            tag(page, page + 1, Kind::Data, 1, slot),
+            false,
+        )?;
     }
-    put(&mut images[2], 0, tag(7, 9, Kind::Hole, 2, 0))?;
-    put(&mut images[3], 5, tag(7, 9, Kind::Hole, 3, 5))
+    put(images, 0, tag(7, 9, Kind::Hole, 2, 0), false)?;
+    put(images, 5, tag(7, 9, Kind::Hole, 3, 5), false)
 }
 
-/// The array in both formats with these pages.
+/// An array whose dies 0 and 2 have headers of format 1, and dies 1 and 3 headers of format 2, with these pages.
 fn written(rt: &HostRuntime) -> Result<Images, Fail> {
-    let mut images = in_both_formats(rt)?;
+    let mut images = new_array(rt, shape()?, true)?;
+    renew_headers(rt, &mut images)?;
     write_pages(&mut images)?;
     Ok(images)
 }
 
-/// What the array is told to be, where each page is to have so many copies.
-fn told(written: u64, thin: u64) -> Report {
-    Report {
+/// Whether images are mounted, as the array that was written.
+fn is_whole(came: Result<Report, MountRefused>) -> bool {
+    let told = Report {
         dies: 4,
         live: 4,
         spares: 0,
         epoch: 1,
         clean: true,
-        written,
-        thin,
+        written: 8,
+        thin: 0,
+    };
+    came == Ok(told)
+}
+
+/// Whether images are not mounted, since this one refused a call.
+fn is_image_fault(came: Result<Report, MountRefused>, image: usize) -> bool {
+    match came {
+        Ok(_) => false,
+        Err(refused) => refused.fault == MountFault::ImageFault && refused.image == Some(image),
+    }
+}
+
+/// Whether images are not mounted, for want of memory.
+fn is_out_of_memory(came: Result<Report, MountRefused>) -> bool {
+    let refusal = MountRefused {
+        fault: MountFault::NoMemory,
+        image: None,
+        die: None,
+    };
+    came == Err(refusal)
+}
+
+/// Whether images are mounted, with so many live dies.
+fn has_live(came: Result<Report, MountRefused>, live: u32) -> bool {
+    match came {
+        Ok(report) => report.live == live,
+        Err(_) => false,
     }
 }
 
@@ -155,32 +150,36 @@ fn reported_side_by_side(
 /// Reads a slot, and puts its bytes behind those that were read before it.
 fn push_slot<I: Image>(image: &mut I, slot: u32, bytes: &mut Vec<u8>) -> Result<(), Fail> {
     let geometry = image.geometry();
-    ensure!(geometry.page_bytes == 512);
-    ensure!(slot < geometry.blocks * geometry.slots);
+    ensure!(geometry.page_bytes == 512 && slot < geometry.blocks * geometry.slots);
     let mut found = [0u8; 576];
     image.read_slot(Slot(slot), &mut found)?;
     Ok(bytes.extend_from_slice(&found)?)
 }
 
-/// The bytes of the header and the slots of an image of sixteen slots.
-fn bytes_of<I: Image>(rt: &HostRuntime, image: &mut I) -> Result<Vec<u8>, Fail> {
+/// Puts the bytes of the header and the slots of an image of sixteen slots behind those that were read before.
+fn push_image<I: Image>(image: &mut I, bytes: &mut Vec<u8>) -> Result<(), Fail> {
     let mut header = [0; HEADER_BYTES];
     image.read_header(&mut header)?;
-    let mut bytes = Vec::new(rt.alloc());
     bytes.extend_from_slice(&header)?;
     for slot in 0..16 {
-        push_slot(image, slot, &mut bytes)?;
+        push_slot(image, slot, bytes)?;
     }
-    Ok(bytes)
+    Ok(())
 }
 
-/// The bytes of all images, one behind the other.
-fn all_bytes(rt: &HostRuntime, images: &mut Images) -> Result<Vec<u8>, Fail> {
-    let mut all = Vec::new(rt.alloc());
+/// Puts the bytes of all images behind one another.
+fn push_images(images: &mut Images, bytes: &mut Vec<u8>) -> Result<(), Fail> {
     for image in images.iter_mut() {
-        all.extend_from_slice(bytes_of(rt, image)?.as_slice())?;
+        push_image(image, bytes)?;
     }
-    Ok(all)
+    Ok(())
+}
+
+/// The bytes of all images.
+fn all_bytes(alloc: Global, images: &mut Images) -> Result<Vec<u8>, Fail> {
+    let mut bytes = Vec::new(alloc);
+    push_images(images, &mut bytes)?;
+    Ok(bytes)
 }
 
 /// Makes the k-th call of one image fail, k from 1, and no other. With 0 none fails.
@@ -190,81 +189,112 @@ fn arm(images: &mut Images, image: usize, k: u64) {
     }
 }
 
-/// Mounts images of which one refuses this call, die by die and side by side, which come to the same.
+/// Mounts images of which one refuses this call: die by die, and side by side. What was refused is not asked again.
 fn mounted_refused(
     rt: &(impl AllocGlobal + Threads + Sync),
     images: &mut Images,
-    image: usize,
-    call: u64,
+    copies: Copies,
     unclean: bool,
-) -> Result<Result<Report, MountRefused>, Fail> {
-    let two = Copies::new(2, shape()?)?;
+    image: usize,
+    call: u64,
+) -> (Result<Report, MountRefused>, Result<Report, MountRefused>) {
     arm(images, image, call);
-    let came = reported(rt.alloc(), images, two, unclean);
+    let came = reported(rt.alloc(), images, copies, unclean);
     arm(images, image, call);
-    let beside = reported_side_by_side(rt, images, two, unclean);
+    let beside = reported_side_by_side(rt, images, copies, unclean);
     arm(images, image, 0);
-    ensure!(came == beside, at call);
-    Ok(came)
+    (came, beside)
 }
 
-/// Mounts images of which one refuses this call, and tells the fault. What was refused is not asked again.
-fn mount_refused(
-    rt: &(impl AllocGlobal + Threads + Sync),
-    images: &mut Images,
-    image: usize,
-    call: u64,
-) -> Result<Option<MountRefused>, Fail> {
-    Ok(mounted_refused(rt, images, image, call, false)?.err())
+/// Whether two mountings came to the same.
+fn are_same(a: Result<Report, MountRefused>, b: Result<Report, MountRefused>) -> bool {
+    a == b
 }
 
-/// Mounts images of which one refuses this call, though they may be unclean, and tells how many dies are live.
-fn live_without(
+/// Asks that each read of each image is told as a fault where it is refused, or else leaves the other dies live.
+fn each_read_is_refused(
     rt: &(impl AllocGlobal + Threads + Sync),
     images: &mut Images,
-    image: usize,
-    call: u64,
-) -> Result<u32, Fail> {
-    match mounted_refused(rt, images, image, call, true)? {
-        Ok(report) => Ok(report.live),
-        Err(refused) => Err(Fail::new(refused)),
+) -> Result<(), Fail> {
+    let two = Copies::new(2, shape()?)?;
+    for image in 0..4usize {
+        for call in 1..=17u64 {
+            let (came, beside) = mounted_refused(rt, images, two, false, image, call);
+            let (left, left_beside) = mounted_refused(rt, images, two, true, image, call);
+            ensure!(
+                are_same(came, beside)
+                    && is_image_fault(came, image)
+                    && are_same(left, left_beside)
+                    && has_live(left, 3),
+                at call
+            );
+        }
+        let (came, beside) = mounted_refused(rt, images, two, false, image, 18);
+        ensure!(are_same(came, beside) && came.is_ok(), at image);
     }
+    Ok(())
+}
+
+/// The same, after which the bytes of the images are what they were.
+fn reads_are_refused(
+    rt: &(impl AllocGlobal + Threads + Sync),
+    images: &mut Images,
+) -> Result<(), Fail> {
+    let bytes = all_bytes(rt.alloc(), images)?;
+    each_read_is_refused(rt, images)?;
+    ensure!(all_bytes(rt.alloc(), images)? == bytes);
+    Ok(())
 }
 
 // The header of an image of sixteen slots is read once, and then each slot.
 #[test]
 fn each_read_of_mounting_is_refused_in_turn(rt: HostRuntime) -> Result<(), Fail> {
     let mut images = written(&rt)?;
-    let bytes = all_bytes(&rt, &mut images)?;
-    for image in 0..4usize {
-        for call in 1..=17u64 {
-            let refused = mount_refused(&rt, &mut images, image, call)?;
-            let fault = refused.map(|refused| (refused.fault, refused.image));
-            ensure!(fault == Some((MountFault::ImageFault, Some(image))), at call);
-            ensure!(live_without(&rt, &mut images, image, call)? == 3, at call);
-        }
-        ensure!(mount_refused(&rt, &mut images, image, 18)?.is_none());
-    }
-    ensure!(all_bytes(&rt, &mut images)? == bytes);
-    Ok(())
+    reads_are_refused(&rt, &mut images)
 }
 
-/// Mounts images in so much memory. If it is too little, they are mounted in more.
-fn is_short(rt: &HostRuntime, images: &mut Images, room: usize) -> Result<bool, Fail> {
-    let two = Copies::new(2, shape()?)?;
-    let heap = LocalHeap::new(rt.alloc(), room)?;
-    let refusal = MountRefused {
-        fault: MountFault::NoMemory,
-        image: None,
-        die: None,
-    };
-    let came = reported(&heap, images, two, false);
-    if came == Ok(told(8, 0)) {
+/// Mounts images in so much memory.
+fn reported_in(
+    alloc: Global,
+    images: &mut Images,
+    copies: Copies,
+    room: usize,
+) -> Result<Result<Report, MountRefused>, Fail> {
+    let heap = LocalHeap::new(alloc, room)?;
+    Ok(reported(&heap, images, copies, false))
+}
+
+/// Whether so much memory is too little to mount images, which are mounted in more then.
+fn is_short(alloc: Global, images: &mut Images, copies: Copies, room: usize) -> Result<bool, Fail> {
+    let came = reported_in(alloc, images, copies, room)?;
+    if is_whole(came) {
         return Ok(false);
     }
-    ensure!(came == Err(refusal), at room);
-    ensure!(reported(rt.alloc(), images, two, false) == Ok(told(8, 0)), at room);
+    ensure!(
+        is_out_of_memory(came)
+            && is_whole(reported(alloc, images, copies, false)),
+        at room
+    );
     Ok(true)
+}
+
+/// In how many runs the memory was too little, until it was enough.
+fn short_runs(alloc: Global, images: &mut Images, copies: Copies) -> Result<u32, Fail> {
+    for run in 0..1_024u32 {
+        if !is_short(alloc, images, copies, run as usize * 64)? {
+            return Ok(run);
+        }
+    }
+    Ok(1_024)
+}
+
+/// Asks that each allocation is refused in some run, after which the bytes of the images are what they were.
+fn allocations_are_refused(alloc: Global, images: &mut Images) -> Result<(), Fail> {
+    let two = Copies::new(2, shape()?)?;
+    let bytes = all_bytes(alloc, images)?;
+    let short = short_runs(alloc, images, two)?;
+    ensure!(20 < short && short < 1_024 && all_bytes(alloc, images)? == bytes);
+    Ok(())
 }
 
 // The memory grows by little from run to run, so that each allocation is the first that does not fit in some
@@ -272,15 +302,5 @@ fn is_short(rt: &HostRuntime, images: &mut Images, room: usize) -> Result<bool, 
 #[test]
 fn each_allocation_of_mounting_is_refused_in_turn(rt: HostRuntime) -> Result<(), Fail> {
     let mut images = written(&rt)?;
-    let bytes = all_bytes(&rt, &mut images)?;
-    let mut short = 0u32;
-    for room in 0..1_024usize {
-        if !is_short(&rt, &mut images, room * 64)? {
-            break;
-        }
-        short = short.saturating_add(1);
-    }
-    ensure!(20 < short && short < 1_024);
-    ensure!(all_bytes(&rt, &mut images)? == bytes);
-    Ok(())
+    allocations_are_refused(rt.alloc(), &mut images)
 }

@@ -5,12 +5,11 @@ ghost use Rattle.fa_image.specs.Fuse.{fused_view};
 ghost use Rattle.fa_image.specs.Memory.{mem_image_view};
 
 use crate::slots::{put, tag};
-use fa_headers::{MountFault, MountRefused, Standing, format};
-use fa_image::{FuseImage, Image, MemImage};
+use fa_headers::{FormatFault, MountFault, MountRefused, Standing, format, format_1};
+use fa_image::{FuseImage, MemImage};
 use fa_machine::Version;
 use fa_map::{Map, PageMap, SlotState};
 use fa_scan::{Mounted, scan};
-use fa_tag::{Tag, seal};
 use fa_types::{Copies, Die, Geometry, Kind, Page, Seq, Slot};
 use flasharr_tests::ensure;
 use std::test::Fail;
@@ -18,13 +17,18 @@ use std::test::Fail;
 /// The images of an array.
 pub type Images = [FuseImage<MemImage>; 4];
 
+/// The number of the arrays.
+pub const ARRAY: [u8; 16] = [
+    0x00, 0x11, 0x22, 0x33, 0x44, 0x55, 0x66, 0x77, 0x88, 0x99, 0xaa, 0xbb, 0xcc, 0xdd, 0xee, 0xff,
+];
+
 /// Three dies in use and a spare, of four blocks of four slots, with twelve pages.
 pub fn shape() -> Result<Geometry, Fail> {
     Ok(Geometry::new(4, 1, 4, 4, 512, 12)?)
 }
 
 /// An image in memory, whose k-th call fails, k from 1, or none where it is 0.
-pub fn image(rt: &HostRuntime, geometry: Geometry, k: u64) -> Result<FuseImage<MemImage>, Fail>
+fn image(rt: &HostRuntime, geometry: Geometry, k: u64) -> Result<FuseImage<MemImage>, Fail>
     ensures { IfOk result (λ image. (fused_view mem_image_view image).geometry ≡ geometry) }
 {
     let mut image = FuseImage::new(MemImage::new(rt.alloc(), geometry)?);
@@ -33,7 +37,7 @@ pub fn image(rt: &HostRuntime, geometry: Geometry, k: u64) -> Result<FuseImage<M
 }
 
 /// Four of them.
-pub fn images(rt: &HostRuntime, geometry: Geometry, calls: [u64; 4]) -> Result<Images, Fail>
+fn images(rt: &HostRuntime, geometry: Geometry, calls: [u64; 4]) -> Result<Images, Fail>
     ensures { IfOk result (AllByRecursion (λ image. (fused_view mem_image_view image).geometry ≡ geometry)) }
 {
     Ok([
@@ -44,106 +48,106 @@ pub fn images(rt: &HostRuntime, geometry: Geometry, calls: [u64; 4]) -> Result<I
     ])
 }
 
-/// New images of an array.
-pub fn formatted(rt: &HostRuntime) -> Result<Images, Fail> {
-    let geometry = shape()?;
-    ensure!(geometry.dies == 4);
-    let mut images = images(rt, geometry, [0; 4])?;
-    ensure!(format(&mut images, geometry, [7; 16]) == Ok(()));
-    Ok(images)
-}
-
-/// Mounts images.
-pub fn mounted(
+/// Images that refuse these calls, and what came of making them a new array, whose headers may be in the older format.
+pub fn formatted(
     rt: &HostRuntime,
-    images: &mut Images,
-    unclean: bool,
-) -> Result<Result<Mounted<PageMap>, MountRefused>, Fail> {
-    let copies = Copies::new(2, shape()?)?;
-    Ok(scan(rt.alloc(), images, copies, unclean))
+    geometry: Geometry,
+    calls: [u64; 4],
+    older: bool,
+) -> Result<(Images, Result<(), FormatFault>), Fail> {
+    ensure!(geometry.dies == 4);
+    let mut images = images(rt, geometry, calls)?;
+    let came = if older {
+        format_1(&mut images, geometry, ARRAY)
+    } else {
+        format(&mut images, geometry, ARRAY)
+    };
+    Ok((images, came))
 }
 
-/// Whether a slot has this state.
-fn is_at(map: &PageMap, die: u8, slot: u32, state: SlotState) -> Result<bool, Fail> {
-    let geometry = map.geometry();
-    ensure!(u32::from(die) < geometry.dies);
-    ensure!(slot < geometry.blocks * geometry.slots);
-    Ok(map.state(Die(die), Slot(slot)) == state)
-}
-
-/// Whether a die stands so.
-fn stands(dies: &[Standing], die: usize, standing: Standing) -> Result<bool, Fail> {
-    ensure!(die < dies.len());
-    Ok(dies[die] == standing)
-}
-
-/// Whether this is the last write of a page.
-fn is_last(map: &PageMap, page: u64, seq: u64, kind: Kind) -> Result<bool, Fail> {
-    ensure!(page < map.geometry().pages);
-    Ok(
-        map.version(Page(page))
-            == Some(Version {
-                seq: Seq(seq),
-                kind,
-            }),
-    )
+/// The images of a new array.
+pub fn new_array(rt: &HostRuntime, geometry: Geometry, older: bool) -> Result<Images, Fail> {
+    let (images, came) = formatted(rt, geometry, [0; 4], older)?;
+    ensure!(came.is_ok());
+    Ok(images)
 }
 
 /// Writes page 0 in an older and a newer copy, page 1 in copies of one number that are of two kinds, and page
 /// 2 in two copies on one die. A tag names another slot, and one another page than there is.
 fn write_pages(images: &mut Images) -> Result<(), Fail> {
-    put(&mut images[0], 0, tag(0, 1, Kind::Data, 0, 0))?;
-    put(&mut images[1], 0, tag(0, 2, Kind::Data, 1, 0))?;
-    put(&mut images[0], 1, tag(1, 3, Kind::Hole, 0, 1))?;
-    put(&mut images[1], 1, tag(1, 3, Kind::Data, 1, 1))?;
-    put(&mut images[2], 2, tag(2, 4, Kind::Data, 2, 2))?;
-    put(&mut images[2], 1, tag(2, 4, Kind::Data, 2, 1))?;
-    put(&mut images[2], 5, tag(3, 9, Kind::Data, 2, 6))?;
-    put(&mut images[2], 7, tag(12, 9, Kind::Data, 2, 7))
+    let slots = [
+        (0, tag(0, 1, Kind::Data, 0, 0)),
+        (0, tag(0, 2, Kind::Data, 1, 0)),
+        (1, tag(1, 3, Kind::Hole, 0, 1)),
+        (1, tag(1, 3, Kind::Data, 1, 1)),
+        (2, tag(2, 4, Kind::Data, 2, 2)),
+        (1, tag(2, 4, Kind::Data, 2, 1)),
+        (5, tag(3, 9, Kind::Data, 2, 6)),
+        (7, tag(12, 9, Kind::Data, 2, 7)),
+    ];
+    for (slot, tag) in slots {
+        put(images, slot, tag, false)?;
+    }
+    Ok(())
 }
 
-/// Images of an array with these pages.
-pub fn written(rt: &HostRuntime) -> Result<Images, Fail> {
-    let mut images = formatted(rt)?;
-    write_pages(&mut images)?;
-    Ok(images)
-}
-
-/// Images of which die 1 refuses its first slot.
+/// Images of an array with these pages, of which die 1 refuses its first slot.
 fn refusing(rt: &HostRuntime) -> Result<Images, Fail> {
-    let mut images = written(rt)?;
+    let mut images = new_array(rt, shape()?, false)?;
+    write_pages(&mut images)?;
     images[1].arm(2);
     Ok(images)
 }
 
+/// Mounts images.
+fn mounted(
+    rt: &HostRuntime,
+    images: &mut Images,
+    copies: Copies,
+    unclean: bool,
+) -> Result<Mounted<PageMap>, MountRefused> {
+    scan(rt.alloc(), images, copies, unclean)
+}
+
 #[test]
 fn a_refused_read_is_a_fault(rt: HostRuntime) -> Result<(), Fail> {
-    let mut images = refusing(&rt)?;
+    let copies = Copies::new(2, shape()?)?;
     let fault = MountRefused {
         fault: MountFault::ImageFault,
         image: Some(1),
         die: Some(Die(1)),
     };
-    match mounted(&rt, &mut images, false)? {
-        Ok(_) => Err(Fail::new("mounted")),
-        Err(refused) => {
-            ensure!(refused == fault);
-            Ok(())
-        }
+    let mut images = refusing(&rt)?;
+    let refused = mounted(&rt, &mut images, copies, false).err();
+    ensure!(refused == Some(fault));
+    Ok(())
+}
+
+/// Whether an array has lost die 1, and page 0 has its older copy.
+fn is_without_die_1(array: &Mounted<PageMap>) -> bool {
+    let map = &array.map;
+    let g = map.geometry();
+    if array.dies.len() < 2 || g.pages == 0 || g.dies == 0 || g.blocks * g.slots == 0 {
+        return false;
     }
+    let older = Version {
+        seq: Seq(1),
+        kind: Kind::Data,
+    };
+    map.live_dies() == 2
+        && array.dies[1] == Standing::Out(1)
+        && map.version(Page(0)) == Some(older)
+        && map.state(Die(0), Slot(0)) == SlotState::Current
 }
 
 #[test]
 fn a_die_that_refuses_a_read_is_out(rt: HostRuntime) -> Result<(), Fail> {
+    let copies = Copies::new(2, shape()?)?;
     let mut images = refusing(&rt)?;
-    match mounted(&rt, &mut images, true)? {
-        Ok(array) => {
-            ensure!(array.map.live_dies() == 2);
-            ensure!(stands(array.dies.as_slice(), 1, Standing::Out(1))?);
-            ensure!(is_last(&array.map, 0, 1, Kind::Data)?);
-            ensure!(is_at(&array.map, 0, 0, SlotState::Current)?);
-            Ok(())
-        }
-        Err(_) => Err(Fail::new("not mounted")),
-    }
+    let is_so = match mounted(&rt, &mut images, copies, true) {
+        Ok(array) => is_without_die_1(&array),
+        Err(_) => false,
+    };
+    ensure!(is_so);
+    Ok(())
 }

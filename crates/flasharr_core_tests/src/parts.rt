@@ -99,24 +99,29 @@ fn each_allocation_of_the_queues_fails(rt: HostRuntime) -> Result<(), Fail> {
     expect(refused && crowded && made, "each is refused in some run")
 }
 
-// What waits stays where it is when a die gets no more room.
+/// Puts two programs into the queue of die 0, which stay where they are when the die gets no more room.
+fn stay<A: Allocator>(
+    waiting: &mut Waiting<A>,
+    first: Payload<A>,
+    second: Payload<A>,
+) -> Result<(), Fail>
+    requires { 0 < dies_of waiting.old }
+{
+    put(waiting, 0, 1, first)?;
+    put(waiting, 0, 2, second)?;
+    expect(
+        waiting.make_room(Die(0), 10_000).is_err()
+            && taken(waiting, 0) == Some((1, Some(9)))
+            && taken(waiting, 0) == Some((2, Some(9))),
+        "there is no such room, and both stay in their order",
+    )
+}
+
 #[test]
 fn programs_stay_where_room_is_refused(rt: HostRuntime) -> Result<(), Fail> {
     let heap = LocalHeap::new(rt.alloc(), 8_192)?;
-    let mut waiting = Waiting::new(&heap, 1)?;
     let payload = Payload::new(Vec::from_slice(&heap, &[9u8])?)?;
-    put(&mut waiting, 0, 1, payload.share()?)?;
-    put(&mut waiting, 0, 2, payload)?;
-    expect(
-        waiting.make_room(Die(0), 10_000).is_err(),
-        "there is no such room",
-    )?;
-    expect(
-        taken(&mut waiting, 0) == Some((1, Some(9))),
-        "the first stays",
-    )?;
-    expect(
-        taken(&mut waiting, 0) == Some((2, Some(9))),
-        "and the second",
-    )
+    let shared = payload.share()?;
+    let mut waiting = Waiting::new(&heap, 1)?;
+    stay(&mut waiting, shared, payload)
 }

@@ -3,7 +3,7 @@ use fa_io::faulty::{Failing, Piecewise};
 use fa_prog::{ServerHost, run, start};
 use flasharr_tests::ensure;
 use linked_list_allocator::LocalHeap;
-use std::alloc::{AllocError, Allocator, Global};
+use std::alloc::Allocator;
 use std::env::Args;
 use std::io::{self, ErrorKind, Read, Write};
 use std::net::{Net, TcpListener, TcpStream};
@@ -25,16 +25,13 @@ pub fn status_of<
     run(rt, alloc, false, arguments, input, output)
 }
 
-/// Arguments, as the program is given them.
-fn given(alloc: Global, arguments: &[&str]) -> Result<Vec<String>, AllocError> {
-    let mut given = Vec::new(alloc);
-    for argument in arguments {
-        given.push(String::from_str(alloc, argument)?)?;
-    }
-    Ok(given)
+/// Whether so many bytes were written, the first of what is told.
+fn is_begun(written: &[u8], told: &str, taken: usize) -> bool {
+    written.len() == taken && told.as_bytes().starts_with(written)
 }
 
-/// Tries a command with a writer that takes five bytes a call, until a call fails: so many were taken.
+/// Whether a command ends with status 1 where its writer takes five bytes a call until a call fails: so many were
+/// taken.
 fn fails_at_write(
     rt: &(impl ServerHost + Net<Listener = TcpListener, Stream = TcpStream>),
     name: &str,
@@ -42,16 +39,18 @@ fn fails_at_write(
     told: &str,
     call: u64,
     taken: usize,
-) -> Result<(), Fail> {
-    let arguments = given(rt.alloc(), &[name])?;
+) -> Result<bool, Fail> {
+    let name = String::from_str(rt.alloc(), name)?;
     let mut input = text.as_bytes();
     let mut output = Failing::new(Piecewise::new(Vec::new(rt.alloc()), 5), call);
-    ensure!(status_of(rt, rt.alloc(), &arguments, &mut input, &mut output) == 1, at told);
-    ensure!(output.calls == call, at told);
-    let written = output.inner.inner.as_slice();
-    ensure!(written.len() == taken, at told);
-    ensure!(told.as_bytes().starts_with(written), at told);
-    Ok(())
+    let status = status_of(
+        rt,
+        rt.alloc(),
+        slice::from_ref(&name),
+        &mut input,
+        &mut output,
+    );
+    Ok(status == 1 && output.calls == call && is_begun(output.inner.inner.as_slice(), told, taken))
 }
 
 #[test]
@@ -67,10 +66,34 @@ fn output_that_fails(rt: HostRuntime) -> Result<(), Fail> {
         ("verify", "batch", "text: line 2\n"),
     ];
     for (name, text, told) in cases {
-        fails_at_write(&rt, name, text, told, 1, 0)?;
-        fails_at_write(&rt, name, text, told, 2, 5)?;
+        ensure!(
+            fails_at_write(&rt, name, text, told, 1, 0)?
+                && fails_at_write(&rt, name, text, told, 2, 5)?,
+            at told
+        );
     }
     Ok(())
+}
+
+/// Whether a command whose input fails at a call ends with status 1, and tells this.
+fn fails_at_read(
+    rt: &(impl ServerHost + Net<Listener = TcpListener, Stream = TcpStream>),
+    name: &str,
+    told: &str,
+    call: u64,
+) -> Result<bool, Fail> {
+    let name = String::from_str(rt.alloc(), name)?;
+    let text = b"batch\nend\nrounds 0\nend".as_slice();
+    let mut input = Failing::new(Piecewise::new(text, 7), call);
+    let mut output = Vec::new(rt.alloc());
+    let status = status_of(
+        rt,
+        rt.alloc(),
+        slice::from_ref(&name),
+        &mut input,
+        &mut output,
+    );
+    Ok(status == 1 && output.as_slice() == told.as_bytes())
 }
 
 #[test]
@@ -80,27 +103,25 @@ fn input_that_fails(rt: HostRuntime) -> Result<(), Fail> {
         ("talk", "talk: cannot read\n"),
         ("verify", "verify: cannot read\n"),
     ] {
-        let arguments = given(rt.alloc(), &[name])?;
-        for fails_at in 1..3u64 {
-            let text = b"batch\nend\nrounds 0\nend".as_slice();
-            let mut input = Failing::new(Piecewise::new(text, 7), fails_at);
-            let mut output = Vec::new(rt.alloc());
-            ensure!(status_of(&rt, rt.alloc(), &arguments, &mut input, &mut output) == 1);
-            ensure!(output.as_slice() == told.as_bytes(), at told);
-        }
+        ensure!(
+            fails_at_read(&rt, name, told, 1)? && fails_at_read(&rt, name, told, 2)?,
+            at told
+        );
     }
     Ok(())
 }
 
-/// What the program prints that is started with these arguments, and its status.
-fn started(
+/// Whether the program that is started with these arguments ends with this status, and tells this.
+fn ends(
     rt: &(impl ServerHost + Net<Listener = TcpListener, Stream = TcpStream>),
     all: io::Result<Args>,
-) -> (u8, Vec<u8>) {
+    status: u8,
+    told: &str,
+) -> bool {
     let mut input = b"".as_slice();
     let mut output = Vec::new(rt.alloc());
-    let status = start(rt, rt.alloc(), false, all, &mut input, &mut output);
-    (status.number(), output)
+    let ended = start(rt, rt.alloc(), false, all, &mut input, &mut output);
+    ended.number() == status && output.as_slice() == told.as_bytes()
 }
 
 #[test]
@@ -115,11 +136,49 @@ fn arguments_that_cannot_be_had(rt: HostRuntime) -> Result<(), Fail> {
         ),
     ];
     for (kind, status, told) in cases {
-        let (ended, output) = started(&rt, Err(io::Error::from(kind)));
-        ensure!(ended == status);
-        ensure!(output.as_slice() == told.as_bytes(), at told);
+        ensure!(ends(&rt, Err(io::Error::from(kind)), status, told), at told);
     }
     Ok(())
+}
+
+/// What came of verifying texts.
+#[derive(Clone, Copy)]
+enum Verified {
+    /// The verdict was told.
+    Whole,
+    /// It was told that memory was refused.
+    Refused,
+    /// Memory was refused before the program ran.
+    NotRun,
+    /// Something else.
+    Otherwise,
+}
+
+/// What a status and what was told stand for.
+fn meaning(status: u8, told: &[u8]) -> Verified {
+    if status == 0 && told == b"least 2\n".as_slice() {
+        Verified::Whole
+    } else if status == 1 && told == b"no memory\n".as_slice() {
+        Verified::Refused
+    } else {
+        Verified::Otherwise
+    }
+}
+
+/// Verifies texts in so much memory.
+fn verified_in(
+    rt: &(impl ServerHost + Net<Listener = TcpListener, Stream = TcpStream>),
+    text: &str,
+    room: usize,
+) -> Result<Verified, Fail> {
+    let heap = LocalHeap::new(rt.alloc(), room)?;
+    let Ok(name) = String::from_str(&heap, "verify") else {
+        return Ok(Verified::NotRun);
+    };
+    let mut input = text.as_bytes();
+    let mut output = Vec::new(rt.alloc());
+    let status = status_of(rt, &heap, slice::from_ref(&name), &mut input, &mut output);
+    Ok(meaning(status, output.as_slice()))
 }
 
 // The program's memory is a heap that grows by little from run to run, so that each of its allocations is
@@ -133,21 +192,10 @@ rounds 2\nplace 1 0 2\nplace 2 0 1\nshort 1 2\nend\n";
     let mut refused = 0u32;
     let mut whole = 0u32;
     for room in 0..1000usize {
-        let heap = LocalHeap::new(rt.alloc(), room * 64)?;
-        let Ok(name) = String::from_str(&heap, "verify") else {
-            continue;
-        };
-        let mut input = text.as_bytes();
-        let mut output = Vec::new(rt.alloc());
-        let status = status_of(&rt, &heap, slice::from_ref(&name), &mut input, &mut output);
-        if status == 0 {
-            whole = whole.saturating_add(1);
-            ensure!(output.as_slice() == b"least 2\n".as_slice(), at room);
-        } else {
-            refused = refused.saturating_add(1);
-            ensure!(status == 1, at room);
-            ensure!(output.as_slice() == b"no memory\n".as_slice(), at room);
-        }
+        let verified = verified_in(&rt, text, room * 64)?;
+        ensure!(!matches!(verified, Verified::Otherwise), at room);
+        refused = refused.saturating_add(u32::from(matches!(verified, Verified::Refused)));
+        whole = whole.saturating_add(u32::from(matches!(verified, Verified::Whole)));
     }
     ensure!(refused > 10 && whole > 1);
     Ok(())

@@ -2,7 +2,7 @@
 use fa_settings::{Settings, SettingsFault};
 use flasharr_tests::ensure;
 use linked_list_allocator::LocalHeap;
-use std::alloc::{Allocator, Global};
+use std::alloc::Global;
 use std::test::Fail;
 
 /// The lines of a whole text.
@@ -32,57 +32,68 @@ fn text_with(alloc: Global, more: &str) -> Result<String, Fail> {
     Ok(text)
 }
 
-/// What a whole text reads as, which it has to.
-fn whole<A: Allocator + Copy>(alloc: A, global: Global, text: &str) -> Result<Settings<A>, Fail> {
-    match Settings::read(alloc, global, text.as_bytes()) {
+/// What a whole text with one line more reads as, which it has to.
+fn whole(alloc: Global, more: &str) -> Result<Settings<Global>, Fail> {
+    let text = text_with(alloc, more)?;
+    match Settings::read(alloc, alloc, text.as_bytes()) {
         Ok(settings) => Ok(settings),
         Err(_) => Err(Fail::new("refused")),
     }
 }
 
+/// Whether these are the paths of the example's images.
+fn are_paths(images: &[String]) -> bool {
+    let paths = ["d0.img", "d1.img", "d2.img", "d3.img"];
+    let mut are_so = images.len() == 4;
+    for (image, path) in images.iter().zip(paths) {
+        are_so = are_so && image.as_str() == path;
+    }
+    are_so
+}
+
+/// Whether the settings have the names and the addresses of the example.
+fn has_names(alloc: Global, settings: &Settings<Global>) -> Result<bool, Fail> {
+    let array = hex::encode(alloc, settings.array)?;
+    let listen = format!(in alloc; "{}", settings.listen)?;
+    Ok(
+        array.as_str() == "00112233445566778899aabbccddeeff"
+            && listen.as_str() == "127.0.0.1:10809"
+            && settings.export.as_str() == "disk"
+            && are_paths(settings.images.as_slice()),
+    )
+}
+
 #[test]
 fn names_and_addresses_of_the_example(rt: HostRuntime) -> Result<(), Fail> {
-    let text = text_with(rt.alloc(), "")?;
-    let settings = whole(rt.alloc(), rt.alloc(), text.as_str())?;
-    ensure!(
-        hex::encode(rt.alloc(), settings.array)?.as_str() == "00112233445566778899aabbccddeeff"
-    );
-    ensure!(settings.images.len() == 4);
-    for (image, path) in settings
-        .images
-        .iter()
-        .zip(["d0.img", "d1.img", "d2.img", "d3.img"])
-    {
-        ensure!(image.as_str() == path, at path);
-    }
-    ensure!(format!(in rt.alloc(); "{}", settings.listen)?.as_str() == "127.0.0.1:10809");
-    ensure!(settings.export.as_str() == "disk");
+    let settings = whole(rt.alloc(), "")?;
+    ensure!(has_names(rt.alloc(), &settings)?);
     Ok(())
+}
+
+/// Whether the settings have the numbers of the example.
+fn has_numbers(settings: &Settings<Global>) -> bool {
+    settings.geometry.dies == 4
+        && settings.geometry.spares == 0
+        && settings.geometry.blocks == 16
+        && settings.geometry.slots == 8
+        && settings.geometry.page_bytes == 512
+        && settings.geometry.pages == 64
+        && settings.window_rounds == 8
+        && settings.sessions == 4
+        && settings.copies.number == 2
 }
 
 #[test]
 fn numbers_of_the_example(rt: HostRuntime) -> Result<(), Fail> {
-    let text = text_with(rt.alloc(), "")?;
-    let settings = whole(rt.alloc(), rt.alloc(), text.as_str())?;
-    ensure!(
-        settings.geometry.dies == 4
-            && settings.geometry.spares == 0
-            && settings.geometry.blocks == 16
-            && settings.geometry.slots == 8
-            && settings.geometry.page_bytes == 512
-            && settings.geometry.pages == 64
-            && settings.window_rounds == 8
-            && settings.sessions == 4
-            && settings.copies.number == 2
-    );
+    let settings = whole(rt.alloc(), "")?;
+    ensure!(has_numbers(&settings));
     Ok(())
 }
 
 #[test]
 fn copies_missing_two_and_three(rt: HostRuntime) -> Result<(), Fail> {
     for (line, number) in [("", 2), ("copies = 2", 2), ("copies = 3", 3)] {
-        let text = text_with(rt.alloc(), line)?;
-        ensure!(whole(rt.alloc(), rt.alloc(), text.as_str())?.copies.number == number, at number);
+        ensure!(whole(rt.alloc(), line)?.copies.number == number, at number);
     }
     Ok(())
 }

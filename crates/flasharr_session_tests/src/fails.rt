@@ -1,12 +1,12 @@
 //! Connections whose memory, reader or writer fails.
-use crate::rows::{FLAGS, GO, GONE, GREETING, end_of, served};
+use crate::rows::{FLAGS, GO, GONE, GREETING, are, end_of, served};
 use fa_io::faulty::Piecewise;
 use fa_session::SessionEnd;
 use fa_types::MemBlocks;
 use flasharr_tests::ensure;
 use flasharr_tests::spelling::{joined, spelled};
 use linked_list_allocator::LocalHeap;
-use std::alloc::Global;
+use std::alloc::{AllocError, Global};
 use std::test::Fail;
 
 /// A client that writes a page, reads it and the next, and disconnects.
@@ -18,12 +18,20 @@ const REQUESTS: &str = "25609513 0001 0001 0000000000000001 0000000000000200 000
 const REPLIES: &str = "67446698 00000000 0000000000000001
     67446698 00000000 0000000000000002 11x512 00x512";
 
+/// The replies where there is no memory for the WRITE.
+const WRITE_REFUSED: &str = "67446698 0000000c 0000000000000001
+    67446698 00000000 0000000000000002 00x1024";
+
+/// The replies where there is no memory for the READ.
+const READ_REFUSED: &str = "67446698 00000000 0000000000000001
+    67446698 0000000c 0000000000000002";
+
+/// The replies where there is no memory for either.
+const BOTH_REFUSED: &str = "67446698 0000000c 0000000000000001
+    67446698 0000000c 0000000000000002";
+
 fn client(alloc: Global) -> Result<Vec<u8>, Fail> {
     joined(alloc, &[FLAGS, GO, REQUESTS])
-}
-
-fn server(alloc: Global) -> Result<Vec<u8>, Fail> {
-    joined(alloc, &[GREETING, GONE, REPLIES])
 }
 
 #[test]
@@ -31,8 +39,8 @@ fn a_writer_that_takes_nothing(rt: HostRuntime) -> Result<(), Fail> {
     let said = client(rt.alloc())?;
     let mut reader = Piecewise::new(said.as_slice(), 4096);
     let mut writer = Piecewise::new(Vec::new(rt.alloc()), 0);
-    ensure!(served(rt.alloc(), &mut reader, &mut writer)? == SessionEnd::WriteFailed);
-    ensure!(writer.calls == 1 && reader.calls == 0);
+    let ended = served(rt.alloc(), &mut reader, &mut writer)?;
+    ensure!(ended == SessionEnd::WriteFailed && writer.calls == 1 && reader.calls == 0);
     Ok(())
 }
 
@@ -46,79 +54,123 @@ fn served_in(alloc: Global, said: &[u8], heap_bytes: usize) -> Result<(SessionEn
     Ok((ended, writer))
 }
 
-// The session's memory is a heap that grows by little from run to run, so that each of its
-// allocations is the first that doesn't fit in some run.
-#[test]
-fn each_allocation_fails(rt: HostRuntime) -> Result<(), Fail> {
-    let said = client(rt.alloc())?;
-    let answer = server(rt.alloc())?;
-    let write_refused = spelled(
-        rt.alloc(),
-        "67446698 0000000c 0000000000000001
-        67446698 00000000 0000000000000002 00x1024",
-    )?;
-    let read_refused = spelled(
-        rt.alloc(),
-        "67446698 00000000 0000000000000001
-        67446698 0000000c 0000000000000002",
-    )?;
-    let both_refused = spelled(
-        rt.alloc(),
-        "67446698 0000000c 0000000000000001
-        67446698 0000000c 0000000000000002",
-    )?;
-    let begun = joined(rt.alloc(), &[GREETING, GONE])?;
+/// Where memory was refused.
+#[derive(Clone, Copy, PartialEq, Eq)]
+enum Came {
+    InNegotiation,
+    OfRequests,
+    Nowhere,
+    /// The client was told what it should not be told.
+    Wrong,
+}
+
+/// Where memory was refused, by how a session ended and what it wrote. It begins with this.
+fn came_of(alloc: Global, ended: SessionEnd, taken: &[u8], begun: &[u8]) -> Result<Came, Fail> {
+    if ended == SessionEnd::NoMemory && begun.starts_with(taken) {
+        return Ok(Came::InNegotiation);
+    }
+    let replies = taken.strip_prefix(begun).unwrap_or(&[]);
+    if ended != SessionEnd::Disconnected {
+        return Ok(Came::Wrong);
+    }
+    if are(alloc, replies, REPLIES)? {
+        return Ok(Came::Nowhere);
+    }
+    for text in [WRITE_REFUSED, READ_REFUSED, BOTH_REFUSED] {
+        if are(alloc, replies, text)? {
+            return Ok(Came::OfRequests);
+        }
+    }
+    Ok(Came::Wrong)
+}
+
+/// Where memory is refused in a heap of so many bytes.
+fn came_in(alloc: Global, said: &[u8], begun: &[u8], heap_bytes: usize) -> Result<Came, Fail> {
+    let (ended, written) = served_in(alloc, said, heap_bytes)?;
+    came_of(alloc, ended, &written, begun)
+}
+
+/// Each place where memory is refused is met more than once.
+fn meets_each(alloc: Global, said: &[u8], begun: &[u8]) -> Result<(), Fail> {
     let mut in_negotiation = 0u32;
     let mut of_requests = 0u32;
     let mut whole = 0u32;
     for room in 0..200usize {
-        let (ended, written) = served_in(rt.alloc(), &said, room * 16)?;
-        let taken = written.as_slice();
-        if ended == SessionEnd::NoMemory {
-            in_negotiation = in_negotiation.saturating_add(1);
-            ensure!(begun.starts_with(taken), at room);
-            continue;
-        }
-        ensure!(ended == SessionEnd::Disconnected, at room);
-        if taken == answer.as_slice() {
-            whole = whole.saturating_add(1);
-            continue;
-        }
-        of_requests = of_requests.saturating_add(1);
-        let replies = taken.strip_prefix(begun.as_slice()).unwrap_or(&[]);
-        let is_right = replies == write_refused.as_slice()
-            || replies == read_refused.as_slice()
-            || replies == both_refused.as_slice();
-        ensure!(is_right, at room);
+        let came = came_in(alloc, said, begun, room * 16)?;
+        ensure!(came != Came::Wrong, at room);
+        in_negotiation = in_negotiation.saturating_add(u32::from(came == Came::InNegotiation));
+        of_requests = of_requests.saturating_add(u32::from(came == Came::OfRequests));
+        whole = whole.saturating_add(u32::from(came == Came::Nowhere));
     }
     ensure!(in_negotiation > 1 && of_requests > 1 && whole > 1);
     Ok(())
 }
 
+// The session's memory is a heap that grows by little from run to run, so that each of its
+// allocations is the first that doesn't fit in some run.
 #[test]
-fn the_longest_read_and_write(rt: HostRuntime) -> Result<(), Fail> {
-    let mut bytes = Vec::with_capacity(rt.alloc(), 33_554_432)?;
+fn each_allocation_fails(rt: HostRuntime) -> Result<(), Fail> {
+    let said = client(rt.alloc())?;
+    let begun = joined(rt.alloc(), &[GREETING, GONE])?;
+    meets_each(rt.alloc(), &said, &begun)
+}
+
+/// What a client says, with data amid it.
+fn said_around(alloc: Global, before: &[&str], data: &[u8], behind: &str) -> Result<Vec<u8>, Fail> {
+    let mut said = joined(alloc, before)?;
+    said.extend_from_slice(data)?;
+    said.extend_from_slice(spelled(alloc, behind)?.as_slice())?;
+    Ok(said)
+}
+
+/// Numbers of eight bytes, as many as fit into the longest WRITE.
+fn numbers(alloc: Global) -> Result<Vec<u8>, AllocError> {
+    let mut bytes = Vec::with_capacity(alloc, 33_554_432)?;
     for number in 0..4_194_304u64 {
         bytes.extend_from_slice(&number.to_be_bytes())?;
     }
+    Ok(bytes)
+}
+
+/// A client that writes the data and reads it is answered by few calls.
+fn reads_back(alloc: Global, said: &[u8], data: &[u8]) -> Result<(), Fail> {
+    let replies = "67446698 00000000 0000000000000001 67446698 00000000 0000000000000002";
+    let replies = spelled(alloc, replies)?;
+    let mut store = MemBlocks::new(alloc, 33_554_432)?;
+    let mut reader = Piecewise::new(said, 1_000_000);
+    let mut writer = Piecewise::new(Vec::new(alloc), 1_000_000);
+    let ended = end_of(alloc, &mut reader, &mut writer, &mut store);
+    let front = writer.inner.strip_suffix(data).unwrap_or(&[]);
+    // A call takes a million bytes: 33 or so for the data, and few for all else.
+    ensure!(
+        ended == SessionEnd::InputEnded
+            && front.ends_with(replies.as_slice())
+            && reader.calls < 50
+            && writer.calls < 50
+    );
+    Ok(())
+}
+
+#[test]
+fn the_longest_read_and_write(rt: HostRuntime) -> Result<(), Fail> {
     let write = "25609513 0000 0001 0000000000000001 0000000000000000 02000000";
     let read = "25609513 0000 0000 0000000000000002 0000000000000000 02000000";
-    let mut said = joined(rt.alloc(), &[FLAGS, GO, write])?;
-    said.extend_from_slice(&bytes)?;
-    said.extend_from_slice(spelled(rt.alloc(), read)?.as_slice())?;
+    let data = numbers(rt.alloc())?;
+    let said = said_around(rt.alloc(), &[FLAGS, GO, write], &data, read)?;
+    reads_back(rt.alloc(), &said, &data)
+}
 
-    let mut store = MemBlocks::new(rt.alloc(), 33_554_432)?;
-    let mut reader = Piecewise::new(said.as_slice(), 1_000_000);
-    let mut writer = Piecewise::new(Vec::new(rt.alloc()), 1_000_000);
-    let ended = end_of(rt.alloc(), &mut reader, &mut writer, &mut store);
-    ensure!(ended == SessionEnd::InputEnded);
-
-    let replies = "67446698 00000000 0000000000000001 67446698 00000000 0000000000000002";
-    let replies = spelled(rt.alloc(), replies)?;
-    let front = writer.inner.strip_suffix(bytes.as_slice()).unwrap_or(&[]);
-    ensure!(front.ends_with(replies.as_slice()));
-    // A call takes a million bytes: 33 or so for the data, and few for all else.
-    ensure!(reader.calls < 50 && writer.calls < 50);
+/// A client is answered so, by fewer reads than this, until its input ends.
+fn is_answered(alloc: Global, said: &[u8], replies: &str, reads: u64) -> Result<(), Fail> {
+    let answer = joined(alloc, &[GREETING, GONE, replies])?;
+    let mut reader = Piecewise::new(said, 1_000_000);
+    let mut writer = Vec::new(alloc);
+    let ended = served(alloc, &mut reader, &mut writer)?;
+    ensure!(
+        ended == SessionEnd::InputEnded
+            && writer.as_slice() == answer.as_slice()
+            && reader.calls < reads
+    );
     Ok(())
 }
 
@@ -129,16 +181,7 @@ fn the_data_of_a_refused_write(rt: HostRuntime) -> Result<(), Fail> {
     let read = "25609513 0000 0000 0000000000000002 0000000000000000 00000001";
     let replies = "67446698 0000001c 0000000000000001 67446698 00000000 0000000000000002 00";
     let said = joined(rt.alloc(), &[FLAGS, GO, write, read])?;
-    let answer = joined(rt.alloc(), &[GREETING, GONE, replies])?;
-    let mut reader = Piecewise::new(said.as_slice(), 1_000_000);
-    let mut writer = Vec::new(rt.alloc());
-    let ended = served(rt.alloc(), &mut reader, &mut writer)?;
-    ensure!(
-        ended == SessionEnd::InputEnded
-            && writer.as_slice() == answer.as_slice()
-            && reader.calls < 40
-    );
-    Ok(())
+    is_answered(rt.alloc(), &said, replies, 40)
 }
 
 // One byte more than a WRITE may have: all of it is dropped, 64 KiB a read.
@@ -147,17 +190,7 @@ fn the_data_of_a_write_that_is_too_long(rt: HostRuntime) -> Result<(), Fail> {
     let write = "25609513 0000 0001 0000000000000001 0000000000000000 02000001";
     let read = "25609513 0000 0000 0000000000000002 0000000000000000 00000001";
     let replies = "67446698 00000016 0000000000000001 67446698 00000000 0000000000000002 00";
-    let mut said = joined(rt.alloc(), &[FLAGS, GO, write])?;
-    said.resize(said.len() + 33_554_433, 0x11)?;
-    said.extend_from_slice(spelled(rt.alloc(), read)?.as_slice())?;
-    let answer = joined(rt.alloc(), &[GREETING, GONE, replies])?;
-    let mut reader = Piecewise::new(said.as_slice(), 1_000_000);
-    let mut writer = Vec::new(rt.alloc());
-    let ended = served(rt.alloc(), &mut reader, &mut writer)?;
-    ensure!(
-        ended == SessionEnd::InputEnded
-            && writer.as_slice() == answer.as_slice()
-            && reader.calls < 540
-    );
-    Ok(())
+    let data = vec![in rt.alloc(); 0x11u8; 33_554_433]?;
+    let said = said_around(rt.alloc(), &[FLAGS, GO, write], &data, read)?;
+    is_answered(rt.alloc(), &said, replies, 540)
 }

@@ -5,7 +5,7 @@ use fa_io::faulty::{Interrupted, Piecewise};
 use fa_session::{SessionEnd, serve_stream};
 use fa_types::{Blocks, MemBlocks};
 use flasharr_tests::ensure;
-use flasharr_tests::spelling::joined;
+use flasharr_tests::spelling::{joined, spelled};
 use std::alloc::{Allocator, Global};
 use std::io::Read;
 use std::test::Fail;
@@ -34,6 +34,12 @@ pub fn end_of<R: Read, W: WriteBoth, B: Blocks, A: Allocator + Copy>(
     serve_stream(alloc, reader, writer, store, "disk")
 }
 
+/// Whether the bytes are those that a text spells.
+pub fn are(alloc: Global, bytes: &[u8], text: &str) -> Result<bool, Fail> {
+    let wanted = spelled(alloc, text)?;
+    Ok(wanted.as_slice() == bytes)
+}
+
 /// What the server says to a client's bytes over a plain store of 64 pages of 512 zeros, and how the
 /// connection ends.
 pub fn served<R: Read, W: WriteBoth>(
@@ -56,8 +62,7 @@ fn converses_in_pieces(
     let mut reader = Piecewise::new(said, most);
     let mut writer = Piecewise::new(Vec::new(alloc), 1);
     let ended = served(alloc, &mut reader, &mut writer)?;
-    ensure!(ended.number() == end, at most);
-    ensure!(writer.inner.as_slice() == answer, at most);
+    ensure!(ended.number() == end && writer.inner.as_slice() == answer, at most);
     Ok(())
 }
 
@@ -86,26 +91,34 @@ fn answered_to_a_cut(
     let mut reader = &said[..cut.min(said.len())];
     let mut writer = Vec::new(alloc);
     let ended = served(alloc, &mut reader, &mut writer)?;
-    ensure!(answer.starts_with(writer.as_slice()), at cut);
-    ensure!(ended == SessionEnd::InputEnded || ended.number() == end, at cut);
+    ensure!(
+        answer.starts_with(writer.as_slice())
+            && (ended == SessionEnd::InputEnded || ended.number() == end),
+        at cut
+    );
     Ok(writer.len())
 }
 
 /// Tries one conversation: in pieces of each length, over streams that are interrupted, and cut after each byte.
-fn converses(alloc: Global, client: &[&str], server: &[&str], end: u8) -> Result<(), Fail> {
-    let said = joined(alloc, client)?;
-    let answer = joined(alloc, server)?;
-    converses_through_interruptions(alloc, &said, &answer, end)?;
+fn converses_anyhow(alloc: Global, said: &[u8], answer: &[u8], end: u8) -> Result<(), Fail> {
+    converses_through_interruptions(alloc, said, answer, end)?;
     for most in 1..=said.len() {
-        converses_in_pieces(alloc, &said, most, &answer, end)?;
+        converses_in_pieces(alloc, said, most, answer, end)?;
     }
     let mut before = 0;
     for cut in 0..said.len() {
-        let written = answered_to_a_cut(alloc, &said, cut, &answer, end)?;
+        let written = answered_to_a_cut(alloc, said, cut, answer, end)?;
         ensure!(before <= written, at cut);
         before = written;
     }
     Ok(())
+}
+
+/// Tries one conversation of a client with the server.
+fn converses(alloc: Global, client: &[&str], server: &[&str], end: u8) -> Result<(), Fail> {
+    let said = joined(alloc, client)?;
+    let answer = joined(alloc, server)?;
+    converses_anyhow(alloc, &said, &answer, end)
 }
 
 // Each command, done and refused; the data of a WRITE that is refused is dropped.

@@ -1,10 +1,10 @@
 //! Connections that are cut, changed, or whose streams and memory fail.
-use crate::rows::{FLAGS, GO, GONE, GREETING, end_of, served};
+use crate::rows::{FLAGS, GO, GONE, GREETING, are, end_of, served};
 use fa_io::faulty::{Failing, Piecewise};
 use fa_session::SessionEnd;
 use fa_types::MemBlocks;
 use flasharr_tests::ensure;
-use flasharr_tests::spelling::{joined, spelled};
+use flasharr_tests::spelling::joined;
 use linked_list_allocator::LocalHeap;
 use std::alloc::Global;
 use std::test::Fail;
@@ -48,39 +48,75 @@ fn answered(alloc: Global, said: &[u8]) -> Result<(SessionEnd, Vec<u8>), Fail> {
     Ok((ended, writer))
 }
 
-#[test]
-fn each_byte_of_each_magic_changed(rt: HostRuntime) -> Result<(), Fail> {
-    let said = client(rt.alloc())?;
-    let answer = server(rt.alloc())?;
+/// Whether the connection is closed where a byte of the client is changed, with so many bytes of the answer said.
+fn is_closed(
+    alloc: Global,
+    said: &[u8],
+    answer: &[u8],
+    changed: usize,
+    before: usize,
+) -> Result<bool, Fail> {
+    let mut bytes = said.to_vec(alloc)?;
+    if let Some(byte) = bytes.get_mut(changed) {
+        *byte ^= 0x20;
+    }
+    let (ended, told) = answered(alloc, &bytes)?;
+    Ok(ended == SessionEnd::Closed && told.len() == before && answer.starts_with(told.as_slice()))
+}
+
+/// The connection is closed wherever a byte of a magic number is changed.
+fn closes_at_each(alloc: Global, said: &[u8], answer: &[u8]) -> Result<(), Fail> {
     for (begin, len, before) in MAGICS {
         for at in begin..begin + len {
-            let mut changed = said.clone()?;
-            if let Some(byte) = changed.get_mut(at) {
-                *byte ^= 0x20;
-            }
-            let (ended, told) = answered(rt.alloc(), &changed)?;
-            ensure!(ended == SessionEnd::Closed, at at);
-            ensure!(told.len() == before, at at);
-            ensure!(answer.starts_with(told.as_slice()), at at);
+            ensure!(is_closed(alloc, said, answer, at, before)?, at at);
         }
     }
     Ok(())
 }
 
-/// The connection in which a call of each stream fails, by its number from 1, and what was written.
+#[test]
+fn each_byte_of_each_magic_changed(rt: HostRuntime) -> Result<(), Fail> {
+    let said = client(rt.alloc())?;
+    let answer = server(rt.alloc())?;
+    closes_at_each(rt.alloc(), &said, &answer)
+}
+
+/// How the connection ends in which a call of each stream fails, by its number from 1, and how much of the answer was
+/// written.
 fn failing(
     alloc: Global,
     said: &[u8],
+    answer: &[u8],
     read: u64,
     write: u64,
-) -> Result<(SessionEnd, Vec<u8>), Fail> {
+) -> Result<(SessionEnd, usize), Fail> {
     let mut reader = Failing::new(Piecewise::new(said, 50), read);
     let mut writer = Failing::new(Piecewise::new(Vec::new(alloc), 50), write);
     let ended = served(alloc, &mut reader, &mut writer)?;
+    let told = writer.inner.inner.as_slice();
     // No call is made behind one that failed.
-    ensure!(reader.calls <= read, at read);
-    ensure!(writer.calls <= write, at write);
-    Ok((ended, writer.inner.inner))
+    ensure!(
+        reader.calls <= read && writer.calls <= write && answer.starts_with(told),
+        at read.min(write)
+    );
+    Ok((ended, told.len()))
+}
+
+/// How many reads there are that fail, and how many writes.
+fn failing_calls(alloc: Global, said: &[u8], answer: &[u8]) -> Result<(u32, u32), Fail> {
+    let (mut reads, mut writes) = (0u32, 0u32);
+    for call in 1..100u64 {
+        let (ended, _) = failing(alloc, said, answer, call, 1000)?;
+        if ended == SessionEnd::ReadFailed {
+            reads = reads.saturating_add(1);
+        }
+        let (ended, told) = failing(alloc, said, answer, 1000, call)?;
+        if ended == SessionEnd::WriteFailed {
+            ensure!(told < answer.len(), at call);
+            writes = writes.saturating_add(1);
+        }
+    }
+    Ok((reads, writes))
 }
 
 // Of each stream the calls from one of them on fail, for each call that is made.
@@ -88,20 +124,7 @@ fn failing(
 fn each_socket_call_fails(rt: HostRuntime) -> Result<(), Fail> {
     let said = client(rt.alloc())?;
     let answer = server(rt.alloc())?;
-    let (mut reads, mut writes) = (0u32, 0u32);
-    for call in 1..100u64 {
-        let (ended, told) = failing(rt.alloc(), &said, call, 1000)?;
-        ensure!(answer.starts_with(told.as_slice()), at call);
-        if ended == SessionEnd::ReadFailed {
-            reads = reads.saturating_add(1);
-        }
-        let (ended, told) = failing(rt.alloc(), &said, 1000, call)?;
-        ensure!(answer.starts_with(told.as_slice()), at call);
-        if ended == SessionEnd::WriteFailed {
-            ensure!(told.len() < answer.len(), at call);
-            writes = writes.saturating_add(1);
-        }
-    }
+    let (reads, writes) = failing_calls(rt.alloc(), &said, &answer)?;
     ensure!(reads == 18 && writes == 26);
     Ok(())
 }
@@ -122,16 +145,36 @@ fn a_reply_and_its_data_by_one_call(rt: HostRuntime) -> Result<(), Fail> {
     Ok(())
 }
 
-/// What the requests behind a GO are answered with, where the session has a heap of so many bytes.
-fn answered_in(alloc: Global, said: &[u8], heap_bytes: usize) -> Result<Vec<u8>, Fail> {
+/// How a session in a heap of so many bytes ends, and what it writes.
+fn answered_in(
+    alloc: Global,
+    said: &[u8],
+    heap_bytes: usize,
+) -> Result<(SessionEnd, Vec<u8>), Fail> {
     let heap = LocalHeap::new(alloc, heap_bytes)?;
     let mut store = MemBlocks::new(alloc, 1_000_000)?;
     let mut reader = said;
     let mut writer = Vec::new(alloc);
     let ended = end_of(&heap, &mut reader, &mut writer, &mut store);
-    ensure!(ended == SessionEnd::InputEnded);
-    Ok(writer.get(70..).unwrap_or(&[]).to_vec(alloc)?)
+    Ok((ended, writer))
 }
+
+/// Whether a WRITE is done in a heap of so many bytes. If it is not, it has to be refused, and the READ behind it
+/// answered.
+fn is_done_in(alloc: Global, said: &[u8], heap_bytes: usize) -> Result<bool, Fail> {
+    let (ended, told) = answered_in(alloc, said, heap_bytes)?;
+    let replies = told.get(70..).unwrap_or(&[]);
+    let is_done = are(alloc, replies, WRITTEN)?;
+    let is_right = is_done || are(alloc, replies, REFUSED)?;
+    ensure!(ended == SessionEnd::InputEnded && is_right, at heap_bytes);
+    Ok(is_done)
+}
+
+/// The replies to a WRITE that is done and to the READ of its last byte and the next.
+const WRITTEN: &str = "67446698 00000000 0000000000000001 67446698 00000000 0000000000000002 1100";
+
+/// The replies where there is no memory for the WRITE.
+const REFUSED: &str = "67446698 0000000c 0000000000000001 67446698 00000000 0000000000000002 0000";
 
 // The memory for a WRITE grows three times as its data comes. Wherever that is refused the rest of the
 // data is dropped, and the next request is answered.
@@ -140,19 +183,13 @@ fn each_growth_fails(rt: HostRuntime) -> Result<(), Fail> {
     let write = "25609513 0000 0001 0000000000000001 0000000000000000 000493e0 11x300000";
     let read = "25609513 0000 0000 0000000000000002 00000000000493df 00000002";
     let said = joined(rt.alloc(), &[FLAGS, GO, write, read])?;
-    let written = "67446698 00000000 0000000000000001 67446698 00000000 0000000000000002 1100";
-    let written = spelled(rt.alloc(), written)?;
-    let refused = "67446698 0000000c 0000000000000001 67446698 00000000 0000000000000002 0000";
-    let refused = spelled(rt.alloc(), refused)?;
     let (mut refusals, mut whole) = (0u32, 0u32);
     for room in 1..40usize {
-        let told = answered_in(rt.alloc(), &said, room * 20_000)?;
-        if told.as_slice() == written.as_slice() {
+        if is_done_in(rt.alloc(), &said, room * 20_000)? {
             whole = whole.saturating_add(1);
-            continue;
+        } else {
+            refusals = refusals.saturating_add(1);
         }
-        ensure!(told.as_slice() == refused.as_slice(), at room);
-        refusals = refusals.saturating_add(1);
     }
     ensure!(refusals > 10 && whole > 1);
     Ok(())

@@ -9,7 +9,8 @@ use fa_types::{Die, Page, Round, Rounds};
 use std::alloc::Global;
 use std::test::Fail;
 
-fn holders_of(alloc: Global, dies: &[u8]) -> Result<Vec<Die>, Fail> {
+/// Dies that hold a page.
+pub fn holders_of(alloc: Global, dies: &[u8]) -> Result<Vec<Die>, Fail> {
     let mut holders = Vec::new(alloc);
     for die in dies {
         holders.push(Die(*die))?;
@@ -48,7 +49,7 @@ fn shortage_of(alloc: Global, pages: &[u64]) -> Result<Shortage, Fail> {
 }
 
 /// Closed rounds from round 1 on, of runs that are each a die, a first and a last round.
-fn closed_of(alloc: Global, list: &[(u8, u64, u64)]) -> Result<Closed, Fail>
+pub fn closed_of(alloc: Global, list: &[(u8, u64, u64)]) -> Result<Closed, Fail>
     ensures { IfOk result (λ closed. current_of closed ≡ 1) }
 {
     let mut runs = Vec::new(alloc);
@@ -91,18 +92,10 @@ fn a_page_that_a_shortage_names_twice(rt: HostRuntime) -> Result<(), Fail> {
     Ok(())
 }
 
-#[test]
-fn overlapping_runs_count_once(rt: HostRuntime) -> Result<(), Fail> {
-    let runs = [
-        (0, 5, 7),
-        (1, 1, 1),
-        (0, 2, 3),
-        (0, 6, 9),
-        (0, 4, 4),
-        (0, 12, 11),
-    ];
-    // Rounds 2 to 9 of die 0 are closed.
-    let closed = closed_of(rt.alloc(), &runs)?;
+/// Rounds 2 to 9 of die 0 and round 1 of die 1 are closed.
+fn counts_once(closed: &Closed) -> Result<(), Fail>
+    requires { current_of closed.now ≡ 1 }
+{
     for (rounds, count) in [(1, 1), (9, 1), (12, 4)] {
         ensure!(closed.open_count(Die(0), rounds) == count, at rounds);
     }
@@ -114,6 +107,19 @@ fn overlapping_runs_count_once(rt: HostRuntime) -> Result<(), Fail> {
     }
     ensure!(closed.now() == Round(1));
     Ok(())
+}
+
+#[test]
+fn overlapping_runs_count_once(rt: HostRuntime) -> Result<(), Fail> {
+    let runs = [
+        (0, 5, 7),
+        (1, 1, 1),
+        (0, 2, 3),
+        (0, 6, 9),
+        (0, 4, 4),
+        (0, 12, 11),
+    ];
+    counts_once(&closed_of(rt.alloc(), &runs)?)
 }
 
 /// What is printed of a plan and a shortage.
@@ -136,10 +142,10 @@ fn printed_again(alloc: Global, text: &str) -> Result<String, Fail> {
 
 #[test]
 fn printed_certificate(rt: HostRuntime) -> Result<(), Fail> {
-    let text = printed(rt.alloc(), 2, &[(20, 0, 2), (3, 63, 1)], &[20, 3])?;
     let told = "rounds 2\nplace 3 63 1\nplace 20 0 2\nshort 3 20\nend\n";
-    ensure!(text.as_str() == told);
-    ensure!(printed_again(rt.alloc(), told)?.as_str() == told);
+    let text = printed(rt.alloc(), 2, &[(20, 0, 2), (3, 63, 1)], &[20, 3])?;
+    let again = printed_again(rt.alloc(), told)?;
+    ensure!(text.as_str() == told && again.as_str() == told);
     Ok(())
 }
 

@@ -32,11 +32,7 @@ fn request(command: Command, flags: u16, offset: u64, length: u32) -> Request {
 
 #[test]
 fn bytes_of_requests() -> Result<(), Fail> {
-    ensure!(LAST_READ.len() == REQUEST_BYTES);
-    let last = read_request(&LAST_READ)?;
-    ensure!(last == request(Command::Read, 0, 32_256, 512));
-    ensure!(body_len(last) == 0);
-    ensure!(decide(last, SIZE) == Decision::Do);
+    let last = request(Command::Read, 0, 32_256, 512);
     let different = Request {
         flags: 32_769,
         command: Command::Other(6_658),
@@ -44,7 +40,13 @@ fn bytes_of_requests() -> Result<(), Fail> {
         offset: 0x1112_1314_1516_1718,
         length: 0x2122_2324,
     };
-    ensure!(read_request(&ALL_DIFFERENT)? == different);
+    ensure!(
+        LAST_READ.len() == REQUEST_BYTES
+            && read_request(&LAST_READ) == Ok(last)
+            && body_len(last) == 0
+            && decide(last, SIZE) == Decision::Do
+            && read_request(&ALL_DIFFERENT) == Ok(different)
+    );
     for at in 0..4 {
         let mut wrong = LAST_READ;
         wrong[at] ^= 1;
@@ -59,13 +61,15 @@ fn bytes_of_replies() -> Result<(), Fail> {
         0x67, 0x44, 0x66, 0x98, 0x00, 0x00, 0x00, 0x16, 0x00, 0x00, 0x00, 0x00, 0x00, 0x00, 0x00,
         0x02,
     ];
-    ensure!(invalid.len() == REPLY_BYTES);
-    ensure!(write_reply(ReplyCode::Invalid, 2) == invalid);
     let no_space = [
         0x67, 0x44, 0x66, 0x98, 0x00, 0x00, 0x00, 0x1c, 0x01, 0x02, 0x03, 0x04, 0x05, 0x06, 0x07,
         0x08,
     ];
-    ensure!(write_reply(ReplyCode::NoSpace, 0x0102_0304_0506_0708) == no_space);
+    ensure!(
+        invalid.len() == REPLY_BYTES
+            && write_reply(ReplyCode::Invalid, 2) == invalid
+            && write_reply(ReplyCode::NoSpace, 0x0102_0304_0506_0708) == no_space
+    );
     let numbers = [
         (ReplyCode::Success, 0),
         (ReplyCode::Io, 5),
@@ -92,8 +96,7 @@ fn flags_by_their_bits() -> Result<(), Fail> {
     ];
     for (flags, fua, no_hole) in cases {
         let given = request(Command::WriteZeroes, flags, 0, 512);
-        ensure!(given.is_fua() == fua, at flags);
-        ensure!(given.is_no_hole() == no_hole, at flags);
+        ensure!(given.is_fua() == fua && given.is_no_hole() == no_hole, at flags);
     }
     Ok(())
 }

@@ -3,6 +3,7 @@ use crate::reopened::{left_and_opened, sealed_and_opened};
 use fa_image::{FileImage, FuseImage, Image, ImageFault, MemImage, WrongImage};
 use fa_tag::{Opened, Tag};
 use fa_types::{Die, Geometry, HEADER_BYTES, Kind, Page, Seq, Slot, TAG_BYTES};
+use std::alloc::Global;
 use std::fs::{OpenOptions, Permissions};
 use std::os::unix::fs::PermissionsExt;
 use std::os::unix::process::parent_id;
@@ -14,8 +15,11 @@ use std::{env, fs, io, process};
 const SLOT: usize = 576;
 
 /// Four dies of 16 blocks of 8 slots, with pages of 512.
-fn shape() -> Result<Geometry, Fail> {
-    Ok(Geometry::new(4, 0, 16, 8, 512, 64)?)
+fn shape() -> io::Result<Geometry> {
+    match Geometry::new(4, 0, 16, 8, 512, 64) {
+        Ok(geometry) => Ok(geometry),
+        Err(_) => Err(io::Error::from(io::ErrorKind::Other)),
+    }
 }
 
 /// A path of this test and this run alone.
@@ -25,13 +29,19 @@ fn path_of(rt: &HostRuntime, name: &str) -> Result<PathBuf, Fail> {
 }
 
 fn create(rt: &HostRuntime, path: &PathBuf) -> io::Result<FileImage> {
-    let geometry = Geometry::new(4, 0, 16, 8, 512, 64).map_err(|_| io::ErrorKind::Other)?;
-    FileImage::create(rt, path.as_path(), geometry)
+    FileImage::create(rt, path.as_path(), shape()?)
 }
 
 fn open(rt: &HostRuntime, path: &PathBuf) -> io::Result<FileImage> {
-    let geometry = Geometry::new(4, 0, 16, 8, 512, 64).map_err(|_| io::ErrorKind::Other)?;
-    FileImage::open(rt, path.as_path(), geometry)
+    FileImage::open(rt, path.as_path(), shape()?)
+}
+
+/// Why a file is not opened as an image. None where it is.
+fn refused(rt: &HostRuntime, path: &PathBuf) -> Option<io::ErrorKind> {
+    match open(rt, path) {
+        Ok(_) => None,
+        Err(fault) => Some(fault.kind()),
+    }
 }
 
 /// Reads a slot, if it is one of the image's.
@@ -64,10 +74,15 @@ fn erase<I: Image>(image: &mut I, block: u32) -> Result<(), ImageFault> {
 }
 
 fn has(bytes: &[u8], from: usize, to: usize, byte: u8) -> bool {
-    match bytes.get(from..to) {
-        Some(part) => part.iter().all(|b| *b == byte),
-        None => false,
+    let Some(part) = bytes.get(from..to) else {
+        return false;
+    };
+    for found in part {
+        if *found != byte {
+            return false;
+        }
     }
+    true
 }
 
 /// Whether a slot reads as this byte alone.
@@ -82,14 +97,32 @@ fn header_is<I: Image>(image: &mut I, byte: u8) -> bool {
     image.read_header(&mut bytes) == Ok(()) && has(&bytes, 0, HEADER_BYTES, byte)
 }
 
-/// What a slot that is not to be had is refused with.
-fn slot_refused<I: Image>(image: &mut I, slot: u32) -> Option<ImageFault> {
-    read(image, slot, &mut [0; SLOT]).err()
+/// A call of an image, with the slot or the block, and with the byte that it writes.
+#[derive(Clone, Copy)]
+enum Call {
+    Read(u32),
+    Program(u32, u8),
+    Erase(u32),
+    ReadHeader,
+    WriteHeader(u8),
+    Sync,
 }
 
-/// What a header that is not to be had is refused with.
-fn header_refused<I: Image>(image: &mut I) -> Option<ImageFault> {
-    image.read_header(&mut [0; HEADER_BYTES]).err()
+/// Makes a call. What it reads is dropped.
+fn make<I: Image>(image: &mut I, call: Call) -> Result<(), ImageFault> {
+    match call {
+        Call::Read(slot) => read(image, slot, &mut [0; SLOT]),
+        Call::Program(slot, byte) => program(image, slot, &[byte; SLOT]),
+        Call::Erase(block) => erase(image, block),
+        Call::ReadHeader => image.read_header(&mut [0; HEADER_BYTES]),
+        Call::WriteHeader(byte) => image.write_header(&[byte; HEADER_BYTES]),
+        Call::Sync => image.sync(),
+    }
+}
+
+/// Whether a call is refused with this fault.
+fn refuses<I: Image>(image: &mut I, call: Call, fault: ImageFault) -> bool {
+    make(image, call) == Err(fault)
 }
 
 /// Whether an image has counted so many syncs and faults.
@@ -105,6 +138,14 @@ fn full_of_77(rt: &HostRuntime, name: &str, length: usize) -> Result<PathBuf, Fa
     Ok(path)
 }
 
+/// An image over a file full of 77, which is removed: the image still has it.
+fn over_77(rt: &HostRuntime, name: &str, length: usize) -> Result<FileImage, Fail> {
+    let path = full_of_77(rt, name, length)?;
+    let image = open(rt, &path)?;
+    remove(rt, &path)?;
+    Ok(image)
+}
+
 /// Removes the file of a test.
 fn remove(rt: &HostRuntime, path: &PathBuf) -> Result<(), Fail> {
     Ok(fs::remove_file(rt, path.as_str())?)
@@ -114,8 +155,12 @@ fn remove(rt: &HostRuntime, path: &PathBuf) -> Result<(), Fail> {
 fn a_new_image_is_zeros(rt: HostRuntime) -> Result<(), Fail> {
     let path = full_of_77(&rt, "new", 100_000)?;
     let mut image = create(&rt, &path)?;
-    ensure!(reads_as(&rt, path.as_str(), 77_824, &[(0, 77_824, 0)])?);
-    ensure!(slot_is(&mut image, 127, 0) && header_is(&mut image, 0) && has_counted(&image, 0, 0));
+    ensure!(
+        reads_as(&rt, path.as_str(), 77_824, &[(0, 77_824, 0)])?
+            && slot_is(&mut image, 127, 0)
+            && header_is(&mut image, 0)
+            && has_counted(&image, 0, 0)
+    );
     remove(&rt, &path)
 }
 
@@ -125,20 +170,45 @@ fn reads_as(
     path: &str,
     length: usize,
     parts: &[(usize, usize, u8)],
-) -> Result<bool, Fail> {
+) -> io::Result<bool> {
     let bytes = fs::read(rt, path)?;
-    let are_right = parts
-        .iter()
-        .all(|(from, to, byte)| has(&bytes, *from, *to, *byte));
-    Ok(bytes.len() == length && are_right)
+    Ok(bytes.len() == length && have(&bytes, parts))
+}
+
+/// Whether each part of the bytes, from an offset to another, has nothing but one byte.
+fn have(bytes: &[u8], parts: &[(usize, usize, u8)]) -> bool {
+    for (from, to, byte) in parts {
+        if !has(bytes, *from, *to, *byte) {
+            return false;
+        }
+    }
+    true
+}
+
+/// Makes calls of an image over a file full of 77, which then reads as these parts.
+fn reads_after(
+    rt: &HostRuntime,
+    name: &str,
+    calls: &[Call],
+    parts: &[(usize, usize, u8)],
+) -> Result<(), Fail> {
+    let path = full_of_77(rt, name, 78_000)?;
+    ensure!(are_done(&mut open(rt, &path)?, calls) && reads_as(rt, path.as_str(), 78_000, parts)?);
+    remove(rt, &path)
+}
+
+/// Whether an image does all of the calls.
+fn are_done<I: Image>(image: &mut I, calls: &[Call]) -> bool {
+    for call in calls {
+        if make(image, *call).is_err() {
+            return false;
+        }
+    }
+    has_counted(image, 0, 0)
 }
 
 #[test]
 fn writes_touch_nothing_around(rt: HostRuntime) -> Result<(), Fail> {
-    let path = full_of_77(&rt, "around", 78_000)?;
-    let mut image = open(&rt, &path)?;
-    program(&mut image, 17, &[0x5a; SLOT])?;
-    program(&mut image, 127, &[0x33; SLOT])?;
     let parts = [
         (0, 13_888, 0x77),
         (13_888, 14_464, 0x5a),
@@ -146,51 +216,62 @@ fn writes_touch_nothing_around(rt: HostRuntime) -> Result<(), Fail> {
         (77_248, 77_824, 0x33),
         (77_824, 78_000, 0x77),
     ];
-    ensure!(reads_as(&rt, path.as_str(), 78_000, &parts)?);
-    remove(&rt, &path)
+    let calls = [Call::Program(17, 0x5a), Call::Program(127, 0x33)];
+    reads_after(&rt, "around", &calls, &parts)
 }
 
 #[test]
 fn an_erase_and_a_header_touch_nothing_around(rt: HostRuntime) -> Result<(), Fail> {
-    let path = full_of_77(&rt, "header", 78_000)?;
-    let mut image = open(&rt, &path)?;
-    erase(&mut image, 2)?;
-    image.write_header(&[0x11; HEADER_BYTES])?;
-    ensure!(has_counted(&image, 0, 0));
     let parts = [
         (0, 112, 0x11),
         (112, 13_312, 0x77),
         (13_312, 17_920, 0xff),
         (17_920, 78_000, 0x77),
     ];
-    ensure!(reads_as(&rt, path.as_str(), 78_000, &parts)?);
-    remove(&rt, &path)
+    let calls = [Call::Erase(2), Call::WriteHeader(0x11)];
+    reads_after(&rt, "header", &calls, &parts)
 }
 
 /// How many writes of files this process has made, where the system counts them.
 fn writes_made(rt: &HostRuntime) -> Option<u64> {
     let text = fs::read_to_string(rt, "/proc/self/io").ok()?;
-    let count = text.lines().find_map(|line| line.strip_prefix("syscw: "))?;
-    count.parse().ok()
+    count_in(text.as_str())
+}
+
+/// The count of writes that a text of lines tells.
+fn count_in(text: &str) -> Option<u64> {
+    for line in text.lines() {
+        if let Some(count) = line.strip_prefix("syscw: ") {
+            return count.parse().ok();
+        }
+    }
+    None
 }
 
 /// Whether a count is the next one, or neither is known.
 fn is_next(count: Option<u64>, before: Option<u64>) -> bool {
-    count == before.map(|count| count.wrapping_add(1))
+    match (count, before) {
+        (Some(count), Some(before)) => count == before.wrapping_add(1),
+        (None, None) => true,
+        _ => false,
+    }
+}
+
+/// Whether a call is done by one write of a file, where the system counts them.
+fn is_one_write(rt: &HostRuntime, image: &mut FileImage, call: Call) -> bool {
+    let before = writes_made(rt);
+    make(image, call).is_ok() && is_next(writes_made(rt), before)
 }
 
 #[test]
 fn each_write_is_one_call_of_the_file(rt: HostRuntime) -> Result<(), Fail> {
     let path = path_of(&rt, "calls")?;
     let mut image = create(&rt, &path)?;
-    let before = writes_made(&rt);
-    program(&mut image, 17, &[0x5a; SLOT])?;
-    let programmed = writes_made(&rt);
-    erase(&mut image, 2)?;
-    let erased = writes_made(&rt);
-    image.write_header(&[0x11; HEADER_BYTES])?;
-    let written = writes_made(&rt);
-    ensure!(is_next(programmed, before) && is_next(erased, programmed) && is_next(written, erased));
+    ensure!(
+        is_one_write(&rt, &mut image, Call::Program(17, 0x5a))
+            && is_one_write(&rt, &mut image, Call::Erase(2))
+            && is_one_write(&rt, &mut image, Call::WriteHeader(0x11))
+    );
     remove(&rt, &path)
 }
 
@@ -247,27 +328,31 @@ fn is_as_left(rt: &HostRuntime, path: &PathBuf, header: &[u8; HEADER_BYTES]) -> 
     Ok(found[..4] != header[..4] && found[4..] == header[4..] && slot == [0x24; SLOT])
 }
 
-/// Leaves an image for another process, with this process's number in its header, or reads the one
-/// that another left, and says whether it is as it was left. Each test is a process of its own, all
-/// with the same parent.
-fn leave_or_read(rt: &HostRuntime) -> Result<bool, Fail> {
-    let name = format!(in rt.alloc(); "fa_image_left_{}", parent_id(rt.process()))?;
-    let shared = env::temp_dir(rt)?.join(rt.alloc(), name.as_str())?;
-    let own = path_of(rt, "left")?;
+/// Leaves an image for another process at a path that both know, with this process's number in its header,
+/// or reads the one that another left, and says whether it is as it was left.
+fn leave_or_read_at(rt: &HostRuntime, own: &PathBuf, shared: &PathBuf) -> Result<bool, Fail> {
     let mut header = [0x42; HEADER_BYTES];
     header[..4].copy_from_slice(&process::id(rt.process()).to_be_bytes());
-    leave(rt, &own, &header)?;
+    leave(rt, own, &header)?;
     let linked = fs::hard_link(rt, own.as_str(), shared.as_str());
     fs::remove_file(rt, own.as_str())?;
     let is_right = match linked {
         Ok(()) => return Ok(true),
         Err(fault) if fault.kind() == io::ErrorKind::AlreadyExists => {
-            is_as_left(rt, &shared, &header)?
+            is_as_left(rt, shared, &header)?
         }
         Err(_) => false,
     };
     fs::remove_file(rt, shared.as_str())?;
     Ok(is_right)
+}
+
+/// Leaves an image for another process, or reads the one that another left. Each test is a process of its
+/// own, all with the same parent.
+fn leave_or_read(rt: &HostRuntime) -> Result<bool, Fail> {
+    let name = format!(in rt.alloc(); "fa_image_left_{}", parent_id(rt.process()))?;
+    let shared = env::temp_dir(rt)?.join(rt.alloc(), name.as_str())?;
+    leave_or_read_at(rt, &path_of(rt, "left")?, &shared)
 }
 
 /// Of this test and the next the later one reads what the earlier one left.
@@ -285,46 +370,53 @@ fn a_header_is_left_for_the_next_process(rt: HostRuntime) -> Result<(), Fail> {
 
 #[test]
 fn a_file_that_is_too_short_refuses_what_it_lacks(rt: HostRuntime) -> Result<(), Fail> {
-    let path = full_of_77(&rt, "short", 4096 + 3 * SLOT - 1)?;
-    let mut image = open(&rt, &path)?;
-    ensure!(header_is(&mut image, 0x77) && slot_is(&mut image, 1, 0x77));
-    ensure!(slot_refused(&mut image, 2) == Some(ImageFault::ReadSlot));
-    ensure!(slot_refused(&mut image, 127) == Some(ImageFault::ReadSlot));
-    ensure!(has_counted(&image, 0, 2));
-    remove(&rt, &path)
+    let mut image = over_77(&rt, "short", 4096 + 3 * SLOT - 1)?;
+    ensure!(
+        header_is(&mut image, 0x77)
+            && slot_is(&mut image, 1, 0x77)
+            && refuses(&mut image, Call::Read(2), ImageFault::ReadSlot)
+            && refuses(&mut image, Call::Read(127), ImageFault::ReadSlot)
+            && has_counted(&image, 0, 2)
+    );
+    Ok(())
 }
 
 #[test]
 fn an_empty_file_has_no_header(rt: HostRuntime) -> Result<(), Fail> {
-    let path = full_of_77(&rt, "empty", 0)?;
-    let mut image = open(&rt, &path)?;
+    let mut image = over_77(&rt, "empty", 0)?;
     ensure!(
-        header_refused(&mut image) == Some(ImageFault::ReadHeader) && has_counted(&image, 0, 1)
+        refuses(&mut image, Call::ReadHeader, ImageFault::ReadHeader) && has_counted(&image, 0, 1)
     );
-    remove(&rt, &path)
+    Ok(())
+}
+
+/// Shrinks the file of an image, and tells whether it refuses what is lost each time.
+fn shrinks(rt: &HostRuntime, image: &mut FileImage) -> Result<bool, Fail> {
+    full_of_77(rt, "shrinks", 4096 + 3 * SLOT)?;
+    let is_short = slot_is(image, 2, 0x77)
+        && refuses(image, Call::Read(3), ImageFault::ReadSlot)
+        && header_is(image, 0x77)
+        && has_counted(image, 0, 1);
+    full_of_77(rt, "shrinks", 111)?;
+    Ok(
+        is_short
+            && refuses(image, Call::ReadHeader, ImageFault::ReadHeader)
+            && has_counted(image, 0, 2),
+    )
 }
 
 /// A file can lose bytes while it is open.
 #[test]
 fn a_file_that_shrinks_refuses_reads(rt: HostRuntime) -> Result<(), Fail> {
     let path = path_of(&rt, "shrinks")?;
-    let mut image = create(&rt, &path)?;
-    full_of_77(&rt, "shrinks", 4096 + 3 * SLOT)?;
-    ensure!(slot_is(&mut image, 2, 0x77));
-    ensure!(slot_refused(&mut image, 3) == Some(ImageFault::ReadSlot));
-    ensure!(header_is(&mut image, 0x77) && has_counted(&image, 0, 1));
-    full_of_77(&rt, "shrinks", 111)?;
-    ensure!(
-        header_refused(&mut image) == Some(ImageFault::ReadHeader) && has_counted(&image, 0, 2)
-    );
+    ensure!(shrinks(&rt, &mut create(&rt, &path)?)?);
     remove(&rt, &path)
 }
 
 #[test]
 fn a_missing_file_is_no_image(rt: HostRuntime) -> Result<(), Fail> {
     let path = path_of(&rt, "missing")?;
-    let missing = open(&rt, &path).err().ok_or("opened")?;
-    ensure!(missing.kind() == io::ErrorKind::NotFound);
+    ensure!(matches!(refused(&rt, &path), Some(io::ErrorKind::NotFound)));
     Ok(())
 }
 
@@ -332,162 +424,199 @@ fn a_missing_file_is_no_image(rt: HostRuntime) -> Result<(), Fail> {
 fn a_folder_is_no_image(rt: HostRuntime) -> Result<(), Fail> {
     let path = path_of(&rt, "folder")?;
     fs::create_dir(&rt, path.as_str())?;
-    let folder = open(&rt, &path).err().ok_or("opened")?;
-    ensure!(folder.kind() == io::ErrorKind::IsADirectory && create(&rt, &path).is_err());
+    ensure!(
+        matches!(refused(&rt, &path), Some(io::ErrorKind::IsADirectory))
+            && create(&rt, &path).is_err()
+    );
     fs::remove_dir(&rt, path.as_str())?;
+    Ok(())
+}
+
+/// No user may write the file of a running program, and most may not write this one anyway.
+#[test]
+fn the_file_of_a_running_program_is_refused(rt: HostRuntime) -> Result<(), Fail> {
+    let program = env::current_exe(&rt)?;
+    ensure!(matches!(
+        refused(&rt, &program),
+        Some(io::ErrorKind::ExecutableFileBusy | io::ErrorKind::PermissionDenied)
+    ));
     Ok(())
 }
 
 #[test]
 fn a_file_that_may_not_be_written_is_refused(rt: HostRuntime) -> Result<(), Fail> {
     let path = path_of(&rt, "refused")?;
-    // No user may write the file of a running program, and most may not write this one anyway.
-    let program = env::current_exe(&rt)?;
-    let running = open(&rt, &program).err().ok_or("opened")?;
-    ensure!(matches!(
-        running.kind(),
-        io::ErrorKind::ExecutableFileBusy | io::ErrorKind::PermissionDenied
-    ));
     drop(create(&rt, &path)?);
     fs::set_permissions(&rt, path.as_str(), Permissions::from_mode(0o444))?;
     // A user who may write all files opens this one too.
-    if let Err(refused) = open(&rt, &path) {
-        ensure!(refused.kind() == io::ErrorKind::PermissionDenied);
-    }
-    fs::remove_file(&rt, path.as_str())?;
-    Ok(())
+    ensure!(matches!(
+        refused(&rt, &path),
+        None | Some(io::ErrorKind::PermissionDenied)
+    ));
+    remove(&rt, &path)
+}
+
+/// An image over a file of the system.
+fn over(rt: &HostRuntime, path: &str) -> Result<FileImage, Fail> {
+    let file = OpenOptions::new().read(true).write(true).open(rt, path)?;
+    Ok(FileImage::over(rt.alloc(), file, shape()?)?)
 }
 
 /// `/dev/full` is a file that is always full: it reads as zeros, and refuses what is written.
 #[test]
 fn a_full_file_refuses_writes(rt: HostRuntime) -> Result<(), Fail> {
-    let file = OpenOptions::new()
-        .read(true)
-        .write(true)
-        .open(&rt, "/dev/full")?;
-    let mut image = FileImage::over(rt.alloc(), file, shape()?)?;
-    ensure!(program(&mut image, 3, &[1; SLOT]) == Err(ImageFault::Program));
-    ensure!(erase(&mut image, 1) == Err(ImageFault::EraseBlock));
-    ensure!(image.write_header(&[1; HEADER_BYTES]) == Err(ImageFault::WriteHeader));
-    ensure!(image.sync() == Err(ImageFault::Sync));
-    ensure!(has_counted(&image, 0, 4) && slot_is(&mut image, 3, 0));
+    let mut image = over(&rt, "/dev/full")?;
+    ensure!(
+        refuses(&mut image, Call::Program(3, 1), ImageFault::Program)
+            && refuses(&mut image, Call::Erase(1), ImageFault::EraseBlock)
+            && refuses(&mut image, Call::WriteHeader(1), ImageFault::WriteHeader)
+            && refuses(&mut image, Call::Sync, ImageFault::Sync)
+            && has_counted(&image, 0, 4)
+            && slot_is(&mut image, 3, 0)
+    );
     Ok(())
 }
 
 /// `/dev/null` takes whatever is written and has no medium to put it on: a header is not written there.
 #[test]
 fn a_header_that_is_not_synced_is_refused(rt: HostRuntime) -> Result<(), Fail> {
-    let file = OpenOptions::new()
-        .read(true)
-        .write(true)
-        .open(&rt, "/dev/null")?;
-    let mut image = FileImage::over(rt.alloc(), file, shape()?)?;
-    program(&mut image, 3, &[1; SLOT])?;
-    ensure!(image.write_header(&[1; HEADER_BYTES]) == Err(ImageFault::WriteHeader));
-    ensure!(has_counted(&image, 0, 1));
+    let mut image = over(&rt, "/dev/null")?;
+    ensure!(
+        make(&mut image, Call::Program(3, 1)).is_ok()
+            && refuses(&mut image, Call::WriteHeader(1), ImageFault::WriteHeader)
+            && has_counted(&image, 0, 1)
+    );
     Ok(())
 }
 
-/// Programs a slot, or erases a block where no byte is given for it.
-fn change(image: &mut MemImage, number: u32, byte: Option<u8>) -> Result<(), ImageFault> {
-    match byte {
-        Some(byte) => program(image, number, &[byte; SLOT]),
-        None => erase(image, number),
+/// An image in memory.
+fn in_memory(alloc: Global) -> Result<MemImage, Fail> {
+    Ok(MemImage::new(alloc, shape()?)?)
+}
+
+/// Whether each call of an image, with a sync behind it, leads to so many overwrites, and the slots are then
+/// as they were left.
+fn counts_overwrites(image: &mut MemImage) -> Result<(), Fail> {
+    let calls = [
+        (Call::Program(8, 8), 0),
+        (Call::Program(15, 15), 0),
+        (Call::Program(16, 16), 0),
+        (Call::Program(8, 9), 1),
+        (Call::Erase(1), 1),
+        (Call::Program(8, 8), 1),
+    ];
+    for (call, overwrites) in calls {
+        ensure!(
+            make(image, call).is_ok() && image.sync().is_ok() && image.overwrites() == overwrites,
+            at overwrites
+        );
     }
+    ensure!(
+        slot_is(image, 15, 0xff)
+            && slot_is(image, 16, 16)
+            && slot_is(image, 127, 0xff)
+            && has_counted(image, 6, 0)
+    );
+    Ok(())
 }
 
 #[test]
 fn memory_counts_what_is_overwritten(rt: HostRuntime) -> Result<(), Fail> {
-    let mut image = MemImage::new(rt.alloc(), shape()?)?;
-    let changes = [
-        (8, Some(8), 0),
-        (15, Some(15), 0),
-        (16, Some(16), 0),
-        (8, Some(9), 1),
-        (1, None, 1),
-        (8, Some(8), 1),
-    ];
-    for (number, byte, overwrites) in changes {
-        change(&mut image, number, byte)?;
-        image.sync()?;
-        ensure!(image.overwrites() == overwrites, at number);
-    }
-    for (number, byte) in [(15, 0xff), (16, 16), (127, 0xff)] {
-        ensure!(slot_is(&mut image, number, byte), at number);
-    }
-    ensure!(has_counted(&image, 6, 0));
-    Ok(())
+    counts_overwrites(&mut in_memory(rt.alloc())?)
 }
 
-/// The six calls in the order of their faults, each on something of its own.
-fn call<I: Image>(image: &mut I, number: u32) -> Result<(), ImageFault> {
-    match number {
-        1 => read(image, 0, &mut [0; SLOT]),
-        2 => program(image, 9, &[9; SLOT]),
-        3 => erase(image, 2),
-        4 => image.read_header(&mut [0; HEADER_BYTES]),
-        5 => image.write_header(&[5; HEADER_BYTES]),
-        _ => image.sync(),
+/// The six calls in the order of their faults, each on something of its own, with its fault.
+const CALLS: [(Call, ImageFault); 6] = [
+    (Call::Read(0), ImageFault::ReadSlot),
+    (Call::Program(9, 9), ImageFault::Program),
+    (Call::Erase(2), ImageFault::EraseBlock),
+    (Call::ReadHeader, ImageFault::ReadHeader),
+    (Call::WriteHeader(5), ImageFault::WriteHeader),
+    (Call::Sync, ImageFault::Sync),
+];
+
+/// Makes the six calls, and tells whether the one of this number alone is refused.
+fn fails_at<I: Image>(image: &mut I, armed: u8) -> bool {
+    let mut number = 0u8;
+    for (call, fault) in CALLS {
+        number = number.wrapping_add(1);
+        let want = if number == armed { Err(fault) } else { Ok(()) };
+        if make(image, call) != want || fault.number() != number {
+            return false;
+        }
     }
+    true
 }
 
-/// Makes the six calls, of which one comes to this and the others are done.
-fn fails_at<I: Image>(image: &mut I, armed: u32, came: Result<(), ImageFault>) -> Result<(), Fail> {
-    for number in 1..7u32 {
-        let want = if number == armed { came } else { Ok(()) };
-        ensure!(call(image, number) == want, at armed);
-    }
-    Ok(())
+/// Whether a fuse that is armed for this call fails it, and blows once.
+fn fails_once(image: &mut FuseImage<MemImage>, armed: u8) -> bool {
+    let is_programmed = make(image, Call::Program(16, 16)).is_ok();
+    image.arm(u64::from(armed));
+    is_programmed
+        && fails_at(image, armed)
+        && fails_at(image, 0)
+        && image.faults() == 1
+        && image.inner().faults() == 0
 }
 
 #[test]
 fn a_fuse_fails_the_armed_call(rt: HostRuntime) -> Result<(), Fail> {
-    let faults = [
-        ImageFault::ReadSlot,
-        ImageFault::Program,
-        ImageFault::EraseBlock,
-        ImageFault::ReadHeader,
-        ImageFault::WriteHeader,
-        ImageFault::Sync,
-    ];
-    for (k, fault) in faults.iter().enumerate() {
-        let armed = k as u32 + 1;
-        ensure!(u32::from(fault.number()) == armed);
-        let mut image = FuseImage::new(MemImage::new(rt.alloc(), shape()?)?);
-        program(&mut image, 16, &[16; SLOT])?;
-        image.arm(u64::from(armed));
-        fails_at(&mut image, armed, Err(*fault))?;
-        fails_at(&mut image, armed, Ok(()))?;
-        ensure!(image.faults() == 1 && image.inner().faults() == 0);
+    for armed in 1..7u8 {
+        ensure!(fails_once(&mut FuseImage::new(in_memory(rt.alloc())?), armed), at armed);
     }
     Ok(())
 }
 
+/// Whether a fuse blows at each call that writes.
+fn blows(image: &mut FuseImage<MemImage>) -> bool {
+    let calls = [
+        Call::Program(9, 9),
+        Call::Erase(2),
+        Call::WriteHeader(5),
+        Call::Sync,
+    ];
+    for call in calls {
+        image.arm(1);
+        if make(image, call).is_ok() {
+            return false;
+        }
+    }
+    image.faults() == 4
+}
+
 #[test]
 fn a_blown_fuse_leaves_the_image_alone(rt: HostRuntime) -> Result<(), Fail> {
-    let mut image = FuseImage::new(MemImage::new(rt.alloc(), shape()?)?);
-    program(&mut image, 16, &[16; SLOT])?;
-    for number in [2, 3, 5, 6] {
-        image.arm(1);
-        ensure!(call(&mut image, number).is_err(), at number);
-    }
-    ensure!(image.faults() == 4);
+    let mut image = FuseImage::new(in_memory(rt.alloc())?);
+    let is_blown = make(&mut image, Call::Program(16, 16)).is_ok() && blows(&mut image);
     let mut inner = image.into_inner();
-    ensure!(slot_is(&mut inner, 9, 0xff) && slot_is(&mut inner, 16, 16));
-    ensure!(header_is(&mut inner, 0) && has_counted(&inner, 0, 0));
+    ensure!(
+        is_blown
+            && slot_is(&mut inner, 9, 0xff)
+            && slot_is(&mut inner, 16, 16)
+            && header_is(&mut inner, 0)
+            && has_counted(&inner, 0, 0)
+    );
     Ok(())
 }
 
 // Of the reads after arming the second gives each byte inverted, and no other does.
 #[test]
 fn one_read_lies(rt: HostRuntime) -> Result<(), Fail> {
-    let mut image = WrongImage::new(FuseImage::new(MemImage::new(rt.alloc(), shape()?)?));
-    program(&mut image, 16, &[0x5a; SLOT])?;
-    ensure!(slot_is(&mut image, 16, 0x5a) && !image.has_lied());
+    let mut image = WrongImage::new(FuseImage::new(in_memory(rt.alloc())?));
+    let is_honest = make(&mut image, Call::Program(16, 0x5a)).is_ok()
+        && slot_is(&mut image, 16, 0x5a)
+        && !image.has_lied();
     image.arm(2);
-    ensure!(slot_is(&mut image, 16, 0x5a) && !image.has_lied());
-    ensure!(slot_is(&mut image, 16, 0xa5) && image.has_lied());
-    ensure!(slot_is(&mut image, 16, 0x5a) && slot_is(&mut image, 9, 0xff));
-    ensure!(header_is(&mut image, 0) && has_counted(&image, 0, 0));
+    ensure!(
+        is_honest
+            && slot_is(&mut image, 16, 0x5a)
+            && !image.has_lied()
+            && slot_is(&mut image, 16, 0xa5)
+            && image.has_lied()
+            && slot_is(&mut image, 16, 0x5a)
+            && slot_is(&mut image, 9, 0xff)
+            && header_is(&mut image, 0)
+            && has_counted(&image, 0, 0)
+    );
     Ok(())
 }

@@ -4,11 +4,10 @@ use crate::spelling::spelled;
 use fa_nego::{CloseCause, Fed, Nego, Step};
 use linked_list_allocator::LocalHeap;
 use std::alloc::{AllocError, Global};
-use std::process::Abort;
 use std::test::Fail;
 
 /// What a client sends, and what it has to come to.
-#[derive(Drop)]
+#[derive(Clone, Copy)]
 struct Case<'a> {
     input: &'a [u8],
     output: &'a [u8],
@@ -61,14 +60,19 @@ fn talk_in_pieces(alloc: Global, input: &[u8], len: usize) -> Result<Conversatio
     Ok(talk)
 }
 
+/// Whether a conversation came to what the case wants.
+fn is_as_wanted(talk: &Conversation, case: &Case) -> bool {
+    talk.output.as_slice() == case.output
+        && talk.step == case.step
+        && talk.cause == case.cause
+        && talk.used == case.used
+}
+
 /// The case holds in pieces of every length.
-fn holds(rt: &(impl Abort + AllocGlobal), case: &Case) -> Result<(), Fail> {
+fn holds(alloc: Global, case: &Case) -> Result<(), Fail> {
     for len in 1..=case.input.len().min(1000) {
-        let talk = talk_in_pieces(rt.alloc(), case.input, len)?;
-        ensure!(talk.output.as_slice() == case.output, at len);
-        ensure!(talk.step == case.step, at len);
-        ensure!(talk.cause == case.cause, at len);
-        ensure!(talk.used == case.used, at len);
+        let talk = talk_in_pieces(alloc, case.input, len)?;
+        ensure!(is_as_wanted(&talk, case), at len);
     }
     Ok(())
 }
@@ -84,9 +88,20 @@ fn closes<'a>(input: &'a [u8], cause: CloseCause, used: usize) -> Case<'a> {
     }
 }
 
-#[test]
-fn wants_the_next_item(rt: HostRuntime) -> Result<(), Fail> {
-    let mut nego = Nego::new(rt.alloc(), "disk", 32768);
+/// Whether a piece is used so far, and so many bytes are wanted then.
+fn uses(
+    alloc: Global,
+    nego: &mut Nego,
+    piece: &[u8],
+    used: usize,
+    wanted: usize,
+) -> Result<bool, AllocError> {
+    let fed = nego.feed(alloc, piece)?;
+    Ok(fed.used == used && nego.wanted() == wanted)
+}
+
+/// Feeds a negotiation that has just begun, in pieces that end within and behind items.
+fn wants_each_next(alloc: Global, nego: &mut Nego) -> Result<(), Fail> {
     let feeds: [(&[u8], usize, usize); 6] = [
         (b"\x00\x00", 2, 2),
         (b"\x00\x03IHAVEOPT", 2, 16),
@@ -97,11 +112,14 @@ fn wants_the_next_item(rt: HostRuntime) -> Result<(), Fail> {
     ];
     ensure!(nego.wanted() == 4);
     for (piece, used, wanted) in feeds {
-        let fed = nego.feed(rt.alloc(), piece)?;
-        ensure!(fed.used == used);
-        ensure!(nego.wanted() == wanted);
+        ensure!(uses(alloc, nego, piece, used, wanted)?, at used);
     }
     Ok(())
+}
+
+#[test]
+fn wants_the_next_item(rt: HostRuntime) -> Result<(), Fail> {
+    wants_each_next(rt.alloc(), &mut Nego::new(rt.alloc(), "disk", 32768))
 }
 
 #[test]
@@ -113,7 +131,7 @@ fn old_way_begins_transmission(rt: HostRuntime) -> Result<(), Fail> {
         cause: None,
         used: 24,
     };
-    holds(&rt, &case)
+    holds(rt.alloc(), &case)
 }
 
 #[test]
@@ -137,7 +155,7 @@ fn closes_for_each_cause(rt: HostRuntime) -> Result<(), Fail> {
         ),
     ];
     for case in cases.iter() {
-        holds(&rt, case)?;
+        holds(rt.alloc(), case)?;
     }
     Ok(())
 }
@@ -158,8 +176,32 @@ fn feed_again<'a>(
     Ok((nego.feed(large, piece)?, true))
 }
 
-/// Feeds the flags and the options, each answered in a heap of this size if it can be, and tells how
-/// many answers that heap refused.
+/// Feeds the flags and the options, each answered in the small heap if it can be, and tells how many
+/// answers that heap refused.
+fn refused_of<'a>(
+    nego: &mut Nego<&'a LocalHeap>,
+    small: &'a LocalHeap,
+    large: &'a LocalHeap,
+    input: &[u8],
+    output: &[u8],
+) -> Result<u32, Fail> {
+    let mut rest = input;
+    let mut unsaid = output;
+    let mut refused = 0u32;
+    for _ in 0..5 {
+        let piece = &rest[..nego.wanted().min(rest.len())];
+        let (fed, is_refused) = feed_again(nego, small, large, piece)?;
+        unsaid = unsaid
+            .strip_prefix(fed.out.as_slice())
+            .ok_or("another answer")?;
+        rest = &rest[fed.used.min(rest.len())..];
+        refused = refused.saturating_add(u32::from(is_refused));
+    }
+    ensure!(unsaid.is_empty() && nego.wanted() == 0, at refused);
+    Ok(refused)
+}
+
+/// How many answers of a negotiation a heap of this size refused.
 fn refused_answers(
     alloc: Global,
     large: &LocalHeap,
@@ -169,21 +211,7 @@ fn refused_answers(
 ) -> Result<u32, Fail> {
     let small = LocalHeap::new(alloc, room)?;
     let mut nego = Nego::new(large, "disk", 32768);
-    let mut rest = input;
-    let mut unsaid = output;
-    let mut refused = 0u32;
-    for _ in 0..5 {
-        let piece = &rest[..nego.wanted().min(rest.len())];
-        let (fed, is_refused) = feed_again(&mut nego, &small, large, piece)?;
-        unsaid = unsaid
-            .strip_prefix(fed.out.as_slice())
-            .ok_or("another answer")?;
-        rest = &rest[fed.used.min(rest.len())..];
-        refused = refused.saturating_add(u32::from(is_refused));
-    }
-    ensure!(unsaid.is_empty(), at room);
-    ensure!(nego.wanted() == 0, at room);
-    Ok(refused)
+    refused_of(&mut nego, &small, large, input, output)
 }
 
 // The small heap grows by little from run to run, so that each growth is refused in some run.
@@ -212,7 +240,6 @@ fn refused_answers_are_said_later(rt: HostRuntime) -> Result<(), Fail> {
         refused_last = refused_answers(rt.alloc(), &large, room * 16, &input, &output)?;
         refused = refused.saturating_add(refused_last);
     }
-    ensure!(refused > 20);
-    ensure!(refused_last == 0);
+    ensure!(refused > 20 && refused_last == 0);
     Ok(())
 }

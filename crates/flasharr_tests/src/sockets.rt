@@ -16,10 +16,13 @@ fn both_runs_by_one_call(rt: HostRuntime) -> Result<(), Fail> {
     let listener = TcpListener::bind(&rt, "127.0.0.1:0")?;
     let mut sender = TcpStream::connect(&rt, listener.local_addr()?)?;
     let (mut receiver, _) = listener.accept()?;
-    ensure!(is_sent(&mut sender) && is_sent(&mut &sender));
     let mut into = [0u8; 44];
-    ensure!(fill(&mut receiver, &mut Calls::new(), &mut into) == Ok(()));
-    ensure!(into.as_slice() == BOTH_TWICE);
+    ensure!(
+        is_sent(&mut sender)
+            && is_sent(&mut &sender)
+            && fill(&mut receiver, &mut Calls::new(), &mut into) == Ok(())
+            && into.as_slice() == BOTH_TWICE
+    );
     Ok(())
 }
 

@@ -166,8 +166,7 @@ fn with_tag(payload: &[u8; 512], tag: &[u8; 64]) -> [u8; 576] {
 #[test]
 fn seals_data_as_others_do() -> Result<(), Fail> {
     let slot = sealed_pattern();
-    ensure!(slot == with_tag(&pattern(), &TAG_2));
-    ensure!(open(&slot) == Opened::Good(tag()));
+    ensure!(slot == with_tag(&pattern(), &TAG_2) && open(&slot) == Opened::Good(tag()));
     Ok(())
 }
 
@@ -179,16 +178,18 @@ fn seals_holes_as_others_do() -> Result<(), Fail> {
     };
     let mut slot = [0xffu8; 576];
     seal(hole, &[0; 512], &mut slot);
-    ensure!(slot == with_tag(&[0; 512], &HOLE));
-    ensure!(open(&slot) == Opened::Good(hole));
-    let mut slot = [0xffu8; 4160];
     let last = Tag {
         kind: Kind::Hole,
         ..last_tag()
     };
-    seal(last, &[0; 4096], &mut slot);
-    ensure!(slot.ends_with(&LAST_HOLE));
-    ensure!(open(&slot) == Opened::Good(last));
+    let mut last_slot = [0xffu8; 4160];
+    seal(last, &[0; 4096], &mut last_slot);
+    ensure!(
+        slot == with_tag(&[0; 512], &HOLE)
+            && open(&slot) == Opened::Good(hole)
+            && last_slot.ends_with(&LAST_HOLE)
+            && open(&last_slot) == Opened::Good(last)
+    );
     Ok(())
 }
 
@@ -196,13 +197,15 @@ fn seals_holes_as_others_do() -> Result<(), Fail> {
 fn seals_version_1_as_others_do() -> Result<(), Fail> {
     let mut slot = [0u8; 576];
     seal_1(tag(), &pattern(), &mut slot);
-    ensure!(slot == with_tag(&pattern(), &TAG_1));
-    ensure!(open(&slot) == Opened::Good(tag()));
-    let mut slot = [0u8; 4160];
     let last = last_tag();
-    seal_1(last, &[0xff; 4096], &mut slot);
-    ensure!(slot.ends_with(&LAST_TAG_1));
-    ensure!(open(&slot) == Opened::Good(last));
+    let mut last_slot = [0u8; 4160];
+    seal_1(last, &[0xff; 4096], &mut last_slot);
+    ensure!(
+        slot == with_tag(&pattern(), &TAG_1)
+            && open(&slot) == Opened::Good(tag())
+            && last_slot.ends_with(&LAST_TAG_1)
+            && open(&last_slot) == Opened::Good(last)
+    );
     Ok(())
 }
 
@@ -212,7 +215,6 @@ fn copies_of_one_payload_are_sealed_by_one_digest() -> Result<(), Fail> {
     let digest = PayloadDigest::begin(&payload);
     let mut first = [0u8; 576];
     digest.seal(tag(), &payload, &mut first);
-    ensure!(first == sealed_pattern());
     let other = Tag {
         die: Die(4),
         slot: Slot(9),
@@ -222,43 +224,36 @@ fn copies_of_one_payload_are_sealed_by_one_digest() -> Result<(), Fail> {
     digest.seal(other, &payload, &mut second);
     let mut alone = [0u8; 576];
     seal(other, &payload, &mut alone);
-    ensure!(second == alone);
-    ensure!(second != first);
+    ensure!(first == sealed_pattern() && second == alone && second != first);
+    Ok(())
+}
+
+/// A slot is bad with any of its bits changed.
+fn each_bit_counts(good: &[u8; 576]) -> Result<(), Fail> {
+    let mut slot = *good;
+    for i in 0..576 {
+        let was = slot[i];
+        for bit in 0..8u32 {
+            slot[i] = was ^ (1 << bit);
+            ensure!(open(&slot) == Opened::Bad, at i);
+        }
+        slot[i] = was;
+    }
     Ok(())
 }
 
 #[test]
 fn each_bit_of_a_slot_counts() -> Result<(), Fail> {
-    for good in [
-        with_tag(&pattern(), &TAG_1),
-        with_tag(&pattern(), &TAG_2),
-        with_tag(&[0; 512], &HOLE),
-    ] {
-        let mut slot = good;
-        for i in 0..576 {
-            for bit in 0..8u32 {
-                let was = slot[i];
-                slot[i] = was ^ (1 << bit);
-                ensure!(open(&slot) == Opened::Bad, at i);
-                slot[i] = was;
-            }
-        }
-    }
-    Ok(())
+    each_bit_counts(&with_tag(&pattern(), &TAG_1))?;
+    each_bit_counts(&with_tag(&pattern(), &TAG_2))?;
+    each_bit_counts(&with_tag(&[0; 512], &HOLE))
 }
 
 #[test]
 fn each_bit_of_an_erased_slot_counts() -> Result<(), Fail> {
-    let mut slot = [0xffu8; 576];
+    let slot = [0xffu8; 576];
     ensure!(open(&slot) == Opened::Erased);
-    for i in 0..576 {
-        for bit in 0..8u32 {
-            slot[i] = 0xff ^ (1 << bit);
-            ensure!(open(&slot) == Opened::Bad, at i);
-            slot[i] = 0xff;
-        }
-    }
-    Ok(())
+    each_bit_counts(&slot)
 }
 
 #[test]
@@ -268,6 +263,14 @@ fn cut_slots_are_bad() -> Result<(), Fail> {
         ensure!(open(&slot[..len]) == Opened::Bad, at len);
     }
     Ok(())
+}
+
+/// Whether the bytes are a header that says this.
+fn says(bytes: &[u8; 112], header: &Header) -> bool {
+    match open_header(bytes) {
+        Some(found) => found == *header,
+        None => false,
+    }
 }
 
 #[test]
@@ -281,8 +284,6 @@ fn headers_as_others_write_them() -> Result<(), Fail> {
         mask: 15,
         array: ARRAY,
     };
-    ensure!(open_header(&LIVE) == Some(live));
-    ensure!(open_header(&LIVE_2) == Some(live));
     let spare = Header {
         die: Die(3),
         geometry: Geometry::new(4, 1, 16, 8, 512, 64)?,
@@ -292,8 +293,6 @@ fn headers_as_others_write_them() -> Result<(), Fail> {
         mask: 0,
         array: ARRAY,
     };
-    ensure!(open_header(&SPARE) == Some(spare));
-    ensure!(open_header(&SPARE_2) == Some(spare));
     let last = Header {
         die: Die(63),
         geometry: Geometry::new(64, 0, 4096, 256, 4096, 1_048_576)?,
@@ -303,7 +302,13 @@ fn headers_as_others_write_them() -> Result<(), Fail> {
         mask: u64::MAX,
         array: ARRAY,
     };
-    ensure!(open_header(&LAST) == Some(last));
+    ensure!(
+        says(&LIVE, &live)
+            && says(&LIVE_2, &live)
+            && says(&SPARE, &spare)
+            && says(&SPARE_2, &spare)
+            && says(&LAST, &last)
+    );
     Ok(())
 }
 
@@ -311,8 +316,7 @@ fn headers_as_others_write_them() -> Result<(), Fail> {
 fn headers_are_sealed_again() -> Result<(), Fail> {
     for (old, new) in [(&LIVE, &LIVE_2), (&SPARE, &SPARE_2)] {
         let header = open_header(old).ok_or("no header")?;
-        ensure!(seal_header_1(&header) == *old);
-        ensure!(seal_header(&header) == *new);
+        ensure!(seal_header_1(&header) == *old && seal_header(&header) == *new);
     }
     Ok(())
 }
@@ -322,12 +326,12 @@ fn each_bit_of_a_header_counts() -> Result<(), Fail> {
     for good in [&LIVE, &SPARE_2, &LAST] {
         let mut header = *good;
         for i in 0..112 {
+            let was = header[i];
             for bit in 0..8u32 {
-                let was = header[i];
                 header[i] = was ^ (1 << bit);
-                ensure!(open_header(&header) == None, at i);
-                header[i] = was;
+                ensure!(open_header(&header).is_none(), at i);
             }
+            header[i] = was;
         }
     }
     Ok(())

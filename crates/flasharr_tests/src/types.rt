@@ -15,11 +15,13 @@ fn fault_of(dies: u32, spares: u32, blocks: u32, slots: u32, page_bytes: u32, pa
 
 #[test]
 fn first_fault_of_several() -> Result<(), Fail> {
-    ensure!(fault_of(1, 0, 3, 3, 511, 0) == 1);
-    ensure!(fault_of(4, 0, 3, 3, 511, 0) == 2);
-    ensure!(fault_of(4, 0, 16, 3, 511, 0) == 3);
-    ensure!(fault_of(4, 0, 16, 8, 511, 0) == 4);
-    ensure!(fault_of(4, 0, 16, 8, 512, 0) == 5);
+    ensure!(
+        fault_of(1, 0, 3, 3, 511, 0) == 1
+            && fault_of(4, 0, 3, 3, 511, 0) == 2
+            && fault_of(4, 0, 16, 3, 511, 0) == 3
+            && fault_of(4, 0, 16, 8, 511, 0) == 4
+            && fault_of(4, 0, 16, 8, 512, 0) == 5
+    );
     Ok(())
 }
 
@@ -37,20 +39,24 @@ fn calls_of<B: Blocks>(alloc: Global, store: &mut B) -> Result<Vec<u8>, BlockFau
 #[test]
 fn plain_store_behind_its_trait(rt: HostRuntime) -> Result<(), Fail> {
     let mut store = MemBlocks::new(rt.alloc(), 8)?;
-    ensure!(store.size() == 8);
-    ensure!(store.read(rt.alloc(), 0, 8)?.as_slice() == [0; 8].as_slice());
+    let had = store.size();
+    let zeros = store.read(rt.alloc(), 0, 8)?;
     let bytes = calls_of(rt.alloc(), &mut store)?;
-    ensure!(bytes.as_slice() == b"\0ab\0\0ef\0".as_slice());
-    ensure!(store.size() == 8);
-    ensure!(store.read(rt.alloc(), 8, 0)?.len() == 0);
+    ensure!(
+        had == 8
+            && zeros.as_slice() == [0; 8].as_slice()
+            && bytes.as_slice() == b"\0ab\0\0ef\0".as_slice()
+            && store.size() == 8
+    );
+    ensure!(store.read(rt.alloc(), 8, 0)?.is_empty());
     Ok(())
 }
 
 #[test]
 fn plain_store_of_no_bytes(rt: HostRuntime) -> Result<(), Fail> {
     let mut store = MemBlocks::new(rt.alloc(), 0)?;
-    ensure!(store.size() == 0);
     store.write(0, b"", true)?;
-    ensure!(store.read(rt.alloc(), 0, 0)?.len() == 0);
+    let bytes = store.read(rt.alloc(), 0, 0)?;
+    ensure!(store.size() == 0 && bytes.is_empty());
     Ok(())
 }
