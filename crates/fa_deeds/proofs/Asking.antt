@@ -2,34 +2,35 @@
 use Rattle.fa_alone.specs.Unwritten.{EndsNoBatch, WritesNothing}
 use Rattle.fa_asks.proofs.OneTurn.{turn_asked}
 use Rattle.fa_asks.specs.Asked.{Asked, BringsNoSpare, GivesUp, IsAnothers, IsInTime, IsNoSpare, LeavesClaim, Meanwhile, Moment, OfOne, Readies, Turn}
-use Rattle.fa_asks.specs.Asked.{TurnsTo, batch_at, claim_at}
+use Rattle.fa_asks.specs.Asked.{batch_at, claim_at}
 use Rattle.fa_deeds.proofs.Driving.{deeds_drive, dies_plain, requests_plain}
+use Rattle.fa_deeds.proofs.NoCopy.{BeginsNoCopy, free_kept}
 use Rattle.fa_deeds.specs.Driving.{IsDeedOf, IsOfJob, IsPlain, StandsFor, image_on}
 use Rattle.fa_headers.specs.declared.judging.Standing.{Standing}
 use Rattle.fa_image.specs.Image.{ImageAnswer, ImageCall, ImageMeets, ImageState, IsImage, slot_at}
+use Rattle.fa_laws.proofs.Ranged.{calls_core}
 use Rattle.fa_laws.proofs.Within.{GeometryLaw}
 use Rattle.fa_machine.specs.Run.{Event, Happening, ImageCall as CallsImage, Run}
 use Rattle.fa_machine.specs.State.{Core}
-use Rattle.fa_machine.specs.Step.{Act, Advance, Done, Fold, SpareIn, Take, Window}
+use Rattle.fa_machine.specs.Step.{Act, Advance, Done, Fold, ReserveCopy, SpareIn, Take, Window}
 use Rattle.fa_machine.specs.World.{DieImage, Gave, Told, Work, World}
 use Rattle.fa_mount.specs.Standings.{AreApart}
-use Rattle.fa_ops.specs.Moves.{Folded, Moved, Rested, Strayed, Turned}
+use Rattle.fa_ops.specs.Moves.{Folded, Moved, Moves, Rested, Strayed, Turned}
 use Rattle.fa_ops.specs.Waiting.{HasNoWindow, awaits_flush, waits}
 use Rattle.fa_ops.specs.declared.request.Task.{Task}
 use Rattle.fa_ops.specs.declared.stage.Stage.{Stage}
-use Rattle.fa_ops.specs.declared.stage.Stage.TheVariants.{Flushing}
+use Rattle.fa_ops.specs.declared.stage.Stage.TheVariants.{Flushing, Reserving}
+use Rattle.fa_ops.specs.declared.stage.Wish.TheVariants.{Data, Fewer, Hole}
 use Rattle.fa_runs.proofs.DrivenRuns.{Follows, driven, honest_before}
 use Rattle.fa_runs.specs.Drives.{AreHonest, AreImages, Drive, Driven, Drives, acts_of, events_of}
-use Rattle.fa_runs.specs.Images.{IsImageOf}
 use Rattle.fa_scan.specs.ContentCells.{IsCellOf}
 use Rattle.fa_shared.specs.Seats.{number_of}
 use Rattle.fa_shared.specs.declared.seat.Seat.{Seat}
-use Rattle.fa_solo.specs.Deeds.{Goes, IsForDies, IsForRequests, IsMeanwhile}
+use Rattle.fa_solo.specs.Deeds.{Goes, IsForRequests, IsMeanwhile}
 use Rattle.fa_solo.specs.House.{House}
 use Rattle.fa_solo.specs.Turns.{Asking, Asks, Begins, GivesUp as IsGivenUp, MakesReady, MakesTurn, PassesTime, Readies as ReadiesIt, Refuses, Turns, Waits}
 use Rattle.fa_types.specs.declared.geometry.Geometry.{Geometry}
-use Rattle.std.proofs.Common.{Bool, IsTrue, List, None, Ok, Option, Some, [], ap, false, inl, inr, map, refl, subst, sym, true, ℕ, ◌*◌, ◌++◌, ◌<◌, ◌∙◌, ◌∷◌, ◌≡◌, ◌⊎◌}
-use Rattle.std.proofs.lemmas.Bool.{false≢true}
+use Rattle.std.proofs.Common.{Bool, IsTrue, List, None, Ok, Option, Some, [], ap, false, inl, inr, map, refl, subst, sym, true, ℕ, ◌*◌, ◌++◌, ◌<◌, ◌∙◌, ◌∷◌, ◌≡◌}
 use Rattle.std.specs.List.{AllByRecursion}
 
 -- What is made meanwhile is none of the request's.
@@ -165,6 +166,46 @@ asked_both {A} t seat bytes one two three [] ys same more = subst (λ (m : Momen
 asked_both t seat bytes one two three (x ∷ xs) ys asked more =
     (asked.0, asked.1, asked_both t seat bytes asked.0 two three xs ys asked.2 more)
 
+-- No event of a request begins a copy of a page.
+no_move : {A : Type 0} (t : Task) (seat : ℕ) (stage next : Stage A) (page seq : ℕ) (payload : List ℕ) (done : Unit {0})
+    → Moves t seat stage (ReserveCopy page seq payload (Ok done)) next → ⊥
+no_move t seat (Reserving held (Data bytes)) next page seq payload done moves = moves
+no_move t seat (Reserving held (Fewer bytes)) next page seq payload done moves = moves
+no_move t seat (Reserving held Hole) next page seq payload done moves = moves
+no_move t seat stage next page seq payload done moves = moves
+
+moves_free : {A : Type 0} (t : Task) (seat : ℕ) (stage : Stage A) (act : Act) (next : Stage A) → Moves t seat stage act next → BeginsNoCopy act
+moves_free t seat stage (ReserveCopy page seq payload (Ok done)) next moves = no_move t seat stage next page seq payload done moves
+moves_free t seat stage act next moves = tt
+
+turn_free : {L A : Type 0} (t : Task) (before after : Seat L) (old : Core) (stage : Stage A) (new : Core) (next : Stage A)
+    → Turned t before after old stage new next → old.copying ≡ None → new.copying ≡ None
+turn_free t before after old stage new next (Rested same commits here) free = ap (λ (c : Core). c.copying) same ∙ free
+turn_free t before after old stage new next (Moved act step commits moves founded) free =
+    free_kept old act new (moves_free t (number_of before) stage act next moves) step.does free
+turn_free t before after old stage new next (Folded between act full fold step commits moves founded) free =
+    free_kept between act new (moves_free t (number_of before) stage act next moves) step.does (free_kept old Fold between tt fold.does free)
+turn_free t before after old stage new next (Strayed same commits strays barred) free = ap (λ (c : Core). c.copying) same ∙ free
+
+-- nor does what is done meanwhile
+pub requests_free : (act : Act) → IsForRequests act → BeginsNoCopy act
+requests_free (ReserveCopy page seq payload (Ok done)) may = absurd may
+requests_free act may = tt
+
+job_free : (act : Act) → IsOfJob act → BeginsNoCopy act
+job_free (ReserveCopy page seq payload (Ok done)) job = absurd job
+job_free act job = tt
+
+pub run_free : (P : Act → Type 0) → ((act : Act) → P act → BeginsNoCopy act) → (w : World) (happenings : List Happening) (v : World)
+    → Run w happenings v → AllByRecursion (IsDeedOf P) (events_of happenings) → w.core.copying ≡ None → v.core.copying ≡ None
+run_free P begins w [] v run all free = ap (λ (x : World). x.core.copying) run ∙ free
+run_free P begins w (Event act ∷ happenings) v run all free =
+    run_free P begins run.0 happenings v run.2 all.1
+    (free_kept w.core act run.0.core (elim (all.0) [ inl may ↦ begins act may | inr job ↦ job_free act job ]) run.1.step.does free)
+run_free P begins w (CallsImage die gave ∷ happenings) v run all free =
+    run_free P begins run.0 happenings v run.2 all
+    (ap (λ (c : Core). c.copying) (calls_core w run.0 die (w.works die) gave run.1) ∙ free)
+
 turn_shape : {L A : Type 0} → GeometryLaw → (t : Task) (before after : Seat L) (old : Core) (stage : Stage A) (new : Core) (next : Stage A)
     → Turned t before after old stage new next → new.page_map.geometry ≡ old.page_map.geometry
 turn_shape law t before after old stage new next (Rested same commits here) = ap (λ (c : Core). c.page_map.geometry) same
@@ -228,6 +269,7 @@ module _ {L I A : Type 0} (view : I → ImageState) (honest : I → Bool) (made 
     pub asked : Asked task seat bytes (at w a) turns (at last b)
     pub stands : Stands view dies b.house last
     pub number : number_of b.seat ≡ seat
+    pub free : w.core.copying ≡ None → last.core.copying ≡ None
 
   went_on : (a middle b : Asking L I A) (w : World) (one : Went a w middle) → Went middle one.last b → Went a w b
   went_on a middle b w one two = record {
@@ -236,6 +278,7 @@ module _ {L I A : Type 0} (view : I → ImageState) (honest : I → Bool) (made 
     asked = asked_both task seat bytes (at w a) (at one.last middle) (at two.last b) one.turns two.turns one.asked two.asked;
     stands = two.stands;
     number = two.number;
+    free = λ free. two.free (one.free free);
   }
 
   turn_went : (a b : Asking L I A) (w : World) → Stands view dies a.house w → number_of a.seat ≡ seat → MakesTurn made array dies seat task bytes a b
@@ -260,6 +303,7 @@ module _ {L I A : Type 0} (view : I → ImageState) (honest : I → Bool) (made 
           idle = λ die. ap (λ (f : ℕ → Option Work). f die) one.4 ∙ stands.idle die;
         };
         number = turn.number ∙ number;
+        free = λ free. ap (λ (c : Core). c.copying) one.2 ∙ turn_free task a.seat b.seat w.core a.stage b.house.core b.stage was free;
       }
 
   ready_went : (a b : Asking L I A) (w : World) → Stands view dies a.house w → number_of a.seat ≡ seat → MakesReady made array dies seat task bytes a b
@@ -270,6 +314,7 @@ module _ {L I A : Type 0} (view : I → ImageState) (honest : I → Bool) (made 
     asked = (at w b, (refl, ready.prepares), refl);
     stands = subst (λ (h : House I). Stands view dies h w) (sym ready.same_house) stands;
     number = ap (λ (s : Seat L). number_of s) ready.same_seat ∙ number;
+    free = λ free. free;
   }
 
   given_up_went : (a b : Asking L I A) (w : World) → Stands view dies a.house w → number_of a.seat ≡ seat → IsGivenUp made array dies seat task bytes a b
@@ -284,6 +329,7 @@ module _ {L I A : Type 0} (view : I → ImageState) (honest : I → Bool) (made 
     );
     stands = subst (λ (h : House I). Stands view dies h w) (sym up.same_house) stands;
     number = ap (λ (s : Seat L). number_of s) up.same_seat ∙ number;
+    free = λ free. free;
   }
 
   time_went : (a b : Asking L I A) (w : World) → Stands view dies a.house w → number_of a.seat ≡ seat → PassesTime made array dies seat task bytes a b
@@ -311,11 +357,27 @@ module _ {L I A : Type 0} (view : I → ImageState) (honest : I → Bool) (made 
           idle = λ die. run.3.works die ∙ drove.3.works die;
         };
         number = time.number ∙ number;
+        free = run_free (IsMeanwhile flush) (λ act may. requests_free act (requests_of flush act may)) w run.0 v run.2
+            (subst (AllByRecursion (IsQuiet flush)) (sym run.4) drove.4);
       }
+
+  -- images that return what was written at the end did so before
+  pub asks_fair : (a : Asking L I A) (n : ℕ) (b : Asking L I A) → Asks made array dies seat task bytes a n b
+      → AreHonest honest (image_on dies b.house.images) → AreHonest honest (image_on dies a.house.images)
+  asks_fair a n b Begins fair = fair
+  asks_fair a n b (Turns turns middle new before turn) fair =
+      asks_fair a turns middle before (subst (λ (l : List I). AreHonest honest (image_on dies l)) turn.images fair)
+  asks_fair a n b (ReadiesIt turns middle new before ready) fair =
+      asks_fair a turns middle before (subst (λ (h : House I). AreHonest honest (image_on dies h.images)) ready.same_house fair)
+  asks_fair a n b (Waits turns middle new before time) fair =
+      asks_fair a turns middle before
+      (fair_before view honest made whole meets array dies seat law apart (awaits_flush middle.stage) middle.house b.house time.goes fair [])
+  asks_fair a n b (Refuses turns middle new before up) fair =
+      asks_fair a turns middle before (subst (λ (h : House I). AreHonest honest (image_on dies h.images)) up.same_house fair)
 
   pub went : (a : Asking L I A) (n : ℕ) (b : Asking L I A) → Asks made array dies seat task bytes a n b → (w : World) → Stands view dies a.house w → number_of a.seat ≡ seat
       → AreHonest honest (image_on dies b.house.images) → Went a w b
-  went a n b Begins w stands number fair = record { last = w; turns = []; asked = refl; stands = stands; number = number }
+  went a n b Begins w stands number fair = record { last = w; turns = []; asked = refl; stands = stands; number = number; free = λ free. free }
   went a n b (Turns turns middle new before turn) w stands number fair =
       let one = went a turns middle before w stands number (subst (λ (l : List I). AreHonest honest (image_on dies l)) turn.images fair) in
       went_on a middle b w one (turn_went middle b one.last one.stands one.number turn)

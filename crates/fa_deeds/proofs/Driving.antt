@@ -1,12 +1,10 @@
 -- The deeds of a store of one thread drive its array.
-use Rattle.fa_deeds.specs.Driving.{IsDeedOf, IsOfJob, IsPlain, StandsFor, image_on}
+use Rattle.fa_deeds.specs.Driving.{IsDeedOf, IsPlain, StandsFor, image_on}
 use Rattle.fa_headers.specs.declared.judging.Standing.{Standing}
 use Rattle.fa_image.specs.Image.{ImageAnswer, ImageCall}
 use Rattle.fa_laws.proofs.Within.{GeometryLaw}
-use Rattle.fa_machine.specs.Cells.{Outcome}
 use Rattle.fa_machine.specs.State.{Core}
 use Rattle.fa_machine.specs.Step.{Act, Done, ReserveCopy, Step, Take}
-use Rattle.fa_machine.specs.Taking.{Handed}
 use Rattle.fa_machine.specs.World.{Work, with_value}
 use Rattle.fa_mount.specs.Standings.{AreApart, place_on}
 use Rattle.fa_runs.proofs.DrivenRuns.{job_drives}
@@ -17,8 +15,8 @@ use Rattle.fa_solo.specs.House.{House}
 use Rattle.fa_takes.specs.Fits.{IsJobFor}
 use Rattle.fa_types.specs.declared.geometry.Geometry.{Geometry}
 use Rattle.fa_workers.specs.Made.{Ran}
-use Rattle.std.proofs.Common.{List, None, Ok, Err, Option, Some, [], ap, false, inl, inr, map, refl, slice_get, slice_set, subst, suc, sym, true, zero, ℕ}
-use Rattle.std.proofs.Common.{◌++◌, ◌∙◌, ◌∷◌, ◌≡◌, ◌⊎◌}
+use Rattle.std.proofs.Common.{List, None, Ok, Err, Option, Some, [], ap, inl, inr, map, refl, slice_get, slice_set, subst, suc, sym, zero, ℕ}
+use Rattle.std.proofs.Common.{◌++◌, ◌∙◌, ◌∷◌, ◌≡◌}
 use Rattle.std.proofs.lemmas.Bool.{cases_eq}
 use Rattle.std.specs.List.{AllByRecursion}
 use Rattle.std.specs.Prelude.{option_and_then}

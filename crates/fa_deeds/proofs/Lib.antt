@@ -1,4 +1,6 @@
 pub mod Driving
+pub mod NoCopy
 pub mod Asking
 pub mod Served
 pub mod Quiet
+pub mod Whole

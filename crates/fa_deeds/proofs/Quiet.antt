@@ -7,7 +7,7 @@ use Rattle.fa_asks.proofs.Going.{Goes as GoesOn, Laws, goes_first, goes_on}
 use Rattle.fa_asks.proofs.Gone.{gone_lost}
 use Rattle.fa_asks.specs.Begun.{IsCalm}
 use Rattle.fa_asks.specs.Shown.{store_of}
-use Rattle.fa_deeds.proofs.Asking.{Stands, first, images_kept}
+use Rattle.fa_deeds.proofs.Asking.{Stands, first, images_kept, requests_free, run_free}
 use Rattle.fa_deeds.proofs.Driving.{deeds_drive, dies_plain, order_plain, requests_plain}
 use Rattle.fa_deeds.specs.Driving.{IsDeedOf, IsOfJob, IsPlain, StandsFor, image_on}
 use Rattle.fa_deeds.specs.Standing.{IsWorldOf}
@@ -22,7 +22,6 @@ use Rattle.fa_machine.specs.Run.{Event, Happening, HappensEvent, ImageCall as Ca
 use Rattle.fa_machine.specs.State.{Core}
 use Rattle.fa_machine.specs.Step.{Act, Admit, Advance, CommitCopy, Done, EndBatch, Fold, ReserveCopy, SpareIn, Step, Take, Window}
 use Rattle.fa_machine.specs.World.{IsTold, Told, Work, World, followed, plain_page}
-use Rattle.fa_machine.specs.declared.answers.ReadState.TheVariants.{Ready}
 use Rattle.fa_mount.specs.Standings.{AreApart}
 use Rattle.fa_runs.proofs.DrivenRuns.{Follows, driven, honest_before}
 use Rattle.fa_runs.proofs.Following.{images_follow}
@@ -35,8 +34,8 @@ use Rattle.fa_solo.specs.Rigs.{Does, Tidies, house_of}
 use Rattle.fa_solo.specs.declared.rig.Rig.{Rig}
 use Rattle.fa_types.specs.Plain.{export}
 use Rattle.fa_types.specs.Store.{IsUnwritten}
-use Rattle.std.proofs.Common.{Bool, List, None, Ok, Err, Option, Some, [], ap, arith, inl, inr, length, map, refl, slice_index, subst, suc, sym, ℕ}
-use Rattle.std.proofs.Common.{◌++◌, ◌+◌, ◌∙◌, ◌∷◌, ◌≡◌, ◌⊎◌}
+use Rattle.std.proofs.Common.{Bool, List, None, Ok, Err, Option, Some, [], ap, arith, inl, inr, refl, slice_index, subst, suc, sym, ℕ}
+use Rattle.std.proofs.Common.{◌++◌, ◌∙◌, ◌∷◌, ◌≡◌}
 use Rattle.std.specs.FinMap.{get}
 use Rattle.std.specs.List.{AllByRecursion}
 use Rattle.std.specs.Prelude.{Contains}
@@ -286,6 +285,17 @@ module _ {I : Type 0} (view : I → ImageState) (honest : I → Bool) (made : I 
     }
 
   -- what is done for the array's order
+  pub orders_fair : (old new : House I) → Orders made array dies seat old new → AreHonest honest (image_on dies new.images)
+      → AreHonest honest (image_on dies old.images)
+  orders_fair old new Rests fair = fair
+  orders_fair old new (Deals middle here before goes) fair =
+      orders_fair old middle before (fair_before IsForOrder order_plain middle new goes fair [])
+  orders_fair old new (Copies middle here before copy) fair =
+      let waited = subst (λ (l : List I). AreHonest honest (image_on dies l)) (copy.images.2 ∙ copy.images.1) fair in
+      orders_fair old middle before
+      (subst (λ (l : List I). AreHonest honest (image_on dies l)) copy.images.0
+      (fair_before IsForDies dies_plain copy.asked copy.waited copy.waits waited []))
+
   pub orders_quiet : (old : House I) (w : World) → IsReached w → Stands view dies old w → (new : House I) → Orders made array dies seat old new
       → AreHonest honest (image_on dies new.images) → Quiet view dies w new
   orders_quiet old w reached stands new Rests fair = record { last = w; happenings = []; run = refl; none = tt; stands = stands }
@@ -309,6 +319,7 @@ module _ {I : Type 0} (view : I → ImageState) (honest : I → Bool) (made : I 
 
   pub unwritten : (w : World) → IsReached w → IsCalm w → (new : House I) → (q : Quiet view dies w new)
       → IsReached q.last × IsUnwritten (store_of w) (store_of q.last)
+      × (q.last.core.page_map.geometry ≡ w.core.page_map.geometry)
   unwritten w reached calm new q =
       let g = quiet_goes w q.happenings q.last w (goes_first laws w reached calm) q.run q.none in (
         g.reached,
@@ -316,6 +327,7 @@ module _ {I : Type 0} (view : I → ImageState) (honest : I → Bool) (made : I 
           content = λ i within here. ap (λ (p : List (List ℕ)). slice_index (export p) i) g.plain;
           lost = λ page lost. gone_lost page q.last.core (g.gone page lost);
         },
+        g.geometry,
       )
 
 -- the same of what the store owns
@@ -340,6 +352,35 @@ module _ {L M I A : Type 0} (view : I → ImageState) (honest : I → Bool) (mad
           idle = q.stands.idle;
         },
         then.1,
+      )
+
+  -- where no copy is under way none is before the request
+  pub begun_rig : (does : Does made IsForRequests old new) → AreHonest honest (image_on new.dies.items new.images.items)
+      → w.core.copying ≡ None → (v : World) × IsWorldOf view new v × IsUnwritten (store_of w) (store_of v) × (v.core.copying ≡ None)
+      × (v.core.page_map.geometry ≡ w.core.page_map.geometry)
+  begun_rig does fair free =
+      let one = deeds_led view honest made whole meets old.locked.number old.dies.items (number_of old.seat) laws apart IsForRequests requests_plain
+      (house_of old) (house_of new) does.goes
+      (subst (λ (d : List Standing). AreHonest honest (image_on d new.images.items)) does.dies fair) w its_stand in
+      let q : Quiet view old.dies.items w (house_of new) = record {
+        last = one.last;
+        happenings = one.happenings;
+        run = one.run;
+        none = all_silent IsForRequests requests_silent one.happenings one.events;
+        stands = one.stands;
+      } in
+      let then = unwritten view honest made whole meets old.locked.number old.dies.items (number_of old.seat) laws apart w of_old.reached calm
+      (house_of new) q in (
+        one.last,
+        record {
+          reached = then.0;
+          core = one.stands.core;
+          images = subst (λ (d : List Standing). AreImages view one.last (image_on d new.images.items)) (sym does.dies) one.stands.images;
+          idle = one.stands.idle;
+        },
+        then.1,
+        run_free IsForRequests requests_free w one.happenings one.last one.run one.events free,
+        then.2,
       )
 
   fair_here : new.dies.items ≡ old.dies.items → AreHonest honest (image_on new.dies.items new.images.items)

@@ -3,7 +3,7 @@ use Rattle.fa_asks.specs.Asked.{Asked, Moment, Turn}
 use Rattle.fa_asks.specs.Begun.{HasBegun, IsCalm}
 use Rattle.fa_asks.specs.Calls.{HasBytes, answer_of as answer_at, call_of}
 use Rattle.fa_asks.specs.Shown.{store_of}
-use Rattle.fa_deeds.proofs.Asking.{Stands, Went, went}
+use Rattle.fa_deeds.proofs.Asking.{Stands, Went, asks_fair, went}
 use Rattle.fa_deeds.specs.Driving.{image_on}
 use Rattle.fa_deeds.specs.Standing.{IsWorldOf, turns_in}
 use Rattle.fa_headers.specs.declared.judging.Standing.{Standing}
@@ -27,9 +27,9 @@ use Rattle.fa_solo.specs.Calls.{WithoutMemory, WithoutRoom}
 use Rattle.fa_solo.specs.Rigs.{house_of}
 use Rattle.fa_solo.specs.Turns.{RunsOn, asking_of}
 use Rattle.fa_solo.specs.declared.rig.Rig.{Rig}
-use Rattle.fa_types.specs.Store.{Answer, Done, Gave, IsAnswer, IsUnwritten, Meets, Refused, Serves, Store}
+use Rattle.fa_types.specs.Store.{Answer, Done, Gave, IsAnswer, Meets, Refused, Serves, Store}
 use Rattle.fa_types.specs.declared.blocks.BlockFault.{BlockFault}
-use Rattle.fa_types.specs.declared.blocks.BlockFault.TheVariants.{Lost, NoMemory as OutOfMemory, NoRoom}
+use Rattle.fa_types.specs.declared.blocks.BlockFault.TheVariants.{NoMemory as OutOfMemory, NoRoom}
 use Rattle.std.proofs.Common.{Bool, List, None, Option, Some, [], ap, arith, false, length, refl, subst, sym, true, ℕ, ◌*◌, ◌-◌, ◌^◌, ◌<◌, ◌≤◌, ◌∙◌, ◌≡◌}
 use Rattle.std.proofs.lemmas.Bool.{false≢true}
 use Rattle.std.proofs.lemmas.Option.{none-some, same_Some}
@@ -200,10 +200,29 @@ module _ {L M I A : Type 0} (view : I → ImageState) (honest : I → Bool) (mad
   pub request_served : (makes : MakesRequest made (task_of size request) bytes answer old new)
       → turns_in made (task_of size request) bytes answer old new makes < 2 ^ 64 - 1
       → (v : World) × IsWorldOf view new v × Serves (store_of w) (call_of request bytes) answer (store_of v)
+      × (w.core.copying ≡ None → v.core.copying ≡ None)
   request_served (NoMemory is some same) few = (
     w,
     subst (λ (r : Rig L M I A). IsWorldOf view r w) (sym same) of_old,
     subst (λ (a : Answer). Serves (store_of w) (call_of request bytes) a (store_of w)) (sym is) (unmade request size bytes (store_of w) some),
+    λ free. free,
   )
-  request_served (Made op next task stage none runs end) few =
-      ((one op next task stage none runs few).last, world_of op next task stage none runs few, serves_by op next task stage none runs few end)
+  request_served (Made op next task stage none runs end) few = (
+    (one op next task stage none runs few).last,
+    world_of op next task stage none runs few,
+    serves_by op next task stage none runs few end,
+    (one op next task stage none runs few).free,
+  )
+
+-- images that return what was written at a request's end did so at its beginning
+pub request_fair : {L M I A : Type 0} (view : I → ImageState) (honest : I → Bool) (made : I → ImageCall → ImageAnswer → I → Type 0)
+    (whole : (image : I) → IsImage (view image))
+    (meets : (before after : I) (call : ImageCall) (answer : ImageAnswer) → made before call answer after
+    → ImageMeets (view before) (honest before) call answer (view after) (honest after)) (law : GeometryLaw) (old new : Rig L M I A) (task : Task)
+    (bytes : List ℕ) (answer : Answer) → AreApart old.dies.items → AreHonest honest (image_on new.dies.items new.images.items)
+    → MakesRequest made task bytes answer old new → AreHonest honest (image_on old.dies.items old.images.items)
+request_fair {L} {M} {I} {A} view honest made whole meets law old new task bytes answer apart fair (NoMemory is some same) =
+    subst (λ (r : Rig L M I A). AreHonest honest (image_on r.dies.items r.images.items)) same fair
+request_fair view honest made whole meets law old new task bytes answer apart fair (Made op next its_task stage none runs end) =
+    asks_fair view honest made whole meets old.locked.number old.dies.items (number_of old.seat) law apart (task_in op) bytes (asking_of old op)
+    runs.turns (asking_of new next) runs.asks (subst (λ (d : List Standing). AreHonest honest (image_on d new.images.items)) runs.dies fair)

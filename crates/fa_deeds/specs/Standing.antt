@@ -7,7 +7,6 @@ use Rattle.fa_machine.specs.World.{World}
 use Rattle.fa_ops.specs.declared.request.Task.{Task}
 use Rattle.fa_runs.specs.Drives.{AreImages}
 use Rattle.fa_solo.specs.Calls.{Made, MakesRequest, NoMemory}
-use Rattle.fa_solo.specs.Turns.{RunsOn}
 use Rattle.fa_solo.specs.declared.rig.Rig.{Rig}
 use Rattle.fa_types.specs.Store.{Answer}
 

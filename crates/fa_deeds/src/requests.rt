@@ -1,5 +1,5 @@
 //! What a request comes to over the store of one thread.
-ghost use Rattle.std.specs.Prelude.{◌≡◌, ℕ, ◌*◌, ◌-◌, ◌^◌, ◌<◌, ◌≤◌, List};
+ghost use Rattle.std.specs.Prelude.{◌≡◌, ℕ, ◌*◌, ◌-◌, ◌^◌, ◌<◌, ◌≤◌, List, None};
 ghost use Rattle.fa_asks.specs.Begun.{IsCalm};
 ghost use Rattle.fa_asks.specs.Calls.{HasBytes, call_of};
 ghost use Rattle.fa_asks.specs.Shown.{store_of};
@@ -10,13 +10,16 @@ ghost use Rattle.fa_mount.specs.Standings.{AreApart};
 ghost use Rattle.fa_ops.specs.Tasks.{end_of, task_of};
 ghost use Rattle.fa_ops.specs.declared.request.Request.{Request};
 ghost use Rattle.fa_runs.specs.Drives.{AreHonest};
-ghost use Rattle.fa_solo.specs.Calls.{MakesRequest};
+ghost use Rattle.fa_solo.specs.Calls.{MakesRequest, MakesWhole};
 ghost use Rattle.fa_solo.specs.declared.rig.Rig.{Rig};
-ghost use Rattle.fa_types.specs.Store.{Answer, IsAnswer, Serves};
+ghost use Rattle.fa_types.specs.Store.{Answer, IsAnswer, IsUnwritten, Serves};
 
 use fa_asks::requests::a_request_serves;
 use fa_image::Image;
-use fa_laws::steps::the_geometry_is_kept;
+use fa_laws::steps::{
+    live_dies_are_kept, numbers_are_kept, spares_are_kept, the_geometry_is_kept,
+    the_last_number_never_falls,
+};
 
 /// A request of the store of one thread serves, as a store that is alone does: over any world that the store's array and images are of, it leads
 /// to one that they are of then, with its answer. A read that is answered gives the bytes of the plain array, an accepted write leaves its bytes
@@ -32,5 +35,28 @@ pub fn a_request_of_the_store_serves<L, M, I: Image, A>()
         → (v : World) × IsWorldOf I.view new v × Serves (store_of w) (call_of request bytes) answer (store_of v) }
 {
     the_geometry_is_kept();
+    a_request_serves::<A>();
+}
+
+/// A call of the store of one thread is told in three parts: what is done before its request writes nothing, the request serves as a store that is
+/// alone does, and what is done behind it for the array's order writes nothing. Over any world that the store's array and images are of, it leads
+/// to one that they are of then. No copy of a page is under way as the call begins; else it is asked what is asked of a request.
+pub fn a_call_of_the_store_serves<L, M, I: Image, A>()
+    ensures { (old new : Rig L M I A) (request : Request) (bytes : List ℕ) (answer : Answer) (w : World) → IsWorldOf I.view old w
+        → old.locked.core.copying ≡ None → AreApart old.dies.items
+        → end_of request ≤ w.core.page_map.geometry.pages * w.core.page_map.geometry.page_bytes → HasBytes request bytes
+        → IsAnswer (call_of request bytes) answer
+        → (call : MakesWhole I.made (task_of w.core.page_map.geometry.page_bytes request) bytes answer old new)
+        → turns_in I.made (task_of w.core.page_map.geometry.page_bytes request) bytes answer call.begun call.done call.request < 2 ^ 64 - 1
+        → AreHonest I.honest (image_on new.dies.items new.images.items)
+        → (begun done last : World) × IsUnwritten (store_of w) (store_of begun)
+        × Serves (store_of begun) (call_of request bytes) answer (store_of done) × IsUnwritten (store_of done) (store_of last)
+        × IsWorldOf I.view new last }
+{
+    live_dies_are_kept();
+    spares_are_kept();
+    numbers_are_kept();
+    the_geometry_is_kept();
+    the_last_number_never_falls();
     a_request_serves::<A>();
 }

@@ -1,0 +1,20 @@
+use Rattle.fa_asks.proofs.Going.{Laws}
+use Rattle.fa_deeds.proofs.Whole.{call_serves}
+use Rattle.fa_deeds.proofs.requests.a_call_of_the_store_serves.Goals as goal
+
+pub returns : goal.returns
+returns g c old new request bytes answer w of_old free apart inside has fits call few fair =
+    let laws : Laws = record {
+      lives = c.live_dies_are_kept.ensures;
+      spares = c.spares_are_kept.ensures;
+      numbers = c.numbers_are_kept.ensures;
+      geometry = c.the_geometry_is_kept.ensures;
+      falls = c.the_last_number_never_falls.ensures;
+    } in
+    let parts = call_serves g.I.Image.view g.I.Image.honest g.I.Image.made g.met.I.Image.whole g.met.I.Image.meets laws
+    (record {
+      serves = c.a_request_serves.ensures.serves;
+      meets = c.a_request_serves.ensures.meets;
+      reached = c.a_request_serves.ensures.reached;
+    }) old new request bytes answer w of_old free apart inside has fits call few fair in
+    (parts.begun, parts.done, parts.last, parts.before, parts.serves, parts.behind, parts.of_new)
