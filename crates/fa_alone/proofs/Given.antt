@@ -210,23 +210,36 @@ module _ (batch : ℕ) (plain : List (List ℕ)) where
   run_gives w h (happening ∷ happenings) last g run none =
       run_gives run.0 (happens_holds w happening run.0 h run.1) happenings last (happens_gives w h g happening run.0 none.0 run.1) run.2 none.1
 
--- nothing is in flight for a batch that is yet to be admitted, and it is not open
-pub fresh_gives : (w : World) → Holds w → (batch : ℕ) → is_fresh w.core batch ≡ true → Gives batch w.plain w
-fresh_gives w h batch fresh = record {
-  same = refl;
-  reads = λ die work b page version slot e flight of_batch.
+-- nothing is in flight for a batch, and it is not open
+pub record IsUnbegun (w : World) (batch : ℕ) : Type 0 where
+  pub no_read : (die : ℕ) (work : Work) (b : BatchId) (page : Page) (version : Version) (slot : Slot) → w.works die ≡ Some work
+      → work.job.flight ≡ Read b page version slot → b.0 ≡ batch → ⊥
+  pub not_open : (b : OpenBatch) → get w.core.batches batch ≡ Some b → ⊥
+
+-- such is a batch that is yet to be admitted
+pub unbegun : (w : World) → Holds w → (batch : ℕ) → is_fresh w.core batch ≡ true → IsUnbegun w batch
+unbegun w h batch fresh = record {
+  no_read = λ die work b page version slot e flight of_batch.
       let job : get w.core.jobs die ≡ Some (Read b page version slot) =
       h.jobs die ∙ ap (option_map {T = Work} (λ k. k.job.flight)) e ∙ ap Some flight in
-      absurd (false≢true (sym named.1 ∙ any_value (names_batch batch) w.core.jobs die (Read b page version slot) job (eq-eqb b.0 batch of_batch)));
-  given = λ b page bytes e f.
-      absurd (false≢true (sym (or_parts (contains_key w.core.batches batch) (list_any (λ (k : Booking). k.batch.0 == batch) (values w.core.calendar.bookings)) named.0).0
-      ∙ ap is_some e));
+      false≢true (sym named.1 ∙ any_value (names_batch batch) w.core.jobs die (Read b page version slot) job (eq-eqb b.0 batch of_batch));
+  not_open = λ b e.
+      false≢true (sym (or_parts (contains_key w.core.batches batch) (list_any (λ (k : Booking). k.batch.0 == batch) (values w.core.calendar.bookings)) named.0).0
+      ∙ ap is_some e);
 }
   where
     named : (contains_key w.core.batches batch || list_any (λ (k : Booking). k.batch.0 == batch) (values w.core.calendar.bookings) ≡ false)
         × (list_any (names_batch batch) (values w.core.jobs) ≡ false)
     named = or_parts (contains_key w.core.batches batch || list_any (λ (k : Booking). k.batch.0 == batch) (values w.core.calendar.bookings))
         (list_any (names_batch batch) (values w.core.jobs)) (not-true _ fresh)
+
+pub fresh_gives : (w : World) → Holds w → (batch : ℕ) → is_fresh w.core batch ≡ true → Gives batch w.plain w
+fresh_gives w h batch fresh =
+    let none = unbegun w h batch fresh in record {
+      same = refl;
+      reads = λ die work b page version slot e flight of_batch. absurd (none.no_read die work b page version slot e flight of_batch);
+      given = λ b page bytes e f. absurd (none.not_open b e);
+    }
 
 -- the world in which the batch ends, where what is due to its answers is what the plain array had at its admission
 pub last_gives : (w opened last : World) (pages : List ℕ) (admitted : Admitted) (happenings : List Happening) → IsReached w
@@ -242,7 +255,7 @@ pub open_page : (batch : ℕ) (plain : List (List ℕ)) (w : World) → Holds w 
     → (page : ℕ) (bytes : List ℕ) → get b.answers page ≡ Some bytes → bytes ≡ slice_index_or plain page []
 open_page batch plain w h g b is page bytes e = (h.answered.answers batch b page bytes is e).0 ∙ g.given b page bytes is e
 
-paired : (page : ℕ) (o : Option (List ℕ)) (answer : ℕ × List ℕ) → option_map (λ bytes. (page, bytes)) o ≡ Some answer
+pub paired : (page : ℕ) (o : Option (List ℕ)) (answer : ℕ × List ℕ) → option_map (λ bytes. (page, bytes)) o ≡ Some answer
     → (page ≡ answer.0) × (o ≡ Some answer.1)
 paired page None answer e = absurd (none-some answer e)
 paired page (Some bytes) answer e =

@@ -1,6 +1,6 @@
 -- What a batch has for its pages was told with the numbers that they have, while nothing is written.
 use Rattle.fa_alone.proofs.Changes.{Batches, batches_after, batches_are, with_ended, with_one_more, with_read}
-use Rattle.fa_alone.proofs.Given.{at_work}
+use Rattle.fa_alone.proofs.Given.{at_work, paired, unbegun}
 use Rattle.fa_alone.specs.Unwritten.{WritesNothing}
 use Rattle.fa_laws.proofs.Admitting.{one_value_other, one_value_same}
 use Rattle.fa_laws.proofs.Answering.{reached_holds}
@@ -313,31 +313,13 @@ module _ (batch : ℕ) (versions : Versions) where
   run_tells law w h (happening ∷ happenings) last g run none =
       run_tells law run.0 (happens_holds w happening run.0 h run.1) happenings last (happens_tells w h g law happening run.0 none.0 run.1) run.2 none.1
 
--- nothing is in flight for a batch that is yet to be admitted, and it is not open
 fresh_tells : (w : World) → Holds w → (batch : ℕ) → is_fresh w.core batch ≡ true → Tells batch w.core.page_map.versions w
-fresh_tells w h batch fresh = record {
-  same = refl;
-  reads = λ die work b page version slot e flight of_batch.
-      let job : get w.core.jobs die ≡ Some (Read b page version slot) =
-      h.jobs die ∙ ap (option_map {T = Work} (λ k. k.job.flight)) e ∙ ap Some flight in
-      absurd (false≢true (sym named.1 ∙ any_value (names_batch batch) w.core.jobs die (Read b page version slot) job (eq-eqb b.0 batch of_batch)));
-  told = λ b page bytes version e f number.
-      absurd (false≢true (sym (or_parts (contains_key w.core.batches batch) (list_any (λ (k : Booking). k.batch.0 == batch) (values w.core.calendar.bookings)) named.0).0
-      ∙ ap is_some e));
-}
-  where
-    named : (contains_key w.core.batches batch || list_any (λ (k : Booking). k.batch.0 == batch) (values w.core.calendar.bookings) ≡ false)
-        × (list_any (names_batch batch) (values w.core.jobs) ≡ false)
-    named = or_parts (contains_key w.core.batches batch || list_any (λ (k : Booking). k.batch.0 == batch) (values w.core.calendar.bookings))
-        (list_any (names_batch batch) (values w.core.jobs)) (not-true _ fresh)
-
-answer_at : (page : ℕ) (o : Option (List ℕ)) (given : ℕ) (bytes : List ℕ)
-    → option_map {U = ℕ × List ℕ} (λ it. (page, it)) o ≡ Some (given, bytes)
-    → (page ≡ given) × (o ≡ Some bytes)
-answer_at page None given bytes e = absurd (none-some _ e)
-answer_at page (Some it) given bytes e =
-    let same : ◌≡◌ {A = ℕ × List ℕ} (page, it) (given, bytes) = same_Some _ _ e in
-    (ap (λ (a : ℕ × List ℕ). a.0) same, ap (λ (a : ℕ × List ℕ). Some a.1) same)
+fresh_tells w h batch fresh =
+    let none = unbegun w h batch fresh in record {
+      same = refl;
+      reads = λ die work b page version slot e flight of_batch. absurd (none.no_read die work b page version slot e flight of_batch);
+      told = λ b page bytes version e f number. absurd (none.not_open b e);
+    }
 
 answered_told : (batch : ℕ) (versions : Versions) (last : World) → Tells batch versions last → (o : Option OpenBatch)
     → get last.core.batches batch ≡ o → (page : ℕ) (bytes : List ℕ) (version : Version)
@@ -346,7 +328,7 @@ answered_told : (batch : ℕ) (versions : Versions) (last : World) → Tells bat
 answered_told batch versions last g None is page bytes version i number = absurd i
 answered_told batch versions last g (Some b) is page bytes version i number =
     let found = among-filter_map (λ page. option_map (λ bytes. (page, bytes)) (get b.answers page)) (page, bytes) b.pages i in
-    let parts = answer_at found.0 (get b.answers found.0) page bytes found.2 in
+    let parts = paired found.0 (get b.answers found.0) (page, bytes) found.2 in
     g.told b page bytes version is (ap (get b.answers) (sym parts.0) ∙ parts.1) number
 
 -- what a batch answers as it ends is told, with the numbers that its pages had at its admission and have still

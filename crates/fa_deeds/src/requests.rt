@@ -21,10 +21,10 @@ use fa_laws::steps::{
     the_last_number_never_falls,
 };
 
-/// A request of the store of one thread serves, as a store that is alone does: over any world that the store's array and images are of, it leads
-/// to one that they are of then, with its answer. A read that is answered gives the bytes of the plain array, an accepted write leaves its bytes
-/// and nothing else, and a refusal has its cause. The images return what was written, no two dies have one image, no lost page is being
-/// copied, the request lies within the array, and it has fewer than 2^64 - 1 turns.
+/// A request of the store of one thread serves, as a store that is alone does: over any world that the store's array and images are of, it
+/// leads to one that they are of then, with its answer. A read that is answered gives the bytes of the plain array, an accepted write
+/// leaves its bytes and nothing else, and a refusal has its cause. The images return what was written, no two dies have one image, no lost
+/// page is being copied, the request lies within the array, and it has fewer than 2^64 - 1 turns.
 pub fn a_request_of_the_store_serves<L, M, I: Image, A>()
     ensures { (old new : Rig L M I A) (request : Request) (bytes : List ℕ) (answer : Answer) (w : World) → IsWorldOf I.view old w → IsCalm w
         → AreApart old.dies.items → end_of request ≤ w.core.page_map.geometry.pages * w.core.page_map.geometry.page_bytes
@@ -38,9 +38,10 @@ pub fn a_request_of_the_store_serves<L, M, I: Image, A>()
     a_request_serves::<A>();
 }
 
-/// A call of the store of one thread is told in three parts: what is done before its request writes nothing, the request serves as a store that is
-/// alone does, and what is done behind it for the array's order writes nothing. Over any world that the store's array and images are of, it leads
-/// to one that they are of then. No copy of a page is under way as the call begins; else it is asked what is asked of a request.
+/// A call of the store of one thread is told in three parts: what is done before its request writes nothing, the request serves as a store
+/// that is alone does, and what is done behind it for the array's order writes nothing. Over any world that the store's array and images
+/// are of, it leads to one that they are of then. No copy of a page is under way as the call begins; else it is asked what is asked of a
+/// request.
 pub fn a_call_of_the_store_serves<L, M, I: Image, A>()
     ensures { (old new : Rig L M I A) (request : Request) (bytes : List ℕ) (answer : Answer) (w : World) → IsWorldOf I.view old w
         → old.locked.core.copying ≡ None → AreApart old.dies.items
