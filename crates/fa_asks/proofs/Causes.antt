@@ -1,9 +1,9 @@
 -- What a request that is refused rests on.
-use Rattle.fa_asks.proofs.CopiesKept.{copies_kept}
 use Rattle.fa_asks.proofs.Going.{Laws, cause_kept}
 use Rattle.fa_asks.proofs.Gone.{done_live}
 use Rattle.fa_asks.proofs.RangePages.{page_met}
 use Rattle.fa_asks.proofs.ReadStages.{Fits}
+use Rattle.fa_asks.proofs.RestKept.{event_keeps}
 use Rattle.fa_asks.proofs.WriteStages.{Founds}
 use Rattle.fa_asks.specs.Asked.{IsNoSpare}
 use Rattle.fa_asks.specs.Shown.{is_crowded, roomy, store_of}
@@ -45,7 +45,7 @@ use Rattle.std.specs.Prelude.{Err, Ok, count_by, filter, if◌then◌else◌, mi
 use Rattle.std.proofs.lemmas.List.Sums.{sum_by-cons}
 
 -- a set without a number has none
-none_of : (m : Numbers) → ((k : ℕ) → contains_key m k ≡ true → ⊥) → len m ≡ 0
+pub none_of : (m : Numbers) → ((k : ℕ) → contains_key m k ≡ true → ⊥) → len m ≡ 0
 none_of m none = by_keys (keys m) refl
   where
     by_keys : (ks : List ℕ) → keys m ≡ ks → len m ≡ 0
@@ -83,7 +83,7 @@ in_order copies m page die low =
           (among-reverse die (dies_of m) (among-range 0 m.geometry.dies die (omega arith) (omega (arith, low)))) (not_from_false _ other))
     ]
 
-none_counted : (p : ℕ → Bool) (first n : ℕ) → ((x : ℕ) → first ≤ x → x < first + n → p x ≡ false) → count_by p (range_with_len first n) ≡ 0
+pub none_counted : (p : ℕ → Bool) (first n : ℕ) → ((x : ℕ) → first ≤ x → x < first + n → p x ≡ false) → count_by p (range_with_len first n) ≡ 0
 none_counted p first zero none = refl
 none_counted p first (suc n) none =
     let here : ◌≡◌ {A = ℕ} (cond (p first) 1 0) 0 = ap {B = ℕ} (λ b. cond b 1 0) (none first (omega arith) (omega arith)) in
@@ -130,7 +130,7 @@ some_copies : (w : World) → IsReached w → 1 ≤ w.core.copies
 some_copies w r = run_keeps (λ (v : World). 1 ≤ v.core.copies) keeps r.first r.happenings w begins r.run
   where
     keeps : (before : World) (happening : Happening) (after : World) → 1 ≤ before.core.copies → Happens before happening after → 1 ≤ after.core.copies
-    keeps before (Event act) after some happens = subst (λ n. 1 ≤ n) (sym (copies_kept before.core act after.core happens.step.does)) some
+    keeps before (Event act) after some happens = subst (λ n. 1 ≤ n) (sym (event_keeps before.core act after.core happens.step.does).0) some
     keeps before (ImageCall die gave) after some happens =
         subst (λ (c : Core). 1 ≤ c.copies) (sym (calls_core before after die (before.works die) gave happens)) some
 

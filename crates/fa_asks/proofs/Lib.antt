@@ -1,6 +1,6 @@
 pub mod Causes
 pub mod Changed
-pub mod CopiesKept
+pub mod RestKept
 pub mod Flushed
 pub mod Going
 pub mod Gone

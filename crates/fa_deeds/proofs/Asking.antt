@@ -1,10 +1,10 @@
 -- A request of the store of one thread is one that nobody else writes beside, over a world.
 use Rattle.fa_alone.specs.Unwritten.{EndsNoBatch, WritesNothing}
 use Rattle.fa_asks.proofs.OneTurn.{turn_asked}
+use Rattle.fa_asks.proofs.RestKept.{BeginsNoCopy, event_keeps}
 use Rattle.fa_asks.specs.Asked.{Asked, BringsNoSpare, GivesUp, IsAnothers, IsInTime, IsNoSpare, LeavesClaim, Meanwhile, Moment, OfOne, Readies, Turn}
 use Rattle.fa_asks.specs.Asked.{batch_at, claim_at}
-use Rattle.fa_deeds.proofs.Driving.{deeds_drive, dies_plain, requests_plain}
-use Rattle.fa_deeds.proofs.NoCopy.{BeginsNoCopy, free_kept}
+use Rattle.fa_deeds.proofs.Driving.{deeds_drive, dies_plain, goes_shape, requests_plain}
 use Rattle.fa_deeds.specs.Driving.{IsDeedOf, IsOfJob, IsPlain, StandsFor, image_on}
 use Rattle.fa_headers.specs.declared.judging.Standing.{Standing}
 use Rattle.fa_image.specs.Image.{ImageAnswer, ImageCall, ImageMeets, ImageState, IsImage, slot_at}
@@ -182,9 +182,10 @@ turn_free : {L A : Type 0} (t : Task) (before after : Seat L) (old : Core) (stag
     → Turned t before after old stage new next → old.copying ≡ None → new.copying ≡ None
 turn_free t before after old stage new next (Rested same commits here) free = ap (λ (c : Core). c.copying) same ∙ free
 turn_free t before after old stage new next (Moved act step commits moves founded) free =
-    free_kept old act new (moves_free t (number_of before) stage act next moves) step.does free
+    (event_keeps old act new step.does).1 (moves_free t (number_of before) stage act next moves) free
 turn_free t before after old stage new next (Folded between act full fold step commits moves founded) free =
-    free_kept between act new (moves_free t (number_of before) stage act next moves) step.does (free_kept old Fold between tt fold.does free)
+    (event_keeps between act new step.does).1 (moves_free t (number_of before) stage act next moves)
+    ((event_keeps old Fold between fold.does).1 tt free)
 turn_free t before after old stage new next (Strayed same commits strays barred) free = ap (λ (c : Core). c.copying) same ∙ free
 
 -- nor does what is done meanwhile
@@ -201,7 +202,7 @@ pub run_free : (P : Act → Type 0) → ((act : Act) → P act → BeginsNoCopy 
 run_free P begins w [] v run all free = ap (λ (x : World). x.core.copying) run ∙ free
 run_free P begins w (Event act ∷ happenings) v run all free =
     run_free P begins run.0 happenings v run.2 all.1
-    (free_kept w.core act run.0.core (elim (all.0) [ inl may ↦ begins act may | inr job ↦ job_free act job ]) run.1.step.does free)
+    ((event_keeps w.core act run.0.core run.1.step.does).1 (elim (all.0) [ inl may ↦ begins act may | inr job ↦ job_free act job ]) free)
 run_free P begins w (CallsImage die gave ∷ happenings) v run all free =
     run_free P begins run.0 happenings v run.2 all
     (ap (λ (c : Core). c.copying) (calls_core w run.0 die (w.works die) gave run.1) ∙ free)
@@ -270,6 +271,7 @@ module _ {L I A : Type 0} (view : I → ImageState) (honest : I → Bool) (made 
     pub stands : Stands view dies b.house last
     pub number : number_of b.seat ≡ seat
     pub free : w.core.copying ≡ None → last.core.copying ≡ None
+    pub shape : last.core.page_map.geometry ≡ w.core.page_map.geometry
 
   went_on : (a middle b : Asking L I A) (w : World) (one : Went a w middle) → Went middle one.last b → Went a w b
   went_on a middle b w one two = record {
@@ -279,6 +281,7 @@ module _ {L I A : Type 0} (view : I → ImageState) (honest : I → Bool) (made 
     stands = two.stands;
     number = two.number;
     free = λ free. two.free (one.free free);
+    shape = two.shape ∙ one.shape;
   }
 
   turn_went : (a b : Asking L I A) (w : World) → Stands view dies a.house w → number_of a.seat ≡ seat → MakesTurn made array dies seat task bytes a b
@@ -304,6 +307,7 @@ module _ {L I A : Type 0} (view : I → ImageState) (honest : I → Bool) (made 
         };
         number = turn.number ∙ number;
         free = λ free. ap (λ (c : Core). c.copying) one.2 ∙ turn_free task a.seat b.seat w.core a.stage b.house.core b.stage was free;
+        shape = shape;
       }
 
   ready_went : (a b : Asking L I A) (w : World) → Stands view dies a.house w → number_of a.seat ≡ seat → MakesReady made array dies seat task bytes a b
@@ -315,6 +319,7 @@ module _ {L I A : Type 0} (view : I → ImageState) (honest : I → Bool) (made 
     stands = subst (λ (h : House I). Stands view dies h w) (sym ready.same_house) stands;
     number = ap (λ (s : Seat L). number_of s) ready.same_seat ∙ number;
     free = λ free. free;
+    shape = refl;
   }
 
   given_up_went : (a b : Asking L I A) (w : World) → Stands view dies a.house w → number_of a.seat ≡ seat → IsGivenUp made array dies seat task bytes a b
@@ -330,6 +335,7 @@ module _ {L I A : Type 0} (view : I → ImageState) (honest : I → Bool) (made 
     stands = subst (λ (h : House I). Stands view dies h w) (sym up.same_house) stands;
     number = ap (λ (s : Seat L). number_of s) up.same_seat ∙ number;
     free = λ free. free;
+    shape = refl;
   }
 
   time_went : (a b : Asking L I A) (w : World) → Stands view dies a.house w → number_of a.seat ≡ seat → PassesTime made array dies seat task bytes a b
@@ -359,6 +365,9 @@ module _ {L I A : Type 0} (view : I → ImageState) (honest : I → Bool) (made 
         number = time.number ∙ number;
         free = run_free (IsMeanwhile flush) (λ act may. requests_free act (requests_of flush act may)) w run.0 v run.2
             (subst (AllByRecursion (IsQuiet flush)) (sym run.4) drove.4);
+        shape = ap (λ (c : Core). c.page_map.geometry) (run.3.core ∙ drove.3.core)
+            ∙ goes_shape made array dies seat (IsMeanwhile flush) law a.house b.house time.goes
+            ∙ sym (ap (λ (c : Core). c.page_map.geometry) stands.core);
       }
 
   -- images that return what was written at the end did so before
@@ -377,7 +386,7 @@ module _ {L I A : Type 0} (view : I → ImageState) (honest : I → Bool) (made 
 
   pub went : (a : Asking L I A) (n : ℕ) (b : Asking L I A) → Asks made array dies seat task bytes a n b → (w : World) → Stands view dies a.house w → number_of a.seat ≡ seat
       → AreHonest honest (image_on dies b.house.images) → Went a w b
-  went a n b Begins w stands number fair = record { last = w; turns = []; asked = refl; stands = stands; number = number; free = λ free. free }
+  went a n b Begins w stands number fair = record { last = w; turns = []; asked = refl; stands = stands; number = number; free = λ free. free; shape = refl }
   went a n b (Turns turns middle new before turn) w stands number fair =
       let one = went a turns middle before w stands number (subst (λ (l : List I). AreHonest honest (image_on dies l)) turn.images fair) in
       went_on a middle b w one (turn_went middle b one.last one.stands one.number turn)

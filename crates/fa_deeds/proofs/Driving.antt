@@ -1,17 +1,20 @@
 -- The deeds of a store of one thread drive its array.
-use Rattle.fa_deeds.specs.Driving.{IsDeedOf, IsPlain, StandsFor, image_on}
+use Rattle.fa_deeds.specs.Driving.{IsDeedOf, IsForCopy, IsPlain, StandsFor, image_on}
 use Rattle.fa_headers.specs.declared.judging.Standing.{Standing}
 use Rattle.fa_image.specs.Image.{ImageAnswer, ImageCall}
 use Rattle.fa_laws.proofs.Within.{GeometryLaw}
 use Rattle.fa_machine.specs.State.{Core}
-use Rattle.fa_machine.specs.Step.{Act, Done, ReserveCopy, Step, Take}
+use Rattle.fa_machine.specs.Step.{Act, Advance, CommitCopy, Done, Fold, ReserveCopy, Step, Take, Window}
 use Rattle.fa_machine.specs.World.{Work, with_value}
+use Rattle.fa_machine.specs.declared.refusals.CommitCopyRefused.TheVariants.{Pending}
 use Rattle.fa_mount.specs.Standings.{AreApart, place_on}
 use Rattle.fa_runs.proofs.DrivenRuns.{job_drives}
 use Rattle.fa_runs.proofs.JobCalls.{value_here, value_other}
 use Rattle.fa_runs.specs.Drives.{Drive, Driven, Drives, HasEvent, IsOwed, MakesCall, MakesEvent, OnlyMade, acts_of, told_by, works_after}
 use Rattle.fa_solo.specs.Deeds.{Goes, IsForDies, IsForOrder, IsForRequests, Makes, MakesJob, Runs, Stays}
+use Rattle.fa_solo.proofs.Chains.{goes_more, goes_wider}
 use Rattle.fa_solo.specs.House.{House}
+use Rattle.fa_solo.specs.Orders.{Commits, Endless, IsOver, Looks, NoLook, OneMore, Settles}
 use Rattle.fa_takes.specs.Fits.{IsJobFor}
 use Rattle.fa_types.specs.declared.geometry.Geometry.{Geometry}
 use Rattle.fa_workers.specs.Made.{Ran}
@@ -55,6 +58,20 @@ order_plain (Done die outcome) may = absurd may
 order_plain (ReserveCopy page seq payload (Ok done)) may = absurd may
 order_plain act may = tt
 
+pub copy_plain : (act : Act) → IsForCopy act → IsPlain act
+copy_plain (Take die seat None) may = tt
+copy_plain (Take die seat (Some job)) may = absurd may
+copy_plain (Done die outcome) may = absurd may
+copy_plain (ReserveCopy page seq payload (Ok done)) may = absurd may
+copy_plain act may = tt
+
+for_copy : (act : Act) → IsForDies act → IsForCopy act
+for_copy (Take die seat None) may = may
+for_copy (Window die rounds answer) may = may
+for_copy (Advance answer) may = may
+for_copy Fold may = may
+for_copy act may = absurd may
+
 plain_owed : {I : Type 0} (act : Act) (s : Driven I) → IsPlain act → IsOwed s act
 plain_owed (Done die outcome) s plain = absurd plain
 plain_owed (ReserveCopy page seq payload (Ok done)) s plain = absurd plain
@@ -77,6 +94,31 @@ acts_of_both [] rest P all more = more
 acts_of_both (MakesEvent act ∷ drives) rest P all more = (all.0, acts_of_both drives rest P all.1 more)
 acts_of_both (MakesCall die ∷ drives) rest P all more = acts_of_both drives rest P all more
 acts_of_both (drive ∷ drives) rest P all more = acts_of_both drives rest P all more
+
+-- a copy that is seen through, as deeds
+module _ {I : Type 0} (made : I → ImageCall → ImageAnswer → I → Type 0) (array : List ℕ) (dies : List Standing) (seat : ℕ) where
+  looks_goes : (old : House I) (looks : ℕ) (new : House I) → Looks made array dies seat old looks new → Goes made array dies seat IsForCopy old new
+  looks_goes old looks new NoLook = Stays
+  looks_goes old looks new (OneMore before middle looked here earlier step images goes) =
+      goes_more made array dies seat IsForCopy old looked new
+      (Makes middle looked (CommitCopy (Err Pending)) (looks_goes old before middle earlier) tt tt step images)
+      (goes_wider made array dies seat IsForDies IsForCopy for_copy looked new goes)
+
+  pub settles_goes : (old new : House I) → Settles made array dies seat old new → Goes made array dies seat IsForCopy old new
+  settles_goes old new (Commits looks middle here answer looked ends step images) =
+      Makes middle new (CommitCopy answer) (looks_goes old looks middle looked) tt tt step images
+  settles_goes old new (IsOver looks here looked none) = looks_goes old looks new looked
+  settles_goes old new (Endless looks here looked many) = looks_goes old looks new looked
+
+-- deeds leave the geometry
+pub goes_shape : {I : Type 0} (made : I → ImageCall → ImageAnswer → I → Type 0) (array : List ℕ) (dies : List Standing) (seat : ℕ) (P : Act → Type 0)
+    → GeometryLaw → (old new : House I) → Goes made array dies seat P old new → new.core.page_map.geometry ≡ old.core.page_map.geometry
+goes_shape made array dies seat P law old new Stays = refl
+goes_shape made array dies seat P law old new (Makes middle here act before may due step images) =
+    law middle.core new.core act step ∙ goes_shape made array dies seat P law old middle before
+goes_shape made array dies seat P law old new (Runs middle here die before job) =
+    law job.taken new.core (Done die job.outcome) job.ends ∙ law middle.core job.taken (Take die seat (Some job.job)) job.takes
+    ∙ goes_shape made array dies seat P law old middle before
 
 module _ {I : Type 0} (made : I → ImageCall → ImageAnswer → I → Type 0) (array : List ℕ) where
   drives_both : (s middle last : Driven I) (drives rest : List Drive) → Drives made array s drives middle → Drives made array middle rest last
@@ -187,7 +229,7 @@ module _ {I : Type 0} (made : I → ImageCall → ImageAnswer → I → Type 0) 
     pub deeds_drive : GeometryLaw → ((act : Act) → P act → IsPlain act) → AreApart dies → (old new : House I) (first : Driven I)
         → StandsFor dies old first → Goes made array dies seat P old new → Leads first new
     deeds_drive law plain apart old new first stands Stays = ([], first, refl, stands, tt)
-    deeds_drive law plain apart old new first stands (Makes middle here act goes is_one step same) =
+    deeds_drive law plain apart old new first stands (Makes middle here act goes is_one due step same) =
         one_event first middle new act (plain act is_one) is_one step same (deeds_drive law plain apart old middle first stands goes)
     deeds_drive law plain apart old new first stands (Runs middle here die goes job) =
         one_job law apart first middle new die job (deeds_drive law plain apart old middle first stands goes)

@@ -1,6 +1,8 @@
+pub mod Around
 pub mod Driving
-pub mod NoCopy
+pub mod Behind
 pub mod Asking
 pub mod Served
 pub mod Quiet
 pub mod Whole
+pub mod Chained

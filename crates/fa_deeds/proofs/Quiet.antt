@@ -8,8 +8,9 @@ use Rattle.fa_asks.proofs.Gone.{gone_lost}
 use Rattle.fa_asks.specs.Begun.{IsCalm}
 use Rattle.fa_asks.specs.Shown.{store_of}
 use Rattle.fa_deeds.proofs.Asking.{Stands, first, images_kept, requests_free, run_free}
-use Rattle.fa_deeds.proofs.Driving.{deeds_drive, dies_plain, order_plain, requests_plain}
-use Rattle.fa_deeds.specs.Driving.{IsDeedOf, IsOfJob, IsPlain, StandsFor, image_on}
+use Rattle.fa_deeds.proofs.Around.{IsKept, kept_unwritten}
+use Rattle.fa_deeds.proofs.Driving.{copy_plain, deeds_drive, dies_plain, order_plain, requests_plain, settles_goes}
+use Rattle.fa_deeds.specs.Driving.{IsDeedOf, IsForCopy, IsOfJob, IsPlain, StandsFor, image_on}
 use Rattle.fa_deeds.specs.Standing.{IsWorldOf}
 use Rattle.fa_headers.specs.declared.judging.Standing.{Standing}
 use Rattle.fa_image.specs.Image.{ImageAnswer, ImageCall, ImageMeets, ImageState, IsImage}
@@ -34,8 +35,9 @@ use Rattle.fa_solo.specs.Rigs.{Does, Tidies, house_of}
 use Rattle.fa_solo.specs.declared.rig.Rig.{Rig}
 use Rattle.fa_types.specs.Plain.{export}
 use Rattle.fa_types.specs.Store.{IsUnwritten}
-use Rattle.std.proofs.Common.{Bool, List, None, Ok, Err, Option, Some, [], ap, arith, inl, inr, refl, slice_index, subst, suc, sym, ℕ}
-use Rattle.std.proofs.Common.{◌++◌, ◌∙◌, ◌∷◌, ◌≡◌}
+use Rattle.fa_types.specs.declared.geometry.Geometry.{Geometry}
+use Rattle.std.proofs.Common.{Bool, List, None, Ok, Err, Option, Some, [], ap, arith, inl, inr, refl, subst, suc, sym, ℕ}
+use Rattle.std.proofs.Common.{◌*◌, ◌++◌, ◌∙◌, ◌∷◌, ◌≡◌}
 use Rattle.std.specs.FinMap.{get}
 use Rattle.std.specs.List.{AllByRecursion}
 use Rattle.std.specs.Prelude.{Contains}
@@ -67,13 +69,20 @@ order_silent : (act : Act) → IsForOrder act → WritesNothing (Event act)
 order_silent (Admit (page ∷ []) answer) may = tt
 order_silent (EndBatch batch answers) may = tt
 order_silent (ReserveCopy page seq payload (Err refused)) may = tt
-order_silent (CommitCopy answer) may = tt
 order_silent (Take die seat None) may = tt
 order_silent (Window die rounds answer) may = tt
 order_silent (Advance answer) may = tt
 order_silent (SpareIn die answer) may = tt
 order_silent Fold may = tt
 order_silent act may = absurd may
+
+copy_silent : (act : Act) → IsForCopy act → WritesNothing (Event act)
+copy_silent (CommitCopy answer) may = tt
+copy_silent (Take die seat None) may = tt
+copy_silent (Window die rounds answer) may = tt
+copy_silent (Advance answer) may = tt
+copy_silent Fold may = tt
+copy_silent act may = absurd may
 
 job_silent : (act : Act) → IsOfJob act → WritesNothing (Event act)
 job_silent (Take die seat (Some job)) is = tt
@@ -175,7 +184,7 @@ module _ {I : Type 0} (view : I → ImageState) (honest : I → Bool) (made : I 
     fair_last : AreHonest honest (led.1).images
     fair_last die image is = fair die image (sym (led.3.images die) ∙ is)
 
-    fair_before : AreHonest honest (image_on dies old.images)
+    pub fair_before : AreHonest honest (image_on dies old.images)
     fair_before = honest_before view honest made whole meets array (first dies told old) led.1 led.0 led.2 fair_last
 
   -- the events of the run to which deeds lead
@@ -290,8 +299,9 @@ module _ {I : Type 0} (view : I → ImageState) (honest : I → Bool) (made : I 
   orders_fair old new Rests fair = fair
   orders_fair old new (Deals middle here before goes) fair =
       orders_fair old middle before (fair_before IsForOrder order_plain middle new goes fair [])
-  orders_fair old new (Copies middle here before copy) fair =
-      let waited = subst (λ (l : List I). AreHonest honest (image_on dies l)) (copy.images.2 ∙ copy.images.1) fair in
+  orders_fair old new (Copies middle copied here before copy settles) fair =
+      let there = fair_before IsForCopy copy_plain copied new (settles_goes made array dies seat copied new settles) fair [] in
+      let waited = subst (λ (l : List I). AreHonest honest (image_on dies l)) (copy.images.2 ∙ copy.images.1) there in
       orders_fair old middle before
       (subst (λ (l : List I). AreHonest honest (image_on dies l)) copy.images.0
       (fair_before IsForDies dies_plain copy.asked copy.waited copy.waits waited []))
@@ -302,13 +312,16 @@ module _ {I : Type 0} (view : I → ImageState) (honest : I → Bool) (made : I 
   orders_quiet old w reached stands new (Deals middle here before goes) fair =
       let one = orders_quiet old w reached stands middle before (fair_before IsForOrder order_plain middle new goes fair []) in
       quiet_on view dies w middle new one (deeds_quiet IsForOrder order_plain order_silent middle new goes fair one.last one.stands)
-  orders_quiet old w reached stands new (Copies middle here before copy) fair =
-      let waited = subst (λ (l : List I). AreHonest honest (image_on dies l)) (copy.images.2 ∙ copy.images.1) fair in
+  orders_quiet old w reached stands new (Copies middle copied here before copy settles) fair =
+      let goes = settles_goes made array dies seat copied new settles in
+      let there = fair_before IsForCopy copy_plain copied new goes fair [] in
+      let waited = subst (λ (l : List I). AreHonest honest (image_on dies l)) (copy.images.2 ∙ copy.images.1) there in
       let earlier = subst (λ (l : List I). AreHonest honest (image_on dies l)) copy.images.0
       (fair_before IsForDies dies_plain copy.asked copy.waited copy.waits waited []) in
       let one = orders_quiet old w reached stands middle before earlier in
-      quiet_on view dies w middle new one
-      (copies_quiet middle new copy fair one.last (reached_on w reached one.happenings one.last one.run) one.stands)
+      let two = quiet_on view dies w middle copied one
+      (copies_quiet middle copied copy there one.last (reached_on w reached one.happenings one.last one.run) one.stands) in
+      quiet_on view dies w copied new two (deeds_quiet IsForCopy copy_plain copy_silent copied new goes fair two.last two.stands)
 
   -- a store behind what writes nothing
   quiet_goes : (w : World) (happenings : List Happening) (v : World) (start : World) → GoesOn start w → Run w happenings v
@@ -318,13 +331,15 @@ module _ {I : Type 0} (view : I → ImageState) (honest : I → Bool) (made : I 
       quiet_goes run.0 happenings v start (goes_on laws start w run.0 g happening run.1 none.0) run.2 none.1
 
   pub unwritten : (w : World) → IsReached w → IsCalm w → (new : House I) → (q : Quiet view dies w new)
-      → IsReached q.last × IsUnwritten (store_of w) (store_of q.last)
+      → IsReached q.last × IsKept (store_of w) (store_of q.last)
       × (q.last.core.page_map.geometry ≡ w.core.page_map.geometry)
   unwritten w reached calm new q =
       let g = quiet_goes w q.happenings q.last w (goes_first laws w reached calm) q.run q.none in (
         g.reached,
         record {
-          content = λ i within here. ap (λ (p : List (List ℕ)). slice_index (export p) i) g.plain;
+          size = ap (λ (s : Geometry). s.pages * s.page_bytes) g.geometry;
+          page_bytes = ap (λ (s : Geometry). s.page_bytes) g.geometry;
+          content = ap export g.plain;
           lost = λ page lost. gone_lost page q.last.core (g.gone page lost);
         },
         g.geometry,
@@ -340,7 +355,7 @@ module _ {L M I A : Type 0} (view : I → ImageState) (honest : I → Bool) (mad
   its_stand = record { core = of_old.core; images = of_old.images; idle = of_old.idle }
 
   of_quiet : new.dies.items ≡ old.dies.items → Quiet view old.dies.items w (house_of new)
-      → (v : World) × IsWorldOf view new v × IsUnwritten (store_of w) (store_of v)
+      → (v : World) × IsWorldOf view new v × IsKept (store_of w) (store_of v)
   of_quiet dies q =
       let then = unwritten view honest made whole meets old.locked.number old.dies.items (number_of old.seat) laws apart w of_old.reached calm
       (house_of new) q in (
@@ -356,7 +371,7 @@ module _ {L M I A : Type 0} (view : I → ImageState) (honest : I → Bool) (mad
 
   -- where no copy is under way none is before the request
   pub begun_rig : (does : Does made IsForRequests old new) → AreHonest honest (image_on new.dies.items new.images.items)
-      → w.core.copying ≡ None → (v : World) × IsWorldOf view new v × IsUnwritten (store_of w) (store_of v) × (v.core.copying ≡ None)
+      → w.core.copying ≡ None → (v : World) × IsWorldOf view new v × IsKept (store_of w) (store_of v) × (v.core.copying ≡ None)
       × (v.core.page_map.geometry ≡ w.core.page_map.geometry)
   begun_rig does fair free =
       let one = deeds_led view honest made whole meets old.locked.number old.dies.items (number_of old.seat) laws apart IsForRequests requests_plain
@@ -388,15 +403,20 @@ module _ {L M I A : Type 0} (view : I → ImageState) (honest : I → Bool) (mad
   fair_here dies fair = subst (λ (d : List Standing). AreHonest honest (image_on d new.images.items)) dies fair
 
   pub before_rig : Does made IsForRequests old new → AreHonest honest (image_on new.dies.items new.images.items)
-      → (v : World) × IsWorldOf view new v × IsUnwritten (store_of w) (store_of v)
+      → (v : World) × IsWorldOf view new v × IsKept (store_of w) (store_of v)
   before_rig does fair =
       of_quiet does.dies
       (deeds_quiet view honest made whole meets old.locked.number old.dies.items (number_of old.seat) laws apart IsForRequests requests_plain
       requests_silent (house_of old) (house_of new) does.goes (fair_here does.dies fair) w its_stand)
 
   pub behind_rig : Tidies made old new → AreHonest honest (image_on new.dies.items new.images.items)
-      → (v : World) × IsWorldOf view new v × IsUnwritten (store_of w) (store_of v)
+      → (v : World) × IsWorldOf view new v × IsKept (store_of w) (store_of v)
   behind_rig tidies fair =
       of_quiet tidies.dies
       (orders_quiet view honest made whole meets old.locked.number old.dies.items (number_of old.seat) laws apart (house_of old) w of_old.reached
       its_stand (house_of new) tidies.orders (fair_here tidies.dies fair))
+
+-- what is kept is not written
+pub told : {L M I A : Type 0} (view : I → ImageState) (new : Rig L M I A) (w : World)
+    → (v : World) × IsWorldOf view new v × IsKept (store_of w) (store_of v) → (v : World) × IsWorldOf view new v × IsUnwritten (store_of w) (store_of v)
+told view new w (v, of_new, kept) = (v, of_new, kept_unwritten (store_of w) (store_of v) kept)

@@ -200,18 +200,20 @@ module _ {L M I A : Type 0} (view : I → ImageState) (honest : I → Bool) (mad
   pub request_served : (makes : MakesRequest made (task_of size request) bytes answer old new)
       → turns_in made (task_of size request) bytes answer old new makes < 2 ^ 64 - 1
       → (v : World) × IsWorldOf view new v × Serves (store_of w) (call_of request bytes) answer (store_of v)
-      × (w.core.copying ≡ None → v.core.copying ≡ None)
+      × (w.core.copying ≡ None → v.core.copying ≡ None) × (v.core.page_map.geometry ≡ w.core.page_map.geometry)
   request_served (NoMemory is some same) few = (
     w,
     subst (λ (r : Rig L M I A). IsWorldOf view r w) (sym same) of_old,
     subst (λ (a : Answer). Serves (store_of w) (call_of request bytes) a (store_of w)) (sym is) (unmade request size bytes (store_of w) some),
     λ free. free,
+    refl,
   )
   request_served (Made op next task stage none runs end) few = (
     (one op next task stage none runs few).last,
     world_of op next task stage none runs few,
     serves_by op next task stage none runs few end,
     (one op next task stage none runs few).free,
+    (one op next task stage none runs few).shape,
   )
 
 -- images that return what was written at a request's end did so at its beginning
@@ -223,6 +225,6 @@ pub request_fair : {L M I A : Type 0} (view : I → ImageState) (honest : I → 
     → MakesRequest made task bytes answer old new → AreHonest honest (image_on old.dies.items old.images.items)
 request_fair {L} {M} {I} {A} view honest made whole meets law old new task bytes answer apart fair (NoMemory is some same) =
     subst (λ (r : Rig L M I A). AreHonest honest (image_on r.dies.items r.images.items)) same fair
-request_fair view honest made whole meets law old new task bytes answer apart fair (Made op next its_task stage none runs end) =
+request_fair view honest made whole meets law old new task bytes answer apart fair (Made op next same_task stage none runs end) =
     asks_fair view honest made whole meets old.locked.number old.dies.items (number_of old.seat) law apart (task_in op) bytes (asking_of old op)
     runs.turns (asking_of new next) runs.asks (subst (λ (d : List Standing). AreHonest honest (image_on d new.images.items)) runs.dies fair)

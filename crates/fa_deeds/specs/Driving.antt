@@ -1,9 +1,10 @@
 -- How what the store of one thread has stands for what drives an array, and which of its events are like any other.
 use Rattle.std.specs.Prelude.{◌≡◌, ◌⊎◌, ℕ, List, Option, Some, None, Ok, option_and_then, slice_get}
 use Rattle.fa_headers.specs.declared.judging.Standing.{Standing}
-use Rattle.fa_machine.specs.Step.{Act, Done, ReserveCopy, Take}
+use Rattle.fa_machine.specs.Step.{Act, CommitCopy, Done, ReserveCopy, Take}
 use Rattle.fa_mount.specs.Standings.{place_on}
 use Rattle.fa_runs.specs.Drives.{Driven}
+use Rattle.fa_solo.specs.Deeds.{IsForDies}
 use Rattle.fa_solo.specs.House.{House}
 
 -- the image of a die
@@ -22,6 +23,11 @@ IsPlain (Take die seat (Some job)) = ⊥
 IsPlain (Done die outcome) = ⊥
 IsPlain (ReserveCopy page seq payload (Ok done)) = ⊥
 IsPlain act = Unit {0}
+
+-- an event that is made while a copy is seen through
+abbrev pub IsForCopy : Act → Type 0
+IsForCopy (CommitCopy answer) = Unit {0}
+IsForCopy act = IsForDies act
 
 -- an event that takes a job, or ends one
 abbrev pub IsOfJob : Act → Type 0

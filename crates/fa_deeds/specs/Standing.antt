@@ -1,12 +1,15 @@
 -- A world that the store of one thread stands for, and how many turns its request had.
-use Rattle.std.specs.Prelude.{◌≡◌, ℕ, List, None}
+use Rattle.std.specs.Prelude.{◌≡◌, ℕ, ◌-◌, ◌^◌, ◌<◌, List, None}
 use Rattle.fa_deeds.specs.Driving.{image_on}
 use Rattle.fa_image.specs.Image.{ImageAnswer, ImageCall, ImageState}
 use Rattle.fa_laws.specs.Reached.{IsReached}
 use Rattle.fa_machine.specs.World.{World}
 use Rattle.fa_ops.specs.declared.request.Task.{Task}
 use Rattle.fa_runs.specs.Drives.{AreImages}
-use Rattle.fa_solo.specs.Calls.{Made, MakesRequest, NoMemory}
+use Rattle.fa_shared.specs.Seats.{number_of}
+use Rattle.fa_solo.specs.Calls.{Made, MakesRequest, MakesWhole, NoMemory}
+use Rattle.fa_solo.specs.Orders.{looks_in}
+use Rattle.fa_solo.specs.Rigs.{house_of}
 use Rattle.fa_solo.specs.declared.rig.Rig.{Rig}
 use Rattle.fa_types.specs.Store.{Answer}
 
@@ -22,3 +25,11 @@ module _ {L M I A : Type 0} where
     abbrev pub turns_in : MakesRequest made task bytes answer old new → ℕ
     turns_in (NoMemory is some same) = 0
     turns_in (Made op next its_task stage none runs end) = runs.turns
+
+  -- Its request had fewer turns than one is given up behind, and copies were looked at in vain fewer times.
+  abbrev pub IsTimely : (made : I → ImageCall → ImageAnswer → I → Type 0) (task : Task) (bytes : List ℕ) (answer : Answer) (old new : Rig L M I A)
+      → MakesWhole made task bytes answer old new → Type 0
+  IsTimely made task bytes answer old new call =
+      (turns_in made task bytes answer call.begun call.done call.request < 2 ^ 64 - 1)
+      × (looks_in made call.done.locked.number call.done.dies.items (number_of call.done.seat) (house_of call.done) (house_of new) call.behind.orders
+      < 2 ^ 64 - 1)

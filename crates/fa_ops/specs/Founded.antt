@@ -6,8 +6,8 @@ use Rattle.fa_machine.specs.Conditions.{claim_open, is_reserved}
 use Rattle.fa_machine.specs.Placement.{has_room}
 use Rattle.fa_machine.specs.Reading.{results}
 use Rattle.fa_machine.specs.State.{Core, MapState, dies_of, is_live}
-use Rattle.fa_machine.specs.Step.{Act, EndBatch, ReserveFewer, is_distinct, is_page, is_sized}
-use Rattle.fa_machine.specs.declared.answers.ReadState.TheVariants.{Ready}
+use Rattle.fa_machine.specs.Step.{Act, EndBatch, Replan, ReserveFewer, is_distinct, is_page, is_sized}
+use Rattle.fa_machine.specs.declared.answers.ReadState.TheVariants.{Ready, Torn}
 use Rattle.fa_machine.specs.declared.refusals.ReserveRefused.TheVariants.{NoRoom}
 use Rattle.fa_ops.specs.declared.stage.Stage.{Stage}
 use Rattle.fa_ops.specs.declared.stage.Stage.TheVariants.{Asking, Reading, Releasing, Reserving}
@@ -23,9 +23,11 @@ abbrev pub may_collect : MapState → Bool
 may_collect m = list_any (may_free m) (dies_of m)
 
 module _ {A : Type 0} where
-  -- A batch that is read is ended as it is ready. A write is refused for want of room where nothing can be collected.
+  -- A batch that is read is ended as it is ready, and planned anew where it is torn. A write is refused for want of room where nothing can be
+  -- collected.
   abbrev pub IsFounded : Core → Stage A → Act → Stage A → Type 0
   IsFounded core (Reading purpose batch) (EndBatch b answers) next = results core b ≡ Ready
+  IsFounded core (Reading purpose batch) (Replan b answer) next = results core b ≡ Torn
   IsFounded core (Reserving held (Fewer payload)) (ReserveFewer claim bytes (Err NoRoom)) (Releasing h fault) = may_collect core.page_map ≡ false
   IsFounded core stage act next = Unit {0}
 

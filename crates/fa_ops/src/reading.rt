@@ -105,7 +105,7 @@ fn end<L: Ledger, M: Map + Drop, A: Allocator + Copy>(
     }
 }
 
-/// What is left of the batch is planned anew.
+/// What is left of the batch, which is torn, is planned anew.
 fn plan_anew<L: Ledger, M: Map + Drop, A: Allocator + Copy>(
     alloc: A,
     locked: &mut Locked<L, M, A>,
@@ -113,6 +113,7 @@ fn plan_anew<L: Ledger, M: Map + Drop, A: Allocator + Copy>(
     purpose: Purpose,
     batch: BatchId,
 ) -> Stage<A>
+    requires { rule_results locked.old.core batch.0 ≡ ReadState.Torn }
     ensures turned { (t : Task) → Turned t seat.old seat.new locked.old.core (Reading purpose batch) locked.new.core result }
     ensures account { IsAccounted locked.old seat.old locked.new seat.new }
 {

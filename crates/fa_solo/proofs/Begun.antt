@@ -91,33 +91,36 @@ module _ {L M I A : Type 0} (made : I → ImageCall → ImageAnswer → I → Ty
 
   -- what is done before a request and behind it
   pub whole : (a b c d : Rig L M I A) (task : Task) (bytes : List ℕ) (answer : Answer) → Does made IsForRequests a b
-      → MakesRequest made task bytes answer b c → Tidies made c d → MakesWhole made task bytes answer a d
-  whole a b c d task bytes answer before request behind =
-      record { begun = b; done = c; before = before; request = request; behind = behind }
+      → MakesRequest made task bytes answer b c → Tidies made c d → (answer ≡ Refused NoRoom → d ≡ c)
+      → MakesWhole made task bytes answer a d
+  whole a b c d task bytes answer before request behind full =
+      record { begun = b; done = c; before = before; request = request; behind = behind; full = full }
 
   pub whole_done : (a b c d : Rig L M I A) (task : Task) (bytes : List ℕ) (result : Result (Unit {0}) BlockFault)
       → Does made IsForRequests a b → MakesRequest made task bytes (answer_by result) b c → Tidies made c d
-      → OnOk result (MakesWhole made task bytes Done a d)
-  whole_done a b c d task bytes (Ok x) before request behind = whole a b c d task bytes Done before request behind
-  whole_done a b c d task bytes (Err fault) before request behind = tt
+      → (answer_by result ≡ Refused NoRoom → d ≡ c) → OnOk result (MakesWhole made task bytes Done a d)
+  whole_done a b c d task bytes (Ok x) before request behind full = whole a b c d task bytes Done before request behind full
+  whole_done a b c d task bytes (Err fault) before request behind full = tt
 
   pub whole_refused : (a b c d : Rig L M I A) (task : Task) (bytes : List ℕ) (result : Result (Unit {0}) BlockFault)
       → Does made IsForRequests a b → MakesRequest made task bytes (answer_by result) b c → Tidies made c d
-      → IfErr result (λ fault. MakesWhole made task bytes (Refused fault) a d)
-  whole_refused a b c d task bytes (Ok x) before request behind = tt
-  whole_refused a b c d task bytes (Err fault) before request behind = whole a b c d task bytes (Refused fault) before request behind
+      → (answer_by result ≡ Refused NoRoom → d ≡ c) → IfErr result (λ fault. MakesWhole made task bytes (Refused fault) a d)
+  whole_refused a b c d task bytes (Ok x) before request behind full = tt
+  whole_refused a b c d task bytes (Err fault) before request behind full = whole a b c d task bytes (Refused fault) before request behind full
 
   pub whole_ok : {X : Type 0} (a b c d : Rig L M I A) (task : Task) (bytes : List ℕ) (result : Result X BlockFault) (answer : X → Answer)
       → Does made IsForRequests a b → IfOk result (λ x. MakesRequest made task bytes (answer x) b c) → Tidies made c d
-      → IfOk result (λ x. MakesWhole made task bytes (answer x) a d)
-  whole_ok a b c d task bytes (Ok x) answer before request behind = whole a b c d task bytes (answer x) before request behind
-  whole_ok a b c d task bytes (Err fault) answer before request behind = tt
+      → ((x : X) → answer x ≡ Refused NoRoom → ⊥) → IfOk result (λ x. MakesWhole made task bytes (answer x) a d)
+  whole_ok a b c d task bytes (Ok x) answer before request behind gives =
+      whole a b c d task bytes (answer x) before request behind (λ is. absurd (gives x is))
+  whole_ok a b c d task bytes (Err fault) answer before request behind gives = tt
 
   pub whole_err : {X : Type 0} (a b c d : Rig L M I A) (task : Task) (bytes : List ℕ) (result : Result X BlockFault)
       → Does made IsForRequests a b → IfErr result (λ fault. MakesRequest made task bytes (Refused fault) b c) → Tidies made c d
-      → IfErr result (λ fault. MakesWhole made task bytes (Refused fault) a d)
-  whole_err a b c d task bytes (Ok x) before request behind = tt
-  whole_err a b c d task bytes (Err fault) before request behind = whole a b c d task bytes (Refused fault) before request behind
+      → IfErr result (λ fault. fault ≡ NoRoom → ⊥) → IfErr result (λ fault. MakesWhole made task bytes (Refused fault) a d)
+  whole_err a b c d task bytes (Ok x) before request behind room = tt
+  whole_err a b c d task bytes (Err fault) before request behind room =
+      whole a b c d task bytes (Refused fault) before request behind (λ is. absurd (room (let e : Refused fault ≡ Refused NoRoom = is in cc)))
 
   told_request : (a b : Rig L M I A) (own : BlockFault) (page_bytes : ℕ) → (own ≡ NoRoom) ⊎ (own ≡ NoMemory)
       → MakesRequest made (task_of page_bytes Flush) [] (Refused own) a b → MakesRequest made (task_of page_bytes Flush) [] (Refused Lost) a b
@@ -133,6 +136,7 @@ module _ {L M I A : Type 0} (made : I → ImageCall → ImageAnswer → I → Ty
     before = call.before;
     request = told_request call.begun call.done own page_bytes why call.request;
     behind = call.behind;
+    full = λ is. absurd (let e : Refused Lost ≡ Refused NoRoom = is in cc);
   }
 
   pub flush_refused : (a b : Rig L M I A) (own fault : BlockFault) (page_bytes : ℕ) → IsOfFlush own fault

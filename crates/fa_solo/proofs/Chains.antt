@@ -2,16 +2,19 @@
 use Rattle.std.proofs.Common.{◌≡◌, ◌∙◌, ℕ, Bool, true, false, List, Option, Some, None, Ok, Result, IfNone, IfSome, ap, refl, sym, subst}
 use Rattle.fa_headers.specs.declared.judging.Standing.{Standing}
 use Rattle.fa_image.specs.Image.{ImageAnswer, ImageCall}
+use Rattle.fa_machine.specs.Looks.{wants_window}
 use Rattle.fa_machine.specs.State.{Core}
 use Rattle.fa_machine.specs.Step.{Act, Advance, Fold, SpareIn, Step, Take, Window}
 use Rattle.fa_machine.specs.declared.refusals.SpareRefused.{SpareRefused}
+use Rattle.fa_machine.specs.declared.refusals.WindowRefused.{WindowRefused}
 use Rattle.fa_shared.specs.Locked.{LockedState}
 use Rattle.fa_shared.specs.Seats.{number_of}
 use Rattle.fa_shared.specs.declared.seat.Seat.{Seat}
-use Rattle.fa_solo.specs.Deeds.{Goes, IsForDies, IsForOrder, IsForRequests, IsMeanwhile, Makes, Runs, Stays}
+use Rattle.fa_solo.specs.Deeds.{Goes, IsDue, IsForDies, IsForOrder, IsForRequests, IsMeanwhile, Makes, Runs, Stays}
 use Rattle.fa_solo.specs.House.{House}
 use Rattle.fa_solo.specs.Rigs.{Does, house_of}
 use Rattle.fa_solo.specs.declared.rig.Rig.{Rig}
+use Rattle.fa_types.specs.declared.numbers.Round.{Round}
 use Rattle.fa_workers.specs.Held.{Folded, Folds, HadRoom, LeavesRest}
 use Rattle.fa_workers.specs.Spares.{BringsIn, HasNone, Lowest, WantsNone}
 
@@ -30,14 +33,15 @@ module _ {I : Type 0} (made : I → ImageCall → ImageAnswer → I → Type 0) 
   pub goes_more : (P : Act → Type 0) (a b c : House I) → Goes made array dies seat P a b → Goes made array dies seat P b c
       → Goes made array dies seat P a c
   goes_more P a b c one Stays = one
-  goes_more P a b c one (Makes middle new act before may step images) = Makes middle new act (goes_more P a b middle one before) may step images
+  goes_more P a b c one (Makes middle new act before may due step images) =
+      Makes middle new act (goes_more P a b middle one before) may due step images
   goes_more P a b c one (Runs middle new die before job) = Runs middle new die (goes_more P a b middle one before) job
 
   pub goes_wider : (P Q : Act → Type 0) → ((act : Act) → P act → Q act) → (a b : House I) → Goes made array dies seat P a b
       → Goes made array dies seat Q a b
   goes_wider P Q wider a b Stays = Stays
-  goes_wider P Q wider a b (Makes middle new act before may step images) =
-      Makes middle new act (goes_wider P Q wider a middle before) (wider act may) step images
+  goes_wider P Q wider a b (Makes middle new act before may due step images) =
+      Makes middle new act (goes_wider P Q wider a middle before) (wider act may) due step images
   goes_wider P Q wider a b (Runs middle new die before job) = Runs middle new die (goes_wider P Q wider a middle before) job
 
 -- the same by other numbers that are equal
@@ -69,10 +73,10 @@ module _ {L M I A : Type 0} (made : I → ImageCall → ImageAnswer → I → Ty
   }
 
   -- an event, which leaves the images
-  pub does_event : (P : Act → Type 0) (a b : Rig L M I A) (act : Act) → P act → Step a.locked.core act b.locked.core
+  pub does_event : (P : Act → Type 0) (a b : Rig L M I A) (act : Act) → P act → IsDue a.locked.core act → Step a.locked.core act b.locked.core
       → LeavesRest a.locked a.seat b.locked b.seat → b.images.items ≡ a.images.items → b.dies.items ≡ a.dies.items → Does made P a b
-  does_event P a b act may step left images dies = record {
-    goes = Makes (house_of a) (house_of b) act Stays may step images;
+  does_event P a b act may due step left images dies = record {
+    goes = Makes (house_of a) (house_of b) act Stays may due step images;
     left = left;
     dies = dies;
   }
@@ -89,15 +93,23 @@ module _ {L M I A : Type 0} (made : I → ImageCall → ImageAnswer → I → Ty
 
   -- an event, if its condition held
   pub does_option : {X : Type 0} (P : Act → Type 0) (a b : Rig L M I A) (result : Option X) (act : X → Act) → ((x : X) → P (act x))
-      → IfSome result (λ x. Step a.locked.core (act x) b.locked.core) → IfNone result (b.locked.core ≡ a.locked.core)
+      → ((x : X) → IsDue a.locked.core (act x)) → IfSome result (λ x. Step a.locked.core (act x) b.locked.core) → IfNone result (b.locked.core ≡ a.locked.core)
       → LeavesRest a.locked a.seat b.locked b.seat → b.images.items ≡ a.images.items → b.dies.items ≡ a.dies.items → Does made P a b
-  does_option P a b (Some x) act may some none left images dies = does_event P a b (act x) (may x) some left images dies
-  does_option P a b None act may some none left images dies = does_same P a b none left images dies
+  does_option P a b (Some x) act may due some none left images dies = does_event P a b (act x) (may x) (due x) some left images dies
+  does_option P a b None act may due some none left images dies = does_same P a b none left images dies
+
+  -- a window is asked for, for a die that wants one
+  pub does_window : (a b : Rig L M I A) (die rounds : ℕ) (result : Option (Result Round WindowRefused))
+      → IfSome result (λ answer. Step a.locked.core (Window die rounds answer) b.locked.core) → IfNone result (b.locked.core ≡ a.locked.core)
+      → LeavesRest a.locked a.seat b.locked b.seat → b.images.items ≡ a.images.items → b.dies.items ≡ a.dies.items
+      → wants_window a.locked.core.page_map die ≡ true → Does made IsForDies a b
+  does_window a b die rounds result some none left images dies wants =
+      does_option IsForDies a b result (λ answer. Window die rounds answer) (λ _. tt) (λ _. wants) some none left images dies
 
   -- the history is folded, if it is full
   pub does_fold : (P : Act → Type 0) (a b : Rig L M I A) → P Fold → Folds a.locked.core b.locked.core
       → LeavesRest a.locked a.seat b.locked b.seat → b.images.items ≡ a.images.items → b.dies.items ≡ a.dies.items → Does made P a b
-  does_fold P a b may (Folded full step) left images dies = does_event P a b Fold may step left images dies
+  does_fold P a b may (Folded full step) left images dies = does_event P a b Fold may tt step left images dies
   does_fold P a b may (HadRoom same) left images dies = does_same P a b same left images dies
 
   -- a spare is brought in, or none
@@ -105,7 +117,7 @@ module _ {L M I A : Type 0} (made : I → ImageCall → ImageAnswer → I → Ty
       → ((die : ℕ) (answer : Result (Unit {0}) SpareRefused) → P (SpareIn die answer)) → BringsIn a.locked.core brought b.locked.core
       → LeavesRest a.locked a.seat b.locked b.seat → b.images.items ≡ a.images.items → b.dies.items ≡ a.dies.items → Does made P a b
   does_spare P a b brought may (Lowest die is wants lower step) left images dies =
-      does_event P a b (SpareIn die (Ok tt)) (may die (Ok tt)) step left images dies
+      does_event P a b (SpareIn die (Ok tt)) (may die (Ok tt)) wants step left images dies
   does_spare P a b brought may (WantsNone is wants same) left images dies = does_same P a b same left images dies
   does_spare P a b brought may (HasNone is none same) left images dies = does_same P a b same left images dies
 

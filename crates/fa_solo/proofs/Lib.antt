@@ -1,6 +1,9 @@
 mod Asked
+mod Awaited
 mod Begun
-mod Chains
+pub mod Chains
 mod Ended
 mod Orders
+mod Settled
 mod Taken
+mod Thin

@@ -4,6 +4,7 @@ use Rattle.std.proofs.lemmas.List.{map-append}
 use Rattle.std.specs.FinMap.{get}
 use Rattle.fa_headers.specs.declared.judging.Standing.{Standing}
 use Rattle.fa_image.specs.Image.{ImageAnswer, ImageCall}
+use Rattle.fa_machine.specs.Placement.{is_thin}
 use Rattle.fa_machine.specs.Reading.{Admitted, Planned, results}
 use Rattle.fa_machine.specs.Step.{Act, Admit, EndBatch, ReserveCopy, Step}
 use Rattle.fa_machine.specs.declared.answers.ReadState.TheVariants.{Ready}
@@ -14,9 +15,9 @@ use Rattle.fa_machine.specs.declared.refusals.ReserveCopyRefused.{ReserveCopyRef
 use Rattle.fa_shared.specs.Locked.{LockedState}
 use Rattle.fa_shared.specs.Seats.{number_of}
 use Rattle.fa_solo.proofs.Chains.{does_event, does_more, does_same, does_wider, for_order, goes_by, join_rest, requests_for_order, rest_same}
-use Rattle.fa_solo.specs.Deeds.{IsForDies, IsForOrder, IsForRequests}
+use Rattle.fa_solo.specs.Deeds.{IsDue, IsForDies, IsForOrder, IsForRequests}
 use Rattle.fa_solo.specs.House.{House}
-use Rattle.fa_solo.specs.Orders.{Copies, CopiesPage, Deals, Orders, Rests}
+use Rattle.fa_solo.specs.Orders.{Copies, CopiesPage, Deals, Orders, Rests, Settles}
 use Rattle.fa_solo.specs.Rigs.{Does, DoesOne, ReservesCopy, Tidies, TriesCopy, house_of}
 use Rattle.fa_solo.specs.declared.rig.Rig.{Rig}
 use Rattle.fa_types.specs.declared.numbers.Seq.{Seq}
@@ -26,7 +27,8 @@ module _ {I : Type 0} (made : I → ImageCall → ImageAnswer → I → Type 0) 
   orders_more : (a b c : House I) → Orders made array dies seat a b → Orders made array dies seat b c → Orders made array dies seat a c
   orders_more a b c one Rests = one
   orders_more a b c one (Deals middle new before goes) = Deals middle new (orders_more a b middle one before) goes
-  orders_more a b c one (Copies middle new before copies) = Copies middle new (orders_more a b middle one before) copies
+  orders_more a b c one (Copies middle copied new before copies settles) =
+      Copies middle copied new (orders_more a b middle one before) copies settles
 
 -- the same by other numbers that are equal
 orders_by : {I : Type 0} (made : I → ImageCall → ImageAnswer → I → Type 0) (array other : List ℕ) (dies those : List Standing) (seat same : ℕ)
@@ -34,6 +36,12 @@ orders_by : {I : Type 0} (made : I → ImageCall → ImageAnswer → I → Type 
 orders_by made array other dies those seat same a b number standing by orders =
     subst (λ (n : ℕ). Orders made array dies n a b) by (subst (λ (d : List Standing). Orders made array d same a b) standing
     (subst (λ (x : List ℕ). Orders made x those same a b) number orders))
+
+pub settles_by : {I : Type 0} (made : I → ImageCall → ImageAnswer → I → Type 0) (array other : List ℕ) (dies those : List Standing) (seat same : ℕ)
+    (a b : House I) → other ≡ array → those ≡ dies → same ≡ seat → Settles made other those same a b → Settles made array dies seat a b
+settles_by made array other dies those seat same a b number standing by settles =
+    subst (λ (n : ℕ). Settles made array dies n a b) by (subst (λ (d : List Standing). Settles made array d same a b) standing
+    (subst (λ (x : List ℕ). Settles made x those same a b) number settles))
 
 -- the last element of a list in which each was put otherwise
 last_put : {X Y : Type 0} (f : X → Y) (old new : List X) (x : X) → old ≡ new ++ x ∷ [] → map f old ≡ map f new ++ f x ∷ []
@@ -77,13 +85,13 @@ module _ {L M I A : Type 0} where
   reserved_yes a b page seq bytes (Err refused) is one = absurd (let e : false ≡ true = is in cc)
 
 module _ {L M I A : Type 0} (made : I → ImageCall → ImageAnswer → I → Type 0) where
-  pub one_does : (P : Act → Type 0) (act : Act) (a b : Rig L M I A) → P act → DoesOne act a b → Does made P a b
-  one_does P act a b may one = does_event made P a b act may one.step one.left one.images one.dies
+  pub one_does : (P : Act → Type 0) (act : Act) (a b : Rig L M I A) → P act → IsDue a.locked.core act → DoesOne act a b → Does made P a b
+  one_does P act a b may due one = does_event made P a b act may due one.step one.left one.images one.dies
 
   pub reserved_no : (a b : Rig L M I A) (page seq : ℕ) (bytes : List ℕ) (answer : Result (Unit {0}) ReserveCopyRefused) → is_ok answer ≡ false
       → DoesOne (ReserveCopy page seq bytes answer) a b → Does made IsForOrder a b
   reserved_no a b page seq bytes (Ok x) is one = absurd (let e : true ≡ false = is in cc)
-  reserved_no a b page seq bytes (Err refused) is one = one_does IsForOrder (ReserveCopy page seq bytes (Err refused)) a b tt one
+  reserved_no a b page seq bytes (Err refused) is one = one_does IsForOrder (ReserveCopy page seq bytes (Err refused)) a b tt tt one
 
   -- no event, if its condition did not hold
   pub same_if_none : {X : Type 0} (a b : Rig L M I A) (result : Option X) → IfNone result (b.locked.core ≡ a.locked.core)
@@ -114,16 +122,16 @@ module _ {L M I A : Type 0} (made : I → ImageCall → ImageAnswer → I → Ty
   tidies_for_requests a b does = tidies_deeds a b (does_wider made IsForRequests IsForOrder requests_for_order a b does)
 
   -- a batch of a page from its Admit to its end
-  module _ (a b c d : Rig L M I A) (page : ℕ) (admitted : Admitted) (answers : List (ℕ × List ℕ)) (asks : DoesOne (Admit (page ∷ []) (Ok admitted)) a b)
+  module _ (a b c d : Rig L M I A) (page : ℕ) (admitted : Admitted) (answers : List (ℕ × List ℕ)) (due : is_thin a.locked.core.copies a.locked.core.page_map page ≡ true) (asks : DoesOne (Admit (page ∷ []) (Ok admitted)) a b)
       (waits : Does made IsForDies b c) where
     pub unanswered : Does made IsForOrder c d → Tidies made a d
     unanswered ends = tidies_deeds a d
-        (does_more made IsForOrder a b d (one_does IsForOrder (Admit (page ∷ []) (Ok admitted)) a b tt asks)
+        (does_more made IsForOrder a b d (one_does IsForOrder (Admit (page ∷ []) (Ok admitted)) a b tt due asks)
         (does_more made IsForOrder b c d (does_wider made IsForDies IsForOrder for_order b c waits) ends))
 
     module _ (ends : DoesOne (EndBatch admitted.batch.0 answers) c d) where
       pub answered : Tidies made a d
-      answered = unanswered (one_does IsForOrder (EndBatch admitted.batch.0 answers) c d tt ends)
+      answered = unanswered (one_does IsForOrder (EndBatch admitted.batch.0 answers) c d tt tt ends)
 
       copied : (e : Rig L M I A) (seq : Seq) (o : Option Version) → get a.locked.core.page_map.versions page ≡ o
           → option_map (λ version. version.seq) o ≡ Some seq → results c.locked.core admitted.batch.0 ≡ Ready
@@ -143,6 +151,7 @@ module _ {L M I A : Type 0} (made : I → ImageCall → ImageAnswer → I → Ty
             waited = house_of c;
             ended = house_of d;
             last = is;
+            due = due;
             asks = asks.step;
             waits = goes_by made a.locked.number b.locked.number a.dies.items b.dies.items (number_of a.seat) (number_of b.seat) IsForDies
                 (house_of b) (house_of c) (ap (λ (l : LockedState). l.number) asks.left.rest) asks.dies asks.left.number waits.goes;
@@ -155,10 +164,14 @@ module _ {L M I A : Type 0} (made : I → ImageCall → ImageAnswer → I → Ty
       pub tried : (z : Rig L M I A) (seq : Seq) → option_map (λ version. version.seq) (get a.locked.core.page_map.versions page) ≡ Some seq
           → results c.locked.core admitted.batch.0 ≡ Ready → TriesCopy made page seq.0 answers d z → Tidies made a z
       tried z seq found ready (inl does) = tidies_more a d z answered (tidies_deeds d z does)
-      tried z seq found ready (inr (e, copy, behind)) =
-          tidies_more a e z
-          (record {
-            orders = Copies (house_of a) (house_of e) Rests (copied e seq (get a.locked.core.page_map.versions page) refl found ready copy);
-            left = join_rest (join_rest asks.left waits.left) (join_rest ends.left copy.reserves.left);
-            dies = copy.reserves.dies ∙ ends.dies ∙ waits.dies ∙ asks.dies;
-          }) (tidies_deeds e z behind)
+      tried z seq found ready (inr (e, copy, seen)) =
+          let left : LeavesRest a.locked a.seat e.locked e.seat =
+          join_rest (join_rest asks.left waits.left) (join_rest ends.left copy.reserves.left) in
+          let same : e.dies.items ≡ a.dies.items = copy.reserves.dies ∙ ends.dies ∙ waits.dies ∙ asks.dies in record {
+            orders = Copies (house_of a) (house_of e) (house_of z) Rests
+                (copied e seq (get a.locked.core.page_map.versions page) refl found ready copy)
+                (settles_by made a.locked.number e.locked.number a.dies.items e.dies.items (number_of a.seat) (number_of e.seat) (house_of e)
+                (house_of z) (ap (λ (l : LockedState). l.number) left.rest) same left.number seen.settles);
+            left = join_rest left seen.left;
+            dies = seen.dies ∙ same;
+          }

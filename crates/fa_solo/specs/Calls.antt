@@ -62,13 +62,14 @@ module _ {L M I A : Type 0} (made : I → ImageCall → ImageAnswer → I → Ty
     Made : (op next : Op A) → task_in op ≡ task → stage_of op ≡ beginning task → answer_of op ≡ []
         → (runs : RunsOn made bytes old op new next) → EndsBy answer runs.turns next → MakesRequest task bytes answer old new
 
-  -- A call: spares that are brought in before it, the request, and what is for the array's order behind it.
+  -- A call: spares that are brought in before it, the request, and what is for the array's order behind it. Nothing is where there was no room.
   pub record MakesWhole (task : Task) (bytes : List ℕ) (answer : Answer) (old new : Rig L M I A) : Type 0 where
     pub begun : Rig L M I A
     pub done : Rig L M I A
     pub before : Does made IsForRequests old begun
     pub request : MakesRequest task bytes answer begun done
     pub behind : Tidies made done new
+    pub full : answer ≡ Refused NoRoom → new ≡ done
 
   abbrev pub MakesCall : ℕ → Rig L M I A → Call → Answer → Rig L M I A → Type 0
   MakesCall page_bytes old call answer new = MakesWhole (task_of page_bytes (request_of call)) (bytes_of call) answer old new

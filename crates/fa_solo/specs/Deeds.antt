@@ -1,16 +1,23 @@
 -- What is done with an array and its images by one thread: events, and jobs of dies from their Takes to their Dones. No two jobs are under
 -- way at once, and each Done tells what the job's own calls of its image gave.
-use Rattle.std.specs.Prelude.{◌≡◌, ℕ, Bool, true, false, List, [], ◌∷◌, Some, None, Err, slice_get, slice_set}
+use Rattle.std.specs.FinMap.{contains_key}
+use Rattle.std.specs.Prelude.{◌≡◌, ℕ, Bool, true, false, is_some, List, [], ◌∷◌, Some, None, Ok, Err, slice_get, slice_set}
 use Rattle.fa_headers.specs.declared.judging.Standing.{Standing}
 use Rattle.fa_image.specs.Image.{ImageAnswer, ImageCall}
 use Rattle.fa_machine.specs.Cells.{Outcome}
-use Rattle.fa_machine.specs.State.{Core}
-use Rattle.fa_machine.specs.Step.{Act, Step, Admit, Advance, CommitCopy, Done, EndBatch, Fold, ReserveCopy, SpareIn, Take, Window}
+use Rattle.fa_machine.specs.Collecting.{victim}
+use Rattle.fa_machine.specs.Looks.{wants_window}
+use Rattle.fa_machine.specs.Placement.{is_thin}
+use Rattle.fa_machine.specs.Reading.{results}
+use Rattle.fa_machine.specs.State.{Core, is_live}
+use Rattle.fa_machine.specs.Step.{Act, Step, Admit, Advance, Done, EndBatch, Fold, ReserveCopy, SpareIn, Take, Window}
 use Rattle.fa_machine.specs.Taking.{Handed}
+use Rattle.fa_machine.specs.declared.answers.ReadState.TheVariants.{Waiting}
 use Rattle.fa_mount.specs.Standings.{place_on}
 use Rattle.fa_solo.specs.House.{House}
 use Rattle.fa_takes.specs.Fits.{IsJobFor}
 use Rattle.fa_workers.specs.Made.{Ran}
+use Rattle.fa_workers.specs.Spares.{wants_spare}
 
 -- The events that are made for dies whatever is asked: a Take that gives no job, windows, rounds that pass, and the history's Fold.
 abbrev pub IsForDies : Act → Type 0
@@ -30,14 +37,29 @@ abbrev pub IsMeanwhile : Bool → Act → Type 0
 IsMeanwhile true act = IsForDies act
 IsMeanwhile false act = IsForRequests act
 
--- All those, and the events by which a thin page is read and a copy of it becomes current. A slot is reserved for one more copy by `CopiesPage`
--- alone.
+-- All those, and the events by which a thin page is read. A slot is reserved for one more copy by `CopiesPage` alone, and such a copy ends in
+-- `Settles` alone.
 abbrev pub IsForOrder : Act → Type 0
 IsForOrder (Admit (page ∷ []) answer) = Unit {0}
 IsForOrder (EndBatch batch answers) = Unit {0}
 IsForOrder (ReserveCopy page seq payload (Err refused)) = Unit {0}
-IsForOrder (CommitCopy answer) = Unit {0}
 IsForOrder act = IsForRequests act
+
+-- What a later round is awaited for: the reads of a batch that has not all of its answers; or a collector's step, where a live die has a window
+-- that has not passed, and a block to collect.
+pub data IsAwaited (core : Core) : Type 0 where
+  ForReads : (batch : ℕ) → results core batch ≡ Waiting → IsAwaited core
+  ForStep : (die : ℕ) → is_live core.page_map die ≡ true → contains_key core.calendar.windows die ≡ true
+      → is_some (victim core.page_map die) ≡ true → IsAwaited core
+
+-- What is asked of the array where an event is made of itself. A window is given to a die that wants one, no round passes in vain, a spare comes
+-- in where one is wanted, and so while a die is live, and a page is read for a copy of it where it is thin.
+abbrev pub IsDue : Core → Act → Type 0
+IsDue core (Window die rounds answer) = wants_window core.page_map die ≡ true
+IsDue core (Advance answer) = IsAwaited core
+IsDue core (SpareIn die (Ok done)) = wants_spare core.page_map ≡ true
+IsDue core (Admit (page ∷ []) answer) = is_thin core.copies core.page_map page ≡ true
+IsDue core act = Unit {0}
 
 module _ {I : Type 0} (made : I → ImageCall → ImageAnswer → I → Type 0) (array : List ℕ) (dies : List Standing) (seat : ℕ) where
   -- A job of a die: it is taken, its calls are made of the die's image, and it ends as they gave.
@@ -56,9 +78,9 @@ module _ {I : Type 0} (made : I → ImageCall → ImageAnswer → I → Type 0) 
     pub ends : Step taken (Done die outcome) new.core
     pub images : new.images ≡ slice_set old.images index after
 
-  -- Any number of deeds, one after the other, of which the events are some of these.
+  -- Any number of deeds, one after the other, of which the events are some of these, each made where it is due.
   pub data Goes (P : Act → Type 0) (old : House I) : House I → Type 0 where
     Stays : Goes P old old
-    Makes : (middle new : House I) (act : Act) → Goes P old middle → P act → Step middle.core act new.core → new.images ≡ middle.images
-        → Goes P old new
+    Makes : (middle new : House I) (act : Act) → Goes P old middle → P act → IsDue middle.core act → Step middle.core act new.core
+        → new.images ≡ middle.images → Goes P old new
     Runs : (middle new : House I) (die : ℕ) → Goes P old middle → MakesJob die middle new → Goes P old new

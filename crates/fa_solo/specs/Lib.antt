@@ -4,3 +4,4 @@ pub mod Orders
 pub mod Deeds
 pub mod Rigs
 pub mod Turns
+pub mod Stores

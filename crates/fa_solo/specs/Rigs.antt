@@ -10,7 +10,7 @@ use Rattle.fa_mount.specs.Standings.{place_on}
 use Rattle.fa_shared.specs.Seats.{number_of}
 use Rattle.fa_solo.specs.Deeds.{Goes, IsForOrder}
 use Rattle.fa_solo.specs.House.{House}
-use Rattle.fa_solo.specs.Orders.{Orders}
+use Rattle.fa_solo.specs.Orders.{Orders, Settles}
 use Rattle.fa_solo.specs.declared.rig.Parts.{Parts}
 use Rattle.fa_solo.specs.declared.rig.Rig.{Rig}
 use Rattle.fa_workers.specs.Held.{LeavesRest}
@@ -83,8 +83,13 @@ module _ {L M I A : Type 0} where
       pub left : LeavesRest old.locked old.seat new.locked new.seat
       pub dies : new.dies.items ≡ old.dies.items
 
-    -- One more copy of the page was reserved of what was answered, with deeds behind it; or it was not, and deeds were done.
+    -- The same of the copy under way.
+    pub record SettlesCopy (old new : Rig L M I A) : Type 0 where
+      pub settles : Settles made old.locked.number old.dies.items (number_of old.seat) (house_of old) (house_of new)
+      pub left : LeavesRest old.locked old.seat new.locked new.seat
+      pub dies : new.dies.items ≡ old.dies.items
+
+    -- One more copy of the page was reserved of what was answered, and is seen through; or it was not, and deeds were done.
     abbrev pub TriesCopy : (page seq : ℕ) → List (ℕ × List ℕ) → Rig L M I A → Rig L M I A → Type 0
     TriesCopy page seq answers old new =
-        Does IsForOrder old new
-        ⊎ ((middle : Rig L M I A) × ReservesCopy page seq answers old middle × Does IsForOrder middle new)
+        Does IsForOrder old new ⊎ ((middle : Rig L M I A) × ReservesCopy page seq answers old middle × SettlesCopy middle new)

@@ -1,11 +1,12 @@
 //! Dies that are collected: windows are given, and the rounds pass in which the steps are made.
+ghost use Rattle.std.specs.Prelude.{◌≡◌, true};
+ghost use Rattle.fa_machine.specs.Looks.{wants_window};
 ghost use Rattle.fa_solo.specs.Deeds.{IsForDies};
 ghost use Rattle.fa_solo.specs.Rigs.{Does};
 
 use crate::events::window;
 use crate::jobs::work_off;
 use crate::rig::Rig;
-use fa_core::Array;
 use fa_image::Image;
 use fa_machine::WindowRefused;
 use fa_map::Map;
@@ -76,9 +77,20 @@ fn give_window<L: Ledger, M: Map + Drop, I: Image, A: Allocator + Copy>(
 ) -> Windows
     ensures { Does I.made IsForDies rig.old rig.new }
 {
-    if !is_wanted(rig.locked.array(), die, for_room) {
+    if !is_wanted(rig, die, for_room) {
         return Windows::Unwanted;
     }
+    ask_window(rig, die)
+}
+
+/// Asks for a window for a die that wants one.
+fn ask_window<L: Ledger, M: Map + Drop, I: Image, A: Allocator + Copy>(
+    rig: &mut Rig<L, M, I, A>,
+    die: Die,
+) -> Windows
+    requires wanted { wants_window rig.old.locked.core.page_map die.0 ≡ true }
+    ensures { Does I.made IsForDies rig.old rig.new }
+{
     let rounds = rig.window_rounds;
     match window(rig.alloc, &mut rig.locked, &mut rig.seat, die, rounds) {
         Some(answer) => windows_of(answer),
@@ -95,9 +107,19 @@ fn windows_of(answer: Result<Round, WindowRefused>) -> Windows {
 }
 
 /// Whether the die wants a window, and, where a write waits for room, has no room.
-fn is_wanted<M: Map, A: Allocator + Copy>(array: &Array<M, A>, die: Die, for_room: bool) -> bool {
-    array.is_die(die)
-        && array.is_live(die)
-        && array.wants_window(die)
-        && (!for_room || array.room(die) == 0)
+fn is_wanted<L: Ledger, M: Map + Drop, I: Image, A: Allocator + Copy>(
+    rig: &Rig<L, M, I, A>,
+    die: Die,
+    for_room: bool,
+) -> bool
+    ensures { result ≡ true → wants_window rig.now.locked.core.page_map die.0 ≡ true }
+{
+    let array = rig.locked.array();
+    if !array.is_die(die) {
+        return false;
+    }
+    if for_room && array.room(die) != 0 {
+        return false;
+    }
+    array.wants_window(die)
 }

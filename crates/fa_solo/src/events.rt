@@ -5,7 +5,7 @@ ghost use Rattle.std.specs.FinMap.{get};
 ghost use Rattle.fa_core.specs.Calls.{FitsAnswer, Makes};
 ghost use Rattle.fa_ends.specs.Outcomes.{outcome_of};
 ghost use Rattle.fa_machine.specs.Cells.{is_of_kind};
-ghost use Rattle.fa_machine.specs.Conditions.{history_full};
+ghost use Rattle.fa_machine.specs.Conditions.{copy_open, history_full};
 ghost use Rattle.fa_machine.specs.Step.{Step, is_die, is_sized};
 ghost use Rattle.fa_machine.specs.Step.{Admit, Advance, CommitCopy, Done, EndBatch, Release, ReserveCopy, Take, Window};
 ghost use Rattle.fa_reads.specs.Answers.{admit_answer};
@@ -194,7 +194,7 @@ pub(crate) fn commit_copy<L: Ledger, M: Map + Drop, A: Allocator + Copy>(
     seat: &mut Seat<L>,
 ) -> Option<Result<Copied, CommitCopyRefused>>
     ensures some { IfSome result (λ answer. Step locked.old.core (CommitCopy answer) locked.new.core) }
-    ensures none { IfNone result (locked.new.core ≡ locked.old.core) }
+    ensures none { IfNone result ((copy_open locked.old.core ≡ false) × (locked.new.core ≡ locked.old.core)) }
     ensures account { LeavesRest locked.old seat.old locked.new seat.new }
 {
     let Answer::CommitCopy(answer) = make(locked, seat, plain(&alloc, Call::CommitCopy)) else {

@@ -1,27 +1,90 @@
 //! All work that dies have.
-ghost use Rattle.fa_solo.specs.Deeds.{IsForDies, IsForRequests};
+ghost use Rattle.std.specs.Prelude.{◌≡◌, true};
+ghost use Rattle.fa_core.specs.Array.{IsWhole, state_of};
+ghost use Rattle.fa_solo.specs.Deeds.{IsAwaited, IsForDies, IsForRequests};
 ghost use Rattle.fa_solo.specs.Rigs.{Does};
 
 use crate::events::advance;
 use crate::rig::Rig;
 use crate::running::run_next;
+use fa_core::Array;
 use fa_image::Image;
+use fa_machine::{BatchId, ReadState};
 use fa_map::Map;
 use fa_types::Die;
 use fa_workers::bring_in_spare;
 use std::alloc::Allocator;
 use std::sync::ledger::Ledger;
 
-/// Makes a job of each die that has one. Where no die had a job the round passes, if it may. Whether anything was done.
+/// Makes a job of each die that has one. Where no die had a job the round passes, if a later one is awaited, for the batch or for a step of a
+/// collector, and if it may. Whether anything was done.
 pub(crate) fn work<L: Ledger, M: Map + Drop, I: Image, A: Allocator + Copy>(
     rig: &mut Rig<L, M, I, A>,
+    batch: Option<BatchId>,
 ) -> bool
     ensures { Does I.made IsForDies rig.old rig.new }
 {
     if make_jobs(rig) {
         return true;
     }
+    if !is_awaited(rig.locked.array(), batch) {
+        return false;
+    }
     pass_round(rig)
+}
+
+/// Whether a later round is awaited: the batch has not all of its answers, or a die that has a window has a block to collect.
+fn is_awaited<M: Map, A: Allocator + Copy>(array: &Array<M, A>, batch: Option<BatchId>) -> bool
+    requires whole { IsWhole M.view array.now }
+    ensures { result ≡ true → IsAwaited (state_of M.view array.now) }
+{
+    if is_read(array, batch) {
+        return true;
+    }
+    is_collected(array)
+}
+
+/// Whether the batch has not all of its answers.
+fn is_read<M: Map, A: Allocator + Copy>(array: &Array<M, A>, batch: Option<BatchId>) -> bool
+    requires whole { IsWhole M.view array.now }
+    ensures { result ≡ true → IsAwaited (state_of M.view array.now) }
+{
+    let Some(batch) = batch else {
+        return false;
+    };
+    match array.results(batch) {
+        ReadState::Waiting => true,
+        ReadState::Ready => false,
+        ReadState::Torn => false,
+    }
+}
+
+/// Whether some live die that has a window has a block to collect.
+fn is_collected<M: Map, A: Allocator + Copy>(array: &Array<M, A>) -> bool
+    ensures { result ≡ true → IsAwaited (state_of M.view array.now) }
+{
+    for die in 0..array.geometry().dies {
+        if has_step(array, Die(die as u8)) {
+            return true;
+        }
+    }
+    false
+}
+
+/// Whether the die is live, has a window, and has a block to collect.
+fn has_step<M: Map, A: Allocator + Copy>(array: &Array<M, A>, die: Die) -> bool
+    ensures { result ≡ true → IsAwaited (state_of M.view array.now) }
+{
+    if !array.is_die(die) {
+        return false;
+    }
+    if !array.has_window(die) {
+        return false;
+    }
+    if !array.is_live(die) {
+        return false;
+    }
+    array.victim(die).is_some()
 }
 
 /// The same until there is nothing to be done.
@@ -31,7 +94,7 @@ pub(crate) fn work_off<L: Ledger, M: Map + Drop, I: Image, A: Allocator + Copy>(
     ensures { Does I.made IsForDies rig.old rig.new }
 {
     for _ in 0..u64::MAX {
-        if !work(rig) {
+        if !work(rig, None) {
             return;
         }
     }
@@ -65,6 +128,7 @@ pub(crate) fn bring_in<L: Ledger, M: Map + Drop, I: Image, A: Allocator + Copy>(
 fn pass_round<L: Ledger, M: Map + Drop, I: Image, A: Allocator + Copy>(
     rig: &mut Rig<L, M, I, A>,
 ) -> bool
+    requires { IsAwaited rig.old.locked.core }
     ensures { Does I.made IsForDies rig.old rig.new }
 {
     advance(rig.alloc, &mut rig.locked, &mut rig.seat).is_ok()

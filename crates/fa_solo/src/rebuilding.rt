@@ -1,11 +1,12 @@
 //! Thin pages that get one more copy.
-ghost use Rattle.std.specs.Prelude.{◌≡◌, ◌∷◌, [], map, option_map, true, false, IfNone, IfSome, Ok, Some};
+ghost use Rattle.std.specs.Prelude.{◌≡◌, ◌∷◌, [], map, option_map, true, false, IfNone, IfSome, Ok, Err, Some};
 ghost use Rattle.std.specs.FinMap.{get};
+ghost use Rattle.fa_machine.specs.Placement.{is_thin};
 ghost use Rattle.fa_machine.specs.Reading.{Planned, results as rule_results};
 ghost use Rattle.fa_machine.specs.Step.{Admit, EndBatch, ReserveCopy};
 ghost use Rattle.fa_reads.specs.Answers.{admit_answer};
 ghost use Rattle.fa_solo.specs.Deeds.{IsForDies, IsForOrder};
-ghost use Rattle.fa_solo.specs.Rigs.{Does, DoesOne, ReservesCopy, Tidies, TriesCopy};
+ghost use Rattle.fa_solo.specs.Rigs.{Does, DoesOne, ReservesCopy, SettlesCopy, Tidies, TriesCopy};
 
 use crate::collecting::collect;
 use crate::events::{admit, commit_copy, end_batch, reserve_copy};
@@ -29,7 +30,7 @@ struct ThinPage {
 }
 
 /// Brings in a spare where one is wanted, collects until no live die wants a window, and makes copies until no page is thin that has a place
-/// to go. A refusal ends this.
+/// to go. A refusal ends this. A copy that was begun is seen through.
 pub(crate) fn tidy<L: Ledger, M: Map + Drop, I: Image, A: Allocator + Copy>(
     rig: &mut Rig<L, M, I, A>,
 )
@@ -39,7 +40,7 @@ pub(crate) fn tidy<L: Ledger, M: Map + Drop, I: Image, A: Allocator + Copy>(
     work_off(rig);
 }
 
-/// The same, but that rounds may be left to pass.
+/// The same, but that jobs may be left to do.
 fn put_in_order<L: Ledger, M: Map + Drop, I: Image, A: Allocator + Copy>(rig: &mut Rig<L, M, I, A>)
     ensures { Tidies I.made rig.old rig.new }
 {
@@ -82,6 +83,7 @@ fn ask<L: Ledger, M: Map + Drop, I: Image, A: Allocator + Copy>(
     rig: &mut Rig<L, M, I, A>,
     page: Page,
 ) -> Option<BatchId>
+    requires thin { is_thin rig.old.locked.core.copies rig.old.locked.core.page_map page.0 ≡ true }
     ensures none { IfNone result (Does I.made IsForOrder rig.old rig.new) }
     ensures some { IfSome result (λ batch. (planned : Planned)
         × DoesOne (Admit (page.0 ∷ []) (Ok (record { batch = batch; planned = planned }))) rig.old rig.new) }
@@ -117,7 +119,9 @@ fn end<L: Ledger, M: Map + Drop, I: Image, A: Allocator + Copy>(
 fn find_thin<L: Ledger, M: Map + Drop, A: Allocator + Copy>(
     locked: &Locked<L, M, A>,
 ) -> Option<ThinPage>
-    ensures { IfSome result (λ thin. option_map (λ version. version.seq) (get locked.now.core.page_map.versions thin.page.0) ≡ Some thin.seq) }
+    ensures number { IfSome result (λ thin. option_map (λ version. version.seq) (get locked.now.core.page_map.versions thin.page.0)
+        ≡ Some thin.seq) }
+    ensures thin { IfSome result (λ thin. is_thin locked.now.core.copies locked.now.core.page_map thin.page.0 ≡ true) }
 {
     let (page, _) = locked.array().next_thin()?;
     if !locked.array().is_page(page) {
@@ -140,7 +144,7 @@ fn wait_for<L: Ledger, M: Map + Drop, I: Image, A: Allocator + Copy>(
         if state != ReadState::Waiting {
             return state;
         }
-        if !work(rig) {
+        if !work(rig, Some(batch)) {
             return ReadState::Waiting;
         }
     }
@@ -196,34 +200,28 @@ fn reserve<L: Ledger, M: Map + Drop, I: Image, A: Allocator + Copy>(
     }
 }
 
-/// Makes the program of the copy that is under way, and ends it. False where it does not end.
+/// Makes the program of the copy that is under way, and ends it. Whether it ended.
 fn see_through<L: Ledger, M: Map + Drop, I: Image, A: Allocator + Copy>(
     rig: &mut Rig<L, M, I, A>,
 ) -> bool
-    ensures { Does I.made IsForOrder rig.old rig.new }
+    ensures { SettlesCopy I.made rig.old rig.new }
 {
-    for _ in 0..u64::MAX {
-        let answer = commit(rig);
+    for looks in 0..u64::MAX {
+        let Some(answer) = commit_copy(rig.alloc, &mut rig.locked, &mut rig.seat) else {
+            return true;
+        };
         if !is_pending(answer) {
-            return answer.is_some();
+            return true;
         }
-        if !work(rig) {
-            return false;
-        }
+        work(rig, None);
     }
     false
 }
 
 /// Whether the copy is not programmed yet.
-fn is_pending(answer: Option<Result<Copied, CommitCopyRefused>>) -> bool {
-    matches!(answer, Some(Err(CommitCopyRefused::Pending)))
-}
-
-/// The copy is current, if it is programmed.
-fn commit<L: Ledger, M: Map + Drop, I: Image, A: Allocator + Copy>(
-    rig: &mut Rig<L, M, I, A>,
-) -> Option<Result<Copied, CommitCopyRefused>>
-    ensures { Does I.made IsForOrder rig.old rig.new }
+fn is_pending(answer: Result<Copied, CommitCopyRefused>) -> bool
+    ensures yes { result ≡ true → answer ≡ Err CommitCopyRefused.Pending }
+    ensures no { result ≡ false → answer ≡ Err CommitCopyRefused.Pending → ⊥ }
 {
-    commit_copy(rig.alloc, &mut rig.locked, &mut rig.seat)
+    matches!(answer, Err(CommitCopyRefused::Pending))
 }

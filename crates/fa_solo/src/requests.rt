@@ -20,9 +20,10 @@ use crate::jobs::{bring_in, work};
 use crate::rig::Rig;
 use fa_core::Array;
 use fa_image::Image;
-use fa_machine::WindowRefused;
+use fa_machine::{BatchId, WindowRefused};
 use fa_map::Map;
 use fa_ops::{Op, Request, Turn};
+use fa_shared::Awaits;
 use fa_types::BlockFault;
 use std::alloc::Allocator;
 use std::sync::ledger::Ledger;
@@ -167,10 +168,11 @@ fn pass_time<L: Ledger, M: Map + Drop, I: Image, A: Allocator + Copy>(
         return;
     }
     if op.awaits_flush() {
-        work(rig);
+        work(rig, None);
         return;
     }
-    if work_at_once(rig) {
+    let batch = batch_of(op, rig);
+    if work_at_once(rig, batch) {
         return;
     }
     if op.wants_room() {
@@ -178,13 +180,25 @@ fn pass_time<L: Ledger, M: Map + Drop, I: Image, A: Allocator + Copy>(
     }
 }
 
+/// The batch that a request waits for, if it waits for one.
+fn batch_of<L: Ledger, M: Map + Drop, I: Image, A: Allocator + Copy>(
+    op: &Op<A>,
+    rig: &Rig<L, M, I, A>,
+) -> Option<BatchId> {
+    match op.awaits(&rig.locked) {
+        Awaits::Batch(batch) => Some(batch),
+        _ => None,
+    }
+}
+
 /// Makes what there is to be done for dies. Behind jobs a spare is brought in, where one is wanted. Whether anything was done.
 fn work_at_once<L: Ledger, M: Map + Drop, I: Image, A: Allocator + Copy>(
     rig: &mut Rig<L, M, I, A>,
+    batch: Option<BatchId>,
 ) -> bool
     ensures { Does I.made (IsMeanwhile false) rig.old rig.new }
 {
-    let worked = work(rig);
+    let worked = work(rig, batch);
     bring_in(rig);
     worked
 }

@@ -40,6 +40,9 @@ impl<L: Ledger, M: Map + Drop, I: Image, A: Allocator + Copy> Solo<L, M, I, A> {
         ensures house { IfOk result (λ store. house_of store.rig ≡ house_in M.view parts) }
         ensures number { IfOk result (λ store. store.rig.locked.number ≡ array_number parts.mounted.array) }
         ensures dies { IfOk result (λ store. store.rig.dies ≡ parts.mounted.dies) }
+        ensures bytes { IfOk result (λ store. store.bytes ≡ store.rig.locked.core.page_map.geometry.pages
+            * store.rig.locked.core.page_map.geometry.page_bytes) }
+        ensures page { IfOk result (λ store. store.page_bytes ≡ store.rig.locked.core.page_map.geometry.page_bytes) }
         ensures refused { IfErr result (λ back. back ≡ parts) }
     {
         let (bytes, page_bytes) = store_bytes(parts.mounted.array.geometry());
@@ -85,17 +88,14 @@ fn store_bytes(geometry: Geometry) -> (u64, u32)
 }
 
 impl<L: Ledger, M: Map + Drop, I: Image, A: Allocator + Copy> Blocks for Solo<L, M, I, A> {
-    ghost use Rattle.std.specs.Prelude.{◌≡◌};
-    ghost use Rattle.fa_blocks.specs.Counts.{IsMade, is_accepted, pages_of};
     ghost use Rattle.fa_blocks.specs.SharedStore.{shared_meets, shared_view, shared_whole};
-    ghost use Rattle.fa_solo.specs.Calls.{MakesCall};
-    ghost use Rattle.fa_types.specs.Store.{IsAnswer};
+    ghost use Rattle.fa_solo.specs.Stores.{StoreMakes};
 
     ghost view = { λ store. shared_view store.bytes store.page_bytes };
 
-    ghost made = { λ before call answer after. (after.bytes ≡ before.bytes) × (after.page_bytes ≡ before.page_bytes) × IsAnswer call answer
-        × IsMade (pages_of before.page_bytes call) before.rig.seat (is_accepted answer) after.rig.seat
-        × MakesCall I.made before.page_bytes before.rig call answer after.rig };
+    ghost made = { λ before call answer after. StoreMakes I.made
+        (record { bytes = before.bytes; page_bytes = before.page_bytes; rig = before.rig }) call answer
+        (record { bytes = after.bytes; page_bytes = after.page_bytes; rig = after.rig }) };
 
     ghost meets = { λ before after call answer made.
         shared_meets before.bytes before.page_bytes after.bytes after.page_bytes call answer made.0 made.1 made.2 };

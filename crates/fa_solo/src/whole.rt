@@ -4,7 +4,7 @@ ghost use Rattle.fa_blocks.specs.Counts.{IsMade};
 ghost use Rattle.fa_ops.specs.Tallies.{pages_in};
 ghost use Rattle.fa_ops.specs.Tasks.{end_of, task_of};
 ghost use Rattle.fa_ops.specs.declared.request.Request.TheVariants.{Flush, Read};
-ghost use Rattle.fa_solo.specs.Calls.{IsOfFlush, MakesWhole};
+ghost use Rattle.fa_solo.specs.Calls.{IsOfFlush, MakesWhole, answer_by};
 ghost use Rattle.fa_solo.specs.Rigs.{Tidies};
 ghost use Rattle.fa_types.specs.Store.{Done, Gave, Refused};
 ghost use Rattle.fa_types.specs.declared.blocks.BlockFault.TheVariants.{NoMemory, NoRoom};
@@ -36,7 +36,7 @@ pub(crate) fn call<L: Ledger, M: Map + Drop, I: Image, A: Allocator + Copy>(
 {
     bring_in(rig);
     let answer = run(rig, page_bytes, request, bytes);
-    let is_full = answer == Err(BlockFault::NoRoom);
+    let is_full = has_no_room(answer);
     tidy_unless(rig, is_full);
     answer
 }
@@ -93,12 +93,23 @@ fn of_flush(fault: BlockFault) -> BlockFault
     }
 }
 
+/// Whether there was no room.
+fn has_no_room(answer: Result<(), BlockFault>) -> bool
+    ensures { answer_by answer ≡ Refused NoRoom → result ≡ true }
+{
+    match answer {
+        Ok(()) => false,
+        Err(fault) => fault == BlockFault::NoRoom,
+    }
+}
+
 /// Does what the array wants, unless there was no room.
 fn tidy_unless<L: Ledger, M: Map + Drop, I: Image, A: Allocator + Copy>(
     rig: &mut Rig<L, M, I, A>,
     is_full: bool,
 )
-    ensures { Tidies I.made rig.old rig.new }
+    ensures tidies { Tidies I.made rig.old rig.new }
+    ensures full { is_full ≡ true → rig.new ≡ rig.old }
 {
     if is_full {
         return;

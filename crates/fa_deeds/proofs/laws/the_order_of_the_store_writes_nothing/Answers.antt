@@ -1,5 +1,5 @@
 use Rattle.fa_asks.proofs.Going.{Laws}
-use Rattle.fa_deeds.proofs.Quiet.{before_rig, behind_rig}
+use Rattle.fa_deeds.proofs.Quiet.{before_rig, behind_rig, told}
 use Rattle.fa_deeds.proofs.laws.the_order_of_the_store_writes_nothing.Goals as goal
 
 pub returns : goal.returns
@@ -12,7 +12,9 @@ returns g c =
       falls = c.the_last_number_never_falls.ensures;
     } in record {
       before = λ old new w of_old calm apart does fair.
-          before_rig g.I.Image.view g.I.Image.honest g.I.Image.made g.met.I.Image.whole g.met.I.Image.meets laws old new w of_old calm apart does fair;
+          told g.I.Image.view new w
+          (before_rig g.I.Image.view g.I.Image.honest g.I.Image.made g.met.I.Image.whole g.met.I.Image.meets laws old new w of_old calm apart does fair);
       behind = λ old new w of_old calm apart tidies fair.
-          behind_rig g.I.Image.view g.I.Image.honest g.I.Image.made g.met.I.Image.whole g.met.I.Image.meets laws old new w of_old calm apart tidies fair;
+          told g.I.Image.view new w
+          (behind_rig g.I.Image.view g.I.Image.honest g.I.Image.made g.met.I.Image.whole g.met.I.Image.meets laws old new w of_old calm apart tidies fair);
     }

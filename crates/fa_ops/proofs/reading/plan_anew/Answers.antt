@@ -8,4 +8,4 @@ use Rattle.fa_ops.proofs.reading.plan_anew.Goals as goal
 pub returns-in-Some-clause-turned : goal.returns-in-Some-clause-turned
 returns-in-Some-clause-turned g c =
     λ t. Moved (Replan c.args.batch.0 (plan_answer c.in-Some.answer)) c.in-Some.ensures.some (no_rise c.in-Some.ensures.commits)
-    (refl, c.planned_anew.ensures) tt
+    (refl, c.planned_anew.ensures) c.requires

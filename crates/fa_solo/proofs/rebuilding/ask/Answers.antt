@@ -8,7 +8,8 @@ use Rattle.fa_solo.proofs.rebuilding.ask.Goals as goal
 
 pub returns-in-Some-clause-none : goal.returns-in-Some-clause-none
 returns-in-Some-clause-none g c =
-    if_none c.batch_of.result (does_event _ IsForOrder _ _ (Admit (c.args.page.0 ∷ []) (admit_answer c.in-Some.answer)) tt c.in-Some.ensures.some
+    if_none c.batch_of.result
+    (does_event _ IsForOrder _ _ (Admit (c.args.page.0 ∷ []) (admit_answer c.in-Some.answer)) tt c.requires.thin c.in-Some.ensures.some
     c.admit.ensures.account refl refl)
 
 pub returns-in-Some-clause-some : goal.returns-in-Some-clause-some

@@ -1,15 +1,28 @@
-use Rattle.fa_solo.proofs.Chains.{does_more, does_none, does_wider, for_order}
-use Rattle.fa_solo.specs.Deeds.{IsForDies, IsForOrder}
+use Rattle.std.proofs.Common.{arith, refl, ◌+◌}
+use Rattle.fa_solo.proofs.Settled.{looks_none, looks_pending, settles_commit, settles_endless, settles_over}
 use Rattle.fa_solo.proofs.rebuilding.see_through.Goals as goal
 
-pub loop-init : goal.loop-init
-loop-init g c = does_none _ IsForOrder _
+pub loop-looks-init : goal.loop-looks-init
+loop-looks-init g c = (0, omega arith, looks_none _ _)
 
-pub loop-preserved : goal.loop-preserved
-loop-preserved g c = does_more _ IsForOrder _ _ _ c.loop.invariant (does_more _ IsForOrder _ _ _ c.commit-answer.ensures (does_wider _ IsForDies IsForOrder for_order _ _ c.work.ensures))
+pub loop-looks-preserved : goal.loop-looks-preserved
+loop-looks-preserved g c = (
+  c.loop-looks.invariant.0 + 1,
+  omega (arith, c.loop-looks.invariant.1),
+  looks_pending _ c.loop-looks.invariant.0 _ _ _ _ c.in-Some.answer c.loop-looks.invariant.2 (c.is_pending.ensures.yes c.if-not-is_pending.false)
+      (record { step = c.in-Some.ensures.some; left = c.commit_copy.ensures.account; images = refl; dies = refl }) c.work.ensures,
+)
+
+pub returns-in_default : goal.returns-in_default
+returns-in_default g c =
+    settles_over _ c.loop-looks.invariant.0 _ _ _ c.loop-looks.invariant.2 c.in_default.ensures.none.0 c.in_default.ensures.none.1
+    c.commit_copy.ensures.account refl refl
 
 pub returns-then-not-is_pending : goal.returns-then-not-is_pending
-returns-then-not-is_pending g c = does_more _ IsForOrder _ _ _ c.loop.invariant c.commit-answer.ensures
+returns-then-not-is_pending g c =
+    settles_commit _ c.loop-looks.invariant.0 _ _ _ c.in-Some.answer c.loop-looks.invariant.2
+    (record { step = c.in-Some.ensures.some; left = c.commit_copy.ensures.account; images = refl; dies = refl })
+    (c.is_pending.ensures.no c.if-not-is_pending.true)
 
-pub returns-then-not-work : goal.returns-then-not-work
-returns-then-not-work g c = does_more _ IsForOrder _ _ _ c.loop.invariant (does_more _ IsForOrder _ _ _ c.commit-answer.ensures (does_wider _ IsForDies IsForOrder for_order _ _ c.work.ensures))
+pub returns : goal.returns
+returns g c = settles_endless _ c.loop-looks.invariant.0 _ _ c.loop-looks.invariant.2 (omega (arith, c.loop-looks.invariant.1))

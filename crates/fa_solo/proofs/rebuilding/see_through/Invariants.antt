@@ -1,6 +1,6 @@
-use Rattle.fa_solo.specs.Rigs.{Does}
-use Rattle.fa_solo.specs.Deeds.{IsForOrder}
+use Rattle.std.proofs.Common.{ℕ, ◌≤◌}
+use Rattle.fa_solo.proofs.Settled.{LooksOn}
 use Rattle.fa_solo.proofs.rebuilding.see_through.Given as goal
 
-abbrev pub invariant-loop : goal.invariant-loop
-invariant-loop g l = Does g.I.Image.made IsForOrder l.initial.rig l.rig
+abbrev pub invariant-loop-looks : goal.invariant-loop-looks
+invariant-loop-looks g l = (looks : ℕ) × (l.looks ≤ looks) × LooksOn g.I.Image.made looks l.initial.rig l.rig
