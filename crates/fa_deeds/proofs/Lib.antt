@@ -6,3 +6,10 @@ pub mod Served
 pub mod Quiet
 pub mod Whole
 pub mod Chained
+pub mod Counts
+pub mod Fates
+pub mod Worlds
+pub mod Flushes
+pub mod Walks
+pub mod Syncing
+pub mod Sums

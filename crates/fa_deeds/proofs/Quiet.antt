@@ -279,7 +279,7 @@ module _ {I : Type 0} (view : I → ImageState) (honest : I → Bool) (made : I 
         (has_it c.others (c.given, c.bytes) (c.page, c.bytes) (ap (λ (a : ℕ × List ℕ). (a.0, c.bytes)) of_page))
         (ap (λ (k : Core). get k.page_map.versions c.page) stands.core ∙ c.last)).0
 
-    copies_quiet : Quiet view dies w new
+    pub copies_quiet : Quiet view dies w new
     copies_quiet = record {
       last = next view dies laws.geometry ended c.ended new reserves stands_ended c.reserves c.images.2 is_told refl;
       happenings = Event admits ∷ (waits.happenings ++ Event ends ∷ Event reserves ∷ []);

@@ -1,0 +1,183 @@
+-- What becomes of a die in the deeds of a store of one thread, over a world that runs lead to.
+use Rattle.fa_alone.proofs.ReadBack.{reached_on}
+use Rattle.fa_asks.proofs.Flushed.{asked_run}
+use Rattle.fa_asks.proofs.Going.{Laws}
+use Rattle.fa_asks.specs.Asked.{Moment, happenings_of}
+use Rattle.fa_deeds.proofs.Asking.{Stands, first, images_kept, went}
+use Rattle.fa_deeds.proofs.Driving.{deeds_drive}
+use Rattle.fa_deeds.proofs.Fates.{DieLaws, Fate, IsNoDone, event_fate, fate_on, its_first, its_image, job_fate, same_fate}
+use Rattle.fa_deeds.proofs.Quiet.{copies_quiet}
+use Rattle.fa_deeds.specs.Driving.{IsDeedOf, IsPlain, StandsFor, image_on}
+use Rattle.fa_headers.specs.declared.judging.Standing.{Standing}
+use Rattle.fa_image.specs.Image.{ImageAnswer, ImageCall, ImageMeets, ImageState, IsImage}
+use Rattle.fa_laws.proofs.Within.{GeometryLaw}
+use Rattle.fa_laws.specs.Reached.{IsReached}
+use Rattle.fa_machine.specs.Cells.{Fault}
+use Rattle.fa_machine.specs.Run.{Event, HappensEvent, ImageCall as Calling}
+use Rattle.fa_machine.specs.State.{Core, is_live}
+use Rattle.fa_machine.specs.Step.{Act, Done, Step, Take}
+use Rattle.fa_machine.specs.World.{IsTold, Told, Work, World, followed}
+use Rattle.fa_mount.specs.Standings.{AreApart}
+use Rattle.fa_ops.specs.declared.request.Task.{Task}
+use Rattle.fa_runs.proofs.DrivenRuns.{Follows, driven, honest_before}
+use Rattle.fa_runs.proofs.Following.{images_follow}
+use Rattle.fa_runs.proofs.JobCalls.{job_runs, value_here}
+use Rattle.fa_runs.specs.Drives.{AreHonest, AreImages, Drive, Driven, Drives, acts_of}
+use Rattle.fa_runs.specs.Images.{IsImageOf}
+use Rattle.fa_shared.specs.Seats.{number_of}
+use Rattle.fa_solo.specs.Deeds.{Goes, Makes, MakesJob, Runs, Stays}
+use Rattle.fa_solo.specs.House.{House}
+use Rattle.fa_solo.specs.Orders.{CopiesPage}
+use Rattle.fa_solo.specs.Turns.{Asking, Asks}
+use Rattle.fa_takes.specs.Fits.{IsJobFor}
+use Rattle.fa_types.specs.declared.geometry.Geometry.{Geometry}
+use Rattle.fa_workers.specs.Made.{Ran}
+use Rattle.std.proofs.Common.{Bool, IsTrue, List, Option, Some, [], ap, false, map, refl, subst, suc, sym, true, ℕ, ◌∙◌, ◌∷◌, ◌≡◌}
+use Rattle.std.specs.List.{AllByRecursion}
+
+-- a die that goes out does so as a job of it ends with a fault
+abbrev pub LeavesLaw : Type 0
+LeavesLaw = (w after : World) (act : Act) (die : ℕ) → IsReached w → HappensEvent w act after → is_live w.core.page_map die ≡ true
+    → is_live after.core.page_map die ≡ false → (call : ℕ) × (act ≡ Done die (Fault call))
+
+pub ends_none : (act : Act) → IsPlain act → IsNoDone act
+ends_none (Done die outcome) plain = absurd plain
+ends_none act plain = tt
+
+-- a world that runs lead to, of an array with its images
+pub record HasWorld {I : Type 0} (view : I → ImageState) (dies : List Standing) (house : House I) : Type 0 where
+  pub world : World
+  pub reached : IsReached world
+  pub stands : Stands view dies house world
+
+-- behind an event that takes no part in jobs
+pub event_world : {I : Type 0} (view : I → ImageState) (dies : List Standing) → GeometryLaw → (old new : House I) (act : Act)
+    → ((w : World) → IsTold w act) → ((w : World) → (followed act w).works ≡ w.works) → Step old.core act new.core → new.images ≡ old.images
+    → HasWorld view dies old → HasWorld view dies new
+event_world view dies law old new act told works step images h =
+    let w = h.world in
+    let v : World = record (followed act w) { core = new.core; moment = suc w.moment } in
+    let happens : HappensEvent w act v =
+    record { step = subst (λ (c : Core). Step c act new.core) (sym h.stands.core) step; told = told w; follows = refl } in
+    record {
+      world = v;
+      reached = reached_on w h.reached (Event act ∷ []) v (v, happens, refl);
+      stands = record {
+        core = refl;
+        images = images_kept view w v (image_on dies new.images) (images_follow act w)
+            (law old.core new.core act step ∙ sym (ap (λ (c : Core). c.page_map.geometry) h.stands.core))
+            (subst (λ l. AreImages view w (image_on dies l)) (sym images) h.stands.images);
+        idle = λ die. ap (λ (f : ℕ → Option Work). f die) (works w) ∙ h.stands.idle die;
+      };
+    }
+
+module _ {I : Type 0} (view : I → ImageState) (honest : I → Bool) (made : I → ImageCall → ImageAnswer → I → Type 0)
+    (whole : (image : I) → IsImage (view image))
+    (meets : (before after : I) (call : ImageCall) (answer : ImageAnswer) → made before call answer after
+    → ImageMeets (view before) (honest before) call answer (view after) (honest after)) (array : List ℕ) (dies : List Standing) (seat : ℕ)
+    (geometry : GeometryLaw) (apart : AreApart dies) where
+  abbrev pub IsFair : House I → Type 0
+  IsFair house = AreHonest honest (image_on dies house.images)
+
+  module _ (P : Act → Type 0) (plain : (act : Act) → P act → IsPlain act) (old new : House I) (goes : Goes made array dies seat P old new)
+      (fair : IsFair new) where
+    led : (told : List Told) → (drives : List Drive) × (last : Driven I) × Drives made array (first dies told old) drives last
+        × StandsFor dies new last × AllByRecursion (IsDeedOf P) (acts_of drives)
+    led told = deeds_drive made array dies seat P geometry plain apart old new (first dies told old)
+        (record { core = refl; images = λ die. refl; works = λ die. refl }) goes
+
+    fair_last : (told : List Told) → AreHonest honest ((led told).1).images
+    fair_last told die image is = fair die image (sym ((led told).3.images die) ∙ is)
+
+    -- images that return what was written behind the deeds did so before
+    pub goes_fair : IsFair old
+    goes_fair = honest_before view honest made whole meets array (first dies [] old) (led []).1 (led []).0 (led []).2 (fair_last [])
+
+    pub goes_world : HasWorld view dies old → HasWorld view dies new
+    goes_world h =
+        let told = h.world.told in
+        let drove = led told in
+        let follows : Follows view honest made whole meets array h.world (first dies told old) =
+        record { core = h.stands.core; told = refl; works = h.stands.idle; given = λ die. tt; images = h.stands.images } in
+        let run = driven view honest made whole meets array geometry drove.0 (first dies told old) drove.1 h.world follows drove.2
+        (fair_last told) in
+        record {
+          world = run.1;
+          reached = reached_on h.world h.reached run.0 run.1 run.2;
+          stands = record {
+            core = run.3.core ∙ drove.3.core;
+            images = λ die image is. run.3.images die image (drove.3.images die ∙ is);
+            idle = λ die. run.3.works die ∙ drove.3.works die;
+          };
+        }
+
+  -- behind a request
+  pub asks_world : {L A : Type 0} (task : Task) (bytes : List ℕ) (a : Asking L I A) (n : ℕ) (b : Asking L I A)
+      → Asks made array dies seat task bytes a n b → number_of a.seat ≡ seat → IsFair b.house → HasWorld view dies a.house
+      → HasWorld view dies b.house
+  asks_world {A = A} task bytes a n b asks number fair h =
+      let one = went view honest made whole meets array dies seat geometry apart task bytes a n b asks h.world h.stands number fair in
+      let before : Moment A = record { world = h.world; stage = a.stage; answer = a.answer } in
+      let after : Moment A = record { world = one.last; stage = b.stage; answer = b.answer } in
+      record {
+        world = one.last;
+        reached = reached_on h.world h.reached (happenings_of one.turns) one.last
+            (asked_run A task seat bytes before one.turns after one.asked);
+        stands = one.stands;
+      }
+
+  -- behind a page that is copied
+  pub copies_world : Laws → (old new : House I) → CopiesPage made array dies seat old new → IsFair new → HasWorld view dies old
+      → HasWorld view dies new
+  copies_world laws old new c fair h =
+      let one = copies_quiet view honest made whole meets array dies seat laws apart old new c fair h.world h.reached h.stands in
+      record { world = one.last; reached = reached_on h.world h.reached one.happenings one.last one.run; stands = one.stands }
+
+  -- A die that goes out as a job ends is the job's, and the job ends with a fault.
+  job_leaves : LeavesLaw → (die d : ℕ) (old new : House I) (job : MakesJob made array dies seat d old new) → IsFair new
+      → HasWorld view dies old
+      → is_live job.taken.page_map die ≡ true → is_live new.core.page_map die ≡ false
+      → (call : ℕ) × (Done d job.outcome ≡ Done die (Fault call))
+  job_leaves law die d old new job fair h live gone =
+      let w = h.world in
+      let take : Act = Take d seat (Some job.job) in
+      let v : World = record (followed take w) { core = job.taken; moment = suc w.moment } in
+      let takes : HappensEvent w take v =
+      record { step = subst (λ (c : Core). Step c take job.taken) (sym h.stands.core) job.takes; told = tt; follows = refl } in
+      let shape : old.core.page_map.geometry ≡ job.taken.page_map.geometry = sym (geometry old.core job.taken take job.takes) in
+      let here : image_on dies old.images d ≡ Some job.before =
+      its_first dies old.images d job.index job.before job.after job.place job.image in
+      let image : IsImageOf view v d job.before =
+      images_kept view w v (image_on dies old.images) (images_follow take w)
+      (sym shape ∙ sym (ap (λ (c : Core). c.page_map.geometry) h.stands.core)) h.stands.images d job.before here in
+      let ran : Ran made job.taken.page_map.geometry array d job.job job.outcome job.before job.after =
+      subst (λ (g : Geometry). Ran made g array d job.job job.outcome job.before job.after) shape job.ran in
+      let fair_after : IsTrue (honest job.after) =
+      fair d job.after (ap (λ (l : List I). image_on dies l d) job.images
+      ∙ its_image dies old.images d job.index job.before job.after job.place job.image) in
+      let calls = job_runs view honest made whole meets array d job.job v job.outcome job.before job.after
+      (value_here d (Some (record { job = job.job; gave = [] })) w.works)
+      (subst (λ (g : Geometry). IsJobFor g array d job.job) shape job.fits) image ran fair_after in
+      let u = calls.0 in
+      let same : u.core ≡ job.taken = ap (λ (x : World). x.core) calls.2.rest in
+      let done : Act = Done d job.outcome in
+      let x : World = record (followed done u) { core = new.core; moment = suc u.moment } in
+      let ends : HappensEvent u done x =
+      record { step = subst (λ (c : Core). Step c done new.core) (sym same) job.ends; told = calls.4; follows = refl } in
+      law u x done die (reached_on w h.reached (Event take ∷ map (Calling d) ran.gave) u (v, takes, calls.1)) ends
+      (ap (λ (c : Core). is_live c.page_map die) same ∙ live) gone
+
+  -- what becomes of a die in some deeds
+  module _ (laws : DieLaws) (leaves : LeavesLaw) (die : ℕ) (P : Act → Type 0) (plain : (act : Act) → P act → IsPlain act) where
+    pub goes_fate : (old new : House I) → Goes made array dies seat P old new → IsFair new → HasWorld view dies old
+        → Fate view dies die old new
+    goes_fate old new Stays fair h = same_fate view dies die old old refl refl
+    goes_fate old new (Makes middle here act goes may due step same) fair h =
+        let fair_then : IsFair middle = subst (λ (l : List I). AreHonest honest (image_on dies l)) same fair in
+        fate_on view dies die old middle new (goes_fate old middle goes fair_then h)
+        (event_fate view dies die laws middle new act (ends_none act (plain act may)) step same)
+    goes_fate old new (Runs middle here d goes job) fair h =
+        let fair_then : IsFair middle = goes_fair P plain middle new (Runs middle new d Stays job) fair in
+        fate_on view dies die old middle new (goes_fate old middle goes fair_then h)
+        (job_fate view honest made meets array dies seat laws apart die d middle new job
+        (job_leaves leaves die d middle new job fair (goes_world P plain old middle goes fair_then h)))
