@@ -34,7 +34,7 @@ use Rattle.std.proofs.Common.{Bool, IsTrue, List, None, Ok, Option, Some, [], ap
 use Rattle.std.specs.List.{AllByRecursion}
 
 -- What is made meanwhile is none of the request's.
-meanwhile_plain : (flush : Bool) (act : Act) → IsMeanwhile flush act → IsPlain act
+pub meanwhile_plain : (flush : Bool) (act : Act) → IsMeanwhile flush act → IsPlain act
 meanwhile_plain true act may = dies_plain act may
 meanwhile_plain false act may = requests_plain act may
 

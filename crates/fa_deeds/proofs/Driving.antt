@@ -25,12 +25,12 @@ use Rattle.std.specs.List.{AllByRecursion}
 use Rattle.std.specs.Prelude.{option_and_then}
 
 -- the list with another element at a place
-got_here : {X : Type 0} (xs : List X) (i : ℕ) (old new : X) → slice_get xs i ≡ Some old → slice_get (slice_set xs i new) i ≡ Some new
+pub got_here : {X : Type 0} (xs : List X) (i : ℕ) (old new : X) → slice_get xs i ≡ Some old → slice_get (slice_set xs i new) i ≡ Some new
 got_here [] i old new is = absurd (let none : None ≡ Some old = is in cc)
 got_here (x ∷ xs) zero old new is = refl
 got_here (x ∷ xs) (suc i) old new is = got_here xs i old new is
 
-got_other : {X : Type 0} (xs : List X) (i j : ℕ) (new : X) → (j ≡ i → ⊥) → slice_get (slice_set xs i new) j ≡ slice_get xs j
+pub got_other : {X : Type 0} (xs : List X) (i j : ℕ) (new : X) → (j ≡ i → ⊥) → slice_get (slice_set xs i new) j ≡ slice_get xs j
 got_other [] i j new apart = refl
 got_other (x ∷ xs) zero zero new apart = absurd (apart refl)
 got_other (x ∷ xs) zero (suc j) new apart = refl

@@ -1,4 +1,5 @@
 -- What becomes of a die and of the counts of its image in what is done with an array.
+use Rattle.fa_deeds.proofs.Driving.{got_here, got_other}
 use Rattle.fa_deeds.proofs.Counts.{Counts, faults_by, more, more_both, ran_counts, syncs_by}
 use Rattle.fa_deeds.specs.Driving.{image_on}
 use Rattle.fa_headers.specs.declared.judging.Standing.{Standing}
@@ -19,9 +20,9 @@ use Rattle.fa_machine.specs.declared.refusals.SpareRefused.TheVariants.{NotSpare
 use Rattle.fa_mount.specs.Standings.{AreApart, place_on}
 use Rattle.fa_solo.specs.Deeds.{MakesJob}
 use Rattle.fa_solo.specs.House.{House}
-use Rattle.std.proofs.Common.{Bool, List, None, Ok, Err, Option, Some, [], ap, arith, false, inl, inr, refl, slice_get, slice_set, subst}
-use Rattle.std.proofs.Common.{suc, sym, true, zero, ℕ}
-use Rattle.std.proofs.Common.{◌+◌, ◌<◌, ◌∙◌, ◌∷◌, ◌≡◌, ◌≤◌, ◌⊎◌}
+use Rattle.std.proofs.Common.{Bool, List, None, Ok, Err, Option, Some, ap, arith, false, inl, inr, refl, slice_get, slice_set, subst}
+use Rattle.std.proofs.Common.{sym, true, ℕ}
+use Rattle.std.proofs.Common.{◌+◌, ◌<◌, ◌∙◌, ◌≡◌, ◌≤◌, ◌⊎◌}
 use Rattle.std.proofs.lemmas.Bool.{and_parts, cases_Bool, cases_eq, false≢true}
 use Rattle.std.proofs.lemmas.Option.{none-some, same_Some}
 use Rattle.std.specs.FinMap.{FinMap, contains_key, get, insert, remove}
@@ -177,19 +178,6 @@ outcome_in act = Wrong
 faultless : (outcome : Outcome) → ((call : ℕ) → outcome ≡ Fault call → ⊥) → faults_by outcome ≡ 0
 faultless (Fault call) none = absurd (none call refl)
 faultless outcome none = refl
-
--- the list with another element at a place
-got_here : {X : Type 0} (xs : List X) (i : ℕ) (old new : X) → slice_get xs i ≡ Some old → slice_get (slice_set xs i new) i ≡ Some new
-got_here [] i old new is = absurd (none-some old is)
-got_here (x ∷ xs) zero old new is = refl
-got_here (x ∷ xs) (suc i) old new is = got_here xs i old new is
-
-got_other : {X : Type 0} (xs : List X) (i j : ℕ) (new : X) → (j ≡ i → ⊥) → slice_get (slice_set xs i new) j ≡ slice_get xs j
-got_other [] i j new apart = refl
-got_other (x ∷ xs) zero zero new apart = absurd (apart refl)
-got_other (x ∷ xs) zero (suc j) new apart = refl
-got_other (x ∷ xs) (suc i) zero new apart = refl
-got_other (x ∷ xs) (suc i) (suc j) new apart = got_other xs i j new (λ e. apart (ap suc e))
 
 module _ {I : Type 0} (view : I → ImageState) (dies : List Standing) (die : ℕ) where
   -- A die in use stays so, and no call of its image was refused; or it is out, and one call was. One that is out stays so, and no call was

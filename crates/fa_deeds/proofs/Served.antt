@@ -48,7 +48,7 @@ pub record RequestLaws (A : Type 0) : Type 0 where
       → Asked t seat bytes before turns after → IsReached after.world
 
 -- a stage that is an end
-ended_at : {A : Type 0} (stage : Stage A) (end : Option BlockFault) → ended stage ≡ Some end → stage ≡ Ended end
+pub ended_at : {A : Type 0} (stage : Stage A) (end : Option BlockFault) → ended stage ≡ Some end → stage ≡ Ended end
 ended_at (Ended fault) end is = ap Ended (same_Some fault end is)
 ended_at stage end is = absurd (none-some end is)
 

@@ -1,5 +1,6 @@
 -- What a whole call of the store of one thread comes to for a die and the counts of its image.
 use Rattle.fa_asks.proofs.Going.{Laws}
+use Rattle.fa_deeds.proofs.Served.{ended_at}
 use Rattle.fa_deeds.proofs.Counts.{Counts, more, more_sum}
 use Rattle.fa_deeds.proofs.Driving.{requests_plain}
 use Rattle.fa_deeds.proofs.Fates.{DieLaws, Fate, IsIn, IsSpare, fate_on, same_fate, syncs_on}
@@ -18,7 +19,7 @@ use Rattle.fa_laws.proofs.Returning.{IsOut}
 use Rattle.fa_machine.specs.State.{Core, is_live}
 use Rattle.fa_machine.specs.World.{World}
 use Rattle.fa_mount.specs.Standings.{AreApart}
-use Rattle.fa_ops.specs.Ops.{beginning, ended, stage_of, task_in}
+use Rattle.fa_ops.specs.Ops.{beginning, stage_of, task_in}
 use Rattle.fa_ops.specs.declared.op.Op.{Op}
 use Rattle.fa_ops.specs.declared.request.Task.{Task}
 use Rattle.fa_ops.specs.declared.stage.Stage.{Stage}
@@ -31,18 +32,12 @@ use Rattle.fa_solo.specs.Rigs.{Does, house_of}
 use Rattle.fa_solo.specs.Turns.{RunsOn, asking_of}
 use Rattle.fa_solo.specs.declared.rig.Rig.{Rig}
 use Rattle.fa_types.specs.Store.{Answer, Done, Refused}
-use Rattle.fa_types.specs.declared.blocks.BlockFault.{BlockFault}
 use Rattle.fa_types.specs.declared.blocks.BlockFault.TheVariants.{NoMemory as OutOfMemory}
-use Rattle.std.proofs.Common.{Bool, List, None, Option, Some, ap, arith, false, inl, inr, refl, subst, suc, sym, true, zero, ℕ}
+use Rattle.std.proofs.Common.{Bool, List, None, Some, ap, arith, false, inl, inr, refl, subst, suc, sym, true, zero, ℕ}
 use Rattle.std.proofs.Common.{◌+◌, ◌%◌, ◌<◌, ◌^◌, ◌∙◌, ◌≡◌, ◌≤◌}
 use Rattle.std.proofs.lemmas.Bool.{false_from_ne_true, false≢true}
-use Rattle.std.proofs.lemmas.Option.{none-some, same_Some}
+use Rattle.std.proofs.lemmas.Option.{same_Some}
 use Rattle.std.specs.FinMap.{contains_key, get}
-
--- a stage that is an end
-ended_at : {A : Type 0} (stage : Stage A) (end : Option BlockFault) → ended stage ≡ Some end → stage ≡ Ended end
-ended_at (Ended fault) end is = ap Ended (same_Some fault end is)
-ended_at stage end is = absurd (none-some end is)
 
 -- a number that is not 0, as a sum
 more_than_none : (count n : ℕ) → 0 < count → more count n ≡ (n + count) % 2 ^ 64

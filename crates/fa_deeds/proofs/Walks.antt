@@ -1,6 +1,7 @@
 -- What becomes of a die in a request of the store of one thread, and in what is done for the array's order.
 use Rattle.fa_asks.proofs.Going.{Laws}
-use Rattle.fa_deeds.proofs.Driving.{copy_plain, dies_plain, order_plain, requests_plain, settles_goes}
+use Rattle.fa_deeds.proofs.Asking.{meanwhile_plain}
+use Rattle.fa_deeds.proofs.Driving.{copy_plain, dies_plain, order_plain, settles_goes}
 use Rattle.fa_deeds.proofs.Fates.{DieLaws, Fate, IsNoDone, event_fate, fate_on, same_fate}
 use Rattle.fa_deeds.proofs.Worlds.{HasWorld, LeavesLaw, asks_world, copies_world, event_world, goes_fair, goes_fate, goes_world}
 use Rattle.fa_deeds.specs.Driving.{IsForCopy, IsPlain, image_on}
@@ -22,7 +23,7 @@ use Rattle.fa_solo.specs.Deeds.{Goes, IsForDies, IsForOrder, IsMeanwhile}
 use Rattle.fa_solo.specs.House.{House}
 use Rattle.fa_solo.specs.Orders.{Copies, CopiesPage, Deals, Orders, Rests}
 use Rattle.fa_solo.specs.Turns.{Asking, Asks, Begins, PassesTime, Readies, Refuses, Turns, Waits}
-use Rattle.std.proofs.Common.{Bool, List, Ok, [], false, refl, subst, sym, true, ℕ, ◌++◌, ◌∙◌, ◌∷◌, ◌≡◌}
+use Rattle.std.proofs.Common.{Bool, List, Ok, [], refl, subst, sym, ℕ, ◌++◌, ◌∙◌, ◌∷◌, ◌≡◌}
 
 -- no event of a request ends a job
 no_done : {A : Type 0} (t : Task) (seat : ℕ) (stage next : Stage A) (die : ℕ) (outcome : Outcome)
@@ -36,11 +37,6 @@ pub moves_end_none : {A : Type 0} (t : Task) (seat : ℕ) (stage : Stage A) (act
     → IsNoDone act
 moves_end_none t seat stage (Done die outcome) next moves = no_done t seat stage next die outcome moves
 moves_end_none t seat stage act next moves = tt
-
--- What is made meanwhile takes no job and ends none.
-pub meanwhile_plain : (flush : Bool) (act : Act) → IsMeanwhile flush act → IsPlain act
-meanwhile_plain true act may = dies_plain act may
-meanwhile_plain false act may = requests_plain act may
 
 module _ {I : Type 0} (view : I → ImageState) (dies : List Standing) (die : ℕ) (laws : DieLaws) where
   -- a turn of a request
