@@ -1,7 +1,7 @@
 //! A heap that is filled, so that it refuses memory.
 use crate::desk::Desk;
+use crate::heap::Heap;
 use crate::seen::Seen;
-use linked_list_allocator::LocalHeap;
 use std::alloc::{AllocError, Global};
 
 /// The bytes of the least piece of a heap.
@@ -13,7 +13,7 @@ const LARGEST: usize = 1024 * 1024;
 /// What a heap is filled with.
 #[derive(Drop)]
 pub(crate) struct Ballast<'a> {
-    pieces: Vec<Vec<u8, &'a LocalHeap>>,
+    pieces: Vec<Vec<u8, &'a Heap>>,
 }
 
 impl<'a> Ballast<'a> {
@@ -25,15 +25,15 @@ impl<'a> Ballast<'a> {
     }
 
     /// Takes all memory of the heap but one piece of so many bytes. The error is that there is no memory for the list of the pieces.
-    pub(crate) fn fill_but(&mut self, heap: &'a LocalHeap, room: usize) -> Result<(), AllocError> {
-        let kept: Option<Vec<u8, &'a LocalHeap>> = Vec::with_capacity(heap, room).ok();
+    pub(crate) fn fill_but(&mut self, heap: &'a Heap, room: usize) -> Result<(), AllocError> {
+        let kept: Option<Vec<u8, &'a Heap>> = Vec::with_capacity(heap, room).ok();
         let filled = self.fill(heap);
         drop(kept);
         filled
     }
 
     /// Takes all memory of the heap, the large pieces first.
-    fn fill(&mut self, heap: &'a LocalHeap) -> Result<(), AllocError> {
+    fn fill(&mut self, heap: &'a Heap) -> Result<(), AllocError> {
         let mut bytes = LARGEST;
         while bytes >= GRAIN {
             self.take_all(heap, bytes)?;
@@ -43,7 +43,7 @@ impl<'a> Ballast<'a> {
     }
 
     /// Takes pieces of this size until there are no more.
-    fn take_all(&mut self, heap: &'a LocalHeap, bytes: usize) -> Result<(), AllocError> {
+    fn take_all(&mut self, heap: &'a Heap, bytes: usize) -> Result<(), AllocError> {
         for _ in 0..LARGEST {
             let Ok(piece) = Vec::with_capacity(heap, bytes) else {
                 return Ok(());
@@ -57,7 +57,7 @@ impl<'a> Ballast<'a> {
 /// Leaves so much memory in the heap, if that is to be little.
 pub(crate) fn starve<'a>(
     ballast: &mut Ballast<'a>,
-    heap: &'a LocalHeap,
+    heap: &'a Heap,
     desk: &mut Desk,
     room: Option<usize>,
 ) {

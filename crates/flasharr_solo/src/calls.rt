@@ -2,7 +2,7 @@
 ghost use Rattle.std.specs.Prelude.{◌≡◌, ◌+◌, ◌≤◌, true};
 
 use fa_types::{BlockFault, Blocks};
-use std::alloc::{AllocError, Global};
+use std::alloc::{AllocError, Allocator, Global};
 
 /// What a call does.
 #[derive(Clone, Copy, Debug, PartialEq, Eq)]
@@ -73,12 +73,12 @@ fn is_inside(size: u64, offset: u64, len: u64) -> bool
 
 /// Makes a call, a write with these bytes. The answer of a read is what was read, and none of another call. A range outside of the store is
 /// refused as no other call is here: as a counter's end.
-pub(crate) fn make<B: Blocks>(
+pub(crate) fn make<B: Blocks, A: Allocator>(
     store: &mut B,
-    alloc: Global,
+    alloc: A,
     call: Call,
     data: &[u8],
-) -> Result<Vec<u8>, BlockFault> {
+) -> Result<Vec<u8, A>, BlockFault> {
     if call.kind == Kind::Read {
         return read(store, alloc, call.offset, call.len);
     }
@@ -89,12 +89,12 @@ pub(crate) fn make<B: Blocks>(
 }
 
 /// A read.
-pub(crate) fn read<B: Blocks>(
+pub(crate) fn read<B: Blocks, A: Allocator>(
     store: &mut B,
-    alloc: Global,
+    alloc: A,
     offset: u64,
     len: u64,
-) -> Result<Vec<u8>, BlockFault> {
+) -> Result<Vec<u8, A>, BlockFault> {
     if !is_inside(store.size(), offset, len) {
         return Err(BlockFault::Spent);
     }

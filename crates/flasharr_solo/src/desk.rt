@@ -44,6 +44,8 @@ pub(crate) struct Desk {
     pub(crate) unread: u64,
     /// How many calls were made.
     pub(crate) calls: u64,
+    /// How many requests of memory the last of them made.
+    pub(crate) requests: u64,
     pub(crate) tally: Tally,
     compared: u64,
     told: Vec<Difference>,
@@ -63,6 +65,7 @@ impl Desk {
             refused: None,
             unread: 0,
             calls: 0,
+            requests: 0,
             tally: Tally::new(),
             compared: 0,
             told: Vec::new(alloc),

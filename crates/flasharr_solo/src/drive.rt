@@ -5,6 +5,7 @@ ghost use Rattle.fa_map.specs.PageView.{page_view};
 use crate::calls::{Call, Kind};
 use crate::desk::Desk;
 use crate::ending::{close, mount_again};
+use crate::heap::Heap;
 use crate::images::{Images, arm, new_images, overwrites};
 use crate::judge::PAGE_BYTES;
 use crate::random::Random;
@@ -15,7 +16,6 @@ use crate::turn::{look_at_all, turn};
 use crate::view::{HeldParts, die_of};
 use fa_solo::Parts;
 use fa_types::{Copies, Geometry};
-use linked_list_allocator::LocalHeap;
 
 /// The most lives of an array.
 const MOST_LIVES: u32 = 5;
@@ -57,7 +57,7 @@ struct Life {
 }
 
 /// Drives arrays until there were so many calls.
-pub(crate) fn drive(heap: &LocalHeap, desk: &mut Desk, calls: u64) {
+pub(crate) fn drive(heap: &Heap, desk: &mut Desk, calls: u64) {
     for _ in 0..calls {
         if desk.calls >= calls {
             return;
@@ -67,7 +67,7 @@ pub(crate) fn drive(heap: &LocalHeap, desk: &mut Desk, calls: u64) {
 }
 
 /// One array.
-fn drive_array(heap: &LocalHeap, desk: &mut Desk, calls: u64) {
+fn drive_array(heap: &Heap, desk: &mut Desk, calls: u64) {
     let Some(shape) = draw_shape(&mut desk.random) else {
         return;
     };
@@ -93,7 +93,7 @@ fn first_life(desk: &mut Desk, shape: Shape, calls: u64) -> Life {
 }
 
 /// The lives of an array.
-fn live_on<'a>(heap: &'a LocalHeap, images: Images<'a>, desk: &mut Desk, life: Life) {
+fn live_on<'a>(heap: &'a Heap, images: Images<'a>, desk: &mut Desk, life: Life) {
     let mut images = images;
     let mut life = life;
     for _ in 0..MOST_LIVES {
@@ -120,7 +120,7 @@ fn next_life(desk: &mut Desk, life: Life) -> Life {
 }
 
 /// A life of an array, from where it was mounted to where all pages were looked at. No image is armed then.
-fn live<'a>(heap: &'a LocalHeap, parts: HeldParts<'a>, desk: &mut Desk, life: Life) -> HeldParts<'a>
+fn live<'a>(heap: &'a Heap, parts: HeldParts<'a>, desk: &mut Desk, life: Life) -> HeldParts<'a>
     requires { IsWhole page_view parts.mounted.array }
     ensures { IsWhole page_view result.mounted.array }
 {
@@ -135,7 +135,7 @@ fn live<'a>(heap: &'a LocalHeap, parts: HeldParts<'a>, desk: &mut Desk, life: Li
 
 /// Some turns.
 fn make_turns<'a>(
-    heap: &'a LocalHeap,
+    heap: &'a Heap,
     parts: HeldParts<'a>,
     desk: &mut Desk,
     life: Life,
@@ -218,6 +218,7 @@ fn draw_way(random: &mut Random) -> Way {
         rounds,
         room,
         early,
+        at_once: false,
     }
 }
 

@@ -3,8 +3,8 @@ ghost use Rattle.std.specs.Prelude.{IfSome};
 ghost use Rattle.fa_core.specs.Array.{IsWhole};
 ghost use Rattle.fa_map.specs.PageView.{page_view};
 
-use crate::ballast::{Ballast, starve};
 use crate::desk::Desk;
+use crate::heap::Heap;
 use crate::images::{DieImage, Images};
 use crate::seen::Seen;
 use crate::view::{HeldOver, HeldParts, View, lost_outside};
@@ -12,7 +12,6 @@ use fa_headers::MountFault;
 use fa_image::Image;
 use fa_mount::{CloseFault, close_clean, mount};
 use fa_types::Copies;
-use linked_list_allocator::LocalHeap;
 
 /// Closes an array, and judges the answer. Whether it was closed.
 pub(crate) fn close(parts: &mut HeldParts<'_>, desk: &mut Desk) -> bool
@@ -68,26 +67,10 @@ fn close_over(mounted: &HeldOver<'_>, images: &mut [DieImage]) -> Result<u64, Cl
     }
 }
 
-/// The same with so much memory in one piece, if it is to be little.
-pub(crate) fn mount_with<'a>(
-    heap: &'a LocalHeap,
-    images: &mut Images<'a>,
-    copies: Copies,
-    desk: &mut Desk,
-    room: Option<usize>,
-) -> Option<HeldOver<'a>>
-    ensures { IfSome result (λ mounted. IsWhole page_view mounted.array) }
-{
-    let mut ballast = Ballast::new(desk.alloc);
-    desk.starved = room.is_some();
-    starve(&mut ballast, heap, desk, room);
-    mount_again(heap, images, copies, desk)
-}
-
-/// The array of these images, which was closed. None where it is not mounted, which is a difference unless an image told a fault, or there
-/// is little memory.
+/// The array of these images, which was closed. None where it is not mounted, which is a difference unless an image told a fault, or a
+/// request of memory was refused.
 pub(crate) fn mount_again<'a>(
-    heap: &'a LocalHeap,
+    heap: &'a Heap,
     images: &mut Images<'a>,
     copies: Copies,
     desk: &mut Desk,
@@ -95,6 +78,7 @@ pub(crate) fn mount_again<'a>(
     ensures { IfSome result (λ mounted. IsWhole page_view mounted.array) }
 {
     let before = all_faults(images.as_slice());
+    let was_refused = heap.has_refused();
     match mount(heap, images.as_mut_slice(), copies, false) {
         Ok(mounted) => {
             desk.count(Seen::Mount);
@@ -102,17 +86,18 @@ pub(crate) fn mount_again<'a>(
         }
         Err(refused) => {
             let faulted = all_faults(images.as_slice()) != before;
-            judge_unmounted(desk, refused.fault, faulted);
+            let starved = heap.has_refused() && !was_refused;
+            judge_unmounted(desk, refused.fault, faulted, starved);
             None
         }
     }
 }
 
 /// Judges why an array is not mounted.
-fn judge_unmounted(desk: &mut Desk, fault: MountFault, faulted: bool) {
+fn judge_unmounted(desk: &mut Desk, fault: MountFault, faulted: bool, starved: bool) {
     let may = match fault {
         MountFault::ImageFault => faulted,
-        MountFault::NoMemory => desk.starved,
+        MountFault::NoMemory => starved,
         _ => false,
     };
     if !may {

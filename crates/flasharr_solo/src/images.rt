@@ -5,10 +5,10 @@ ghost use Rattle.fa_image.specs.Fuse.{fused_view};
 ghost use Rattle.fa_image.specs.Memory.{mem_image_view};
 ghost use Rattle.fa_image.specs.Wrong.{wrong_view};
 
+use crate::heap::Heap;
 use fa_headers::format;
 use fa_image::{FuseImage, Image, MemImage, WrongImage};
 use fa_types::Geometry;
-use linked_list_allocator::LocalHeap;
 use std::alloc::{AllocError, Global};
 
 /// The number of each array.
@@ -21,12 +21,12 @@ pub(crate) type Armed = FuseImage<WrongImage<MemImage>>;
 pub(crate) type DieImage = FuseImage<Armed>;
 
 /// The images of an array's dies.
-pub(crate) type Images<'a> = Vec<DieImage, &'a LocalHeap>;
+pub(crate) type Images<'a> = Vec<DieImage, &'a Heap>;
 
 /// The images of a new array, those of spares among them. None where an image refuses, or the heap is out of memory.
 pub(crate) fn new_images<'a>(
     alloc: Global,
-    heap: &'a LocalHeap,
+    heap: &'a Heap,
     geometry: Geometry,
 ) -> Option<Images<'a>> {
     let mut images = erased(alloc, heap, geometry).ok()?;
@@ -37,11 +37,7 @@ pub(crate) fn new_images<'a>(
 }
 
 /// An erased image for each die. The error is out of memory.
-fn erased<'a>(
-    alloc: Global,
-    heap: &'a LocalHeap,
-    geometry: Geometry,
-) -> Result<Images<'a>, AllocError>
+fn erased<'a>(alloc: Global, heap: &'a Heap, geometry: Geometry) -> Result<Images<'a>, AllocError>
     ensures long { IfOk result (λ images. length images.items ≡ geometry.dies) }
     ensures shape { IfOk result (λ images. AllByRecursion
         (λ image. (fused_view (fused_view (wrong_view mem_image_view)) image).geometry ≡ geometry) images.items) }
@@ -82,10 +78,10 @@ fn rearmed(image: DieImage, calls: u64, reads: u64) -> DieImage {
     FuseImage::new(fused)
 }
 
-/// The second fuse of an image burns at its next call.
-pub(crate) fn arm_second(images: &mut [DieImage], place: usize) {
+/// The second fuse of an image burns at its `calls`-th call from now on.
+pub(crate) fn arm_second(images: &mut [DieImage], place: usize, calls: u64) {
     if let Some(image) = images.get_mut(place) {
-        image.arm(1);
+        image.arm(calls);
     }
 }
 

@@ -6,24 +6,31 @@ mod calls;
 mod desk;
 mod drive;
 mod ending;
+mod heap;
 mod images;
 mod judge;
+mod lines;
 mod random;
 mod script;
 mod seen;
 mod shape;
 mod store;
+mod talk;
 mod trials;
 mod turn;
 mod view;
 
 use crate::desk::Desk;
 use crate::drive::drive;
+use crate::heap::{Heap, new_heap};
+use crate::seen::tell_pair;
+use crate::talk::serve_clients;
 use crate::trials::{
-    Outcome, each_growth_refused, each_image_call_fails, wrong_bytes_take_the_die_out,
+    Outcome, each_growth_refused, each_image_call_fails, requests_of_a_read,
+    wrong_bytes_take_the_die_out,
 };
-use linked_list_allocator::LocalHeap;
 use std::alloc::{AllocError, Global};
+use std::io::Read;
 use std::process::ExitCode;
 use std::{env, io};
 
@@ -50,11 +57,42 @@ struct Wanted {
 
 fn main(rt: HostRuntime) -> io::Result<ExitCode> {
     let words: Vec<String> = env::args(&rt)?.skip(1).collect(rt.alloc())?;
-    let Some(wanted) = wanted_of(words.as_slice()) else {
-        println!(rt; "usage: flasharr_solo drive SEED CALLS | script | all SEED CALLS")?;
-        return Ok(ExitCode::from(FAULTY));
-    };
-    let heap = LocalHeap::new(rt.alloc(), HEAP_BYTES)?;
+    if let Some(copies) = copies_of(words.as_slice()) {
+        return serve_input(&rt, copies);
+    }
+    match wanted_of(words.as_slice()) {
+        Some(wanted) => test(&rt, wanted),
+        None => {
+            println!(rt;
+                "usage: flasharr_solo drive SEED CALLS | script | all SEED CALLS | talk COPIES"
+            )?;
+            Ok(ExitCode::from(FAULTY))
+        }
+    }
+}
+
+/// Serves the clients on standard input.
+fn serve_input(rt: &HostRuntime, copies: u32) -> io::Result<ExitCode> {
+    let mut text = String::new(rt.alloc());
+    rt.stdin().read_to_string(&mut text)?;
+    serve_text(rt, copies, text.as_str())
+}
+
+/// Serves the clients of a text, over an array in a heap of its own.
+fn serve_text(rt: &HostRuntime, copies: u32, text: &str) -> io::Result<ExitCode> {
+    let heap = new_heap(rt.alloc(), HEAP_BYTES)?;
+    let talk = serve_clients(rt.alloc(), &heap, copies, text);
+    rt.print(talk.text())?;
+    Ok(if talk.is_right() {
+        ExitCode::SUCCESS
+    } else {
+        ExitCode::from(FAULTY)
+    })
+}
+
+/// Plays the script and drives a seed, as is wanted.
+fn test(rt: &HostRuntime, wanted: Wanted) -> io::Result<ExitCode> {
+    let heap = new_heap(rt.alloc(), HEAP_BYTES)?;
     let mut text = String::new(rt.alloc());
     let is_played = play_script(rt.alloc(), &heap, wanted, &mut text)?;
     let is_driven = drive_seed(rt.alloc(), &heap, wanted, &mut text)?;
@@ -69,7 +107,7 @@ fn main(rt: HostRuntime) -> io::Result<ExitCode> {
 /// Plays the script, if that is wanted. Whether nothing differs.
 fn play_script(
     alloc: Global,
-    heap: &LocalHeap,
+    heap: &Heap,
     wanted: Wanted,
     text: &mut String,
 ) -> Result<bool, AllocError> {
@@ -83,6 +121,8 @@ fn play_script(
     tell(text, "each_growth_refused", outcome);
     let outcome = wrong_bytes_take_the_die_out(heap, &mut desk, wanted.runs);
     tell(text, "wrong_bytes_take_the_die_out", outcome);
+    let requests = requests_of_a_read(heap, &mut desk);
+    tell_pair(text, "requests of memory by a read of a page", requests);
     desk.tell_differences(text);
     Ok(desk.differences() == 0)
 }
@@ -98,7 +138,7 @@ fn tell(text: &mut String, name: &str, outcome: Outcome) {
 /// Drives arrays, if that is wanted. Whether nothing differs and all that has to come came.
 fn drive_seed(
     alloc: Global,
-    heap: &LocalHeap,
+    heap: &Heap,
     wanted: Wanted,
     text: &mut String,
 ) -> Result<bool, AllocError> {
@@ -139,6 +179,14 @@ fn wanted_of(words: &[String]) -> Option<Wanted> {
             runs: u64::MAX,
             is_gate: true,
         }),
+        _ => None,
+    }
+}
+
+/// How many copies a page has of the array that the words ask clients to be served over. None where they ask for something else.
+fn copies_of(words: &[String]) -> Option<u32> {
+    match words {
+        [mode, copies] if mode.as_str() == "talk" => copies.as_str().parse::<u32>().ok(),
         _ => None,
     }
 }

@@ -6,7 +6,8 @@ ghost use Rattle.fa_map.specs.PageView.{page_view};
 
 use crate::calls::{Call, Kind};
 use crate::desk::Desk;
-use crate::ending::{close, mount_with};
+use crate::ending::{close, mount_again};
+use crate::heap::Heap;
 use crate::images::{
     DieImage, Images, arm, arm_second, first_faults, has_lied, new_images, overwrites,
 };
@@ -16,7 +17,6 @@ use crate::turn::{look_at_all, turn};
 use crate::view::{HeldOver, HeldParts, View, bit, bits, count_thin, lost_mask, room_of, slot_on};
 use fa_solo::Parts;
 use fa_types::{Copies, Die, Geometry, Page};
-use linked_list_allocator::LocalHeap;
 
 /// How many dies the array of the script has.
 pub(crate) const DIES: u64 = 4;
@@ -40,9 +40,6 @@ const FIRST_MOUNT: usize = 0;
 
 const SECOND_MOUNT: usize = CALLS + 1;
 
-/// How many steps there are.
-pub(crate) const STEPS: usize = CALLS + 2;
-
 /// What goes wrong in a run.
 #[derive(Clone, Copy)]
 pub(crate) struct Trial {
@@ -52,12 +49,10 @@ pub(crate) struct Trial {
     pub(crate) call: u64,
     /// Which of its reads of a slot gives wrong bytes, from 1; 0 for none.
     pub(crate) read: u64,
-    /// The step that has little memory, if one has.
-    pub(crate) step: Option<usize>,
-    /// How much it has, in one piece.
-    pub(crate) room: usize,
-    /// Whether it has it before its store is made.
-    pub(crate) early: bool,
+    /// Which request of memory is refused, from 1; 0 for none.
+    pub(crate) request: u64,
+    /// Whether a call for which it was refused is made again at once, by the same store.
+    pub(crate) at_once: bool,
 }
 
 impl Trial {
@@ -66,27 +61,21 @@ impl Trial {
         die: 0,
         call: 0,
         read: 0,
-        step: None,
-        room: 0,
-        early: false,
+        request: 0,
+        at_once: false,
     };
 
-    /// The memory of a step.
-    fn way(self, step: usize) -> Way {
-        if self.step == Some(step) {
-            Way {
-                rounds: 1,
-                room: Some(self.room),
-                early: self.early,
-            }
-        } else {
-            Way::of(1)
+    /// How stores are made: with windows of one round.
+    fn way(self) -> Way {
+        Way {
+            at_once: self.at_once,
+            ..Way::of(1)
         }
     }
 
     /// Whether nothing goes wrong.
     fn is_none(self) -> bool {
-        self.call == 0 && self.read == 0 && self.step.is_none()
+        self.call == 0 && self.read == 0 && self.request == 0
     }
 }
 
@@ -122,7 +111,7 @@ fn write_of(fill: u64, first: u64, pages: u64) -> Call {
 }
 
 /// Plays the script. Whether what was to go wrong went wrong.
-pub(crate) fn play(heap: &LocalHeap, desk: &mut Desk, trial: Trial) -> bool {
+pub(crate) fn play(heap: &Heap, desk: &mut Desk, trial: Trial) -> bool {
     let Some(geometry) = geometry() else {
         desk.differ("no array of the script", 0, 0);
         return false;
@@ -138,12 +127,16 @@ pub(crate) fn play(heap: &LocalHeap, desk: &mut Desk, trial: Trial) -> bool {
     desk.begin(PAGES * PAGE_BYTES);
     let mut images = images;
     arm(&mut images, trial.die as usize, trial.call, trial.read);
-    play_on(heap, images, desk, trial, copies)
+    heap.refuse(trial.request);
+    let came = play_on(heap, images, desk, trial, copies);
+    let was_refused = heap.has_refused();
+    heap.refuse(0);
+    came || was_refused
 }
 
 /// The same over these images.
 fn play_on<'a>(
-    heap: &'a LocalHeap,
+    heap: &'a Heap,
     images: Images<'a>,
     desk: &mut Desk,
     trial: Trial,
@@ -186,9 +179,9 @@ fn went_wrong(images: &[DieImage], trial: Trial) -> bool {
     first_faults(images, place) != 0 || has_lied(images, place)
 }
 
-/// Mounts the array at a step: again where an image told a fault, or there was little memory.
+/// Mounts the array at a step: again where an image told a fault, or memory was refused.
 fn mount_at<'a>(
-    heap: &'a LocalHeap,
+    heap: &'a Heap,
     images: &mut Images<'a>,
     desk: &mut Desk,
     trial: Trial,
@@ -197,14 +190,13 @@ fn mount_at<'a>(
 ) -> Option<HeldOver<'a>>
     ensures { IfSome result (λ mounted. IsWhole page_view mounted.array) }
 {
-    let room = trial.way(step).room;
-    if let Some(mounted) = mount_with(heap, images, copies, desk, room) {
+    if let Some(mounted) = mount_again(heap, images, copies, desk) {
         return Some(mounted);
     }
     if trial.is_none() {
         desk.differ("an array is not mounted where nothing fails", 0, 0);
     }
-    let again = mount_with(heap, images, copies, desk, None);
+    let again = mount_again(heap, images, copies, desk);
     if again.is_none() {
         desk.differ("an array is not mounted a second time", step as u64, 0);
     }
@@ -223,13 +215,13 @@ fn armed_for<'a>(parts: HeldParts<'a>, step: usize) -> HeldParts<'a>
         mounted,
         mut images,
     } = parts;
-    arm_second(images.as_mut_slice(), LOST as usize);
+    arm_second(images.as_mut_slice(), LOST as usize, 1);
     Parts { mounted, images }
 }
 
 /// The calls of the script, and the loss of a die between them.
 fn use_all<'a>(
-    heap: &'a LocalHeap,
+    heap: &'a Heap,
     parts: HeldParts<'a>,
     desk: &mut Desk,
     trial: Trial,
@@ -249,9 +241,9 @@ fn use_all<'a>(
     parts
 }
 
-/// The call of a step, which is made again where there was little memory.
+/// The call of a step, which is made again where memory was refused.
 fn use_once<'a>(
-    heap: &'a LocalHeap,
+    heap: &'a Heap,
     parts: HeldParts<'a>,
     desk: &mut Desk,
     trial: Trial,
@@ -263,10 +255,10 @@ fn use_once<'a>(
 {
     desk.agenda.clear();
     desk.put_first(call_of(step));
-    let mut parts = turn(heap, parts, desk, trial.way(step), copies);
+    let mut parts = turn(heap, parts, desk, trial.way(), copies);
     for _ in 1..TIMES {
         if !desk.agenda.is_empty() {
-            parts = turn(heap, parts, desk, Way::of(1), copies);
+            parts = turn(heap, parts, desk, trial.way(), copies);
         }
     }
     if !desk.agenda.is_empty() {
@@ -309,7 +301,7 @@ fn bits_but(die: u64) -> u64 {
 
 /// Mounts the array that was closed, and looks at all pages.
 fn mount_last<'a>(
-    heap: &'a LocalHeap,
+    heap: &'a Heap,
     images: Images<'a>,
     desk: &mut Desk,
     trial: Trial,
@@ -324,10 +316,13 @@ fn mount_last<'a>(
     parts.images
 }
 
-/// Which pages are lost in the end; where nothing fails none is, and none is thin.
+/// Which pages are lost in the end; where no image fails none is, and where nothing goes wrong none is thin.
 fn judge_last(mounted: &HeldOver<'_>, desk: &mut Desk, trial: Trial, copies: Copies) {
     desk.lost = lost_mask(&mounted.array);
-    if trial.is_none() && (count_thin(&mounted.array, copies) != 0 || desk.lost != 0) {
+    if trial.is_none() && count_thin(&mounted.array, copies) != 0 {
         desk.differ("a page is thin in the end", 0, desk.lost);
+    }
+    if trial.call == 0 && trial.read == 0 && desk.lost != 0 {
+        desk.differ("a page is lost in the end", trial.request, desk.lost);
     }
 }

@@ -6,6 +6,7 @@ ghost use Rattle.fa_map.specs.PageView.{page_view};
 use crate::ballast::{Ballast, starve};
 use crate::calls::{Call, Kind, make, read};
 use crate::desk::{Desk, Refused};
+use crate::heap::Heap;
 use crate::images::DieImage;
 use crate::judge::{PAGE_BYTES, Prefix, accept, compare, pages_met};
 use crate::seen::Seen;
@@ -13,11 +14,10 @@ use crate::view::{HeldParts, bit};
 use fa_map::PageMap;
 use fa_solo::Solo;
 use fa_types::{BlockFault, Blocks};
-use linked_list_allocator::LocalHeap;
 use std::sync::ledger::{Blank, Ledger};
 
 /// The store of one thread over an array here.
-pub(crate) type Store<'a, L> = Solo<L, PageMap<&'a LocalHeap>, DieImage, &'a LocalHeap>;
+pub(crate) type Store<'a, L> = Solo<L, PageMap<&'a Heap>, DieImage, &'a Heap>;
 
 /// What is done with a store.
 #[derive(Clone, Copy, Debug, PartialEq, Eq)]
@@ -39,6 +39,8 @@ pub(crate) struct Way {
     pub(crate) room: Option<usize>,
     /// Whether there is little before the store is made.
     pub(crate) early: bool,
+    /// Whether a call that was refused memory is made again at once.
+    pub(crate) at_once: bool,
 }
 
 impl Way {
@@ -48,13 +50,14 @@ impl Way {
             rounds,
             room: None,
             early: false,
+            at_once: false,
         }
     }
 }
 
 /// Makes a store of an array and its images, does something with it, and takes both back.
 pub(crate) fn on_store<'a, L: Ledger>(
-    heap: &'a LocalHeap,
+    heap: &'a Heap,
     blank: Blank,
     parts: HeldParts<'a>,
     desk: &mut Desk,
@@ -68,24 +71,23 @@ pub(crate) fn on_store<'a, L: Ledger>(
 {
     let mut ballast = Ballast::new(desk.alloc);
     begin(&mut ballast, heap, desk, way);
-    match Solo::<L, PageMap<&'a LocalHeap>, DieImage, &'a LocalHeap>::new(
-        heap, blank, parts, way.rounds,
-    ) {
+    let before = heap.has_refused();
+    match Solo::<L, PageMap<&'a Heap>, DieImage, &'a Heap>::new(heap, blank, parts, way.rounds) {
         Ok(solo) => {
             let mut solo = solo;
             fill(&mut ballast, heap, desk, way);
-            work(&mut solo, desk, job);
+            work(&mut solo, heap, desk, way, job);
             solo.into_parts()
         }
         Err(parts) => {
-            note_refused(desk);
+            note_refused(desk, heap.has_refused() && !before);
             parts
         }
     }
 }
 
 /// Leaves little memory before a store is made, if the way is so.
-fn begin<'a>(ballast: &mut Ballast<'a>, heap: &'a LocalHeap, desk: &mut Desk, way: Way) {
+fn begin<'a>(ballast: &mut Ballast<'a>, heap: &'a Heap, desk: &mut Desk, way: Way) {
     desk.count(Seen::Store);
     desk.starved = way.room.is_some();
     if way.early {
@@ -94,57 +96,86 @@ fn begin<'a>(ballast: &mut Ballast<'a>, heap: &'a LocalHeap, desk: &mut Desk, wa
 }
 
 /// Leaves little memory once a store was made, if the way is so.
-fn fill<'a>(ballast: &mut Ballast<'a>, heap: &'a LocalHeap, desk: &mut Desk, way: Way) {
+fn fill<'a>(ballast: &mut Ballast<'a>, heap: &'a Heap, desk: &mut Desk, way: Way) {
     if !way.early {
         starve(ballast, heap, desk, way.room);
     }
 }
 
 /// Counts a store that was not made.
-fn note_refused(desk: &mut Desk) {
+fn note_refused(desk: &mut Desk, starved: bool) {
     desk.count(Seen::NotMade);
-    if !desk.starved {
+    if !starved && !desk.starved {
         desk.differ("no memory for a store, and there is some", 0, 0);
     }
 }
 
 /// Does something with a store.
-fn work<L: Ledger>(solo: &mut Store<'_, L>, desk: &mut Desk, job: Job) {
+fn work<L: Ledger>(solo: &mut Store<'_, L>, heap: &Heap, desk: &mut Desk, way: Way, job: Job) {
     match job {
-        Job::Calls => make_calls(solo, desk),
-        Job::Settle => settle(solo, desk),
-        Job::LookAtAll => look_at_all(solo, desk),
+        Job::Calls => make_calls(solo, heap, desk, way),
+        Job::Settle => settle(solo, heap, desk),
+        Job::LookAtAll => look_at_all(solo, heap, desk),
     }
 }
 
 /// Makes the calls of the agenda, up to one that is refused.
-fn make_calls<L: Ledger>(solo: &mut Store<'_, L>, desk: &mut Desk) {
+fn make_calls<L: Ledger>(solo: &mut Store<'_, L>, heap: &Heap, desk: &mut Desk, way: Way) {
     for _ in 0..u32::MAX {
         let Some(call) = desk.agenda.pop() else {
             return;
         };
-        if !make_one(solo, desk, call) {
+        if !make_one(solo, heap, desk, way, call) {
             return;
         }
     }
 }
 
 /// Makes a call. False where it is refused.
-fn make_one<L: Ledger>(solo: &mut Store<'_, L>, desk: &mut Desk, call: Call) -> bool {
+fn make_one<L: Ledger>(
+    solo: &mut Store<'_, L>,
+    heap: &Heap,
+    desk: &mut Desk,
+    way: Way,
+    call: Call,
+) -> bool {
     let Ok(data) = call.data(desk.alloc) else {
         desk.differ("no memory for the bytes of a write", call.len, 0);
         return false;
     };
     note_call(desk, call);
-    match make(solo, desk.alloc, call, data.as_slice()) {
+    let before = heap.has_refused();
+    let made = heap.made();
+    let answer = make_with(solo, heap, way, call, data.as_slice());
+    desk.requests = heap.made().wrapping_sub(made);
+    match answer {
         Ok(answer) => {
             accept(desk, call, data.as_slice(), answer.as_slice());
             true
         }
         Err(fault) => {
-            refuse(desk, call, fault);
+            refuse(
+                desk,
+                call,
+                fault,
+                heap.has_refused() && !before && !way.at_once,
+            );
             false
         }
+    }
+}
+
+/// Makes a call, and where it was refused memory at once again, if the way is so.
+fn make_with<'a, L: Ledger>(
+    solo: &mut Store<'_, L>,
+    heap: &'a Heap,
+    way: Way,
+    call: Call,
+    data: &[u8],
+) -> Result<Vec<u8, &'a Heap>, BlockFault> {
+    match make(solo, heap, call, data) {
+        Err(BlockFault::NoMemory) if way.at_once => make(solo, heap, call, data),
+        answer => answer,
     }
 }
 
@@ -164,9 +195,9 @@ fn note_call(desk: &mut Desk, call: Call) {
     }
 }
 
-/// Keeps a refusal.
-fn refuse(desk: &mut Desk, call: Call, fault: BlockFault) {
-    let starved = desk.starved;
+/// Keeps a refusal. Memory may have been refused if there was little, or a request was.
+fn refuse(desk: &mut Desk, call: Call, fault: BlockFault, starved: bool) {
+    let starved = starved || desk.starved;
     desk.refused = Some(Refused {
         call,
         fault,
@@ -175,7 +206,7 @@ fn refuse(desk: &mut Desk, call: Call, fault: BlockFault) {
 }
 
 /// Looks at each page that the refused call meets.
-fn settle<L: Ledger>(solo: &mut Store<'_, L>, desk: &mut Desk) {
+fn settle<L: Ledger>(solo: &mut Store<'_, L>, heap: &Heap, desk: &mut Desk) {
     let Some(refused) = desk.refused else {
         return;
     };
@@ -187,7 +218,7 @@ fn settle<L: Ledger>(solo: &mut Store<'_, L>, desk: &mut Desk) {
     let met = pages_met(refused.call);
     for page in 0..64 {
         if met & bit(page) != 0 {
-            settle_page(solo, desk, &mut prefix, page);
+            settle_page(solo, heap, desk, &mut prefix, page);
         }
     }
     prefix.finish(desk, refused);
@@ -196,21 +227,27 @@ fn settle<L: Ledger>(solo: &mut Store<'_, L>, desk: &mut Desk) {
 /// Looks at a page that the refused call meets.
 fn settle_page<L: Ledger>(
     solo: &mut Store<'_, L>,
+    heap: &Heap,
     desk: &mut Desk,
     prefix: &mut Prefix,
     page: u64,
 ) {
-    match look(solo, desk, page) {
+    match look(solo, heap, desk, page) {
         Some(bytes) => prefix.look(desk, page, bytes.as_slice()),
         None => prefix.pass(),
     }
 }
 
 /// Reads a page. None where it is lost.
-fn look<L: Ledger>(solo: &mut Store<'_, L>, desk: &mut Desk, page: u64) -> Option<Vec<u8>> {
+fn look<'a, L: Ledger>(
+    solo: &mut Store<'_, L>,
+    heap: &'a Heap,
+    desk: &mut Desk,
+    page: u64,
+) -> Option<Vec<u8, &'a Heap>> {
     let offset = page.saturating_mul(PAGE_BYTES);
     let is_lost = desk.lost & bit(page) != 0;
-    match read(solo, desk.alloc, offset, PAGE_BYTES) {
+    match read_again(solo, heap, offset) {
         Ok(bytes) => {
             if is_lost {
                 desk.differ("a lost page is read", page, 0);
@@ -227,17 +264,32 @@ fn look<L: Ledger>(solo: &mut Store<'_, L>, desk: &mut Desk, page: u64) -> Optio
     }
 }
 
+/// Reads a page, and again where a request of memory was refused by that.
+fn read_again<'a, L: Ledger>(
+    solo: &mut Store<'_, L>,
+    heap: &'a Heap,
+    offset: u64,
+) -> Result<Vec<u8, &'a Heap>, BlockFault> {
+    let before = heap.has_refused();
+    match read(solo, heap, offset, PAGE_BYTES) {
+        Err(BlockFault::NoMemory) if !before && heap.has_refused() => {
+            read(solo, heap, offset, PAGE_BYTES)
+        }
+        answer => answer,
+    }
+}
+
 /// Compares each page.
-fn look_at_all<L: Ledger>(solo: &mut Store<'_, L>, desk: &mut Desk) {
+fn look_at_all<L: Ledger>(solo: &mut Store<'_, L>, heap: &Heap, desk: &mut Desk) {
     let pages = solo.size() / PAGE_BYTES;
     for page in 0..pages {
-        look_at(solo, desk, page);
+        look_at(solo, heap, desk, page);
     }
 }
 
 /// Compares a page, unless it is lost.
-fn look_at<L: Ledger>(solo: &mut Store<'_, L>, desk: &mut Desk, page: u64) {
-    if let Some(bytes) = look(solo, desk, page) {
+fn look_at<L: Ledger>(solo: &mut Store<'_, L>, heap: &Heap, desk: &mut Desk, page: u64) {
+    if let Some(bytes) = look(solo, heap, desk, page) {
         compare(
             desk,
             page.saturating_mul(PAGE_BYTES),

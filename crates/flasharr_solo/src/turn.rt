@@ -3,18 +3,18 @@ ghost use Rattle.fa_core.specs.Array.{IsWhole};
 ghost use Rattle.fa_map.specs.PageView.{page_view};
 
 use crate::desk::{Desk, Refused};
+use crate::heap::Heap;
 use crate::judge::{judge_dies, judge_refusal};
 use crate::seen::Seen;
 use crate::store::{Job, Way, on_store};
 use crate::view::{HeldParts, View};
 use fa_types::{BlockFault, Copies};
-use linked_list_allocator::LocalHeap;
 use std::marker::Brand;
 use std::sync::ledger::Blank;
 
 /// Makes the calls of the agenda, up to one that is refused, and judges the answers. A call that found no memory is the next one then.
 pub(crate) fn turn<'a>(
-    heap: &'a LocalHeap,
+    heap: &'a Heap,
     parts: HeldParts<'a>,
     desk: &mut Desk,
     way: Way,
@@ -35,7 +35,7 @@ pub(crate) fn turn<'a>(
 
 /// Looks at the pages that a refused call was to change.
 fn settled<'a>(
-    heap: &'a LocalHeap,
+    heap: &'a Heap,
     parts: HeldParts<'a>,
     desk: &mut Desk,
     refused: Refused,
@@ -61,7 +61,7 @@ fn make_again(desk: &mut Desk, refused: Refused) {
 
 /// Compares all pages that are not lost.
 pub(crate) fn look_at_all<'a>(
-    heap: &'a LocalHeap,
+    heap: &'a Heap,
     parts: HeldParts<'a>,
     desk: &mut Desk,
 ) -> HeldParts<'a>
@@ -73,7 +73,7 @@ pub(crate) fn look_at_all<'a>(
 
 /// Does something with a store of the array, and judges which dies are out behind it.
 fn watched<'a>(
-    heap: &'a LocalHeap,
+    heap: &'a Heap,
     parts: HeldParts<'a>,
     desk: &mut Desk,
     way: Way,

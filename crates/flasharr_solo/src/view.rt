@@ -1,20 +1,20 @@
 //! What is seen of an array between calls.
+use crate::heap::Heap;
 use crate::images::{DieImage, faults_of, has_lied};
 use fa_core::Array;
 use fa_map::PageMap;
 use fa_mount::MountedArray;
 use fa_solo::Parts;
 use fa_types::{Copies, Die, Page};
-use linked_list_allocator::LocalHeap;
 
 /// The array over a heap.
-pub(crate) type Held<'a> = Array<PageMap<&'a LocalHeap>, &'a LocalHeap>;
+pub(crate) type Held<'a> = Array<PageMap<&'a Heap>, &'a Heap>;
 
 /// The same with the places of its images.
-pub(crate) type HeldOver<'a> = MountedArray<PageMap<&'a LocalHeap>, &'a LocalHeap>;
+pub(crate) type HeldOver<'a> = MountedArray<PageMap<&'a Heap>, &'a Heap>;
 
 /// The same with its images.
-pub(crate) type HeldParts<'a> = Parts<PageMap<&'a LocalHeap>, DieImage, &'a LocalHeap>;
+pub(crate) type HeldParts<'a> = Parts<PageMap<&'a Heap>, DieImage, &'a Heap>;
 
 /// The most dies of an array here.
 pub(crate) const MOST_DIES: usize = 8;
@@ -120,7 +120,7 @@ fn live_mask(array: &Held<'_>) -> u64 {
 }
 
 /// Whether a die is live.
-fn is_live(array: &Held<'_>, die: Die) -> bool {
+pub(crate) fn is_live(array: &Held<'_>, die: Die) -> bool {
     array.is_die(die) && array.is_live(die)
 }
 

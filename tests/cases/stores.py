@@ -1,0 +1,96 @@
+"""Clients of the store that an array is to one thread, each served in turn over the same array: four dies without a spare, 16 blocks of 8
+slots, 64 pages of 512 bytes under the name `disk`. Between two clients images of dies are armed, and it is looked where copies are.
+
+Each conversation with `talk` is held over such a store too, with two copies of a page and with three, and has the same answers. What is
+wanted of the others is worked out by hand: the homes of the pages, the lowest erased slots, which dies go out.
+"""
+from cases import Case, Run, spelled
+from cases.conversations import DISC, FLAGS, GO, GONE, GREETING, INPUT_ENDED, DISCONNECTED
+from cases import conversations
+
+PROGRAM = "flasharr_solo"
+
+
+def client(requests, replies, end=INPUT_ENDED):
+    """A client behind its handshake: what it says, and what is printed of it."""
+    said = spelled(f"{FLAGS} {GO} {requests}").hex()
+    return said, f"{spelled(f'{GREETING} {GONE} {replies}').hex()}\nend {end}"
+
+
+def look(line, wanted):
+    return line, wanted
+
+
+def arm(*dies, count=1):
+    """The images of these dies fail at their count-th next call."""
+    return [(f"arm {die} {count}", None) for die in dies]
+
+
+def case(name, copies, steps):
+    """Lines in turn, each with what is printed of it if something is."""
+    text = "".join(f"{line}\n" for line, _ in steps)
+    wanted = "".join(f"{printed}\n" for _, printed in steps if printed is not None)
+    return Case(name, [Run(("talk", str(copies)), wanted, input=text)], program=PROGRAM)
+
+
+# Pages 0 and 5 are written.
+TWO_PAGES = """25609513 0000 0001 0000000000000001 0000000000000000 00000200 aax512
+               25609513 0000 0001 0000000000000002 0000000000000a00 00000200 bbx512"""
+WRITTEN = "67446698 00000000 0000000000000001 67446698 00000000 0000000000000002"
+
+FLUSH = "25609513 0000 0003 0000000000000003 0000000000000000 00000000"
+READ_5 = "25609513 0000 0000 0000000000000004 0000000000000a00 00000200"
+READ_0 = "25609513 0000 0000 0000000000000005 0000000000000000 00000200"
+REWRITE_5 = "25609513 0000 0001 0000000000000006 0000000000000a00 00000200 ccx512"
+REREAD_5 = "25609513 0000 0000 0000000000000007 0000000000000a00 00000200"
+
+
+def reply(cookie, data=None):
+    """An answer, which is an error where there are no data."""
+    return f"67446698 {0 if data is not None else 5:08x} {cookie:016x} {data or ''}"
+
+
+def rows():
+    # Page 5 has the homes 1 and 3, and both go out where it is read. What page 0 has lost on die 1 it gets on die 2.
+    yield case("both_dies_of_a_page_fail", 2, [
+        client(TWO_PAGES, WRITTEN), look("page 0", "page 0 seq 1 at 0:0 1:0"), look("page 5", "page 5 seq 2 at 1:1 3:0"), *arm(1, 3),
+        client(f"{READ_5} {READ_0} {REWRITE_5} {REREAD_5}",
+               f"{reply(4)} {reply(5, 'aax512')} {reply(6, '')} {reply(7, 'ccx512')}"),
+        look("live", "live 0 2"), look("page 0", "page 0 seq 1 at 0:0 2:0"), look("page 5", "page 5 seq 3 at 0:1 2:1")])
+
+    # With three copies page 5 is on die 0 too. A FLUSH takes the two dies out, and page 5 gets its second copy on die 2.
+    yield case("two_of_three_dies_of_a_page_fail", 3, [
+        client(TWO_PAGES, WRITTEN), look("page 0", "page 0 seq 1 at 0:0 1:0 2:0"), look("page 5", "page 5 seq 2 at 0:1 1:1 3:0"),
+        *arm(1, 3), client(f"{FLUSH} {READ_5} {READ_0}", f"{reply(3, '')} {reply(4, 'bbx512')} {reply(5, 'aax512')}"),
+        look("live", "live 0 2"), look("page 0", "page 0 seq 1 at 0:0 2:0"), look("page 5", "page 5 seq 2 at 0:1 2:1"),
+        client(f"{REWRITE_5} {REREAD_5} {DISC}", f"{reply(6, '')} {reply(7, 'ccx512')}", DISCONNECTED),
+        look("page 5", "page 5 seq 3 at 0:2 2:2")])
+
+    # No die is left by a FLUSH. What was never written reads as zeros all the same.
+    yield case("all_dies_fail", 2, [
+        client(TWO_PAGES, WRITTEN), *arm(0, 1, 2, 3),
+        client(f"""{FLUSH} {READ_5} {REWRITE_5}
+                   25609513 0000 0000 0000000000000008 0000000000000400 00000200
+                   25609513 0000 0006 0000000000000009 0000000000000400 00000200
+                   25609513 0000 0004 000000000000000a 0000000000000400 00000200
+                   25609513 0000 0003 000000000000000b 0000000000000000 00000000""",
+               f"{reply(3)} {reply(4)} {reply(6)} {reply(8, '00x512')} {reply(9)} {reply(10)} {reply(11)}"),
+        look("live", "live")])
+
+    # Die 1 writes its header, and the first program of it fails, in a write of eight pages.
+    yield case("a_program_fails_inside_of_a_write", 2, [
+        *arm(1, count=2), client("25609513 0001 0001 0000000000000001 0000000000000000 00001000 ddx4096", reply(1, "")),
+        look("live", "live 0 2 3"), client("25609513 0000 0000 0000000000000002 0000000000000000 00001000", reply(2, "ddx4096")),
+        look("live", "live 0 2 3")])
+
+
+def over_stores(copies):
+    """The conversations with `talk`, each over a store of its own."""
+    for told in conversations.cases():
+        [run] = told.steps
+        yield Case(f"{copies}_copies/{told.name}", [Run((*run.words, str(copies)), run.output, input=run.input)], long=told.long,
+                   program=PROGRAM)
+
+
+def cases():
+    return [*rows(), *over_stores(2), *over_stores(3)]
