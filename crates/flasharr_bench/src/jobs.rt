@@ -40,7 +40,7 @@ const ARRAY: [u8; 16] = [7; 16];
 const FIRST_SLOT: u64 = 4096;
 
 /// How many bytes a digest has (SHA-256, FIPS 180-4).
-const DIGEST_BYTES: usize = 32;
+pub(crate) const DIGEST_BYTES: usize = 32;
 
 /// The name of the file that the image is in, and of the one that is written and read by bare calls.
 const NAMES: [&str; 2] = ["flasharr-jobs-image", "flasharr-jobs-bare"];
@@ -335,14 +335,14 @@ fn read_bare(bare: &File, buffers: &mut Buffers) -> io::Result<()> {
 }
 
 /// The digest of a slot's bytes in front of their own.
-fn digest_of(slot: &[u8]) -> [u8; DIGEST_BYTES] {
+pub(crate) fn digest_of(slot: &[u8]) -> [u8; DIGEST_BYTES] {
     let mut hasher = Sha256::new();
     hasher.update(&slot[..HASHED_BYTES.min(slot.len())]);
     hasher.finalize()
 }
 
 /// The digest stands at the end, so that it is not left out.
-fn set_last(bytes: &mut [u8], digest: &[u8; DIGEST_BYTES]) {
+pub(crate) fn set_last(bytes: &mut [u8], digest: &[u8; DIGEST_BYTES]) {
     let first = bytes.len().saturating_sub(DIGEST_BYTES);
     for (byte, from) in bytes[first..].iter_mut().zip(digest.iter()) {
         *byte = *from;

@@ -13,6 +13,7 @@ mod random;
 mod reads;
 mod session;
 mod slots;
+mod solo;
 mod spares;
 mod steps;
 mod timings;
@@ -80,6 +81,7 @@ fn run_task_on(
     match name {
         "core" => calls::measure(rt, word)?,
         "jobs" => jobs::measure(rt, word)?,
+        "solo" => solo::measure(rt, word)?,
         _ => return Ok(false),
     }
     Ok(true)
@@ -87,6 +89,6 @@ fn run_task_on(
 
 fn tell_usage(rt: &impl Print) -> io::Result<()> {
     println!(rt;
-        "usage: flasharr_bench core PAGES | digests | jobs FOLDER | mount | plan | session | slots"
+        "usage: flasharr_bench core PAGES | digests | jobs FOLDER | mount | plan | session | slots | solo FOLDER"
     )
 }
