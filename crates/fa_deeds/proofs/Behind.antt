@@ -21,7 +21,7 @@ use Rattle.fa_machine.specs.declared.places.Copying.{Copying}
 use Rattle.fa_machine.specs.declared.refusals.CommitCopyRefused.{CommitCopyRefused}
 use Rattle.fa_machine.specs.declared.refusals.CommitCopyRefused.TheVariants.{Failed, Pending}
 use Rattle.fa_machine.specs.declared.refusals.SpareRefused.TheVariants.{NotSpare}
-use Rattle.fa_solo.specs.Deeds.{Goes, IsDue, IsForDies, IsForOrder, IsForRequests, Makes, MakesJob, Runs, Stays}
+use Rattle.fa_solo.specs.Deeds.{Goes, IsDue, IsForDies, IsForOrder, Makes, MakesJob, Runs, Stays}
 use Rattle.fa_solo.specs.House.{House}
 use Rattle.fa_solo.specs.Orders.{Commits, Copies, CopiesPage, Deals, Endless, IsOver, Orders, Rests, Settles, looks_in, looks_of}
 use Rattle.fa_machine.specs.World.{World}
@@ -130,14 +130,6 @@ dies_beside (Advance answer) may = tt
 dies_beside Fold may = tt
 dies_beside act may = absurd may
 
-pub requests_beside : (act : Act) → IsForRequests act → IsBeside act
-requests_beside (Take die seat None) may = tt
-requests_beside (Window die rounds answer) may = tt
-requests_beside (Advance answer) may = tt
-requests_beside (SpareIn die answer) may = tt
-requests_beside Fold may = tt
-requests_beside act may = absurd may
-
 order_beside : (act : Act) → IsForOrder act → IsBeside act
 order_beside (Admit (page ∷ []) answer) may = tt
 order_beside (EndBatch batch answers) may = tt
@@ -226,10 +218,6 @@ ends_copy old new (Some c) (Err Failed) ends d = ap (λ (k : Core). k.copying) d
 order_free : (act : Act) → IsForOrder act → BeginsNoCopy act
 order_free (ReserveCopy page seq payload (Ok done)) may = may
 order_free act may = tt
-
-pub requests_begin_none : (act : Act) → IsForRequests act → BeginsNoCopy act
-requests_begin_none (ReserveCopy page seq payload (Ok done)) may = may
-requests_begin_none act may = tt
 
 module _ {I : Type 0} (made : I → ImageCall → ImageAnswer → I → Type 0) (array : List ℕ) (dies : List Standing) (seat : ℕ) where
   goes_free : (P : Act → Type 0) → ((act : Act) → P act → BeginsNoCopy act) → (old new : House I) → Goes made array dies seat P old new
