@@ -20,7 +20,7 @@ use Rattle.std.proofs.lemmas.Bool.{cases_eq}
 use Rattle.std.proofs.Math.Nat.{mod-add-mod, mod-eq_of_lt, mod-lt}
 use Rattle.std.proofs.lemmas.Option.{none-some, same_Some}
 
--- the count after so many more
+-- the count after this many more
 abbrev pub more : ℕ → ℕ → ℕ
 more zero n = n
 more (suc k) n = one_more (more k n)
@@ -155,7 +155,7 @@ second_syncs_not die (Move page version from to) cell call gave is = by_moved (m
     by_moved None e = absurd (none-some call e)
     by_moved (Some payload) e = ap (syncings gave) (sym (same_Some _ call e)) ∙ none_synced gave _ tt
 
--- the counts of an image behind so many refusals and so many syncs more
+-- the counts of an image behind these refusals and these syncs more
 pub record Counts {I : Type 0} (view : I → ImageState) (faults syncs : ℕ) (before after : I) : Type 0 where
   pub faults_are : (view after).faults ≡ more faults (view before).faults
   pub syncs_are : (view after).syncs ≡ more syncs (view before).syncs

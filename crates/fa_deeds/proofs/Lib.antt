@@ -13,3 +13,4 @@ pub mod Flushes
 pub mod Walks
 pub mod Syncing
 pub mod Sums
+pub mod Beginning

@@ -15,7 +15,8 @@ use Rattle.fa_solo.specs.Calls.{bytes_of}
 use Rattle.fa_solo.specs.Stores.{StoreMakes, StoreState}
 
 module _ {L M I A : Type 0} where
-  -- The world is of what the store owns, the store is as large as the array, no copy of a page is under way, and no two dies have one image.
+  -- The world is of what the store owns, the store is as large as the array, no copy of a page is under way, and no two dies have one
+  -- image.
   pub record IsStoreOf (view : I → ImageState) (store : StoreState L M I A) (w : World) : Type 0 where
     pub owns : IsWorldOf view store.rig w
     pub bytes : store.bytes ≡ w.core.page_map.geometry.pages * w.core.page_map.geometry.page_bytes

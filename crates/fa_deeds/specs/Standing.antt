@@ -26,10 +26,14 @@ module _ {L M I A : Type 0} where
     turns_in (NoMemory is some same) = 0
     turns_in (Made op next its_task stage none runs end) = runs.turns
 
-  -- Its request had fewer turns than one is given up behind, and copies were looked at in vain fewer times.
-  abbrev pub IsTimely : (made : I → ImageCall → ImageAnswer → I → Type 0) (task : Task) (bytes : List ℕ) (answer : Answer) (old new : Rig L M I A)
-      → MakesWhole made task bytes answer old new → Type 0
-  IsTimely made task bytes answer old new call =
-      (turns_in made task bytes answer call.begun call.done call.request < 2 ^ 64 - 1)
-      × (looks_in made call.done.locked.number call.done.dies.items (number_of call.done.seat) (house_of call.done) (house_of new) call.behind.orders
-      < 2 ^ 64 - 1)
+  module _ (made : I → ImageCall → ImageAnswer → I → Type 0) (task : Task) (bytes : List ℕ) (answer : Answer) (old new : Rig L M I A)
+      (call : MakesWhole made task bytes answer old new) where
+    -- how often copies of pages were looked at in vain behind its request
+    abbrev pub vain_looks : ℕ
+    vain_looks =
+        looks_in made call.done.locked.number call.done.dies.items (number_of call.done.seat) (house_of call.done) (house_of new)
+        call.behind.orders
+
+    -- Its request had fewer turns than one is given up behind, and copies were looked at in vain fewer times.
+    abbrev pub IsTimely : Type 0
+    IsTimely = (turns_in made task bytes answer call.begun call.done call.request < 2 ^ 64 - 1) × (vain_looks < 2 ^ 64 - 1)

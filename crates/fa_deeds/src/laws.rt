@@ -21,9 +21,9 @@ use fa_laws::steps::{
     the_last_number_never_falls,
 };
 
-/// The deeds of a store of one thread drive its array over its images: event by event, and each job by its calls. The events are those that
-/// the store makes, for dies, for requests, or for the array's order, and the Takes and Dones of its jobs. The store's images are those that
-/// the drive leads to, and no job is left in flight. No two dies have one image.
+/// The deeds of a store of one thread drive its array over its images: event by event, and each job by its calls. The events are those
+/// that the store makes, for dies, for requests, or for the array's order, and the Takes and Dones of its jobs. The store's images are
+/// those that the drive leads to, and no job is left in flight. No two dies have one image.
 pub fn the_deeds_drive_the_array<I: Image>()
     ensures dies { (array : List ℕ) (dies : List Standing) (seat : ℕ) (old new : House I) (first : Driven I) → AreApart dies
         → StandsFor dies old first → Goes I.made array dies seat IsForDies old new
@@ -41,10 +41,10 @@ pub fn the_deeds_drive_the_array<I: Image>()
     the_geometry_is_kept();
 }
 
-/// What the store of one thread does besides its requests writes nothing: over any world that the store's array and images are of, the deeds that
-/// come before a request, and all that is done for the array's order behind it, lead to a world that they are of then, with the same plain
-/// array. A page that was lost is lost still. One more copy of a page is of the bytes that were told for it. The images return what was
-/// written, no two dies have one image, and no lost page is being copied as it begins.
+/// What the store of one thread does besides its requests writes nothing: over any world that the store's array and images are of, the
+/// deeds that come before a request, and all that is done for the array's order behind it, lead to a world that they are of then, with the
+/// same plain array. A page that was lost is lost still. One more copy of a page is of the bytes that were told for it. The images return
+/// what was written, no two dies have one image, and no lost page is being copied as it begins.
 pub fn the_order_of_the_store_writes_nothing<L, M, I: Image, A>()
     ensures before { (old new : Rig L M I A) (w : World) → IsWorldOf I.view old w → IsCalm w → AreApart old.dies.items
         → Does I.made IsForRequests old new → AreHonest I.honest (image_on new.dies.items new.images.items)

@@ -38,12 +38,12 @@ pub fn a_request_of_the_store_serves<L, M, I: Image, A>()
     a_request_serves::<A>();
 }
 
-/// A call of the store of one thread meets what a store that is alone is asked for: over any world that the store's array and images are of,
-/// it leads to one that they are of then, with its answer. A read that is answered gives the bytes of the plain array, and no page of it was
-/// lost; an accepted write leaves its bytes and nothing else; a refusal has its cause as the call ends. That is told of the whole call, with
-/// the spares that are brought in before its request, and with what is done for the array's order behind it. No copy of a page is under way as
-/// it begins, nor as it ends. The images return what was written, no two dies have one image, the request lies within the array, and it ends
-/// within 2^64 - 1 turns, and a copy within as many looks.
+/// A call of the store of one thread meets what a store that is alone is asked for: over any world that the store's array and images are
+/// of, it leads to one that they are of then, with its answer. A read that is answered gives the bytes of the plain array, and no page of
+/// it was lost; an accepted write leaves its bytes and nothing else; a refusal has its cause as the call ends. That is told of the whole
+/// call, with the spares that are brought in before its request, and with what is done for the array's order behind it. No copy of a page
+/// is under way as it begins, nor as it ends. The images return what was written, no two dies have one image, the request lies within the
+/// array, and it ends within 2^64 - 1 turns, and a copy within as many looks.
 pub fn a_call_of_the_store_meets<L, M, I: Image, A>()
     ensures { (old new : Rig L M I A) (request : Request) (bytes : List ℕ) (answer : Answer) (w : World) → IsWorldOf I.view old w
         → old.locked.core.copying ≡ None → AreApart old.dies.items

@@ -19,13 +19,14 @@ use fa_laws::steps::{
 };
 use fa_types::Blocks;
 
-/// A connection that `fa_session::serve_stream` serves over the store of one thread is one over a store that is alone, whose content is the
-/// plain array: with the same bytes in and out, the same calls with the same answers, and the same end, over the stores that worlds show. The
-/// first of the worlds is one that the store's array and images are of, and they are of the last one at the end. The images return what was
-/// written, and each call ends within 2^64 - 1 turns. A connection over any store whose calls are these is one of this kind.
+/// A connection that `fa_session::serve_stream` serves over the store of one thread is one over a store that is alone, whose content is
+/// the plain array: with the same bytes in and out, the same calls with the same answers, and the same end, over the stores that worlds
+/// show. The first of the worlds is one that the store's array and images are of, and they are of the last one at the end. The images
+/// return what was written, and each call ends within 2^64 - 1 turns. A connection over any store whose calls are these is one of this
+/// kind.
 pub fn a_session_of_the_store_meets<L, M, I: Image, A, S: Blocks>()
-    ensures meets { (old new : StoreState L M I A) (export : List ℕ) (streams : Streams) (end : SessionEnd) (w : World) → IsStoreOf I.view old w
-        → (session : Session (StoreMakes I.made) export old.bytes streams old new end)
+    ensures meets { (old new : StoreState L M I A) (export : List ℕ) (streams : Streams) (end : SessionEnd) (w : World)
+        → IsStoreOf I.view old w → (session : Session (StoreMakes I.made) export old.bytes streams old new end)
         → IsTimelySession I.made export old.bytes streams old new end session
         → AreHonest I.honest (image_on new.rig.dies.items new.rig.images.items)
         → (last : World) × IsStoreOf I.view new last

@@ -24,7 +24,7 @@ pub record IsAtRest (core : Core) : Type 0 where
   pub steps : (die : ℕ) → is_live core.page_map die ≡ true → contains_key core.calendar.windows die ≡ true → victim core.page_map die ≡ None
   pub copies : (page : ℕ) → is_thin core.copies core.page_map page ≡ false
 
--- so many bytes of the array from an offset on
+-- the range of the array with this offset and length, in bytes
 abbrev pub range_in : Core → ℕ → ℕ → Range
 range_in core offset len = bytes_from core.page_map.geometry.page_bytes offset len
 
@@ -32,8 +32,8 @@ range_in core offset len = bytes_from core.page_map.geometry.page_bytes offset l
 abbrev pub pages_of : Range → List ℕ
 pages_of r = range_with_len (first_page r) (past_page r - first_page r)
 
--- So many rounds from the current one on are the least in which these pages are read, each at a die that holds it and in a round of the die
--- that is open now. Pages that have no bytes are not read.
+-- This many rounds, from the current one on, are the least in which these pages are read, each at a die that holds it and in a round of
+-- the die that is open now. Pages that have no bytes are not read.
 abbrev pub AreLeastRounds : Core → List ℕ → ℕ → Type 0
 AreLeastRounds core pages rounds =
     IsLeast (entries_for core.page_map (to_read core.page_map pages)) core.calendar.round (is_closed core.page_map core.calendar) rounds

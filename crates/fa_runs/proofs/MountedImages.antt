@@ -145,6 +145,14 @@ module _ {I A : Type 0} (view : I → ImageState) (honest : I → Bool) (made : 
             (mounted.cells die slot (ap (λ (c : Core). is_live c.page_map die || contains_key c.spares die) same ∙ read.alive) within);
       }
 
+  -- the world of which what was mounted is
+  pub mounted_begins : CopiesAgree (bytes_of (map view after) dies) core.page_map → AllByRecursion (λ image. IsTrue (honest image)) after
+      → (first : World) × (first.core ≡ core) × IsMountedWorld (bytes_of (map view after) dies) (is_spare_of dies) first × IsBeginning first
+      × AreImages view first (images_on dies after)
+  mounted_begins agree fair =
+      let world = mounted_world view honest made whole meets copies unclean before after array dies core is many fair agree in
+      (world.0, world.1, world.2, world.3, have_images world.0 world.1 world.2)
+
   pub mounted_runs : GeometryLaw → (drives : List Drive) (last : Driven I) → CopiesAgree (bytes_of (map view after) dies) core.page_map
       → AllByRecursion (λ image. IsTrue (honest image)) after → Drives made array (beginning core (images_on dies after)) drives last
       → AreHonest honest last.images
