@@ -1,6 +1,7 @@
 pub mod Causes
 pub mod Changed
 pub mod RestKept
+pub mod FlushStages
 pub mod Flushed
 pub mod Going
 pub mod Gone

@@ -1,7 +1,6 @@
 -- Each request serves, from its beginning to its end.
 use Rattle.fa_alone.proofs.ReadBack.{reached_on}
 use Rattle.fa_asks.proofs.Causes.{Cause, KnowsLive, cause_founds}
-use Rattle.fa_asks.proofs.Flushed.{FlushedAt, IsWriting, SyncLaws, from_begins, has_flushed}
 use Rattle.fa_asks.proofs.Going.{Laws, geometry_kept}
 use Rattle.fa_asks.proofs.PlainBytes.{export_long}
 use Rattle.fa_asks.proofs.PutBytes.{with_none}
@@ -11,16 +10,14 @@ use Rattle.fa_asks.proofs.ReadServes.{read_fits, read_gives, read_may, read_on_e
 use Rattle.fa_asks.proofs.ReadStages.{Fits, no_stray as no_stray_read}
 use Rattle.fa_asks.proofs.Sized.{page_some, reached_sized}
 use Rattle.fa_asks.proofs.WriteServes.{begins, first_past, wrote_all, wrote_is, wrote_none}
-use Rattle.fa_asks.proofs.WriteStages.{EndsAt, IsAt, WritesAt, from_on, no_stray, turn_writes, writes_on}
-use Rattle.fa_asks.specs.Asked.{Asked, GivesUp, Makes, Meanwhile, Moment, Readies, Strayed, Turn, TurnsTo, happenings_of}
+use Rattle.fa_asks.proofs.WriteStages.{EndsAt, IsAt, WritesAt, from_on, no_stray, writes_on}
+use Rattle.fa_asks.specs.Asked.{Asked, GivesUp, Makes, Meanwhile, Moment, Readies, Strayed, Turn, TurnsTo}
 use Rattle.fa_asks.specs.Begun.{HasBegun, IsCalm}
 use Rattle.fa_asks.specs.Calls.{HasBytes, answer_of, call_of}
 use Rattle.fa_asks.specs.Shown.{store_of}
 use Rattle.fa_laws.proofs.Answering.{reached_holds}
 use Rattle.fa_laws.specs.Reached.{IsReached}
-use Rattle.fa_laws.specs.Syncing.{TakesAndEndsSync}
-use Rattle.fa_machine.specs.Run.{Event, Happening}
-use Rattle.fa_machine.specs.State.{is_live}
+use Rattle.fa_machine.specs.Run.{Event}
 use Rattle.fa_machine.specs.World.{World}
 use Rattle.fa_ops.specs.Moves.{from_page}
 use Rattle.fa_ops.specs.Ranges.{first_page, past_page}
@@ -29,9 +26,8 @@ use Rattle.fa_ops.specs.declared.range.Range.{Range}
 use Rattle.fa_ops.specs.declared.request.Request.{Request}
 use Rattle.fa_ops.specs.declared.request.Request.TheVariants.{Flush, Read, Trim, Write, Zero}
 use Rattle.fa_ops.specs.declared.request.Task.{Task}
-use Rattle.fa_ops.specs.declared.stage.Purpose.TheVariants.{Answer as AnswerPurpose}
 use Rattle.fa_ops.specs.declared.stage.Stage.{Stage}
-use Rattle.fa_ops.specs.declared.stage.Stage.TheVariants.{Asking, Ended, Leaving, Listing, Reading as ReadingStage, Sorting}
+use Rattle.fa_ops.specs.declared.stage.Stage.TheVariants.{Ended}
 use Rattle.fa_types.specs.Plain.{export}
 use Rattle.fa_types.specs.MemoryMeets.{length-bytes_at}
 use Rattle.fa_types.specs.Store.{Answer, Done, Flushing, IsAnswer, Meets, Reading, HasCause, IsCutShort, IsUnwritten, IsWritten, IsZeroed, Refused, Serves}
@@ -466,57 +462,3 @@ module _ (A : Type 0) (laws : Laws) (before : Moment A) where
       stray t f seat bytes long middle after (goes_at t f seat bytes long h.reached h.calm h.stage turns middle asked) strays
   request_strays Flush h seat bytes many turns middle after asked strays =
       stray (task_of size Flush) (flush_fits h) seat bytes (flush_long bytes) middle after (flush_goes h seat bytes turns middle asked) strays
-
-  writing_at : (t : Task) (f : Fits start t.range) (seat : ℕ) (bytes : List ℕ) (long : length (bytes_for t.fill t.range bytes) ≡ t.range.to - t.range.from)
-      (w : World) (stage : Stage A) → At A laws t seat bytes start f long w stage → IsWriting stage
-  writing_at t f seat bytes long w (Listing (AnswerPurpose page)) k = k
-  writing_at t f seat bytes long w (Asking (AnswerPurpose page) pages) k = k
-  writing_at t f seat bytes long w (ReadingStage (AnswerPurpose page) batch) k = k
-  writing_at t f seat bytes long w (Leaving (AnswerPurpose page) batch fault) k = k
-  writing_at t f seat bytes long w (Sorting (AnswerPurpose page) answers) k = k
-  writing_at t f seat bytes long w stage k = tt
-
-  -- each die that is live at the beginning and at the end took a sync meanwhile, and ended it
-  abbrev pub HasSynced : World → List Happening → Type 0
-  HasSynced w happenings =
-      (die : ℕ) → is_live start.core.page_map die ≡ true → is_live w.core.page_map die ≡ true → TakesAndEndsSync die happenings
-
-  -- a request that ends without a fault behind a flush has synced
-  all_synced : (t : Task) (f : Fits start t.range) (seat : ℕ) (bytes : List ℕ)
-      (long : length (bytes_for t.fill t.range bytes) ≡ t.range.to - t.range.from) → (reached : IsReached start) (flushes : t.flush ≡ true) (syncs : SyncLaws)
-      → ((turns : List Turn) (after : Moment A) → Asked t seat bytes before turns after → At A laws t seat bytes start f long after.world after.stage)
-      → FlushedAt A laws syncs t seat bytes start reached flushes [] start before.stage → (turns : List Turn) (after : Moment A)
-      → Asked t seat bytes before turns after → after.stage ≡ Ended None → HasSynced after.world (happenings_of turns)
-  all_synced t f seat bytes long reached flushes syncs goes begins turns after asked ended =
-      has_flushed A laws syncs t seat bytes start reached flushes (λ (m : Moment A). At A laws t seat bytes start f long m.world m.stage)
-      (λ m k. writing_at t f seat bytes long m.world m.stage k)
-      (λ one two turn k made. turn_writes A laws t seat bytes start f long (Cause laws start t.range f) KnowsLive (cause_founds laws start t.range f) one two turn k made)
-      (λ one two k made. stray t f seat bytes long one two k made) before turns after refl (goes [] before refl) begins asked ended
-
-  page_synced : SyncLaws → (t : Task) (f : Fits start t.range) (seat : ℕ) (bytes : List ℕ)
-      (long : length (bytes_for t.fill t.range bytes) ≡ t.range.to - t.range.from) → IsReached start → IsCalm start
-      → before.stage ≡ from_page t (first_page t.range) → t.flush ≡ true → (turns : List Turn) (after : Moment A)
-      → Asked t seat bytes before turns after → after.stage ≡ Ended None → HasSynced after.world (happenings_of turns)
-  page_synced syncs t f seat bytes long reached calm begun flushes turns after asked ended =
-      all_synced t f seat bytes long reached flushes syncs (λ turns after asked. goes_at t f seat bytes long reached calm begun turns after asked)
-      (subst (FlushedAt A laws syncs t seat bytes start reached flushes [] start) (sym begun)
-      (from_begins A laws syncs t seat bytes start reached flushes (first_page t.range))) turns after asked ended
-
-  pub request_synced : SyncLaws → (request : Request) → HasBegun request before → (seat : ℕ) (bytes : List ℕ) → HasBytes request bytes
-      → (task_of size request).flush ≡ true → (turns : List Turn) (after : Moment A) → Asked (task_of size request) seat bytes before turns after
-      → after.stage ≡ Ended None → HasSynced after.world (happenings_of turns)
-  request_synced syncs (Read offset count) h seat bytes many flushes turns after asked ended = absurd (false≢true flushes)
-  request_synced syncs (Write offset count fua) h seat bytes many flushes turns after asked ended =
-      page_synced syncs (task_of size (Write offset count fua)) (write_fits offset count fua h) seat bytes (write_long offset count bytes many) h.reached h.calm
-      h.stage flushes turns after asked ended
-  request_synced syncs (Zero offset count fua hole) h seat bytes many flushes turns after asked ended =
-      let t = task_of size (Zero offset count fua hole) in
-      page_synced syncs t (zero_fits offset count fua hole h) seat bytes (zero_long t.range hole bytes) h.reached h.calm h.stage flushes turns after asked ended
-  request_synced syncs (Trim offset count fua) h seat bytes many flushes turns after asked ended =
-      let t = task_of size (Trim offset count fua) in
-      page_synced syncs t (trim_fits offset count fua h) seat bytes (length-replicate (t.range.to - t.range.from) 0) h.reached h.calm h.stage flushes turns after
-      asked ended
-  request_synced syncs Flush h seat bytes many flushes turns after asked ended =
-      all_synced (task_of size Flush) (flush_fits h) seat bytes (flush_long bytes) h.reached flushes syncs
-      (λ turns after asked. flush_goes h seat bytes turns after asked)
-      (subst (FlushedAt A laws syncs (task_of size Flush) seat bytes start h.reached flushes [] start) (sym h.stage) tt) turns after asked ended

@@ -13,7 +13,7 @@ use Rattle.fa_ops.specs.declared.request.Task.{Task}
 use Rattle.fa_ops.specs.declared.stage.Purpose.{Purpose}
 use Rattle.fa_ops.specs.declared.stage.Purpose.TheVariants.{Answer, Merge}
 use Rattle.fa_ops.specs.declared.stage.Stage.{Stage}
-use Rattle.fa_ops.specs.declared.stage.Stage.TheVariants.{Listing, Asking, Reading, Leaving, Sorting, Claiming, Filling, Reserving}
+use Rattle.fa_ops.specs.declared.stage.Stage.TheVariants.{Listing, Asking, Reading, Leaving, Sorting, Filling, Reserving}
 use Rattle.fa_ops.specs.declared.stage.Stage.TheVariants.{Committing, Abandoning, Releasing, Flushing}
 use Rattle.fa_types.specs.declared.blocks.BlockFault.{BlockFault}
 

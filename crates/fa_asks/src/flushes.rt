@@ -1,13 +1,11 @@
 //! What a flush comes to.
 ghost use Rattle.std.specs.Prelude.{◌≡◌, ℕ, List, None, true};
 ghost use Rattle.fa_asks.specs.Asked.{Asked, Moment, Turn, happenings_of};
-ghost use Rattle.fa_asks.specs.Begun.{HasBegun};
-ghost use Rattle.fa_asks.specs.Calls.{HasBytes};
+ghost use Rattle.fa_laws.specs.Reached.{IsReached};
 ghost use Rattle.fa_laws.specs.Syncing.{TakesAndEndsSync};
 ghost use Rattle.fa_machine.specs.Run.{Run};
 ghost use Rattle.fa_machine.specs.State.{is_live};
-ghost use Rattle.fa_ops.specs.Tasks.{task_of};
-ghost use Rattle.fa_ops.specs.declared.request.Request.{Request};
+ghost use Rattle.fa_ops.specs.Ops.{beginning};
 ghost use Rattle.fa_ops.specs.declared.request.Task.{Task};
 ghost use Rattle.fa_ops.specs.declared.stage.Stage.TheVariants.{Ended};
 
@@ -22,10 +20,8 @@ use fa_laws::steps::{
 pub fn a_flush_has_synced<A>()
     ensures run { (t : Task) (seat : ℕ) (bytes : List ℕ) (before after : Moment A) (turns : List Turn)
         → Asked t seat bytes before turns after → Run before.world (happenings_of turns) after.world }
-    ensures synced { (request : Request) (seat die : ℕ) (bytes : List ℕ) (before after : Moment A) (turns : List Turn)
-        → HasBegun request before → HasBytes request bytes
-        → (task_of before.world.core.page_map.geometry.page_bytes request).flush ≡ true
-        → Asked (task_of before.world.core.page_map.geometry.page_bytes request) seat bytes before turns after → after.stage ≡ Ended None
+    ensures synced { (t : Task) (seat die : ℕ) (bytes : List ℕ) (before after : Moment A) (turns : List Turn) → IsReached before.world
+        → before.stage ≡ beginning t → t.flush ≡ true → Asked t seat bytes before turns after → after.stage ≡ Ended None
         → is_live before.world.core.page_map die ≡ true → is_live after.world.core.page_map die ≡ true
         → TakesAndEndsSync die (happenings_of turns) }
 {

@@ -1,6 +1,6 @@
-use Rattle.fa_asks.proofs.Flushed.{SyncLaws, asked_run}
+use Rattle.std.proofs.Common.{refl}
+use Rattle.fa_asks.proofs.Flushed.{SyncLaws, asked_run, has_flushed}
 use Rattle.fa_asks.proofs.Going.{Laws}
-use Rattle.fa_asks.proofs.Serving.{request_synced}
 use Rattle.fa_asks.proofs.flushes.a_flush_has_synced.Goals as goal
 
 pub returns : goal.returns
@@ -20,6 +20,6 @@ returns g c =
     } in
     record {
       run = λ t seat bytes before after turns asked. asked_run g.row.A.Denot t seat bytes before turns after asked;
-      synced = λ request seat die bytes before after turns h many flushes asked ended was live.
-          request_synced g.row.A.Denot laws before syncs request h seat bytes many flushes turns after asked ended die was live;
+      synced = λ t seat die bytes before after turns reached begun flushes asked ended.
+          has_flushed g.row.A.Denot laws syncs t seat bytes before.world reached flushes before turns after refl begun asked ended die;
     }
