@@ -4,16 +4,17 @@ use Rattle.fa_asks.proofs.OneTurn.{turn_asked}
 use Rattle.fa_asks.proofs.RestKept.{BeginsNoCopy, event_keeps}
 use Rattle.fa_asks.specs.Asked.{Asked, BringsNoSpare, GivesUp, IsAnothers, IsInTime, IsNoSpare, LeavesClaim, Meanwhile, Moment, OfOne, Readies, Turn}
 use Rattle.fa_asks.specs.Asked.{batch_at, claim_at}
-use Rattle.fa_deeds.proofs.Driving.{deeds_drive, dies_plain, goes_shape, requests_plain}
-use Rattle.fa_deeds.specs.Driving.{IsDeedOf, IsOfJob, IsPlain, StandsFor, image_on}
+use Rattle.fa_deeds.proofs.Driving.{dies_plain, goes_shape, requests_plain}
+use Rattle.fa_deeds.proofs.Led.{Stands, deeds_led, fair_before, images_kept}
+use Rattle.fa_deeds.specs.Driving.{IsDeedOf, IsOfJob, IsPlain, image_on}
 use Rattle.fa_headers.specs.declared.judging.Standing.{Standing}
-use Rattle.fa_image.specs.Image.{ImageAnswer, ImageCall, ImageMeets, ImageState, IsImage, slot_at}
+use Rattle.fa_image.specs.Image.{ImageAnswer, ImageCall, ImageMeets, ImageState, IsImage}
 use Rattle.fa_laws.proofs.Ranged.{calls_core}
 use Rattle.fa_laws.proofs.Within.{GeometryLaw}
 use Rattle.fa_machine.specs.Run.{Event, Happening, ImageCall as CallsImage, Run}
 use Rattle.fa_machine.specs.State.{Core}
 use Rattle.fa_machine.specs.Step.{Act, Advance, Done, Fold, ReserveCopy, SpareIn, Take, Window}
-use Rattle.fa_machine.specs.World.{DieImage, Gave, Told, Work, World}
+use Rattle.fa_machine.specs.World.{Gave, Work, World}
 use Rattle.fa_mount.specs.Standings.{AreApart}
 use Rattle.fa_ops.specs.Moves.{Folded, Moved, Moves, Rested, Strayed, Turned}
 use Rattle.fa_ops.specs.Waiting.{HasNoWindow, awaits_flush, waits}
@@ -21,16 +22,13 @@ use Rattle.fa_ops.specs.declared.request.Task.{Task}
 use Rattle.fa_ops.specs.declared.stage.Stage.{Stage}
 use Rattle.fa_ops.specs.declared.stage.Stage.TheVariants.{Flushing, Reserving}
 use Rattle.fa_ops.specs.declared.stage.Wish.TheVariants.{Data, Fewer, Hole}
-use Rattle.fa_runs.proofs.DrivenRuns.{Follows, driven, honest_before}
-use Rattle.fa_runs.specs.Drives.{AreHonest, AreImages, Drive, Driven, Drives, acts_of, events_of}
-use Rattle.fa_scan.specs.ContentCells.{IsCellOf}
+use Rattle.fa_runs.specs.Drives.{AreHonest, AreImages, events_of}
 use Rattle.fa_shared.specs.Seats.{number_of}
 use Rattle.fa_shared.specs.declared.seat.Seat.{Seat}
-use Rattle.fa_solo.specs.Deeds.{Goes, IsForRequests, IsMeanwhile}
+use Rattle.fa_solo.specs.Deeds.{IsForRequests, IsMeanwhile}
 use Rattle.fa_solo.specs.House.{House}
 use Rattle.fa_solo.specs.Turns.{Asking, Asks, Begins, GivesUp as IsGivenUp, MakesReady, MakesTurn, PassesTime, Readies as ReadiesIt, Refuses, Turns, Waits}
-use Rattle.fa_types.specs.declared.geometry.Geometry.{Geometry}
-use Rattle.std.proofs.Common.{Bool, IsTrue, List, None, Ok, Option, Some, [], ap, false, inl, inr, map, refl, subst, sym, true, ℕ, ◌*◌, ◌++◌, ◌<◌, ◌∙◌, ◌∷◌, ◌≡◌}
+use Rattle.std.proofs.Common.{Bool, IsTrue, List, None, Ok, Option, Some, [], ap, false, inl, inr, map, refl, subst, sym, true, ℕ, ◌++◌, ◌∙◌, ◌∷◌, ◌≡◌}
 use Rattle.std.specs.List.{AllByRecursion}
 
 -- What is made meanwhile is none of the request's.
@@ -215,46 +213,6 @@ turn_shape law t before after old stage new next (Folded between act full fold s
     law between new act step ∙ law old between Fold fold
 turn_shape law t before after old stage new next (Strayed same commits strays barred) = ap (λ (c : Core). c.page_map.geometry) same
 
--- a world of an array with its images, of which no job is in flight
-pub record Stands {I : Type 0} (view : I → ImageState) (dies : List Standing) (house : House I) (w : World) : Type 0 where
-  pub core : w.core ≡ house.core
-  pub images : AreImages view w (image_on dies house.images)
-  pub idle : (die : ℕ) → w.works die ≡ None
-
--- the images of another world of the same shape
-pub images_kept : {I : Type 0} (view : I → ImageState) (w v : World) (images : ℕ → Option I) → v.images ≡ w.images → v.core.page_map.geometry ≡ w.core.page_map.geometry
-    → AreImages view w images → AreImages view v images
-images_kept view w v images same shape are die image is =
-    let one = are die image is in record {
-      shape = one.shape ∙ sym shape;
-      cells = λ slot within.
-          subst (λ (i : ℕ → DieImage). IsCellOf (slot_at slot (view image)) ((i die).seen slot)) (sym same)
-          (one.cells slot (subst (λ (g : Geometry). slot < g.blocks * g.slots) shape within));
-    }
-
--- an array with its images as what drives one, where nothing is under way
-abbrev pub first : {I : Type 0} → List Standing → List Told → House I → Driven I
-first dies told house = record { core = house.core; images = image_on dies house.images; works = λ die. None; told = told }
-
--- what is done meanwhile drives the array
-module _ {I : Type 0} (view : I → ImageState) (honest : I → Bool) (made : I → ImageCall → ImageAnswer → I → Type 0)
-    (whole : (image : I) → IsImage (view image))
-    (meets : (before after : I) (call : ImageCall) (answer : ImageAnswer) → made before call answer after
-    → ImageMeets (view before) (honest before) call answer (view after) (honest after)) (array : List ℕ) (dies : List Standing) (seat : ℕ)
-    (law : GeometryLaw) (apart : AreApart dies) where
-  module _ (flush : Bool) (old new : House I) (goes : Goes made array dies seat (IsMeanwhile flush) old new)
-      (fair : AreHonest honest (image_on dies new.images)) (told : List Told) where
-    led : (drives : List Drive) × (last : Driven I) × Drives made array (first dies told old) drives last × StandsFor dies new last
-        × AllByRecursion (IsQuiet flush) (acts_of drives)
-    led = deeds_drive made array dies seat (IsMeanwhile flush) law (meanwhile_plain flush) apart old new (first dies told old)
-        (record { core = refl; images = λ die. refl; works = λ die. refl }) goes
-
-    fair_last : AreHonest honest (led.1).images
-    fair_last die image is = fair die image (sym (led.3.images die) ∙ is)
-
-    fair_before : AreHonest honest (image_on dies old.images)
-    fair_before = honest_before view honest made whole meets array (first dies told old) led.1 led.0 led.2 fair_last
-
 module _ {L I A : Type 0} (view : I → ImageState) (honest : I → Bool) (made : I → ImageCall → ImageAnswer → I → Type 0)
     (whole : (image : I) → IsImage (view image))
     (meets : (before after : I) (call : ImageCall) (answer : ImageAnswer) → made before call answer after
@@ -342,30 +300,23 @@ module _ {L I A : Type 0} (view : I → ImageState) (honest : I → Bool) (made 
       → AreHonest honest (image_on dies b.house.images) → Went a w b
   time_went a b w stands number time fair =
       let flush = awaits_flush a.stage in
-      let drove = led view honest made whole meets array dies seat law apart flush a.house b.house time.goes fair w.told in
-      let follows : Follows view honest made whole meets array w (first dies w.told a.house) =
-      record { core = stands.core; told = refl; works = stands.idle; given = λ die. tt; images = stands.images } in
-      let run = driven view honest made whole meets array law drove.0 (first dies w.told a.house) drove.1 w follows drove.2
-      (fair_last view honest made whole meets array dies seat law apart flush a.house b.house time.goes fair w.told) in
-      let v : World = run.1 in
+      let one = deeds_led view honest made whole meets array dies seat law apart (IsMeanwhile flush) (meanwhile_plain flush) a.house b.house
+      time.goes fair w stands in
+      let v : World = one.last in
       record {
         last = v;
-        turns = map Meanwhile run.0;
-        asked = subst (λ (l : List ℕ). Asked task seat bytes (at w a) (map Meanwhile run.0) (record { world = v; stage = b.stage; answer = l }))
+        turns = map Meanwhile one.happenings;
+        asked = subst
+            (λ (l : List ℕ). Asked task seat bytes (at w a) (map Meanwhile one.happenings) (record { world = v; stage = b.stage; answer = l }))
             (sym time.answer)
-            (subst (λ (x : Stage A). Asked task seat bytes (at w a) (map Meanwhile run.0) (record { world = v; stage = x; answer = a.answer }))
+            (subst
+            (λ (x : Stage A). Asked task seat bytes (at w a) (map Meanwhile one.happenings) (record { world = v; stage = x; answer = a.answer }))
             (sym time.stage)
-            (run_asked a.stage time.in_time task seat bytes a.answer w run.0 v run.2
-            (subst (AllByRecursion (IsQuiet flush)) (sym run.4) drove.4)));
-        stands = record {
-          core = run.3.core ∙ drove.3.core;
-          images = λ die image is. run.3.images die image (drove.3.images die ∙ is);
-          idle = λ die. run.3.works die ∙ drove.3.works die;
-        };
+            (run_asked a.stage time.in_time task seat bytes a.answer w one.happenings v one.run one.events));
+        stands = one.stands;
         number = time.number ∙ number;
-        free = run_free (IsMeanwhile flush) (λ act may. requests_free act (requests_of flush act may)) w run.0 v run.2
-            (subst (AllByRecursion (IsQuiet flush)) (sym run.4) drove.4);
-        shape = ap (λ (c : Core). c.page_map.geometry) (run.3.core ∙ drove.3.core)
+        free = run_free (IsMeanwhile flush) (λ act may. requests_free act (requests_of flush act may)) w one.happenings v one.run one.events;
+        shape = ap (λ (c : Core). c.page_map.geometry) one.stands.core
             ∙ goes_shape made array dies seat (IsMeanwhile flush) law a.house b.house time.goes
             ∙ sym (ap (λ (c : Core). c.page_map.geometry) stands.core);
       }
@@ -380,7 +331,8 @@ module _ {L I A : Type 0} (view : I → ImageState) (honest : I → Bool) (made 
       asks_fair a turns middle before (subst (λ (h : House I). AreHonest honest (image_on dies h.images)) ready.same_house fair)
   asks_fair a n b (Waits turns middle new before time) fair =
       asks_fair a turns middle before
-      (fair_before view honest made whole meets array dies seat law apart (awaits_flush middle.stage) middle.house b.house time.goes fair [])
+      (fair_before view honest made whole meets array dies seat law apart (IsMeanwhile (awaits_flush middle.stage))
+      (meanwhile_plain (awaits_flush middle.stage)) middle.house b.house time.goes fair)
   asks_fair a n b (Refuses turns middle new before up) fair =
       asks_fair a turns middle before (subst (λ (h : House I). AreHonest honest (image_on dies h.images)) up.same_house fair)
 
@@ -396,7 +348,8 @@ module _ {L I A : Type 0} (view : I → ImageState) (honest : I → Bool) (made 
       went_on a middle b w one (ready_went middle b one.last one.stands one.number ready)
   went a n b (Waits turns middle new before time) w stands number fair =
       let one = went a turns middle before w stands number
-      (fair_before view honest made whole meets array dies seat law apart (awaits_flush middle.stage) middle.house b.house time.goes fair []) in
+      (fair_before view honest made whole meets array dies seat law apart (IsMeanwhile (awaits_flush middle.stage))
+      (meanwhile_plain (awaits_flush middle.stage)) middle.house b.house time.goes fair) in
       went_on a middle b w one (time_went middle b one.last one.stands one.number time fair)
   went a n b (Refuses turns middle new before up) w stands number fair =
       let one = went a turns middle before w stands number

@@ -1,5 +1,6 @@
 -- A request with a flush ends without a fault only where each die in use has synced since the request began.
 use Rattle.fa_alone.proofs.ReadBack.{of_all}
+use Rattle.fa_asks.proofs.FlushStages.{KnownAt, known_first, known_moved, known_ready, known_strayed, known_then, known_without_room}
 use Rattle.fa_deeds.proofs.Fates.{DieLaws, IsIn, flushes_rise, synced_by}
 use Rattle.fa_laws.proofs.Certified.{all_pass}
 use Rattle.fa_laws.proofs.Ranged.{calls_core}
@@ -14,47 +15,25 @@ use Rattle.fa_machine.specs.State.{Core, dies_of, is_live}
 use Rattle.fa_machine.specs.World.{World}
 use Rattle.fa_machine.specs.declared.jobs.Flight.{Flight}
 use Rattle.fa_machine.specs.declared.jobs.Flight.TheVariants.{Sync}
-use Rattle.fa_machine.specs.Step.{Abandon, Act, Admit, Claim, Commit, Done, EndBatch, FlushBegin, FlushState, Release, Replan, Reserve}
-use Rattle.fa_machine.specs.Step.{ReserveFewer, ReserveHole, Step, Take}
+use Rattle.fa_machine.specs.Step.{Act, Done, FlushBegin, FlushState, Step, Take}
 use Rattle.fa_machine.specs.declared.answers.Flush.{Flush}
-use Rattle.fa_machine.specs.declared.answers.FlushState.TheVariants.{NoDie as FlushNoDie, Synced, Waiting}
-use Rattle.fa_machine.specs.declared.refusals.AbandonRefused.TheVariants.{Pending as AbandonPending, Programmed}
-use Rattle.fa_machine.specs.declared.refusals.AdmitRefused.TheVariants.{CalendarFull, Lost as PageLost, NoMemory as AdmitNoMemory}
-use Rattle.fa_machine.specs.declared.refusals.AdmitRefused.TheVariants.{Spent as RoundsSpent}
-use Rattle.fa_machine.specs.declared.refusals.ClaimRefused.TheVariants.{Claimed, NoMemory as ClaimNoMemory}
-use Rattle.fa_machine.specs.declared.refusals.CommitRefused.TheVariants.{Failed, Pending as CommitPending}
-use Rattle.fa_machine.specs.declared.refusals.FlushRefused.TheVariants.{Spent as FlushesSpent}
-use Rattle.fa_machine.specs.declared.refusals.ReserveRefused.{ReserveRefused}
-use Rattle.fa_machine.specs.declared.refusals.ReserveRefused.TheVariants.{NoDie as ReserveNoDie, NoMemory as ReserveNoMemory}
-use Rattle.fa_machine.specs.declared.refusals.ReserveRefused.TheVariants.{NoRoom as ReserveNoRoom}
-use Rattle.fa_machine.specs.declared.refusals.ReserveRefused.TheVariants.{Spent as NumbersSpent}
-use Rattle.fa_ops.specs.Moves.{AfterReserve, Moves, Strays, after_pages, from_page, opened, with_fewer}
-use Rattle.fa_ops.specs.Ops.{Prepares, beginning_by}
-use Rattle.fa_ops.specs.Prepared.{IsMerged, SortsPage}
-use Rattle.fa_ops.specs.Ranges.{covers, first_page, past_page}
+use Rattle.fa_machine.specs.declared.answers.FlushState.TheVariants.{Synced, Waiting}
+use Rattle.fa_ops.specs.Moves.{Moves, Strays}
+use Rattle.fa_ops.specs.Ops.{Prepares, beginning}
 use Rattle.fa_ops.specs.Waiting.{waits, without_room}
-use Rattle.fa_ops.specs.declared.request.Fill.{Fill}
 use Rattle.fa_ops.specs.declared.request.Task.{Task}
-use Rattle.fa_ops.specs.declared.stage.Held.{Held}
-use Rattle.fa_ops.specs.declared.stage.Purpose.TheVariants.{Answer, Merge}
 use Rattle.fa_ops.specs.declared.stage.Stage.{Stage}
-use Rattle.fa_ops.specs.declared.stage.Stage.TheVariants.{Abandoning, Asking, BeginningFlush, Claiming, Committing, Ended, Filling}
-use Rattle.fa_ops.specs.declared.stage.Stage.TheVariants.{Flushing, Leaving}
-use Rattle.fa_ops.specs.declared.stage.Stage.TheVariants.{Listing, Reading, Releasing, Reserving, Sorting}
-use Rattle.fa_ops.specs.declared.stage.Wish.{Wish}
-use Rattle.fa_ops.specs.declared.stage.Wish.TheVariants.{Data, Fewer, Hole}
 use Rattle.fa_types.specs.declared.blocks.BlockFault.{BlockFault}
-use Rattle.fa_types.specs.declared.numbers.Seq.{Seq}
-use Rattle.std.proofs.Common.{Bool, IsTrue, List, None, Option, Some, [], ap, arith, false, inl, inr, nat_le, not, refl, subst, sym, true}
+use Rattle.std.proofs.Common.{Bool, IsTrue, List, None, Option, Some, ap, arith, false, inl, inr, nat_le, not, refl, subst, sym, true}
 use Rattle.std.proofs.Common.{ℕ}
-use Rattle.std.proofs.Common.{◌+◌, ◌<◌, ◌==◌, ◌||◌, ◌∙◌, ◌∷◌, ◌≡◌, ◌≤◌, ◌⊎◌}
+use Rattle.std.proofs.Common.{◌<◌, ◌||◌, ◌∙◌, ◌≡◌, ◌≤◌, ◌⊎◌}
 use Rattle.std.proofs.lemmas.Bool.{cases_eq, false≢true, leb-true}
 use Rattle.std.proofs.lemmas.List.FromFn.{get_or-map-range_with_len}
 use Rattle.std.proofs.lemmas.Option.{none-some, same_Some}
 use Rattle.std.specs.FinMap.{FinMap, get, get-empty}
 use Rattle.std.specs.List.{list_all}
 use Rattle.std.specs.Ordering.{nat_cmp}
-use Rattle.std.specs.Prelude.{Err, Ok, Result, if◌then◌else◌, nat_lt, slice_index_or, unwrap_or}
+use Rattle.std.specs.Prelude.{Ok, slice_index_or, unwrap_or}
 
 -- a flush is synced only where each die that it asked is out, or has ended a sync since
 abbrev pub NoneOlderLaw : Type 0
@@ -74,178 +53,58 @@ module _ (first die : ℕ) where
   module _ {A : Type 0} where
     -- what is so at each stage of a request with a flush, which reads for no answer
     abbrev pub Keeps : Core → Stage A → Type 0
-    Keeps core (Listing (Answer page)) = ⊥
-    Keeps core (Asking (Answer page) pages) = ⊥
-    Keeps core (Reading (Answer page) batch) = ⊥
-    Keeps core (Leaving (Answer page) batch fault) = ⊥
-    Keeps core (Sorting (Answer page) answers) = ⊥
-    Keeps core (Flushing flush) = HasAsked core flush
-    Keeps core (Ended None) = HasSynced core
-    Keeps core stage = Unit {0}
+    Keeps core stage = KnownAt (HasAsked core) (HasSynced core) stage
+
+  asked_still : (old new : Core) → (IsOut old die → IsOut new die) → (flush : Flush) → HasAsked old flush → HasAsked new flush
+  asked_still old new out flush k = (k.0, elim (k.1) [ inl gone ↦ inl (out gone) | inr named ↦ inr named ])
 
   module _ (A : Type 0) where
     -- A stage that waits asks nothing of what dies have synced, and dies that are out stay so.
     pub keeps_waiting : (old new : Core) (stage : Stage A) → (IsOut old die → IsOut new die) → IsTrue (waits stage) → Keeps old stage
         → Keeps new stage
-    keeps_waiting old new (Flushing flush) out waiting k = (k.0, elim (k.1) [ inl gone ↦ inl (out gone) | inr named ↦ inr named ])
-    keeps_waiting old new (Ended None) out waiting k = absurd (false≢true waiting)
-    keeps_waiting old new (Listing (Answer page)) out waiting k = k
-    keeps_waiting old new (Asking (Answer page) pages) out waiting k = k
-    keeps_waiting old new (Reading (Answer page) batch) out waiting k = k
-    keeps_waiting old new (Leaving (Answer page) batch fault) out waiting k = k
-    keeps_waiting old new (Sorting (Answer page) answers) out waiting k = k
-    keeps_waiting old new stage out waiting k = tt
+    keeps_waiting old new stage out waiting k =
+        known_then A (HasAsked old) (HasAsked new) (HasSynced old) (HasSynced new) stage (asked_still old new out)
+        (λ ended. absurd (false≢true (subst (λ (s : Stage A). IsTrue (waits s)) ended waiting))) k
 
     -- and where what dies have synced is the same, at any stage
     pub keeps_same : (old new : Core) (stage : Stage A) → (IsOut old die → IsOut new die) → new.synced ≡ old.synced → Keeps old stage
         → Keeps new stage
-    keeps_same old new (Flushing flush) out same k = (k.0, elim (k.1) [ inl gone ↦ inl (out gone) | inr named ↦ inr named ])
-    keeps_same old new (Ended None) out same k = elim k [
-      | inl gone ↦ inl (out gone)
-      | inr synced ↦ inr (synced.0, ap (λ (m : FinMap nat_cmp ℕ). get m die) same ∙ synced.1, synced.2)
-    ]
-    keeps_same old new (Listing (Answer page)) out same k = k
-    keeps_same old new (Asking (Answer page) pages) out same k = k
-    keeps_same old new (Reading (Answer page) batch) out same k = k
-    keeps_same old new (Leaving (Answer page) batch fault) out same k = k
-    keeps_same old new (Sorting (Answer page) answers) out same k = k
-    keeps_same old new stage out same k = tt
+    keeps_same old new stage out same k =
+        known_then A (HasAsked old) (HasAsked new) (HasSynced old) (HasSynced new) stage (asked_still old new out)
+        (λ ended was. elim was [
+          | inl gone ↦ inl (out gone)
+          | inr synced ↦ inr (synced.0, ap (λ (m : FinMap nat_cmp ℕ). get m die) same ∙ synced.1, synced.2)
+        ]) k
 
     pub keeps_without_room : (core : Core) (fault : BlockFault) (stage : Stage A) → Keeps core stage → Keeps core (without_room fault stage)
-    keeps_without_room core fault (Reserving held wish) k = tt
-    keeps_without_room core fault stage k = k
+    keeps_without_room core fault stage k = known_without_room A (HasAsked core) (HasSynced core) fault stage k
+
+    -- the request makes no event
+    pub keeps_strayed : (core : Core) (stage next : Stage A) → Keeps core stage → Strays core stage next → Keeps core next
+    keeps_strayed core stage next k strays = known_strayed A (HasAsked core) (HasSynced core) core stage next k strays
+
+    -- something is prepared
+    pub keeps_ready : (t : Task) (bytes answer after : List ℕ) (core : Core) (stage next : Stage A) → Keeps core stage
+        → Prepares t bytes stage answer next after → Keeps core next
+    keeps_ready t bytes answer after core stage next k made =
+        known_ready A (HasAsked core) (HasSynced core) t bytes answer after stage next k made
 
     module _ (t : Task) (flushes : t.flush ≡ true) where
-      pages_behind : (core : Core) → Keeps {A = A} core (after_pages t)
-      pages_behind core = subst (λ b. Keeps {A = A} core (if b then BeginningFlush else Ended None)) (sym flushes) tt
-
-      pages_on : (core : Core) (page : ℕ) → Keeps {A = A} core (from_page t page)
-      pages_on core page = by_past (nat_lt page (past_page t.range))
-        where
-          by_past : (b : Bool) → Keeps {A = A} core (if b then Claiming (record { 0 = page }) else after_pages t)
-          by_past true = tt
-          by_past false = pages_behind core
-
-      pub keeps_first : (core : Core) (fill : Option Fill) → Keeps {A = A} core (beginning_by t fill)
-      keeps_first core (Some fill) = pages_on core (first_page t.range)
-      keeps_first core None =
-          subst (λ b. Keeps {A = A} core
-          (if b then after_pages t else (if t.range.from == t.range.to then Ended None else Listing (Answer (first_page t.range)))))
-          (sym flushes) (pages_behind core)
-
-      opens_on : (core : Core) (held : Held) → Keeps {A = A} core (opened t held)
-      opens_on core held = by_covers (covers t.range held.page.0)
-        where
-          by_covers : (b : Bool) → Keeps {A = A} core (if b then Filling held false else Listing (Merge held))
-          by_covers true = tt
-          by_covers false = tt
-
-      reserves_on : (core : Core) (held : Held) (wish : Wish A) (answer : Result Seq ReserveRefused) (next : Stage A)
-          → Keeps {A = A} core (with_fewer held wish) → AfterReserve held wish answer next → Keeps core next
-      reserves_on core held wish (Ok seq) next fewer m = subst (Keeps core) (sym m) tt
-      reserves_on core held wish (Err ReserveNoRoom) next fewer (inl less) = subst (Keeps core) (sym less) fewer
-      reserves_on core held wish (Err ReserveNoRoom) next fewer (inr stays) = subst (Keeps core) (sym stays) tt
-      reserves_on core held wish (Err ReserveNoDie) next fewer m = subst (Keeps core) (sym m) tt
-      reserves_on core held wish (Err NumbersSpent) next fewer m = subst (Keeps core) (sym m) tt
-      reserves_on core held wish (Err ReserveNoMemory) next fewer m = subst (Keeps core) (sym m) tt
+      pub keeps_first : (core : Core) → Keeps {A = A} core (beginning t)
+      keeps_first core = known_first A (HasAsked core) (HasSynced core) t flushes
 
       -- the request makes its event
-      module _ (seat : ℕ) (core after : Core) (begins : (flush : Flush) → Step core (FlushBegin (Ok flush)) after → HasAsked after flush)
-          (syncs : (flush : Flush) → HasAsked core flush → Step core (FlushState flush Synced) after → HasSynced after) where
-        pub keeps_moved : (stage : Stage A) (act : Act) (next : Stage A) → Keeps core stage → Step core act after
-            → Moves t seat stage act next
-            → Keeps after next
-        keeps_moved (Claiming page) (Claim p (Ok id)) next k step m =
-            subst (Keeps after) (sym m.1) (opens_on after (record { page = page; claim = id }))
-        keeps_moved (Claiming page) (Claim p (Err Claimed)) next k step m = subst (Keeps after) (sym m.1) tt
-        keeps_moved (Claiming page) (Claim p (Err ClaimNoMemory)) next k step m = subst (Keeps after) (sym m.1) tt
-        keeps_moved (Asking (Merge held) pages) (Admit asked (Ok made)) next k step m = subst (Keeps after) (sym m.1) tt
-        keeps_moved (Asking (Merge held) pages) (Admit asked (Err (PageLost page))) next k step m =
-            elim (m.1) [ inl stops ↦ subst (Keeps after) (sym stops) tt | inr stays ↦ subst (Keeps after) (sym stays) tt ]
-        keeps_moved (Asking (Merge held) pages) (Admit asked (Err CalendarFull)) next k step m = subst (Keeps after) (sym m.1) tt
-        keeps_moved (Asking (Merge held) pages) (Admit asked (Err RoundsSpent)) next k step m = subst (Keeps after) (sym m.1) tt
-        keeps_moved (Asking (Merge held) pages) (Admit asked (Err AdmitNoMemory)) next k step m = subst (Keeps after) (sym m.1) tt
-        keeps_moved (Reading (Merge held) batch) (Replan b (Ok planned)) next k step m = subst (Keeps after) (sym m.1) tt
-        keeps_moved (Reading (Merge held) batch) (Replan b (Err (PageLost page))) next k step m =
-            elim (m.1) [ inl stops ↦ subst (Keeps after) (sym stops) tt | inr stays ↦ subst (Keeps after) (sym stays) tt ]
-        keeps_moved (Reading (Merge held) batch) (Replan b (Err CalendarFull)) next k step m = subst (Keeps after) (sym m.1) tt
-        keeps_moved (Reading (Merge held) batch) (Replan b (Err RoundsSpent)) next k step m = subst (Keeps after) (sym m.1) tt
-        keeps_moved (Reading (Merge held) batch) (Replan b (Err AdmitNoMemory)) next k step m = subst (Keeps after) (sym m.1) tt
-        keeps_moved (Reading (Merge held) batch) (EndBatch b answers) (Sorting (Merge other) given) k step m = tt
-        keeps_moved (Reading (Merge held) batch) (EndBatch b answers) (Sorting (Answer page) given) k step m =
-            let other : Answer page ≡ Merge held = m.1.0 in cc
-        keeps_moved (Reading (Merge held) batch) (EndBatch b answers) next k step m = absurd m.1
-        keeps_moved (Leaving (Merge held) batch fault) (EndBatch b answers) next k step m = subst (Keeps after) (sym m.1) tt
-        keeps_moved (Reserving held (Data payload)) (Reserve claim b answer) next k step m =
-            reserves_on after held (Data payload) answer next tt m.2
-        keeps_moved (Reserving held (Fewer payload)) (ReserveFewer claim b answer) next k step m =
-            reserves_on after held (Fewer payload) answer next tt m.2
-        keeps_moved (Reserving held Hole) (ReserveHole claim answer) next k step m = reserves_on after held Hole answer next tt m.1
-        keeps_moved (Reserving held (Data payload)) act next k step m = absurd m
-        keeps_moved (Reserving held (Fewer payload)) act next k step m = absurd m
-        keeps_moved (Reserving held Hole) act next k step m = absurd m
-        keeps_moved (Committing held wish) (Commit claim by (Ok given)) next k step m = subst (Keeps after) (sym m.2) tt
-        keeps_moved (Committing held wish) (Commit claim by (Err CommitPending)) next k step m = subst (Keeps after) (sym m.2) tt
-        keeps_moved (Committing held wish) (Commit claim by (Err Failed)) next k step m = subst (Keeps after) (sym m.2) tt
-        keeps_moved (Abandoning held wish) (Abandon claim (Ok made)) next k step m = subst (Keeps after) (sym m.1) tt
-        keeps_moved (Abandoning held wish) (Abandon claim (Err AbandonPending)) next k step m = subst (Keeps after) (sym m.1) tt
-        keeps_moved (Abandoning held wish) (Abandon claim (Err Programmed)) next k step m = subst (Keeps after) (sym m.1) tt
-        keeps_moved (Releasing held None) (Release claim) next k step m =
-            subst (Keeps after) (sym m.1) (pages_on after (held.page.0 + 1))
-        keeps_moved (Releasing held (Some fault)) (Release claim) next k step m = subst (Keeps after) (sym m.1) tt
-        keeps_moved (Releasing held fault) (Abandon claim answer) next k step m = subst (Keeps after) (sym m.1) tt
-        keeps_moved BeginningFlush (FlushBegin (Ok flush)) next k step m = subst (Keeps after) (sym m) (begins flush step)
-        keeps_moved BeginningFlush (FlushBegin (Err FlushesSpent)) next k step m = subst (Keeps after) (sym m) tt
-        keeps_moved (Flushing flush) (FlushState b Waiting) next k step m =
-            subst (Keeps after) (sym m.1) (subst (λ (c : Core). HasAsked c flush) (sym step.does.1) k)
-        keeps_moved (Flushing flush) (FlushState b Synced) next k step m =
-            subst (Keeps after) (sym m.1) (syncs flush k (subst (λ x. Step core (FlushState x Synced) after) m.0 step))
-        keeps_moved (Flushing flush) (FlushState b FlushNoDie) next k step m = subst (Keeps after) (sym m.1) tt
-        keeps_moved (Asking (Answer page) pages) act next k step m = absurd k
-        keeps_moved (Reading (Answer page) batch) act next k step m = absurd k
-        keeps_moved (Leaving (Answer page) batch fault) act next k step m = absurd k
-        keeps_moved stage act next k step m = absurd m
-
-      -- the request makes no event
-      pub keeps_strayed : (core : Core) (stage next : Stage A) → Keeps core stage → Strays core stage next → Keeps core next
-      keeps_strayed core (Asking (Merge held) pages) next k strays = subst (Keeps core) (sym strays) tt
-      keeps_strayed core (Reading (Merge held) batch) next k strays = subst (Keeps core) (sym strays.1) tt
-      keeps_strayed core (Leaving (Merge held) batch fault) next k strays = subst (Keeps core) (sym strays.1) tt
-      keeps_strayed core (Claiming page) next k strays = subst (Keeps core) (sym strays.1) tt
-      keeps_strayed core (Reserving held wish) next k strays = subst (Keeps core) (sym strays) tt
-      keeps_strayed core (Committing held wish) next k strays = subst (Keeps core) (sym strays.1) tt
-      keeps_strayed core (Abandoning held wish) next k strays = subst (Keeps core) (sym strays.1) tt
-      keeps_strayed core (Releasing held fault) next k strays = subst (Keeps core) (sym strays.1) tt
-      keeps_strayed core (Asking (Answer page) pages) next k strays = absurd k
-      keeps_strayed core (Reading (Answer page) batch) next k strays = absurd k
-      keeps_strayed core (Leaving (Answer page) batch fault) next k strays = absurd k
-      keeps_strayed core stage next k strays = absurd strays
-
-      -- something is prepared
-      merged : (bytes : List ℕ) (core : Core) (held : Held) (given : List ℕ) (next : Stage A) → IsMerged t bytes held given next
-          → Keeps core next
-      merged bytes core held given (Reserving h (Data payload)) made = tt
-      merged bytes core held given next (inl none) = subst (Keeps core) (sym none) tt
-      merged bytes core held given next (inr short) = subst (Keeps core) (sym short.1) tt
-
-      sorts : (bytes : List ℕ) (core : Core) (held : Held) (given : List (ℕ × List ℕ)) (next : Stage A) → SortsPage t bytes held given next
-          → Keeps core next
-      sorts bytes core held [] next made = subst (Keeps core) (sym made) tt
-      sorts bytes core held (e ∷ rest) next made = merged bytes core held e.1 next made
-
-      pub keeps_ready : (bytes answer after : List ℕ) (core : Core) (stage next : Stage A) → Keeps core stage
-          → Prepares t bytes stage answer next after → Keeps core next
-      keeps_ready bytes answer after core (Listing (Merge held)) (Asking (Merge other) pages) k made = tt
-      keeps_ready bytes answer after core (Listing (Merge held)) (Asking (Answer page) pages) k made =
-          let other : Answer page ≡ Merge held = made.0.0 in cc
-      keeps_ready bytes answer after core (Listing (Merge held)) next k made = subst (Keeps core) (sym made.0) tt
-      keeps_ready bytes answer after core (Filling held less) (Reserving h wish) k made = tt
-      keeps_ready bytes answer after core (Filling held less) next k made =
-          elim (made.0) [ inl none ↦ subst (Keeps core) (sym none) tt | inr short ↦ subst (Keeps core) (sym short.1) tt ]
-      keeps_ready bytes answer after core (Sorting (Merge held) answers) next k made = sorts bytes core held _ next made.0
-      keeps_ready bytes answer after core (Listing (Answer page)) next k made = absurd k
-      keeps_ready bytes answer after core (Sorting (Answer page) answers) next k made = absurd k
-      keeps_ready bytes answer after core stage next k made = subst (Keeps core) (sym made.0) k
+      pub keeps_moved : (seat : ℕ) (core after : Core) → ((flush : Flush) → Step core (FlushBegin (Ok flush)) after → HasAsked after flush)
+          → ((flush : Flush) → HasAsked core flush → Step core (FlushState flush Synced) after → HasSynced after) → (stage : Stage A) (act : Act)
+          (next : Stage A) → Keeps core stage → Step core act after → Moves t seat stage act next → Keeps after next
+      keeps_moved seat core after begins syncs stage act next k step m =
+          known_moved A (HasAsked core) (HasAsked after) (HasSynced core) (HasSynced after) t flushes seat stage act next
+          (λ flush is. begins flush (subst (λ (a : Act). Step core a after) is step))
+          (λ flush is asked. waited flush asked (subst (λ (a : Act). Step core a after) is step))
+          (λ flush is asked. syncs flush asked (subst (λ (a : Act). Step core a after) is step)) k m
+        where
+          waited : (flush : Flush) → HasAsked core flush → Step core (FlushState flush Waiting) after → HasAsked after flush
+          waited flush asked waiting = subst (λ (c : Core). HasAsked c flush) (sym waiting.does.1) asked
 
 -- the die is in use, and one of the array's, or it is out
 abbrev pub IsKnown : Core → ℕ → Type 0

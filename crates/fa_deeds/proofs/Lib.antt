@@ -1,6 +1,7 @@
 pub mod Around
 pub mod Driving
 pub mod Behind
+pub mod Led
 pub mod Asking
 pub mod Served
 pub mod Quiet

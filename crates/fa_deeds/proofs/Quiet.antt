@@ -7,14 +7,14 @@ use Rattle.fa_asks.proofs.Going.{Goes as GoesOn, Laws, goes_first, goes_on}
 use Rattle.fa_asks.proofs.Gone.{gone_lost}
 use Rattle.fa_asks.specs.Begun.{IsCalm}
 use Rattle.fa_asks.specs.Shown.{store_of}
-use Rattle.fa_deeds.proofs.Asking.{Stands, first, images_kept, requests_free, run_free}
+use Rattle.fa_deeds.proofs.Asking.{requests_free, run_free}
+use Rattle.fa_deeds.proofs.Led.{Led, Stands, deeds_led, fair_before, happens, next, stands_next}
 use Rattle.fa_deeds.proofs.Around.{IsKept, kept_unwritten}
-use Rattle.fa_deeds.proofs.Driving.{copy_plain, deeds_drive, dies_plain, order_plain, requests_plain, settles_goes}
-use Rattle.fa_deeds.specs.Driving.{IsDeedOf, IsForCopy, IsOfJob, IsPlain, StandsFor, image_on}
+use Rattle.fa_deeds.proofs.Driving.{copy_plain, dies_plain, order_plain, requests_plain, settles_goes}
+use Rattle.fa_deeds.specs.Driving.{IsDeedOf, IsForCopy, IsOfJob, IsPlain, image_on}
 use Rattle.fa_deeds.specs.Standing.{IsWorldOf}
 use Rattle.fa_headers.specs.declared.judging.Standing.{Standing}
 use Rattle.fa_image.specs.Image.{ImageAnswer, ImageCall, ImageMeets, ImageState, IsImage}
-use Rattle.fa_laws.proofs.Within.{GeometryLaw}
 use Rattle.fa_laws.proofs.Runs.{runs_on}
 use Rattle.fa_laws.specs.Kept.{KeepsNumbers}
 use Rattle.fa_laws.specs.Reached.{IsReached}
@@ -22,11 +22,9 @@ use Rattle.fa_machine.specs.Reading.{results}
 use Rattle.fa_machine.specs.Run.{Event, Happening, HappensEvent, ImageCall as CallsImage, Run}
 use Rattle.fa_machine.specs.State.{Core}
 use Rattle.fa_machine.specs.Step.{Act, Admit, Advance, CommitCopy, Done, EndBatch, Fold, ReserveCopy, SpareIn, Step, Take, Window}
-use Rattle.fa_machine.specs.World.{IsTold, Told, Work, World, followed, plain_page}
+use Rattle.fa_machine.specs.World.{World, plain_page}
 use Rattle.fa_mount.specs.Standings.{AreApart}
-use Rattle.fa_runs.proofs.DrivenRuns.{Follows, driven, honest_before}
-use Rattle.fa_runs.proofs.Following.{images_follow}
-use Rattle.fa_runs.specs.Drives.{AreHonest, AreImages, Drive, Driven, Drives, acts_of, events_of}
+use Rattle.fa_runs.specs.Drives.{AreHonest, AreImages, events_of}
 use Rattle.fa_solo.specs.Deeds.{Goes, IsForDies, IsForOrder, IsForRequests}
 use Rattle.fa_solo.specs.House.{House}
 use Rattle.fa_solo.specs.Orders.{Copies, CopiesPage, Deals, Orders, Rests}
@@ -36,7 +34,7 @@ use Rattle.fa_solo.specs.declared.rig.Rig.{Rig}
 use Rattle.fa_types.specs.Plain.{export}
 use Rattle.fa_types.specs.Store.{IsUnwritten}
 use Rattle.fa_types.specs.declared.geometry.Geometry.{Geometry}
-use Rattle.std.proofs.Common.{Bool, List, None, Ok, Err, Option, Some, [], ap, arith, inl, inr, refl, subst, suc, sym, ℕ}
+use Rattle.std.proofs.Common.{Bool, List, None, Ok, Err, Some, [], ap, arith, inl, inr, refl, subst, suc, sym, ℕ}
 use Rattle.std.proofs.Common.{◌*◌, ◌++◌, ◌∙◌, ◌∷◌, ◌≡◌}
 use Rattle.std.specs.FinMap.{get}
 use Rattle.std.specs.List.{AllByRecursion}
@@ -144,26 +142,6 @@ module _ {I : Type 0} (view : I → ImageState) (dies : List Standing) where
     stands = two.stands;
   }
 
-  -- an event that no job takes part in
-  module _ (law : GeometryLaw) (w : World) (old new : House I) (act : Act) (stands : Stands view dies old w) (step : Step old.core act new.core)
-      (images : new.images ≡ old.images) (told : IsTold w act) (works : (followed act w).works ≡ w.works) where
-    abbrev next : World
-    next = record (followed act w) { core = new.core; moment = suc w.moment }
-
-    its_step : Step w.core act new.core
-    its_step = subst (λ (c : Core). Step c act new.core) (sym stands.core) step
-
-    happens : HappensEvent w act next
-    happens = record { step = its_step; told = told; follows = refl }
-
-    stands_next : Stands view dies new next
-    stands_next = record {
-      core = refl;
-      images = subst (λ (l : List I). AreImages view next (image_on dies l)) (sym images)
-          (images_kept view w next (image_on dies old.images) (images_follow act w) (law w.core new.core act its_step) stands.images);
-      idle = λ die. ap (λ (f : ℕ → Option Work). f die) works ∙ stands.idle die;
-    }
-
 -- no event but a Commit changes the numbers of pages
 abbrev NumbersLaw : Type 0
 NumbersLaw = (old new : Core) (act : Act) → Step old act new → KeepsNumbers old act new
@@ -174,52 +152,11 @@ module _ {I : Type 0} (view : I → ImageState) (honest : I → Bool) (made : I 
     → ImageMeets (view before) (honest before) call answer (view after) (honest after)) (array : List ℕ) (dies : List Standing) (seat : ℕ)
     (laws : Laws) (apart : AreApart dies) where
   -- deeds of which the events write nothing
-  module _ (P : Act → Type 0) (plain : (act : Act) → P act → IsPlain act) (old new : House I) (goes : Goes made array dies seat P old new)
-      (fair : AreHonest honest (image_on dies new.images)) (told : List Told) where
-    led : (drives : List Drive) × (last : Driven I) × Drives made array (first dies told old) drives last × StandsFor dies new last
-        × AllByRecursion (IsDeedOf P) (acts_of drives)
-    led = deeds_drive made array dies seat P laws.geometry plain apart old new (first dies told old)
-        (record { core = refl; images = λ die. refl; works = λ die. refl }) goes
-
-    fair_last : AreHonest honest (led.1).images
-    fair_last die image is = fair die image (sym (led.3.images die) ∙ is)
-
-    pub fair_before : AreHonest honest (image_on dies old.images)
-    fair_before = honest_before view honest made whole meets array (first dies told old) led.1 led.0 led.2 fair_last
-
-  -- the events of the run to which deeds lead
-  record Led (P : Act → Type 0) (w : World) (new : House I) : Type 0 where
-    pub last : World
-    pub happenings : List Happening
-    pub run : Run w happenings last
-    pub events : AllByRecursion (IsDeedOf P) (events_of happenings)
-    pub stands : Stands view dies new last
-
-  deeds_led : (P : Act → Type 0) → ((act : Act) → P act → IsPlain act) → (old new : House I) → Goes made array dies seat P old new
-      → AreHonest honest (image_on dies new.images) → (w : World) → Stands view dies old w → Led P w new
-  deeds_led P plain old new goes fair w stands =
-      let drove = led P plain old new goes fair w.told in
-      let follows : Follows view honest made whole meets array w (first dies w.told old) =
-      record { core = stands.core; told = refl; works = stands.idle; given = λ die. tt; images = stands.images } in
-      let run = driven view honest made whole meets array laws.geometry drove.0 (first dies w.told old) drove.1 w follows drove.2
-      (fair_last P plain old new goes fair w.told) in
-      record {
-        last = run.1;
-        happenings = run.0;
-        run = run.2;
-        events = subst (AllByRecursion (IsDeedOf P)) (sym run.4) drove.4;
-        stands = record {
-          core = run.3.core ∙ drove.3.core;
-          images = λ die image is. run.3.images die image (drove.3.images die ∙ is);
-          idle = λ die. run.3.works die ∙ drove.3.works die;
-        };
-      }
-
   pub deeds_quiet : (P : Act → Type 0) → ((act : Act) → P act → IsPlain act) → ((act : Act) → P act → WritesNothing (Event act))
       → (old new : House I) → Goes made array dies seat P old new → AreHonest honest (image_on dies new.images) → (w : World)
       → Stands view dies old w → Quiet view dies w new
   deeds_quiet P plain silent old new goes fair w stands =
-      let one = deeds_led P plain old new goes fair w stands in
+      let one = deeds_led view honest made whole meets array dies seat laws.geometry apart P plain old new goes fair w stands in
       record { last = one.last; happenings = one.happenings; run = one.run; none = all_silent P silent one.happenings one.events; stands = one.stands }
 
   -- one more copy of a page
@@ -246,8 +183,8 @@ module _ {I : Type 0} (view : I → ImageState) (honest : I → Bool) (made : I 
     opens : HappensEvent w admits opened
     opens = happens view dies laws.geometry w old c.asked admits stands c.asks c.images.0 tt refl
 
-    waits : Led IsForDies opened c.waited
-    waits = deeds_led IsForDies dies_plain c.asked c.waited c.waits fair_waited opened
+    waits : Led view honest made whole meets array dies seat laws.geometry apart IsForDies dies_plain opened c.waited
+    waits = deeds_led view honest made whole meets array dies seat laws.geometry apart IsForDies dies_plain c.asked c.waited c.waits fair_waited opened
         (stands_next view dies laws.geometry w old c.asked admits stands c.asks c.images.0 tt refl)
 
     silent : AllByRecursion WritesNothing waits.happenings
@@ -298,26 +235,27 @@ module _ {I : Type 0} (view : I → ImageState) (honest : I → Bool) (made : I 
       → AreHonest honest (image_on dies old.images)
   orders_fair old new Rests fair = fair
   orders_fair old new (Deals middle here before goes) fair =
-      orders_fair old middle before (fair_before IsForOrder order_plain middle new goes fair [])
+      orders_fair old middle before (fair_before view honest made whole meets array dies seat laws.geometry apart IsForOrder order_plain middle new goes fair)
   orders_fair old new (Copies middle copied here before copy settles) fair =
-      let there = fair_before IsForCopy copy_plain copied new (settles_goes made array dies seat copied new settles) fair [] in
+      let there = fair_before view honest made whole meets array dies seat laws.geometry apart IsForCopy copy_plain copied new
+      (settles_goes made array dies seat copied new settles) fair in
       let waited = subst (λ (l : List I). AreHonest honest (image_on dies l)) (copy.images.2 ∙ copy.images.1) there in
       orders_fair old middle before
       (subst (λ (l : List I). AreHonest honest (image_on dies l)) copy.images.0
-      (fair_before IsForDies dies_plain copy.asked copy.waited copy.waits waited []))
+      (fair_before view honest made whole meets array dies seat laws.geometry apart IsForDies dies_plain copy.asked copy.waited copy.waits waited))
 
   pub orders_quiet : (old : House I) (w : World) → IsReached w → Stands view dies old w → (new : House I) → Orders made array dies seat old new
       → AreHonest honest (image_on dies new.images) → Quiet view dies w new
   orders_quiet old w reached stands new Rests fair = record { last = w; happenings = []; run = refl; none = tt; stands = stands }
   orders_quiet old w reached stands new (Deals middle here before goes) fair =
-      let one = orders_quiet old w reached stands middle before (fair_before IsForOrder order_plain middle new goes fair []) in
+      let one = orders_quiet old w reached stands middle before (fair_before view honest made whole meets array dies seat laws.geometry apart IsForOrder order_plain middle new goes fair) in
       quiet_on view dies w middle new one (deeds_quiet IsForOrder order_plain order_silent middle new goes fair one.last one.stands)
   orders_quiet old w reached stands new (Copies middle copied here before copy settles) fair =
       let goes = settles_goes made array dies seat copied new settles in
-      let there = fair_before IsForCopy copy_plain copied new goes fair [] in
+      let there = fair_before view honest made whole meets array dies seat laws.geometry apart IsForCopy copy_plain copied new goes fair in
       let waited = subst (λ (l : List I). AreHonest honest (image_on dies l)) (copy.images.2 ∙ copy.images.1) there in
       let earlier = subst (λ (l : List I). AreHonest honest (image_on dies l)) copy.images.0
-      (fair_before IsForDies dies_plain copy.asked copy.waited copy.waits waited []) in
+      (fair_before view honest made whole meets array dies seat laws.geometry apart IsForDies dies_plain copy.asked copy.waited copy.waits waited) in
       let one = orders_quiet old w reached stands middle before earlier in
       let two = quiet_on view dies w middle copied one
       (copies_quiet middle copied copy there one.last (reached_on w reached one.happenings one.last one.run) one.stands) in
@@ -374,7 +312,7 @@ module _ {L M I A : Type 0} (view : I → ImageState) (honest : I → Bool) (mad
       → w.core.copying ≡ None → (v : World) × IsWorldOf view new v × IsKept (store_of w) (store_of v) × (v.core.copying ≡ None)
       × (v.core.page_map.geometry ≡ w.core.page_map.geometry)
   begun_rig does fair free =
-      let one = deeds_led view honest made whole meets old.locked.number old.dies.items (number_of old.seat) laws apart IsForRequests requests_plain
+      let one = deeds_led view honest made whole meets old.locked.number old.dies.items (number_of old.seat) laws.geometry apart IsForRequests requests_plain
       (house_of old) (house_of new) does.goes
       (subst (λ (d : List Standing). AreHonest honest (image_on d new.images.items)) does.dies fair) w its_stand in
       let q : Quiet view old.dies.items w (house_of new) = record {

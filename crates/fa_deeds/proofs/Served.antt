@@ -3,7 +3,8 @@ use Rattle.fa_asks.specs.Asked.{Asked, Moment, Turn}
 use Rattle.fa_asks.specs.Begun.{HasBegun, IsCalm}
 use Rattle.fa_asks.specs.Calls.{HasBytes, answer_of as answer_at, call_of}
 use Rattle.fa_asks.specs.Shown.{store_of}
-use Rattle.fa_deeds.proofs.Asking.{Stands, Went, asks_fair, went}
+use Rattle.fa_deeds.proofs.Asking.{Went, asks_fair, went}
+use Rattle.fa_deeds.proofs.Led.{Stands}
 use Rattle.fa_deeds.specs.Driving.{image_on}
 use Rattle.fa_deeds.specs.Standing.{IsWorldOf, turns_in}
 use Rattle.fa_headers.specs.declared.judging.Standing.{Standing}

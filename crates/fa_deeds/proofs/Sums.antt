@@ -109,7 +109,7 @@ module _ {L M I A : Type 0} (view : I → ImageState) (honest : I → Bool) (mad
           (number_of old.seat) asks apart laws leaves die none_older
           (task_in op) bytes its_flush (asking_of old op) refl h here
           (subst (λ (s : Stage A). Keeps old.locked.core.flushes die old.locked.core s) (sym begins)
-          (keeps_first old.locked.core.flushes die A task flushes old.locked.core task.fill))
+          (keeps_first old.locked.core.flushes die A task flushes old.locked.core))
           runs.turns (asking_of new next) runs.asks there)
 
     request_fate : (answer : Answer) → MakesRequest made task bytes answer old new

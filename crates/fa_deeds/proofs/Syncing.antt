@@ -60,7 +60,7 @@ module _ (asks : Laws) (laws : DieLaws) (none_older : NoneOlderLaw) (first die :
       (same_synced laws old between die Fold tt (laws.synced old between Fold fold)) k)
       step moves
   turn_keeps {A = A} before after old new stage next (Strayed same commits strays barred) counted known k =
-      subst (λ (c : Core). Keeps first die c next) (sym same) (keeps_strayed first die A t flushes old stage next k strays)
+      subst (λ (c : Core). Keeps first die c next) (sym same) (keeps_strayed first die A old stage next k strays)
 
 module _ {I : Type 0} (view : I → ImageState) (honest : I → Bool) (made : I → ImageCall → ImageAnswer → I → Type 0)
     (whole : (image : I) → IsImage (view image))
@@ -103,7 +103,7 @@ module _ {I : Type 0} (view : I → ImageState) (honest : I → Bool) (made : I 
   asks_keeps k n b (Readies turns middle new before ready) fair =
       let then : Fair middle.house = subst Fair ready.same_house fair in
       subst (λ (x : House I). Keeps a.house.core.flushes die x.core b.stage) (sym ready.same_house)
-      (keeps_ready a.house.core.flushes die A task flushes bytes middle.answer b.answer middle.house.core middle.stage b.stage
+      (keeps_ready a.house.core.flushes die A task bytes middle.answer b.answer middle.house.core middle.stage b.stage
       (asks_keeps k turns middle before then) ready.prepares)
   asks_keeps k n b (Waits turns middle new before time) fair =
       let then = time_fair view honest made whole meets array dies seat asks apart laws leaves die task bytes middle b time fair in

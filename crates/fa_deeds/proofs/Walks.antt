@@ -3,7 +3,8 @@ use Rattle.fa_asks.proofs.Going.{Laws}
 use Rattle.fa_deeds.proofs.Asking.{meanwhile_plain}
 use Rattle.fa_deeds.proofs.Driving.{copy_plain, dies_plain, order_plain, settles_goes}
 use Rattle.fa_deeds.proofs.Fates.{DieLaws, Fate, IsNoDone, event_fate, fate_on, same_fate}
-use Rattle.fa_deeds.proofs.Worlds.{HasWorld, LeavesLaw, asks_world, copies_world, event_world, goes_fair, goes_fate, goes_world}
+use Rattle.fa_deeds.proofs.Led.{fair_before}
+use Rattle.fa_deeds.proofs.Worlds.{HasWorld, LeavesLaw, asks_world, copies_world, event_world, goes_fate, goes_world}
 use Rattle.fa_deeds.specs.Driving.{IsForCopy, IsPlain, image_on}
 use Rattle.fa_headers.specs.declared.judging.Standing.{Standing}
 use Rattle.fa_image.specs.Image.{ImageAnswer, ImageCall, ImageMeets, ImageState, IsImage}
@@ -81,7 +82,7 @@ module _ {I : Type 0} (view : I → ImageState) (honest : I → Bool) (made : I 
 
     pub time_fair : (old new : Asking L I A) → PassesTime made array dies seat task bytes old new → Fair new.house → Fair old.house
     time_fair old new time fair =
-        goes_fair view honest made whole meets array dies seat asks.geometry apart (IsMeanwhile (awaits_flush old.stage))
+        fair_before view honest made whole meets array dies seat asks.geometry apart (IsMeanwhile (awaits_flush old.stage))
         (meanwhile_plain (awaits_flush old.stage)) old.house new.house time.goes fair
 
     pub asks_fate : (a : Asking L I A) → number_of a.seat ≡ seat → HasWorld view dies a.house → (n : ℕ) (b : Asking L I A)
@@ -121,13 +122,13 @@ module _ {I : Type 0} (view : I → ImageState) (honest : I → Bool) (made : I 
   copy_fair old new c fair =
       let fair_waited : Fair c.waited = subst (λ (l : List I). AreHonest honest (image_on dies l)) (c.images.2 ∙ c.images.1) fair in
       fair_by old c.asked c.images.0
-      (goes_fair view honest made whole meets array dies seat asks.geometry apart IsForDies dies_plain c.asked c.waited c.waits fair_waited)
+      (fair_before view honest made whole meets array dies seat asks.geometry apart IsForDies dies_plain c.asked c.waited c.waits fair_waited)
 
   pub orders_fate : (old new : House I) → HasWorld view dies old → Orders made array dies seat old new → Fair new
       → Fated old new × HasWorld view dies new
   orders_fate old new h Rests fair = (same_fate view dies die old old refl refl, h)
   orders_fate old new h (Deals middle here before goes) fair =
-      let then = goes_fair view honest made whole meets array dies seat asks.geometry apart IsForOrder order_plain middle new goes fair in
+      let then = fair_before view honest made whole meets array dies seat asks.geometry apart IsForOrder order_plain middle new goes fair in
       let led = orders_fate old middle h before then in (
         fate_on view dies die old middle new led.0 (deeds_fate IsForOrder order_plain middle new goes fair led.1),
         goes_world view honest made whole meets array dies seat asks.geometry apart IsForOrder order_plain middle new goes fair led.1,
@@ -135,7 +136,7 @@ module _ {I : Type 0} (view : I → ImageState) (honest : I → Bool) (made : I 
   orders_fate old new h (Copies middle copied here before copy settles) fair =
       let goes = settles_goes made array dies seat copied new settles in
       let fair_copied =
-      goes_fair view honest made whole meets array dies seat asks.geometry apart IsForCopy copy_plain copied new goes fair in
+      fair_before view honest made whole meets array dies seat asks.geometry apart IsForCopy copy_plain copied new goes fair in
       let led = orders_fate old middle h before (copy_fair middle copied copy fair_copied) in
       let there =
       copies_world view honest made whole meets array dies seat asks.geometry apart asks middle copied copy fair_copied led.1 in (

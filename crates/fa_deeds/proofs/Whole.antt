@@ -5,7 +5,8 @@ use Rattle.fa_asks.specs.Shown.{store_of}
 use Rattle.fa_deeds.proofs.Around.{IsKept, kept_same, serves_around}
 use Rattle.fa_deeds.proofs.Behind.{IsBehind, StepLaws, cause_behind, order_behind, orders_free}
 use Rattle.fa_deeds.proofs.Driving.{requests_plain}
-use Rattle.fa_deeds.proofs.Quiet.{begun_rig, behind_rig, fair_before, orders_fair}
+use Rattle.fa_deeds.proofs.Led.{fair_before}
+use Rattle.fa_deeds.proofs.Quiet.{begun_rig, behind_rig, orders_fair}
 use Rattle.fa_asks.proofs.Going.{Laws}
 use Rattle.fa_solo.specs.Deeds.{IsForRequests}
 use Rattle.fa_deeds.proofs.Served.{RequestLaws, request_fair, request_served}
@@ -28,7 +29,7 @@ use Rattle.fa_types.specs.Store.{Answer, Done, Gave, HasCause, IsAnswer, Meets, 
 use Rattle.fa_types.specs.declared.blocks.BlockFault.{BlockFault}
 use Rattle.fa_types.specs.declared.blocks.BlockFault.TheVariants.{Lost, NoMemory as OutOfMemory, NoRoom, Spent}
 use Rattle.fa_types.specs.declared.geometry.Geometry.{Geometry}
-use Rattle.std.proofs.Common.{Bool, List, None, [], ap, inl, inr, refl, subst, sym, ℕ, ◌*◌, ◌-◌, ◌^◌, ◌<◌, ◌∙◌, ◌≡◌, ◌≤◌, ◌⊎◌}
+use Rattle.std.proofs.Common.{Bool, List, None, ap, inl, inr, refl, subst, sym, ℕ, ◌*◌, ◌-◌, ◌^◌, ◌<◌, ◌∙◌, ◌≡◌, ◌≤◌, ◌⊎◌}
 use Rattle.std.proofs.lemmas.Option.{none-some}
 
 calm_free : (w : World) → w.core.copying ≡ None → IsCalm w
@@ -68,9 +69,9 @@ module _ {L M I A : Type 0} (view : I → ImageState) (honest : I → Bool) (mad
   fair_begun = request_fair view honest made whole meets laws.geometry call.begun call.done task bytes answer apart_begun fair_done call.request
 
   pub whole_fair : AreHonest honest (image_on old.dies.items old.images.items)
-  whole_fair = fair_before view honest made whole meets old.locked.number old.dies.items (number_of old.seat) laws apart IsForRequests requests_plain
+  whole_fair = fair_before view honest made whole meets old.locked.number old.dies.items (number_of old.seat) laws.geometry apart IsForRequests requests_plain
       (house_of old) (house_of call.begun) call.before.goes
-      (subst (λ (d : List Standing). AreHonest honest (image_on d call.begun.images.items)) call.before.dies fair_begun) []
+      (subst (λ (d : List Standing). AreHonest honest (image_on d call.begun.images.items)) call.before.dies fair_begun)
 
 -- whether there was no room
 full_or : (answer : Answer) → (answer ≡ Refused NoRoom) ⊎ (answer ≡ Refused NoRoom → ⊥)

@@ -3,11 +3,11 @@ use Rattle.fa_alone.proofs.ReadBack.{reached_on}
 use Rattle.fa_asks.proofs.Flushed.{asked_run}
 use Rattle.fa_asks.proofs.Going.{Laws}
 use Rattle.fa_asks.specs.Asked.{Moment, happenings_of}
-use Rattle.fa_deeds.proofs.Asking.{Stands, first, images_kept, went}
-use Rattle.fa_deeds.proofs.Driving.{deeds_drive}
+use Rattle.fa_deeds.proofs.Asking.{went}
 use Rattle.fa_deeds.proofs.Fates.{DieLaws, Fate, IsNoDone, event_fate, fate_on, its_first, its_image, job_fate, same_fate}
+use Rattle.fa_deeds.proofs.Led.{Stands, deeds_led, fair_before, happens, images_kept, next, stands_next}
 use Rattle.fa_deeds.proofs.Quiet.{copies_quiet}
-use Rattle.fa_deeds.specs.Driving.{IsDeedOf, IsPlain, StandsFor, image_on}
+use Rattle.fa_deeds.specs.Driving.{IsPlain, image_on}
 use Rattle.fa_headers.specs.declared.judging.Standing.{Standing}
 use Rattle.fa_image.specs.Image.{ImageAnswer, ImageCall, ImageMeets, ImageState, IsImage}
 use Rattle.fa_laws.proofs.Within.{GeometryLaw}
@@ -16,13 +16,12 @@ use Rattle.fa_machine.specs.Cells.{Fault}
 use Rattle.fa_machine.specs.Run.{Event, HappensEvent, ImageCall as Calling}
 use Rattle.fa_machine.specs.State.{Core, is_live}
 use Rattle.fa_machine.specs.Step.{Act, Done, Step, Take}
-use Rattle.fa_machine.specs.World.{IsTold, Told, Work, World, followed}
+use Rattle.fa_machine.specs.World.{IsTold, World, followed}
 use Rattle.fa_mount.specs.Standings.{AreApart}
 use Rattle.fa_ops.specs.declared.request.Task.{Task}
-use Rattle.fa_runs.proofs.DrivenRuns.{Follows, driven, honest_before}
 use Rattle.fa_runs.proofs.Following.{images_follow}
 use Rattle.fa_runs.proofs.JobCalls.{job_runs, value_here}
-use Rattle.fa_runs.specs.Drives.{AreHonest, AreImages, Drive, Driven, Drives, acts_of}
+use Rattle.fa_runs.specs.Drives.{AreHonest}
 use Rattle.fa_runs.specs.Images.{IsImageOf}
 use Rattle.fa_shared.specs.Seats.{number_of}
 use Rattle.fa_solo.specs.Deeds.{Goes, Makes, MakesJob, Runs, Stays}
@@ -32,8 +31,7 @@ use Rattle.fa_solo.specs.Turns.{Asking, Asks}
 use Rattle.fa_takes.specs.Fits.{IsJobFor}
 use Rattle.fa_types.specs.declared.geometry.Geometry.{Geometry}
 use Rattle.fa_workers.specs.Made.{Ran}
-use Rattle.std.proofs.Common.{Bool, IsTrue, List, Option, Some, [], ap, false, map, refl, subst, suc, sym, true, ℕ, ◌∙◌, ◌∷◌, ◌≡◌}
-use Rattle.std.specs.List.{AllByRecursion}
+use Rattle.std.proofs.Common.{Bool, IsTrue, List, Some, [], ap, false, map, refl, subst, suc, sym, true, ℕ, ◌∙◌, ◌∷◌, ◌≡◌}
 
 -- a die that goes out does so as a job of it ends with a fault
 abbrev pub LeavesLaw : Type 0
@@ -56,19 +54,11 @@ pub event_world : {I : Type 0} (view : I → ImageState) (dies : List Standing) 
     → HasWorld view dies old → HasWorld view dies new
 event_world view dies law old new act told works step images h =
     let w = h.world in
-    let v : World = record (followed act w) { core = new.core; moment = suc w.moment } in
-    let happens : HappensEvent w act v =
-    record { step = subst (λ (c : Core). Step c act new.core) (sym h.stands.core) step; told = told w; follows = refl } in
+    let v : World = next view dies law w old new act h.stands step images (told w) (works w) in
     record {
       world = v;
-      reached = reached_on w h.reached (Event act ∷ []) v (v, happens, refl);
-      stands = record {
-        core = refl;
-        images = images_kept view w v (image_on dies new.images) (images_follow act w)
-            (law old.core new.core act step ∙ sym (ap (λ (c : Core). c.page_map.geometry) h.stands.core))
-            (subst (λ l. AreImages view w (image_on dies l)) (sym images) h.stands.images);
-        idle = λ die. ap (λ (f : ℕ → Option Work). f die) (works w) ∙ h.stands.idle die;
-      };
+      reached = reached_on w h.reached (Event act ∷ []) v (v, happens view dies law w old new act h.stands step images (told w) (works w), refl);
+      stands = stands_next view dies law w old new act h.stands step images (told w) (works w);
     }
 
 module _ {I : Type 0} (view : I → ImageState) (honest : I → Bool) (made : I → ImageCall → ImageAnswer → I → Type 0)
@@ -79,37 +69,11 @@ module _ {I : Type 0} (view : I → ImageState) (honest : I → Bool) (made : I 
   abbrev pub IsFair : House I → Type 0
   IsFair house = AreHonest honest (image_on dies house.images)
 
-  module _ (P : Act → Type 0) (plain : (act : Act) → P act → IsPlain act) (old new : House I) (goes : Goes made array dies seat P old new)
-      (fair : IsFair new) where
-    led : (told : List Told) → (drives : List Drive) × (last : Driven I) × Drives made array (first dies told old) drives last
-        × StandsFor dies new last × AllByRecursion (IsDeedOf P) (acts_of drives)
-    led told = deeds_drive made array dies seat P geometry plain apart old new (first dies told old)
-        (record { core = refl; images = λ die. refl; works = λ die. refl }) goes
-
-    fair_last : (told : List Told) → AreHonest honest ((led told).1).images
-    fair_last told die image is = fair die image (sym ((led told).3.images die) ∙ is)
-
-    -- images that return what was written behind the deeds did so before
-    pub goes_fair : IsFair old
-    goes_fair = honest_before view honest made whole meets array (first dies [] old) (led []).1 (led []).0 (led []).2 (fair_last [])
-
-    pub goes_world : HasWorld view dies old → HasWorld view dies new
-    goes_world h =
-        let told = h.world.told in
-        let drove = led told in
-        let follows : Follows view honest made whole meets array h.world (first dies told old) =
-        record { core = h.stands.core; told = refl; works = h.stands.idle; given = λ die. tt; images = h.stands.images } in
-        let run = driven view honest made whole meets array geometry drove.0 (first dies told old) drove.1 h.world follows drove.2
-        (fair_last told) in
-        record {
-          world = run.1;
-          reached = reached_on h.world h.reached run.0 run.1 run.2;
-          stands = record {
-            core = run.3.core ∙ drove.3.core;
-            images = λ die image is. run.3.images die image (drove.3.images die ∙ is);
-            idle = λ die. run.3.works die ∙ drove.3.works die;
-          };
-        }
+  pub goes_world : (P : Act → Type 0) (plain : (act : Act) → P act → IsPlain act) (old new : House I) → Goes made array dies seat P old new
+      → IsFair new → HasWorld view dies old → HasWorld view dies new
+  goes_world P plain old new goes fair h =
+      let one = deeds_led view honest made whole meets array dies seat geometry apart P plain old new goes fair h.world h.stands in
+      record { world = one.last; reached = reached_on h.world h.reached one.happenings one.last one.run; stands = one.stands }
 
   -- behind a request
   pub asks_world : {L A : Type 0} (task : Task) (bytes : List ℕ) (a : Asking L I A) (n : ℕ) (b : Asking L I A)
@@ -177,7 +141,8 @@ module _ {I : Type 0} (view : I → ImageState) (honest : I → Bool) (made : I 
         fate_on view dies die old middle new (goes_fate old middle goes fair_then h)
         (event_fate view dies die laws middle new act (ends_none act (plain act may)) step same)
     goes_fate old new (Runs middle here d goes job) fair h =
-        let fair_then : IsFair middle = goes_fair P plain middle new (Runs middle new d Stays job) fair in
+        let fair_then : IsFair middle = fair_before view honest made whole meets array dies seat geometry apart P plain middle new
+        (Runs middle new d Stays job) fair in
         fate_on view dies die old middle new (goes_fate old middle goes fair_then h)
         (job_fate view honest made meets array dies seat laws apart die d middle new job
         (job_leaves leaves die d middle new job fair (goes_world P plain old middle goes fair_then h)))

@@ -1,4 +1,4 @@
--- A batch is admitted where none is open: each of its pages is answered or booked, and it takes no more rounds than the least number.
+-- A batch is admitted where none is open: each of its pages is answered or booked, and it takes no more rounds than any plan.
 use Rattle.fa_batch.proofs.Counting.{any-from-count}
 use Rattle.fa_batch.specs.Batch.{Entry, holds, is_among}
 use Rattle.fa_batch.specs.Certificate.{IsCertificate, IsLeast}
@@ -231,35 +231,32 @@ abbrev pub CertificateLaw : Type 0
 CertificateLaw = (batch : List Entry) (current : ℕ) (closed : ℕ → ℕ → Bool) (rounds : ℕ) (places : List Place) (pages : List Page)
     → IsCertificate batch current closed rounds places pages → IsLeast batch current closed rounds
 
--- A plan against a calendar in which no more is booked has no more rounds.
+-- A plan that is least against a calendar in which no more is booked has no more rounds than any.
 pub no_more_rounds : CertificateLaw → (m : MapState) (first core : Core) → core.page_map ≡ m → Keeps first core → (pages : List ℕ)
-    (least : ℕ)
-    → IsLeast (entries_for m (to_read m pages)) first.calendar.round (is_closed m first.calendar) least → (planned : Planned)
-    → IsPlanned core.page_map core.calendar (to_read core.page_map pages) planned → planned.rounds ≤ least
-no_more_rounds law m first core map keeps pages least is planned plan =
+    (places : List Place) → IsPlan (entries_for m (to_read m pages)) first.calendar.round (is_closed m first.calendar) places
+    → (planned : Planned) → IsPlanned core.page_map core.calendar (to_read core.page_map pages) planned
+    → planned.rounds ≤ rounds_of first.calendar.round places
+no_more_rounds law m first core map keeps pages places old planned plan =
     let here : IsPlanned m core.calendar (to_read m pages) planned =
     subst (λ (k : MapState). IsPlanned k core.calendar (to_read k pages) planned) map plan in
     let batch : List Entry = entries_for m (to_read m pages) in
-    let old = is.some in
     let round : ℕ = first.calendar.round in
-    let opened : AllByRecursion (λ (x : Place). IsOpen first.calendar.round (is_closed m first.calendar) x.die.0 x.round.0) old.0 =
-    recursion_from_All (λ (x : Place). IsOpen first.calendar.round (is_closed m first.calendar) x.die.0 x.round.0) old.0 old.1.opens in
-    let moved : IsPlan batch core.calendar.round (is_closed m core.calendar) old.0 =
-    subst (λ (r : ℕ). IsPlan batch r (is_closed m core.calendar) old.0) (sym keeps.round)
+    let opened : AllByRecursion (λ (x : Place). IsOpen round (is_closed m first.calendar) x.die.0 x.round.0) places =
+    recursion_from_All (λ (x : Place). IsOpen round (is_closed m first.calendar) x.die.0 x.round.0) places old.opens in
+    let moved : IsPlan batch core.calendar.round (is_closed m core.calendar) places =
+    subst (λ (r : ℕ). IsPlan batch r (is_closed m core.calendar) places) (sym keeps.round)
     (record {
-      each = old.1.each;
-      once = old.1.once;
-      held = old.1.held;
-      opens = All-from_recursion (λ (x : Place). IsOpen round (is_closed m core.calendar) x.die.0 x.round.0) old.0
-          (still_open old.0 opened);
-      apart = old.1.apart;
+      each = old.each;
+      once = old.once;
+      held = old.held;
+      opens = All-from_recursion (λ (x : Place). IsOpen round (is_closed m core.calendar) x.die.0 x.round.0) places (still_open places opened);
+      apart = old.apart;
     }) in
     let fewest = (law batch core.calendar.round
-    (is_closed m core.calendar) planned.rounds planned.places planned.shortage here.certificate).fewest old.0 moved in
-    let same : ◌≡◌ {A = ℕ} (rounds_of core.calendar.round old.0) (rounds_of first.calendar.round old.0) =
-    ap (λ (r : ℕ). rounds_of r old.0) keeps.round in
-    let most = old.2 in
-    omega (arith, fewest, same, most)
+    (is_closed m core.calendar) planned.rounds planned.places planned.shortage here.certificate).fewest places moved in
+    let same : ◌≡◌ {A = ℕ} (rounds_of core.calendar.round places) (rounds_of first.calendar.round places) =
+    ap (λ (r : ℕ). rounds_of r places) keeps.round in
+    omega (arith, fewest, same)
   where
     still_open : (places : List Place) → AllByRecursion (λ (x : Place). IsOpen first.calendar.round
         (is_closed m first.calendar) x.die.0 x.round.0) places

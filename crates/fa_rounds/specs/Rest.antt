@@ -1,8 +1,9 @@
--- An array at which nothing is under way, one that is in order, and the least number of rounds in which the pages of a range are read.
+-- An array at which nothing is under way, one that is in order, and the plans by which the pages of a range can be read.
 use Rattle.std.specs.Prelude.{◌≡◌, ◌⊎◌, ℕ, ◌+◌, ◌-◌, true, false, List, None}
 use Rattle.std.specs.List.{range_with_len}
 use Rattle.std.specs.FinMap.{contains_key, empty, insert, remove}
-use Rattle.fa_batch.specs.Certificate.{IsLeast}
+use Rattle.fa_batch.specs.Plan.{IsPlan}
+use Rattle.fa_batch.specs.declared.plan.Place.{Place}
 use Rattle.fa_machine.specs.Collecting.{victim}
 use Rattle.fa_machine.specs.Looks.{wants_window}
 use Rattle.fa_machine.specs.Placement.{is_thin}
@@ -32,11 +33,11 @@ range_in core offset len = bytes_from core.page_map.geometry.page_bytes offset l
 abbrev pub pages_of : Range → List ℕ
 pages_of r = range_with_len (first_page r) (past_page r - first_page r)
 
--- This many rounds, from the current one on, are the least in which these pages are read, each at a die that holds it and in a round of
--- the die that is open now. Pages that have no bytes are not read.
-abbrev pub AreLeastRounds : Core → List ℕ → ℕ → Type 0
-AreLeastRounds core pages rounds =
-    IsLeast (entries_for core.page_map (to_read core.page_map pages)) core.calendar.round (is_closed core.page_map core.calendar) rounds
+-- These places are a plan of the pages as the calendar stands: each page that has bytes is read once, at a die that holds it and in a round of the
+-- die that is open now, and no two are read at one die in one round. Pages that have no bytes are not read.
+abbrev pub IsPlanFor : Core → List ℕ → List Place → Type 0
+IsPlanFor core pages places =
+    IsPlan (entries_for core.page_map (to_read core.page_map pages)) core.calendar.round (is_closed core.page_map core.calendar) places
 
 -- The epoch and the live dies are the same. Or a die went out or came in, and the epoch is the next one.
 abbrev pub CountsDies : Core → Core → Type 0

@@ -1,3 +1,5 @@
+use Rattle.fa_batch.specs.Plan.{rounds_of}
+use Rattle.fa_batch.specs.declared.plan.Place.{Place}
 use Rattle.fa_laws.proofs.InTimes.{reached_timely}
 use Rattle.fa_laws.proofs.Timely.{TimelyCore}
 use Rattle.fa_laws.specs.Reached.{IsReached}
@@ -10,7 +12,7 @@ use Rattle.fa_rounds.proofs.Admitting.{CertificateLaw, no_more_rounds}
 use Rattle.fa_rounds.proofs.Closed.{IsQuiet}
 use Rattle.fa_rounds.proofs.Stages.{ArePlannedInTime}
 use Rattle.fa_rounds.proofs.Whole.{whole_behind}
-use Rattle.fa_rounds.specs.Rest.{AreLeastRounds, IsAtRest, IsIdle, pages_of, range_in}
+use Rattle.fa_rounds.specs.Rest.{IsAtRest, IsIdle, IsPlanFor, pages_of, range_in}
 use Rattle.std.proofs.Common.{List, ap, arith, refl, subst, sym, ℕ, ◌+◌, ◌∙◌, ◌≡◌, ◌≤◌}
 use Rattle.std.specs.Cmp.{nat_cmp_total}
 use Rattle.std.specs.FinMap.{FinMap, empty, get, get-empty, nat_cmp-IsAntisymmetric, same_map}
@@ -43,23 +45,23 @@ rests_at old new rest quiet = (
   },
 )
 
--- a batch that is admitted before anything else is planned in no more than the least number of rounds
-planned_least : CertificateLaw → (first : Core) (pages : List ℕ) (least : ℕ) → AreLeastRounds first pages least
-    → ArePlannedInTime first.page_map first.copies first (λ round. round ≤ first.calendar.round + least) pages
-planned_least law first pages least is_least old new admitted before step =
-    let few = no_more_rounds law first.page_map first old before.quiet.map before.keeps pages least is_least admitted.planned
+-- a batch that is admitted before anything else is planned in no more rounds than any plan of its pages has
+planned_least : CertificateLaw → (first : Core) (pages : List ℕ) (places : List Place) → IsPlanFor first pages places
+    → ArePlannedInTime first.page_map first.copies first (λ round. round ≤ first.calendar.round + rounds_of first.calendar.round places) pages
+planned_least law first pages places is_plan old new admitted before step =
+    let few = no_more_rounds law first.page_map first old before.quiet.map before.keeps pages places is_plan admitted.planned
     step.does.0.2 in
     let same = before.keeps.round in
     omega (arith, few, same)
 
 pub returns : goal.returns
 returns g c = record {
-  rounds = λ old new offset len least given w of_old idle rest few whole same is_least.
+  rounds = λ old new offset len given places w of_old idle rest few whole same is_plan.
       let core : Core = old.locked.core in
       let behind = whole_behind g.I.Image.made old new offset len given
       (quiet_at w core of_old.reached of_old.core idle rest) rest.windows rest.copies
-      (λ round. round ≤ core.calendar.round + least) (omega arith)
-      (planned_least c.certificate_is_least.ensures core (pages_of (range_in core offset len)) least is_least)
+      (λ round. round ≤ core.calendar.round + rounds_of core.calendar.round places) (omega arith)
+      (planned_least c.certificate_is_least.ensures core (pages_of (range_in core offset len)) places is_plan)
       (omega (arith, few)) whole same in
       let low = behind.round in let in_time = behind.is_in_time in omega (arith, low, in_time);
   rest = λ old new offset len given w of_old idle rest few whole same.
