@@ -35,8 +35,6 @@ const SLOTS: u32 = DIES * DIE_SLOTS;
 /// How many turns there are, of which the best counts.
 const TURNS: u32 = 15;
 
-type Images = [MemImage; DIES as usize];
-
 /// What was measured: the best times.
 #[derive(Clone, Copy)]
 struct Times {
@@ -64,7 +62,7 @@ fn best_times(rt: &(impl Clock + AllocGlobal + Threads + Sync)) -> io::Result<Ti
     let mut slots = vec![in rt.alloc(); [0u8; SLOT_BYTES]; SLOTS as usize]?;
     seal_all(&mut slots);
     let mut images = written(rt.alloc(), slots.as_slice())?;
-    times_of(rt, &mut slots, &mut images)
+    times_of(rt, &mut slots, images.as_mut_slice())
 }
 
 /// Prints what was measured.
@@ -90,7 +88,7 @@ fn tell(rt: &impl Print, times: &Times) -> io::Result<()> {
 fn times_of(
     rt: &(impl Clock + AllocGlobal + Threads + Sync),
     slots: &mut [[u8; SLOT_BYTES]],
-    images: &mut Images,
+    images: &mut [MemImage],
 ) -> io::Result<Times>
     requires { length slots.old ≡ SLOTS }
 {
@@ -121,7 +119,7 @@ fn times_of(
 }
 
 /// Mounts the images, and tells how many pages were ever written.
-fn mount(alloc: Global, images: &mut Images) -> io::Result<u64> {
+fn mount(alloc: Global, images: &mut [MemImage]) -> io::Result<u64> {
     let copies = Copies::new(2, shape()?).map_err(|_| ErrorKind::InvalidInput)?;
     match scan(alloc, images, copies, false) {
         Ok(mounted) => Ok(mounted.report(copies).written),
@@ -132,7 +130,7 @@ fn mount(alloc: Global, images: &mut Images) -> io::Result<u64> {
 /// Mounts the images with their slots read side by side.
 fn mount_side_by_side(
     rt: &(impl AllocGlobal + Threads + Sync),
-    images: &mut Images,
+    images: &mut [MemImage],
 ) -> io::Result<()> {
     let copies = Copies::new(2, shape()?).map_err(|_| ErrorKind::InvalidInput)?;
     match scan_side_by_side(rt, rt.alloc(), images, copies, false) {
@@ -151,23 +149,30 @@ fn shape() -> io::Result<Geometry> {
 }
 
 /// Images with these slots, die by die.
-fn written(alloc: Global, slots: &[[u8; SLOT_BYTES]]) -> io::Result<Images>
-    requires { length slots.now ≡ SLOTS }
-{
+fn written(alloc: Global, slots: &[[u8; SLOT_BYTES]]) -> io::Result<Vec<MemImage>> {
     let mut images = formatted(alloc)?;
-    for number in 0..SLOTS {
-        let die = (number / DIE_SLOTS) as usize;
-        put(
-            &mut images[die],
-            number % DIE_SLOTS,
-            &slots[number as usize],
-        )?;
-    }
+    put_all(images.as_mut_slice(), slots)?;
     Ok(images)
 }
 
+/// Programs these slots, die by die.
+fn put_all(images: &mut [MemImage], slots: &[[u8; SLOT_BYTES]]) -> io::Result<()> {
+    for (image, slots) in images.iter_mut().zip(slots.chunks(DIE_SLOTS as usize)) {
+        put_each(image, slots)?;
+    }
+    Ok(())
+}
+
+/// Programs these slots of an image.
+fn put_each(image: &mut MemImage, slots: &[[u8; SLOT_BYTES]]) -> io::Result<()> {
+    for (slot, bytes) in (0..DIE_SLOTS).zip(slots.iter()) {
+        put(image, slot, bytes)?;
+    }
+    Ok(())
+}
+
 /// The images of a new array.
-fn formatted(alloc: Global) -> io::Result<Images> {
+fn formatted(alloc: Global) -> io::Result<Vec<MemImage>> {
     let geometry = shape()?;
     if geometry.dies != DIES {
         return Err(ErrorKind::InvalidInput.into());
@@ -180,15 +185,19 @@ fn formatted(alloc: Global) -> io::Result<Images> {
 }
 
 /// An image for each die.
-fn images(alloc: Global, geometry: Geometry) -> io::Result<Images>
-    ensures { IfOk result (AllByRecursion (λ image. (mem_image_view image).geometry ≡ geometry)) }
+fn images(alloc: Global, geometry: Geometry) -> io::Result<Vec<MemImage>>
+    ensures many { IfOk result (λ images. length images.items ≡ DIES) }
+    ensures shape { IfOk result (λ images. AllByRecursion (λ image. (mem_image_view image).geometry ≡ geometry) images.items) }
 {
-    Ok([
-        MemImage::new(alloc, geometry)?,
-        MemImage::new(alloc, geometry)?,
-        MemImage::new(alloc, geometry)?,
-        MemImage::new(alloc, geometry)?,
-    ])
+    Ok(Vec::from_array(
+        alloc,
+        [
+            MemImage::new(alloc, geometry)?,
+            MemImage::new(alloc, geometry)?,
+            MemImage::new(alloc, geometry)?,
+            MemImage::new(alloc, geometry)?,
+        ],
+    )?)
 }
 
 /// Programs a slot, if the image has it and its pages are of this length.

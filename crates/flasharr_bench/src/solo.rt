@@ -44,6 +44,9 @@ const COPIES: u32 = 2;
 /// The pages of 1 MiB.
 const LONG: u64 = 256;
 
+/// The blocks that the bare work of a WRITE of 1 MiB fills.
+const WRITTEN_BLOCKS: u32 = COPIES * LONG as u32 / BLOCK_SLOTS;
+
 /// How many READs of a page are made, READs of 1 MiB, and WRITEs of 1 MiB. These are so few that no block has to be erased for them.
 const SHORT_READS: u32 = 4001;
 
@@ -121,14 +124,12 @@ struct Client {
     data: Vec<u8>,
 }
 
-/// The images of an array's dies.
-type Images<I> = [I; DIES as usize];
-
 /// The store of one thread over images here.
 type Store<L, I> = Solo<L, PageMap<Global>, I, Global>;
 
 /// Makes READs of a page and of 1 MiB and WRITEs of 1 MiB, of stores over files in a folder and over images in memory. By turns with each
-/// request its bare work is done: for each page a read of a slot and its digest, or a digest and a write of a slot for each of its copies.
+/// request its bare work is done: for each page a read of a slot and its digest, or a digest and a write of an erased slot for each of its
+/// copies.
 /// Prints a line for each load: the kind of images, what was asked for, the bytes, how many requests there were, and the medians of the
 /// store and of the bare work in nanoseconds. The files are left in the folder.
 pub fn measure(
@@ -169,15 +170,19 @@ fn files_in(
     rt: &(impl AllocGlobal + Files<File = File>),
     folder: &str,
     geometry: Geometry,
-) -> io::Result<Images<FileImage>>
-    ensures { IfOk result (AllByRecursion (λ image. (file_view image).geometry ≡ geometry)) }
+) -> io::Result<Vec<FileImage>>
+    ensures many { IfOk result (λ images. length images.items ≡ DIES) }
+    ensures shape { IfOk result (λ images. AllByRecursion (λ image. (file_view image).geometry ≡ geometry) images.items) }
 {
-    Ok([
-        file_in(rt, folder, geometry, 0)?,
-        file_in(rt, folder, geometry, 1)?,
-        file_in(rt, folder, geometry, 2)?,
-        file_in(rt, folder, geometry, 3)?,
-    ])
+    Ok(Vec::from_array(
+        rt.alloc(),
+        [
+            file_in(rt, folder, geometry, 0)?,
+            file_in(rt, folder, geometry, 1)?,
+            file_in(rt, folder, geometry, 2)?,
+            file_in(rt, folder, geometry, 3)?,
+        ],
+    )?)
 }
 
 /// An image in a file of a folder.
@@ -194,15 +199,19 @@ fn file_in(
 }
 
 /// Images in memory.
-fn in_memory(alloc: Global, geometry: Geometry) -> io::Result<Images<MemImage>>
-    ensures { IfOk result (AllByRecursion (λ image. (mem_image_view image).geometry ≡ geometry)) }
+fn in_memory(alloc: Global, geometry: Geometry) -> io::Result<Vec<MemImage>>
+    ensures many { IfOk result (λ images. length images.items ≡ DIES) }
+    ensures shape { IfOk result (λ images. AllByRecursion (λ image. (mem_image_view image).geometry ≡ geometry) images.items) }
 {
-    Ok([
-        MemImage::new(alloc, geometry)?,
-        MemImage::new(alloc, geometry)?,
-        MemImage::new(alloc, geometry)?,
-        MemImage::new(alloc, geometry)?,
-    ])
+    Ok(Vec::from_array(
+        alloc,
+        [
+            MemImage::new(alloc, geometry)?,
+            MemImage::new(alloc, geometry)?,
+            MemImage::new(alloc, geometry)?,
+            MemImage::new(alloc, geometry)?,
+        ],
+    )?)
 }
 
 /// Makes the loads of a store over these images.
@@ -210,11 +219,11 @@ fn measure_over<R: Clock + Print + AllocGlobal, I: Image>(
     rt: &R,
     place: Place,
     geometry: Geometry,
-    images: Images<I>,
+    images: Vec<I>,
     bare: I,
 ) -> io::Result<()>
-    requires dies { geometry.dies ≡ DIES }
-    requires shape { AllByRecursion (λ image. (I.view image).geometry ≡ geometry) images }
+    requires dies { geometry.dies ≡ length images.items }
+    requires shape { AllByRecursion (λ image. (I.view image).geometry ≡ geometry) images.items }
 {
     let parts = parts_of(rt.alloc(), geometry, images)?;
     let bare = Bare {
@@ -229,13 +238,13 @@ fn measure_over<R: Clock + Print + AllocGlobal, I: Image>(
 fn parts_of<I: Image>(
     alloc: Global,
     geometry: Geometry,
-    images: Images<I>,
+    images: Vec<I>,
 ) -> io::Result<Parts<PageMap<Global>, I, Global>>
-    requires dies { geometry.dies ≡ DIES }
-    requires shape { AllByRecursion (λ image. (I.view image).geometry ≡ geometry) images }
+    requires dies { geometry.dies ≡ length images.items }
+    requires shape { AllByRecursion (λ image. (I.view image).geometry ≡ geometry) images.items }
     ensures { IfOk result (λ parts. IsWhole page_view parts.mounted.array) }
 {
-    let mut images = Vec::from_array(alloc, images)?;
+    let mut images = images;
     if format(images.as_mut_slice(), geometry, ARRAY).is_err() {
         return Err(ErrorKind::Other.into());
     }
@@ -331,10 +340,37 @@ fn times_of<B: Blocks, I: Image>(
     };
     for _ in 0..load.count {
         let first = client.random.below(PAGES.saturating_sub(load.pages));
-        bare.next = (client.random.below(u64::from(SLOTS)) % u64::from(SLOTS)) as u32;
+        let place = client.random.below(u64::from(SLOTS));
+        ready_bare(bare, load, (place % u64::from(SLOTS)) as u32)?;
         time_one(rt, store, bare, client, load, first, &mut times)?;
     }
     Ok(times)
+}
+
+/// The bare work of a request begins at this slot, or with the block that has it, where slots are to be written: then as many blocks are
+/// erased as a request of 1 MiB writes to, as the store's own slots are.
+fn ready_bare<I: Image>(bare: &mut Bare<I>, load: Load, slot: u32) -> io::Result<()> {
+    if !load.is_write {
+        bare.next = slot;
+        return Ok(());
+    }
+    let block = slot / BLOCK_SLOTS % (BLOCKS - WRITTEN_BLOCKS + 1);
+    for number in block..block + WRITTEN_BLOCKS {
+        erase(&mut bare.image, number)?;
+    }
+    bare.next = block * BLOCK_SLOTS;
+    Ok(())
+}
+
+/// Erases a block of an image.
+fn erase<I: Image>(image: &mut I, block: u32) -> io::Result<()> {
+    if image.geometry().blocks <= block {
+        return Err(ErrorKind::InvalidInput.into());
+    }
+    match image.erase_block(block) {
+        Ok(()) => Ok(()),
+        Err(_) => Err(ErrorKind::Other.into()),
+    }
 }
 
 /// Makes a request, and its bare work.
