@@ -1,5 +1,5 @@
 //! New images, and what headers say. The bytes of headers were made by another program.
-use crate::mounting::{ARRAY, Images, formatted, shape};
+use crate::mounting::{ARRAY, Fused, formatted, shape};
 use fa_headers::{
     FormatFault, Judged, MountFault, MountRefused, Standing, expect, judge, read_headers,
 };
@@ -64,10 +64,11 @@ fn are_expected<I: Image>(rt: &HostRuntime, images: &mut [I]) -> Result<bool, Fa
 /// Asks that images were made a new array.
 fn are_new(
     rt: &HostRuntime,
-    images: &mut Images,
+    images: &mut [Fused],
     came: Result<(), FormatFault>,
 ) -> Result<(), Fail> {
     let copies = Copies::new(2, shape()?)?;
+    ensure!(images.len() == 4);
     ensure!(came.is_ok() && images[0].syncs() == 1 && images[3].syncs() == 1);
     ensure!(has_header(rt, &mut images[1], DIE_1)? && has_header(rt, &mut images[3], SPARE_3)?);
     ensure!(is_new(&judged(rt, images, copies)?) && are_expected(rt, images)?);
@@ -77,19 +78,20 @@ fn are_new(
 #[test]
 fn a_new_array_is_clean_in_epoch_1(rt: HostRuntime) -> Result<(), Fail> {
     let (mut images, came) = formatted(&rt, shape()?, [0; 4], false)?;
-    are_new(&rt, &mut images, came)
+    are_new(&rt, images.as_mut_slice(), came)
 }
 
 /// Asks that the header of image 2 was refused, after which image 3 was not called.
 fn stopped_at_image_2(
     rt: &HostRuntime,
-    images: &mut Images,
+    images: &mut [Fused],
     came: Result<(), FormatFault>,
 ) -> Result<(), Fail> {
     let fault = FormatFault {
         image: 2,
         fault: ImageFault::WriteHeader,
     };
+    ensure!(images.len() == 4);
     ensure!(came == Err(fault) && has_header(rt, &mut images[1], DIE_1)?);
     ensure!(images[1].syncs() == 1 && images[2].syncs() == 0 && images[3].faults() == 0);
     Ok(())
@@ -99,7 +101,7 @@ fn stopped_at_image_2(
 fn a_format_stops_at_the_first_fault(rt: HostRuntime) -> Result<(), Fail> {
     // The fifth call of an image of four blocks writes its header.
     let (mut images, came) = formatted(&rt, shape()?, [0, 0, 5, 1], false)?;
-    stopped_at_image_2(&rt, &mut images, came)
+    stopped_at_image_2(&rt, images.as_mut_slice(), came)
 }
 
 /// Why the headers of images are those of no array; none where they are of one.
@@ -135,7 +137,7 @@ fn is_fault(
 /// page is to have three copies.
 fn are_none(
     rt: &HostRuntime,
-    images: &mut Images,
+    images: &mut [Fused],
     came: Result<(), FormatFault>,
 ) -> Result<(), Fail> {
     let two = Copies::new(2, shape()?)?;
@@ -157,5 +159,5 @@ fn are_none(
 fn images_that_are_none_of_an_array(rt: HostRuntime) -> Result<(), Fail> {
     // The seventh call of an image of four blocks reads its header.
     let (mut images, came) = formatted(&rt, shape()?, [0, 0, 7, 0], false)?;
-    are_none(&rt, &mut images, came)
+    are_none(&rt, images.as_mut_slice(), came)
 }

@@ -1,6 +1,6 @@
 //! Each call of an image and each allocation, refused in turn while images are formatted and mounted, and
 //! images in two formats side by side.
-use crate::mounting::{Images, formatted, new_array};
+use crate::mounting::{Fused, formatted, new_array};
 use crate::slots::{put, tag};
 use fa_headers::{MountFault, MountRefused};
 use fa_image::Image;
@@ -50,20 +50,21 @@ fn copy_header<I: Image>(from: &mut I, to: &mut I) -> Result<(), Fail> {
 }
 
 /// Gives dies 1 and 3 their headers of another array.
-fn copy_headers(from: &mut Images, to: &mut Images) -> Result<(), Fail> {
+fn copy_headers(from: &mut [Fused], to: &mut [Fused]) -> Result<(), Fail> {
+    ensure!(from.len() == 4 && to.len() == 4);
     copy_header(&mut from[1], &mut to[1])?;
     copy_header(&mut from[3], &mut to[3])
 }
 
 /// Gives dies 1 and 3 of an array headers of format 2.
-fn renew_headers(rt: &HostRuntime, images: &mut Images) -> Result<(), Fail> {
+fn renew_headers(rt: &HostRuntime, images: &mut [Fused]) -> Result<(), Fail> {
     let mut newer = new_array(rt, shape()?, false)?;
-    copy_headers(&mut newer, images)
+    copy_headers(newer.as_mut_slice(), images)
 }
 
 /// Writes two copies of each page: one on die 0 in the older version of slots and one on die 1 in the newer
 /// one. Page 7 becomes a hole then, on dies 2 and 3.
-fn write_pages(images: &mut Images) -> Result<(), Fail> {
+fn write_pages(images: &mut [Fused]) -> Result<(), Fail> {
     for slot in 0..8u32 {
         let page = u64::from(slot);
         put(images, slot, tag(page, page + 1, Kind::Data, 0, slot), true)?;
@@ -79,10 +80,10 @@ fn write_pages(images: &mut Images) -> Result<(), Fail> {
 }
 
 /// An array whose dies 0 and 2 have headers of format 1, and dies 1 and 3 headers of format 2, with these pages.
-fn written(rt: &HostRuntime) -> Result<Images, Fail> {
+fn written(rt: &HostRuntime) -> Result<Vec<Fused>, Fail> {
     let mut images = new_array(rt, shape()?, true)?;
-    renew_headers(rt, &mut images)?;
-    write_pages(&mut images)?;
+    renew_headers(rt, images.as_mut_slice())?;
+    write_pages(images.as_mut_slice())?;
     Ok(images)
 }
 
@@ -129,7 +130,7 @@ fn has_live(came: Result<Report, MountRefused>, live: u32) -> bool {
 /// Mounts images that are to have so many copies of each page, and tells the numbers of the array.
 fn reported<A: Allocator + Copy>(
     alloc: A,
-    images: &mut Images,
+    images: &mut [Fused],
     copies: Copies,
     unclean: bool,
 ) -> Result<Report, MountRefused> {
@@ -139,7 +140,7 @@ fn reported<A: Allocator + Copy>(
 /// The same with the dies read side by side.
 fn reported_side_by_side(
     rt: &(impl AllocGlobal + Threads + Sync),
-    images: &mut Images,
+    images: &mut [Fused],
     copies: Copies,
     unclean: bool,
 ) -> Result<Report, MountRefused> {
@@ -168,7 +169,7 @@ fn push_image<I: Image>(image: &mut I, bytes: &mut Vec<u8>) -> Result<(), Fail> 
 }
 
 /// Puts the bytes of all images behind one another.
-fn push_images(images: &mut Images, bytes: &mut Vec<u8>) -> Result<(), Fail> {
+fn push_images(images: &mut [Fused], bytes: &mut Vec<u8>) -> Result<(), Fail> {
     for image in images.iter_mut() {
         push_image(image, bytes)?;
     }
@@ -176,15 +177,15 @@ fn push_images(images: &mut Images, bytes: &mut Vec<u8>) -> Result<(), Fail> {
 }
 
 /// The bytes of all images.
-fn all_bytes(alloc: Global, images: &mut Images) -> Result<Vec<u8>, Fail> {
+fn all_bytes(alloc: Global, images: &mut [Fused]) -> Result<Vec<u8>, Fail> {
     let mut bytes = Vec::new(alloc);
     push_images(images, &mut bytes)?;
     Ok(bytes)
 }
 
 /// Makes the k-th call of one image fail, k from 1, and no other. With 0 none fails.
-fn arm(images: &mut Images, image: usize, k: u64) {
-    if image < 4 {
+fn arm(images: &mut [Fused], image: usize, k: u64) {
+    if image < images.len() {
         images[image].arm(k);
     }
 }
@@ -192,7 +193,7 @@ fn arm(images: &mut Images, image: usize, k: u64) {
 /// Mounts images of which one refuses this call: die by die, and side by side. What was refused is not asked again.
 fn mounted_refused(
     rt: &(impl AllocGlobal + Threads + Sync),
-    images: &mut Images,
+    images: &mut [Fused],
     copies: Copies,
     unclean: bool,
     image: usize,
@@ -214,7 +215,7 @@ fn are_same(a: Result<Report, MountRefused>, b: Result<Report, MountRefused>) ->
 /// Asks that each read of each image is told as a fault where it is refused, or else leaves the other dies live.
 fn each_read_is_refused(
     rt: &(impl AllocGlobal + Threads + Sync),
-    images: &mut Images,
+    images: &mut [Fused],
 ) -> Result<(), Fail> {
     let two = Copies::new(2, shape()?)?;
     for image in 0..4usize {
@@ -238,7 +239,7 @@ fn each_read_is_refused(
 /// The same, after which the bytes of the images are what they were.
 fn reads_are_refused(
     rt: &(impl AllocGlobal + Threads + Sync),
-    images: &mut Images,
+    images: &mut [Fused],
 ) -> Result<(), Fail> {
     let bytes = all_bytes(rt.alloc(), images)?;
     each_read_is_refused(rt, images)?;
@@ -250,13 +251,13 @@ fn reads_are_refused(
 #[test]
 fn each_read_of_mounting_is_refused_in_turn(rt: HostRuntime) -> Result<(), Fail> {
     let mut images = written(&rt)?;
-    reads_are_refused(&rt, &mut images)
+    reads_are_refused(&rt, images.as_mut_slice())
 }
 
 /// Mounts images in so much memory.
 fn reported_in(
     alloc: Global,
-    images: &mut Images,
+    images: &mut [Fused],
     copies: Copies,
     room: usize,
 ) -> Result<Result<Report, MountRefused>, Fail> {
@@ -265,7 +266,12 @@ fn reported_in(
 }
 
 /// Whether so much memory is too little to mount images, which are mounted in more then.
-fn is_short(alloc: Global, images: &mut Images, copies: Copies, room: usize) -> Result<bool, Fail> {
+fn is_short(
+    alloc: Global,
+    images: &mut [Fused],
+    copies: Copies,
+    room: usize,
+) -> Result<bool, Fail> {
     let came = reported_in(alloc, images, copies, room)?;
     if is_whole(came) {
         return Ok(false);
@@ -279,7 +285,7 @@ fn is_short(alloc: Global, images: &mut Images, copies: Copies, room: usize) -> 
 }
 
 /// In how many runs the memory was too little, until it was enough.
-fn short_runs(alloc: Global, images: &mut Images, copies: Copies) -> Result<u32, Fail> {
+fn short_runs(alloc: Global, images: &mut [Fused], copies: Copies) -> Result<u32, Fail> {
     for run in 0..1_024u32 {
         if !is_short(alloc, images, copies, run as usize * 64)? {
             return Ok(run);
@@ -289,7 +295,7 @@ fn short_runs(alloc: Global, images: &mut Images, copies: Copies) -> Result<u32,
 }
 
 /// Asks that each allocation is refused in some run, after which the bytes of the images are what they were.
-fn allocations_are_refused(alloc: Global, images: &mut Images) -> Result<(), Fail> {
+fn allocations_are_refused(alloc: Global, images: &mut [Fused]) -> Result<(), Fail> {
     let two = Copies::new(2, shape()?)?;
     let bytes = all_bytes(alloc, images)?;
     let short = short_runs(alloc, images, two)?;
@@ -302,5 +308,5 @@ fn allocations_are_refused(alloc: Global, images: &mut Images) -> Result<(), Fai
 #[test]
 fn each_allocation_of_mounting_is_refused_in_turn(rt: HostRuntime) -> Result<(), Fail> {
     let mut images = written(&rt)?;
-    allocations_are_refused(rt.alloc(), &mut images)
+    allocations_are_refused(rt.alloc(), images.as_mut_slice())
 }

@@ -1,5 +1,5 @@
 //! Images that are mounted: what their slots hold, and what a refused read does.
-ghost use Rattle.std.specs.Prelude.{◌≡◌, IfOk};
+ghost use Rattle.std.specs.Prelude.{◌≡◌, IfOk, length};
 ghost use Rattle.std.specs.List.{AllByRecursion};
 ghost use Rattle.fa_image.specs.Fuse.{fused_view};
 ghost use Rattle.fa_image.specs.Memory.{mem_image_view};
@@ -14,8 +14,8 @@ use fa_types::{Copies, Die, Geometry, Kind, Page, Seq, Slot};
 use flasharr_tests::ensure;
 use std::test::Fail;
 
-/// The images of an array.
-pub type Images = [FuseImage<MemImage>; 4];
+/// An image of an array.
+pub type Fused = FuseImage<MemImage>;
 
 /// The number of the arrays.
 pub const ARRAY: [u8; 16] = [
@@ -28,7 +28,7 @@ pub fn shape() -> Result<Geometry, Fail> {
 }
 
 /// An image in memory, whose k-th call fails, k from 1, or none where it is 0.
-fn image(rt: &HostRuntime, geometry: Geometry, k: u64) -> Result<FuseImage<MemImage>, Fail>
+fn image(rt: &HostRuntime, geometry: Geometry, k: u64) -> Result<Fused, Fail>
     ensures { IfOk result (λ image. (fused_view mem_image_view image).geometry ≡ geometry) }
 {
     let mut image = FuseImage::new(MemImage::new(rt.alloc(), geometry)?);
@@ -37,15 +37,16 @@ fn image(rt: &HostRuntime, geometry: Geometry, k: u64) -> Result<FuseImage<MemIm
 }
 
 /// Four of them.
-fn images(rt: &HostRuntime, geometry: Geometry, calls: [u64; 4]) -> Result<Images, Fail>
-    ensures { IfOk result (AllByRecursion (λ image. (fused_view mem_image_view image).geometry ≡ geometry)) }
+fn images(rt: &HostRuntime, geometry: Geometry, calls: [u64; 4]) -> Result<Vec<Fused>, Fail>
+    ensures many { IfOk result (λ images. length images.items ≡ 4) }
+    ensures shape { IfOk result (λ images. AllByRecursion (λ image. (fused_view mem_image_view image).geometry ≡ geometry) images.items) }
 {
-    Ok([
-        image(rt, geometry, calls[0])?,
-        image(rt, geometry, calls[1])?,
-        image(rt, geometry, calls[2])?,
-        image(rt, geometry, calls[3])?,
-    ])
+    let mut images = Vec::new(rt.alloc());
+    images.push(image(rt, geometry, calls[0])?)?;
+    images.push(image(rt, geometry, calls[1])?)?;
+    images.push(image(rt, geometry, calls[2])?)?;
+    images.push(image(rt, geometry, calls[3])?)?;
+    Ok(images)
 }
 
 /// Images that refuse these calls, and what came of making them a new array, whose headers may be in the older format.
@@ -54,19 +55,19 @@ pub fn formatted(
     geometry: Geometry,
     calls: [u64; 4],
     older: bool,
-) -> Result<(Images, Result<(), FormatFault>), Fail> {
+) -> Result<(Vec<Fused>, Result<(), FormatFault>), Fail> {
     ensure!(geometry.dies == 4);
     let mut images = images(rt, geometry, calls)?;
     let came = if older {
-        format_1(&mut images, geometry, ARRAY)
+        format_1(images.as_mut_slice(), geometry, ARRAY)
     } else {
-        format(&mut images, geometry, ARRAY)
+        format(images.as_mut_slice(), geometry, ARRAY)
     };
     Ok((images, came))
 }
 
 /// The images of a new array.
-pub fn new_array(rt: &HostRuntime, geometry: Geometry, older: bool) -> Result<Images, Fail> {
+pub fn new_array(rt: &HostRuntime, geometry: Geometry, older: bool) -> Result<Vec<Fused>, Fail> {
     let (images, came) = formatted(rt, geometry, [0; 4], older)?;
     ensure!(came.is_ok());
     Ok(images)
@@ -74,7 +75,7 @@ pub fn new_array(rt: &HostRuntime, geometry: Geometry, older: bool) -> Result<Im
 
 /// Writes page 0 in an older and a newer copy, page 1 in copies of one number that are of two kinds, and page
 /// 2 in two copies on one die. A tag names another slot, and one another page than there is.
-fn write_pages(images: &mut Images) -> Result<(), Fail> {
+fn write_pages(images: &mut [Fused]) -> Result<(), Fail> {
     let slots = [
         (0, tag(0, 1, Kind::Data, 0, 0)),
         (0, tag(0, 2, Kind::Data, 1, 0)),
@@ -92,9 +93,10 @@ fn write_pages(images: &mut Images) -> Result<(), Fail> {
 }
 
 /// Images of an array with these pages, of which die 1 refuses its first slot.
-fn refusing(rt: &HostRuntime) -> Result<Images, Fail> {
+fn refusing(rt: &HostRuntime) -> Result<Vec<Fused>, Fail> {
     let mut images = new_array(rt, shape()?, false)?;
-    write_pages(&mut images)?;
+    write_pages(images.as_mut_slice())?;
+    ensure!(images.len() == 4);
     images[1].arm(2);
     Ok(images)
 }
@@ -102,7 +104,7 @@ fn refusing(rt: &HostRuntime) -> Result<Images, Fail> {
 /// Mounts images.
 fn mounted(
     rt: &HostRuntime,
-    images: &mut Images,
+    images: &mut [Fused],
     copies: Copies,
     unclean: bool,
 ) -> Result<Mounted<PageMap>, MountRefused> {
@@ -118,7 +120,7 @@ fn a_refused_read_is_a_fault(rt: HostRuntime) -> Result<(), Fail> {
         die: Some(Die(1)),
     };
     let mut images = refusing(&rt)?;
-    let refused = mounted(&rt, &mut images, copies, false).err();
+    let refused = mounted(&rt, images.as_mut_slice(), copies, false).err();
     ensure!(refused == Some(fault));
     Ok(())
 }
@@ -144,7 +146,7 @@ fn is_without_die_1(array: &Mounted<PageMap>) -> bool {
 fn a_die_that_refuses_a_read_is_out(rt: HostRuntime) -> Result<(), Fail> {
     let copies = Copies::new(2, shape()?)?;
     let mut images = refusing(&rt)?;
-    let is_so = match mounted(&rt, &mut images, copies, true) {
+    let is_so = match mounted(&rt, images.as_mut_slice(), copies, true) {
         Ok(array) => is_without_die_1(&array),
         Err(_) => false,
     };
