@@ -9,10 +9,10 @@ use Rattle.fa_machine.specs.Step.{Act, Admit, Commit, Done, Fold, Reserve, Reser
 use Rattle.fa_machine.specs.Taking.{Handed}
 use Rattle.fa_machine.specs.World.{IsTold, World, followed}
 use Rattle.fa_ops.specs.Moves.{Moved, Moves, Rested, Turned, Folded, Strayed as StrayedTurn}
-use Rattle.fa_ops.specs.declared.request.Task.{Task}
-use Rattle.fa_ops.specs.declared.stage.Stage.{Stage}
-use Rattle.fa_ops.specs.declared.stage.Stage.TheVariants.{Flushing, Reserving}
-use Rattle.fa_ops.specs.declared.stage.Wish.TheVariants.{Data, Fewer, Hole}
+use Rattle.fa_stages.specs.declared.request.Task.{Task}
+use Rattle.fa_stages.specs.declared.stage.Stage.{Stage}
+use Rattle.fa_stages.specs.declared.stage.Stage.TheVariants.{Flushing, Reserving}
+use Rattle.fa_stages.specs.declared.stage.Wish.TheVariants.{Data, Fewer, Hole}
 use Rattle.fa_shared.specs.Seats.{number_of}
 use Rattle.fa_shared.specs.declared.seat.Seat.{Seat}
 use Rattle.std.proofs.Common.{List, None, Option, Some, [], ap, refl, suc, sym, ℕ, ◌∷◌, ◌≡◌}

@@ -23,14 +23,14 @@ use Rattle.fa_machine.specs.declared.refusals.AdmitRefused.TheVariants.{Lost as 
 use Rattle.fa_ops.specs.Founded.{IsBarred, IsFounded}
 use Rattle.fa_ops.specs.Moves.{Moves, Strays}
 use Rattle.fa_ops.specs.Ops.{Prepares}
-use Rattle.fa_ops.specs.Prepared.{after_batch, has_part, until}
-use Rattle.fa_ops.specs.Ranges.{first_page, part_of, past_page}
-use Rattle.fa_ops.specs.declared.range.Range.{Range}
-use Rattle.fa_ops.specs.declared.request.Task.{Task}
-use Rattle.fa_ops.specs.declared.stage.Purpose.TheVariants.{Answer}
+use Rattle.fa_stages.specs.Prepared.{after_batch, has_part, until}
+use Rattle.fa_stages.specs.Ranges.{first_page, part_of, past_page}
+use Rattle.fa_stages.specs.declared.range.Range.{Range}
+use Rattle.fa_stages.specs.declared.request.Task.{Task}
+use Rattle.fa_stages.specs.declared.stage.Purpose.TheVariants.{Answer}
 use Rattle.fa_ops.specs.Waiting.{without_room}
-use Rattle.fa_ops.specs.declared.stage.Stage.{Stage}
-use Rattle.fa_ops.specs.declared.stage.Stage.TheVariants.{Asking, Ended, Leaving, Listing, Reading, Reserving, Sorting}
+use Rattle.fa_stages.specs.declared.stage.Stage.{Stage}
+use Rattle.fa_stages.specs.declared.stage.Stage.TheVariants.{Asking, Ended, Leaving, Listing, Reading, Reserving, Sorting}
 use Rattle.fa_types.specs.MemoryMeets.{length-bytes_at}
 use Rattle.fa_types.specs.Plain.{HasPages, export}
 use Rattle.fa_types.specs.Store.{HasCause, IsMet, bytes_at}

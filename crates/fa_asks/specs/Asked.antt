@@ -9,12 +9,12 @@ use Rattle.fa_ops.specs.Founded.{IsBarred, IsFounded}
 use Rattle.fa_ops.specs.Moves.{Moves, Strays}
 use Rattle.fa_ops.specs.Ops.{Prepares}
 use Rattle.fa_ops.specs.Waiting.{HasNoWindow, waits, without_room}
-use Rattle.fa_ops.specs.declared.request.Task.{Task}
-use Rattle.fa_ops.specs.declared.stage.Purpose.{Purpose}
-use Rattle.fa_ops.specs.declared.stage.Purpose.TheVariants.{Answer, Merge}
-use Rattle.fa_ops.specs.declared.stage.Stage.{Stage}
-use Rattle.fa_ops.specs.declared.stage.Stage.TheVariants.{Listing, Asking, Reading, Leaving, Sorting, Filling, Reserving}
-use Rattle.fa_ops.specs.declared.stage.Stage.TheVariants.{Committing, Abandoning, Releasing, Flushing}
+use Rattle.fa_stages.specs.declared.request.Task.{Task}
+use Rattle.fa_stages.specs.declared.stage.Purpose.{Purpose}
+use Rattle.fa_stages.specs.declared.stage.Purpose.TheVariants.{Answer, Merge}
+use Rattle.fa_stages.specs.declared.stage.Stage.{Stage}
+use Rattle.fa_stages.specs.declared.stage.Stage.TheVariants.{Listing, Asking, Reading, Leaving, Sorting, Filling, Reserving}
+use Rattle.fa_stages.specs.declared.stage.Stage.TheVariants.{Committing, Abandoning, Releasing, Flushing}
 use Rattle.fa_types.specs.declared.blocks.BlockFault.{BlockFault}
 
 -- the array's world, how far the request is, and its answer so far

@@ -5,8 +5,8 @@ ghost use Rattle.fa_machine.specs.State.{Core};
 ghost use Rattle.fa_machine.specs.World.{World};
 ghost use Rattle.fa_ops.specs.Moves.{Turned};
 ghost use Rattle.fa_ops.specs.Ops.{Prepares};
-ghost use Rattle.fa_ops.specs.declared.request.Task.{Task};
-ghost use Rattle.fa_ops.specs.declared.stage.Stage.{Stage};
+ghost use Rattle.fa_stages.specs.declared.request.Task.{Task};
+ghost use Rattle.fa_stages.specs.declared.stage.Stage.{Stage};
 ghost use Rattle.fa_shared.specs.Seats.{number_of};
 ghost use Rattle.fa_shared.specs.declared.seat.Seat.{Seat};
 

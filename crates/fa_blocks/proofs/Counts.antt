@@ -32,25 +32,27 @@ use Rattle.std.proofs.Common.{Result, Ok, Err, Vec}
 use Rattle.fa_blocks.specs.Counts.{Counts, GoesOn, IsMade}
 use Rattle.fa_ops.proofs.Begun.{left_from, none_refused}
 use Rattle.fa_ops.specs.Tallies.{Tally, left, left_for, pages_in, refusals, refusals_by, tally_at, tally_of}
-use Rattle.fa_ops.specs.Moves.{AfterAdmit, AfterPlanned, AfterReserve, Moves, Strays, Turned, Rested, Moved, Folded, Strayed}
-use Rattle.fa_ops.specs.Moves.{after_abandon, after_begin, after_claim, after_commit, after_release, after_state, commits_in}
-use Rattle.fa_ops.specs.Moves.{opened, stopped}
-use Rattle.fa_ops.specs.Moves.{IsSorting, with_fewer}
-use Rattle.fa_ops.specs.declared.request.Task.{Task}
-use Rattle.fa_ops.specs.declared.stage.Held.{Held}
-use Rattle.fa_ops.specs.declared.stage.Purpose.{Purpose}
-use Rattle.fa_ops.specs.declared.stage.Purpose.TheVariants.{Answer, Merge}
-use Rattle.fa_ops.specs.declared.stage.Stage.{Stage}
-use Rattle.fa_ops.specs.declared.stage.Stage.TheVariants.{Listing, Asking, Reading, Leaving, Sorting, Claiming, Filling, Reserving}
-use Rattle.fa_ops.specs.declared.stage.Stage.TheVariants.{Committing, Abandoning, Releasing, BeginningFlush, Flushing, Ended}
-use Rattle.fa_ops.specs.declared.stage.Wish.{Wish}
-use Rattle.fa_ops.specs.declared.stage.Wish.TheVariants.{Data, Fewer, Hole}
+use Rattle.fa_ops.specs.Moves.{Moves, Strays, Turned, Rested, Moved, Folded, Strayed}
+use Rattle.fa_stages.specs.Stages.{AfterAdmit, AfterPlanned, AfterReserve}
+use Rattle.fa_ops.specs.Moves.{commits_in}
+use Rattle.fa_stages.specs.Stages.{after_abandon, after_begin, after_claim, after_commit, after_release, after_state}
+use Rattle.fa_stages.specs.Stages.{opened, stopped}
+use Rattle.fa_stages.specs.Stages.{IsSorting, with_fewer}
+use Rattle.fa_stages.specs.declared.request.Task.{Task}
+use Rattle.fa_stages.specs.declared.stage.Held.{Held}
+use Rattle.fa_stages.specs.declared.stage.Purpose.{Purpose}
+use Rattle.fa_stages.specs.declared.stage.Purpose.TheVariants.{Answer, Merge}
+use Rattle.fa_stages.specs.declared.stage.Stage.{Stage}
+use Rattle.fa_stages.specs.declared.stage.Stage.TheVariants.{Listing, Asking, Reading, Leaving, Sorting, Claiming, Filling, Reserving}
+use Rattle.fa_stages.specs.declared.stage.Stage.TheVariants.{Committing, Abandoning, Releasing, BeginningFlush, Flushing, Ended}
+use Rattle.fa_stages.specs.declared.stage.Wish.{Wish}
+use Rattle.fa_stages.specs.declared.stage.Wish.TheVariants.{Data, Fewer, Hole}
 use Rattle.fa_ops.specs.Ops.{Prepares, answer_of, ended, stage_of, task_in}
-use Rattle.fa_ops.specs.Tasks.{task_of}
+use Rattle.fa_stages.specs.Tasks.{task_of}
 use Rattle.fa_ops.specs.declared.op.Op.{Op}
-use Rattle.fa_ops.specs.declared.request.Request.{Request}
-use Rattle.fa_ops.specs.Prepared.{IsFilled, IsListed, IsMerged, SortsAnswer, SortsPage, after_batch}
-use Rattle.fa_ops.specs.declared.range.Range.{Range}
+use Rattle.fa_stages.specs.declared.request.Request.{Request}
+use Rattle.fa_stages.specs.Prepared.{IsFilled, IsListed, IsMerged, SortsAnswer, SortsPage, after_batch}
+use Rattle.fa_stages.specs.declared.range.Range.{Range}
 use Rattle.fa_shared.specs.Seats.{commits_with, number_of}
 use Rattle.fa_shared.specs.declared.seat.Seat.{Seat}
 use Rattle.fa_types.specs.declared.blocks.BlockFault.{BlockFault}

@@ -8,11 +8,11 @@ use Rattle.std.proofs.lemmas.Nat.{div-mul-add, div_below, le-div}
 use Rattle.std.specs.Prelude.{max, min, nat_le, nat_lt, if◌then◌else◌}
 use Rattle.fa_blocks.specs.Counts.{pages_between}
 use Rattle.fa_ops.specs.Tallies.{pages_by, pages_in}
-use Rattle.fa_ops.specs.Tasks.{begin_of, bytes_from, end_of, task_of, whole_range, zeros_as}
-use Rattle.fa_ops.specs.declared.request.Fill.{Fill}
-use Rattle.fa_ops.specs.declared.request.Fill.TheVariants.{Bytes, Holes}
-use Rattle.fa_ops.specs.declared.request.Request.{Request}
-use Rattle.fa_ops.specs.declared.request.Request.TheVariants.{Read, Write, Zero, Trim, Flush}
+use Rattle.fa_stages.specs.Tasks.{begin_of, bytes_from, end_of, task_of, whole_range, zeros_as}
+use Rattle.fa_stages.specs.declared.request.Fill.{Fill}
+use Rattle.fa_stages.specs.declared.request.Fill.TheVariants.{Bytes, Holes}
+use Rattle.fa_stages.specs.declared.request.Request.{Request}
+use Rattle.fa_stages.specs.declared.request.Request.TheVariants.{Read, Write, Zero, Trim, Flush}
 
 -- the page that begins at the offset or behind it
 abbrev up : ℕ → ℕ → ℕ

@@ -4,12 +4,12 @@ use Rattle.std.specs.List.{sum_by}
 use Rattle.fa_blocks.specs.declared.parts.Part.{Part}
 use Rattle.fa_ops.specs.Ops.{ended, stage_of, task_in}
 use Rattle.fa_ops.specs.Tallies.{Tally, left, pages_in, refusals, tally_of}
-use Rattle.fa_ops.specs.Tasks.{task_of, within}
+use Rattle.fa_stages.specs.Tasks.{task_of, within}
 use Rattle.fa_ops.specs.declared.op.Op.{Op}
-use Rattle.fa_ops.specs.declared.request.Request.{Request}
-use Rattle.fa_ops.specs.declared.request.Request.TheVariants.{Read, Write, Zero, Trim, Flush}
-use Rattle.fa_ops.specs.declared.stage.Stage.{Stage}
-use Rattle.fa_ops.specs.declared.stage.Stage.TheVariants.{Ended}
+use Rattle.fa_stages.specs.declared.request.Request.{Request}
+use Rattle.fa_stages.specs.declared.request.Request.TheVariants.{Read, Write, Zero, Trim, Flush}
+use Rattle.fa_stages.specs.declared.stage.Stage.{Stage}
+use Rattle.fa_stages.specs.declared.stage.Stage.TheVariants.{Ended}
 use Rattle.fa_shared.specs.Seats.{commits_with, number_of}
 use Rattle.fa_shared.specs.declared.seat.Seat.{Seat}
 use Rattle.fa_types.specs.Store.{Call, Reading, Writing, Zeroing, Trimming, Flushing, Answer as StoreAnswer, Refused}

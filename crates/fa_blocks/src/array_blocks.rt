@@ -3,8 +3,9 @@ ghost use Rattle.std.specs.Prelude.{◌≤◌};
 
 use crate::running::{finish, run, run_read, store_bytes};
 use fa_map::Map;
-use fa_ops::{Op, Request};
+use fa_ops::Op;
 use fa_shared::{Hands, Seat, Shared};
+use fa_stages::Request;
 use fa_types::{BlockFault, Blocks};
 use std::alloc::Allocator;
 use std::sync::Wait;
@@ -44,7 +45,8 @@ impl<
 > ArrayBlocks<'a, R, L, M, A, H> {
     ghost use Rattle.std.specs.Prelude.{◌≡◌, true, is_none, is_some, unwrap_or};
     ghost use Rattle.fa_blocks.specs.Counts.{IsMade, is_served};
-    ghost use Rattle.fa_ops.specs.Ops.{beginning, ended, stage_of, task_in};
+    ghost use Rattle.fa_ops.specs.Ops.{ended, stage_of, task_in};
+    ghost use Rattle.fa_stages.specs.Stages.{beginning};
     ghost use Rattle.fa_ops.specs.Tallies.{pages_in};
 
     /// The store of a seat. While it waits for dies it makes jobs by these hands.

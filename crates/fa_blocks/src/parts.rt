@@ -3,12 +3,13 @@ ghost use Rattle.std.specs.Prelude.{◌≡◌, ℕ, ◌+◌, ◌≤◌, ◌^◌,
 ghost use Rattle.std.specs.List.{list_all, sum_by};
 ghost use Rattle.fa_blocks.specs.Counts.{Counts, IsMade, PartsGoOn, has_ended as rule_ended, left_in, pages_between, refusals_in, tally_of_parts};
 ghost use Rattle.fa_ops.specs.Tallies.{pages_in, tally_of};
-ghost use Rattle.fa_ops.specs.Tasks.{end_of, task_of};
+ghost use Rattle.fa_stages.specs.Tasks.{end_of, task_of};
 
 use crate::running::{pass_time, turn_on};
 use fa_map::Map;
-use fa_ops::{Op, Request, Turn};
+use fa_ops::{Op, Turn};
 use fa_shared::{Awaits, Hands, Locked, Seat, Shared};
+use fa_stages::Request;
 use fa_tag::Payload;
 use fa_types::BlockFault;
 use std::alloc::{AllocError, Allocator, Global};

@@ -3,14 +3,15 @@ ghost use Rattle.std.specs.Prelude.{◌≡◌, ◌+◌, ◌*◌, ◌^◌, ◌≤
 ghost use Rattle.fa_blocks.specs.Counts.{GoesOn, IsMade};
 ghost use Rattle.fa_ops.specs.Ops.{ended, stage_of};
 ghost use Rattle.fa_ops.specs.Tallies.{pages_in};
-ghost use Rattle.fa_ops.specs.Tasks.{end_of, task_of};
+ghost use Rattle.fa_stages.specs.Tasks.{end_of, task_of};
 ghost use Rattle.fa_shared.specs.Seats.{commits_with, number_of};
 ghost use Rattle.fa_types.specs.declared.blocks.BlockFault.TheVariants.{NoRoom};
 
 use crate::parts::run_parts;
 use fa_map::Map;
-use fa_ops::{Op, Request, Turn};
+use fa_ops::{Op, Turn};
 use fa_shared::{Awaits, Hands, Locked, Seat, Shared};
+use fa_stages::Request;
 use fa_types::{BlockFault, Geometry};
 use std::alloc::Allocator;
 use std::sync::ledger::Ledger;

@@ -20,7 +20,7 @@ use Rattle.fa_image.specs.Image.{ImageAnswer, ImageCall, ImageMeets, ImageState,
 use Rattle.fa_io.specs.Streams.{Streams}
 use Rattle.fa_machine.specs.World.{World}
 use Rattle.fa_mount.specs.Standings.{AreApart}
-use Rattle.fa_ops.specs.Tasks.{end_of, task_of}
+use Rattle.fa_stages.specs.Tasks.{end_of, task_of}
 use Rattle.fa_runs.specs.Drives.{AreHonest}
 use Rattle.fa_session.specs.Exchanges.{Asked, Chain, Exchange, IsExchange, Makes, MayCome, NoneForData, NotAsked, Outcome, call_of as wanted_call}
 use Rattle.fa_session.specs.Session.{Session}

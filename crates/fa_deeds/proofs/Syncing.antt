@@ -16,8 +16,8 @@ use Rattle.fa_machine.specs.declared.answers.Flush.{Flush}
 use Rattle.fa_machine.specs.declared.answers.FlushState.TheVariants.{Synced}
 use Rattle.fa_mount.specs.Standings.{AreApart}
 use Rattle.fa_ops.specs.Moves.{Folded, Moved, Rested, Strayed, Turned}
-use Rattle.fa_ops.specs.declared.request.Task.{Task}
-use Rattle.fa_ops.specs.declared.stage.Stage.{Stage}
+use Rattle.fa_stages.specs.declared.request.Task.{Task}
+use Rattle.fa_stages.specs.declared.stage.Stage.{Stage}
 use Rattle.fa_runs.specs.Drives.{AreHonest}
 use Rattle.fa_shared.specs.Seats.{number_of}
 use Rattle.fa_shared.specs.declared.seat.Seat.{Seat}

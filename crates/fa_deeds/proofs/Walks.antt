@@ -13,10 +13,10 @@ use Rattle.fa_machine.specs.Step.{Act, Admit, Done, EndBatch, Fold, ReserveCopy}
 use Rattle.fa_mount.specs.Standings.{AreApart}
 use Rattle.fa_ops.specs.Moves.{Folded, Moved, Moves, Rested, Strayed, Turned}
 use Rattle.fa_ops.specs.Waiting.{awaits_flush}
-use Rattle.fa_ops.specs.declared.request.Task.{Task}
-use Rattle.fa_ops.specs.declared.stage.Stage.{Stage}
-use Rattle.fa_ops.specs.declared.stage.Stage.TheVariants.{Reserving}
-use Rattle.fa_ops.specs.declared.stage.Wish.TheVariants.{Data, Fewer, Hole}
+use Rattle.fa_stages.specs.declared.request.Task.{Task}
+use Rattle.fa_stages.specs.declared.stage.Stage.{Stage}
+use Rattle.fa_stages.specs.declared.stage.Stage.TheVariants.{Reserving}
+use Rattle.fa_stages.specs.declared.stage.Wish.TheVariants.{Data, Fewer, Hole}
 use Rattle.fa_runs.specs.Drives.{AreHonest}
 use Rattle.fa_shared.specs.Seats.{number_of}
 use Rattle.fa_shared.specs.declared.seat.Seat.{Seat}

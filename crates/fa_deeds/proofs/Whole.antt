@@ -17,9 +17,9 @@ use Rattle.fa_image.specs.Image.{ImageAnswer, ImageCall, ImageMeets, ImageState,
 use Rattle.fa_machine.specs.State.{Core}
 use Rattle.fa_machine.specs.World.{World}
 use Rattle.fa_mount.specs.Standings.{AreApart}
-use Rattle.fa_ops.specs.Tasks.{end_of, task_of}
-use Rattle.fa_ops.specs.declared.request.Request.{Request}
-use Rattle.fa_ops.specs.declared.request.Task.{Task}
+use Rattle.fa_stages.specs.Tasks.{end_of, task_of}
+use Rattle.fa_stages.specs.declared.request.Request.{Request}
+use Rattle.fa_stages.specs.declared.request.Task.{Task}
 use Rattle.fa_runs.specs.Drives.{AreHonest}
 use Rattle.fa_shared.specs.Seats.{number_of}
 use Rattle.fa_solo.specs.Calls.{Made, MakesRequest, MakesWhole, NoMemory}

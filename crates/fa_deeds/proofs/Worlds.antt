@@ -18,7 +18,7 @@ use Rattle.fa_machine.specs.State.{Core, is_live}
 use Rattle.fa_machine.specs.Step.{Act, Done, Step, Take}
 use Rattle.fa_machine.specs.World.{IsTold, World, followed}
 use Rattle.fa_mount.specs.Standings.{AreApart}
-use Rattle.fa_ops.specs.declared.request.Task.{Task}
+use Rattle.fa_stages.specs.declared.request.Task.{Task}
 use Rattle.fa_runs.proofs.Following.{images_follow}
 use Rattle.fa_runs.proofs.JobCalls.{job_runs, value_here}
 use Rattle.fa_runs.specs.Drives.{AreHonest}

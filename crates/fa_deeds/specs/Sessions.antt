@@ -7,7 +7,7 @@ use Rattle.fa_image.specs.Image.{ImageAnswer, ImageCall, ImageState}
 use Rattle.fa_io.specs.Streams.{Streams}
 use Rattle.fa_machine.specs.World.{World}
 use Rattle.fa_mount.specs.Standings.{AreApart}
-use Rattle.fa_ops.specs.Tasks.{task_of}
+use Rattle.fa_stages.specs.Tasks.{task_of}
 use Rattle.fa_session.specs.Exchanges.{Asked, Chain, Exchange, Makes, Outcome}
 use Rattle.fa_session.specs.Session.{Session}
 use Rattle.fa_session.specs.declared.session_end.SessionEnd.{SessionEnd}

@@ -1,5 +1,5 @@
 //! Where copies of a page go.
-ghost use Rattle.std.specs.Prelude.{◌≡◌, ℕ, false, ◌-◌, ◌<◌, ◌≤◌, option_map};
+ghost use Rattle.std.specs.Prelude.{◌≡◌, ℕ, true, false, ◌-◌, ◌<◌, ◌≤◌, option_map};
 ghost use Rattle.std.specs.List.{All};
 ghost use Rattle.fa_machine.specs.Placement.{copies_asked as rule_asked, copy_place as rule_place, has_room as rule_room};
 ghost use Rattle.fa_machine.specs.Placement.{is_thin as rule_thin, targets as rule_targets};
@@ -70,7 +70,8 @@ pub fn copy_place<M: Map>(map: &M, copies: Copies, page: Page) -> Option<Die>
 
 /// Whether a live die has room.
 pub fn has_any_room<M: Map>(map: &M) -> bool
-    ensures { result ≡ false → (die : ℕ) → rule_room (M.view map.now) die ≡ false }
+    ensures none { result ≡ false → (die : ℕ) → rule_room (M.view map.now) die ≡ false }
+    ensures some { result ≡ true → (die : ℕ) × (rule_room (M.view map.now) die ≡ true) }
 {
     for die in 0..map.geometry().dies {
         if has_room(map, Die(die as u8)) {

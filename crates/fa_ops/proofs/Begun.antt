@@ -1,13 +1,13 @@
 -- The tally of a request at its beginning.
 use Rattle.std.proofs.Common.{◌≡◌, ◌∙◌, ◌-◌, ℕ, Option, Some, None, ap, arith}
 use Rattle.std.proofs.lemmas.Bool.Decides.{nat_tests}
-use Rattle.fa_ops.specs.Moves.{from_page}
-use Rattle.fa_ops.specs.Ops.{beginning, beginning_by}
-use Rattle.fa_ops.specs.Ranges.{first_page, past_page}
+use Rattle.fa_stages.specs.Stages.{from_page}
+use Rattle.fa_stages.specs.Stages.{beginning, beginning_by}
+use Rattle.fa_stages.specs.Ranges.{first_page, past_page}
 use Rattle.fa_ops.specs.Tallies.{Tally, left, pages_by, pages_in, refusals, tally_at}
-use Rattle.fa_ops.specs.declared.request.Fill.{Fill}
-use Rattle.fa_ops.specs.declared.request.Task.{Task}
-use Rattle.fa_ops.specs.declared.stage.Stage.{Stage}
+use Rattle.fa_stages.specs.declared.request.Fill.{Fill}
+use Rattle.fa_stages.specs.declared.request.Task.{Task}
+use Rattle.fa_stages.specs.declared.stage.Stage.{Stage}
 
 -- the next page of the range is claimed where there is one
 pub none_refused : (A : Type 0) (t : Task) (page : ℕ) → refusals (from_page {A = A} t page) ≡ 0

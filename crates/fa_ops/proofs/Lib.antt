@@ -1,4 +1,3 @@
 pub mod Begun
 pub mod Rooms
-pub mod Sorting
 pub mod Turns

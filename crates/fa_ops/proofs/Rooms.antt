@@ -11,10 +11,10 @@ use Rattle.fa_machine.specs.declared.ids.Block.{Block}
 use Rattle.fa_machine.specs.declared.refusals.ReserveRefused.{ReserveRefused}
 use Rattle.fa_machine.specs.declared.refusals.ReserveRefused.TheVariants.{NoRoom}
 use Rattle.fa_ops.specs.Founded.{IsFounded, may_collect, may_free}
-use Rattle.fa_ops.specs.declared.stage.Held.{Held}
-use Rattle.fa_ops.specs.declared.stage.Stage.{Stage}
-use Rattle.fa_ops.specs.declared.stage.Stage.TheVariants.{Releasing, Reserving}
-use Rattle.fa_ops.specs.declared.stage.Wish.TheVariants.{Fewer}
+use Rattle.fa_stages.specs.declared.stage.Held.{Held}
+use Rattle.fa_stages.specs.declared.stage.Stage.{Stage}
+use Rattle.fa_stages.specs.declared.stage.Stage.TheVariants.{Releasing, Reserving}
+use Rattle.fa_stages.specs.declared.stage.Wish.TheVariants.{Fewer}
 use Rattle.fa_types.specs.declared.numbers.Seq.{Seq}
 
 -- what is true of none of some numbers

@@ -9,12 +9,13 @@ use Rattle.fa_machine.specs.Step.{Step, Abandon, EndBatch, Fold}
 use Rattle.fa_machine.specs.declared.ids.BatchId.{BatchId}
 use Rattle.fa_machine.specs.declared.refusals.AbandonRefused.{AbandonRefused}
 use Rattle.fa_ops.specs.Accounts.{IsAccounted}
-use Rattle.fa_ops.specs.Moves.{Turned, Moved, Rested, Strayed, stopped}
-use Rattle.fa_ops.specs.declared.request.Task.{Task}
-use Rattle.fa_ops.specs.declared.stage.Held.{Held}
-use Rattle.fa_ops.specs.declared.stage.Purpose.{Purpose}
-use Rattle.fa_ops.specs.declared.stage.Stage.{Stage}
-use Rattle.fa_ops.specs.declared.stage.Stage.TheVariants.{Leaving, Releasing}
+use Rattle.fa_ops.specs.Moves.{Turned, Moved, Rested, Strayed}
+use Rattle.fa_stages.specs.Stages.{stopped}
+use Rattle.fa_stages.specs.declared.request.Task.{Task}
+use Rattle.fa_stages.specs.declared.stage.Held.{Held}
+use Rattle.fa_stages.specs.declared.stage.Purpose.{Purpose}
+use Rattle.fa_stages.specs.declared.stage.Stage.{Stage}
+use Rattle.fa_stages.specs.declared.stage.Stage.TheVariants.{Leaving, Releasing}
 use Rattle.fa_shared.specs.Locked.{LockedState}
 use Rattle.fa_shared.specs.Seats.{commits_with}
 use Rattle.fa_shared.specs.declared.seat.Seat.{Seat}

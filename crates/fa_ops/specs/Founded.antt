@@ -9,10 +9,10 @@ use Rattle.fa_machine.specs.State.{Core, MapState, dies_of, is_live}
 use Rattle.fa_machine.specs.Step.{Act, EndBatch, Replan, ReserveFewer, is_distinct, is_page, is_sized}
 use Rattle.fa_machine.specs.declared.answers.ReadState.TheVariants.{Ready, Torn}
 use Rattle.fa_machine.specs.declared.refusals.ReserveRefused.TheVariants.{NoRoom}
-use Rattle.fa_ops.specs.declared.stage.Stage.{Stage}
-use Rattle.fa_ops.specs.declared.stage.Stage.TheVariants.{Asking, Reading, Releasing, Reserving}
-use Rattle.fa_ops.specs.declared.stage.Wish.{Wish}
-use Rattle.fa_ops.specs.declared.stage.Wish.TheVariants.{Data, Fewer, Hole}
+use Rattle.fa_stages.specs.declared.stage.Stage.{Stage}
+use Rattle.fa_stages.specs.declared.stage.Stage.TheVariants.{Asking, Reading, Releasing, Reserving}
+use Rattle.fa_stages.specs.declared.stage.Wish.{Wish}
+use Rattle.fa_stages.specs.declared.stage.Wish.TheVariants.{Data, Fewer, Hole}
 
 -- whether a die without room has a block to collect
 abbrev pub may_free : MapState → ℕ → Bool

@@ -2,8 +2,5 @@ pub mod Accounts
 pub mod Founded
 pub mod Moves
 pub mod Ops
-pub mod Prepared
-pub mod Ranges
 pub mod Tallies
-pub mod Tasks
 pub mod Waiting

@@ -1,14 +1,11 @@
 -- What contracts see of a request, and what each of its calls does beside its turns.
-use Rattle.std.specs.Prelude.{◌≡◌, ℕ, ◌==◌, if◌then◌else◌, List, map, Option, Some, None}
-use Rattle.fa_ops.specs.Moves.{after_pages, from_page}
-use Rattle.fa_ops.specs.Prepared.{IsFilled, IsListed, SortsAnswer, SortsPage}
-use Rattle.fa_ops.specs.Ranges.{first_page}
+use Rattle.std.specs.Prelude.{◌≡◌, ℕ, List, map, Option, Some, None}
+use Rattle.fa_stages.specs.Prepared.{IsFilled, IsListed, SortsAnswer, SortsPage}
 use Rattle.fa_ops.specs.declared.op.Op.{Op}
-use Rattle.fa_ops.specs.declared.request.Fill.{Fill}
-use Rattle.fa_ops.specs.declared.request.Task.{Task}
-use Rattle.fa_ops.specs.declared.stage.Purpose.TheVariants.{Answer, Merge}
-use Rattle.fa_ops.specs.declared.stage.Stage.{Stage}
-use Rattle.fa_ops.specs.declared.stage.Stage.TheVariants.{Ended, Filling, Listing, Sorting}
+use Rattle.fa_stages.specs.declared.request.Task.{Task}
+use Rattle.fa_stages.specs.declared.stage.Purpose.TheVariants.{Answer, Merge}
+use Rattle.fa_stages.specs.declared.stage.Stage.{Stage}
+use Rattle.fa_stages.specs.declared.stage.Stage.TheVariants.{Ended, Filling, Listing, Sorting}
 use Rattle.fa_types.specs.declared.blocks.BlockFault.{BlockFault}
 
 module _ {A : Type 0} where
@@ -21,14 +18,6 @@ module _ {A : Type 0} where
 
   abbrev pub answer_of : Op A → List ℕ
   answer_of op = op.answer.items
-
-  -- how a request begins: a write with its first page, a read with the list of its first pages
-  abbrev pub beginning_by : Task → Option Fill → Stage A
-  beginning_by t (Some fill) = from_page t (first_page t.range)
-  beginning_by t None = if t.flush then after_pages t else (if t.range.from == t.range.to then Ended None else Listing (Answer (first_page t.range)))
-
-  abbrev pub beginning : Task → Stage A
-  beginning t = beginning_by t t.fill
 
   -- how a request ended, if it has
   abbrev pub ended : Stage A → Option (Option BlockFault)

@@ -1,6 +1,6 @@
 //! Whether a turn led on.
 use crate::op::Turn;
-use crate::stage::{Stage, Wish};
+use fa_stages::{Stage, Wish};
 use std::alloc::Allocator;
 
 /// The kinds of stages that a turn leads from and to.

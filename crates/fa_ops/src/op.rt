@@ -1,15 +1,15 @@
 //! A request, from its beginning to its answer.
-ghost use Rattle.fa_ops.specs.Ranges.{IsRange};
+ghost use Rattle.fa_stages.specs.Ranges.{IsRange};
 
-use crate::gathering::sort_answer;
 use crate::kinds::{kind_of, turn_from};
-use crate::preparing::{content, fill_page, fill_with, list, sort_page};
-use crate::request::{Fill, Request, Task};
-use crate::stage::{Purpose, Stage};
-use crate::stages::{answer_len, begin, memory_for, turn_stage};
+use crate::stages::{answer_len, memory_for, turn_stage};
 use fa_machine::ReadState;
 use fa_map::Map;
 use fa_shared::{Awaits, Locked, Seat};
+use fa_stages::{
+    Fill, Purpose, Request, Stage, Task, begin, content, fill_page, fill_with, list, sort_answer,
+    sort_page,
+};
 use fa_tag::Payload;
 use fa_types::BlockFault;
 use std::alloc::{AllocError, Allocator, Global};
@@ -44,9 +44,10 @@ impl<A: Allocator + Copy> Op<A> {
     ghost use Rattle.std.specs.Prelude.{◌≡◌, ℕ, ◌^◌, ◌<◌, ◌≤◌, [], IfErr, IfOk};
     ghost use Rattle.fa_ops.specs.Accounts.{IsAccounted};
     ghost use Rattle.fa_ops.specs.Moves.{Turned};
-    ghost use Rattle.fa_ops.specs.Ops.{Prepares, answer_of, beginning, ended as rule_ended, stage_of, task_in};
+    ghost use Rattle.fa_ops.specs.Ops.{Prepares, answer_of, ended as rule_ended, stage_of, task_in};
+    ghost use Rattle.fa_stages.specs.Stages.{beginning};
     ghost use Rattle.fa_ops.specs.Tallies.{pages_in, tally_of};
-    ghost use Rattle.fa_ops.specs.Tasks.{answered, end_of, task_of};
+    ghost use Rattle.fa_stages.specs.Tasks.{answered, end_of, task_of};
     ghost use Rattle.fa_ops.specs.Waiting.{awaits_flush as rule_flush, waits, wants_room as rule_room, without_room};
 
     /// A request of a store whose pages have so many bytes, of which no turn was made. A read has all memory for its answer from the

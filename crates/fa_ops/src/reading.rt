@@ -2,31 +2,22 @@
 ghost use Rattle.std.specs.Prelude.{◌≡◌};
 ghost use Rattle.fa_machine.specs.Reading.{results as rule_results};
 ghost use Rattle.fa_ops.specs.Accounts.{IsAccounted};
-ghost use Rattle.fa_ops.specs.Moves.{AfterAdmit, AfterPlanned, Turned, stopped as rule_stopped};
+ghost use Rattle.fa_ops.specs.Moves.{Turned};
+ghost use Rattle.fa_stages.specs.Stages.{AfterAdmit, AfterPlanned};
 ghost use Rattle.fa_reads.specs.Answers.{admit_answer, plan_answer};
-ghost use Rattle.fa_ops.specs.declared.request.Task.{Task};
-ghost use Rattle.fa_ops.specs.declared.stage.Stage.TheVariants.{Asking, Leaving, Reading};
+ghost use Rattle.fa_stages.specs.declared.request.Task.{Task};
+ghost use Rattle.fa_stages.specs.declared.stage.Stage.TheVariants.{Asking, Leaving, Reading};
 
 use crate::events::{admit, end_batch, replan};
-use crate::stage::{Purpose, Stage};
 use fa_core::Planned;
 use fa_machine::{AdmitRefused, BatchId, ReadState};
 use fa_map::Map;
 use fa_reads::Admitted;
 use fa_shared::{Locked, Seat};
+use fa_stages::{Purpose, Stage, stopped};
 use fa_types::{BlockFault, Page};
 use std::alloc::Allocator;
 use std::sync::ledger::Ledger;
-
-/// The request is refused. A page that is claimed is released first.
-pub(crate) fn stopped<A: Allocator>(purpose: Purpose, fault: BlockFault) -> Stage<A>
-    ensures { result ≡ rule_stopped purpose fault }
-{
-    match purpose {
-        Purpose::Answer(_) => Stage::Ended(Some(fault)),
-        Purpose::Merge(held) => Stage::Releasing(held, Some(fault)),
-    }
-}
 
 /// A batch of the pages is admitted.
 pub(crate) fn ask<L: Ledger, M: Map + Drop, A: Allocator + Copy>(

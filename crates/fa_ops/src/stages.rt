@@ -2,19 +2,15 @@
 ghost use Rattle.std.specs.Prelude.{◌≡◌, ◌<◌, [], IfErr, IfOk};
 ghost use Rattle.fa_ops.specs.Accounts.{IsAccounted};
 ghost use Rattle.fa_ops.specs.Moves.{Turned};
-ghost use Rattle.fa_ops.specs.Ops.{beginning};
-ghost use Rattle.fa_ops.specs.Ranges.{IsRange};
-ghost use Rattle.fa_ops.specs.Tasks.{answered};
+ghost use Rattle.fa_stages.specs.Ranges.{IsRange};
+ghost use Rattle.fa_stages.specs.Tasks.{answered};
 
 use crate::reading::{ask, leave, read};
-use crate::request::Task;
-use crate::stage::{Purpose, Stage};
 use crate::syncing::{begin_flush, flush};
-use crate::writing::{
-    abandon_wish, after_pages, claim_page, commit_wish, from_page, release_page, reserve_wish,
-};
+use crate::writing::{abandon_wish, claim_page, commit_wish, release_page, reserve_wish};
 use fa_map::Map;
 use fa_shared::{Locked, Seat};
+use fa_stages::{Stage, Task};
 use std::alloc::{AllocError, Allocator};
 use std::sync::ledger::Ledger;
 
@@ -42,24 +38,6 @@ pub(crate) fn turn_stage<L: Ledger, M: Map + Drop, A: Allocator + Copy>(
         Stage::BeginningFlush => begin_flush(alloc, locked, seat),
         Stage::Flushing(asked) => flush(alloc, locked, seat, asked),
         stage => stage,
-    }
-}
-
-/// How a request begins.
-pub(crate) fn begin<A: Allocator>(task: Task) -> Stage<A>
-    requires { IsRange task.range }
-    ensures { result ≡ beginning task }
-{
-    if task.fill.is_some() {
-        return from_page(task, task.range.first_page());
-    }
-    if task.flush {
-        return after_pages(task);
-    }
-    if task.range.from == task.range.to {
-        Stage::Ended(None)
-    } else {
-        Stage::Listing(Purpose::Answer(task.range.first_page()))
     }
 }
 

@@ -1,16 +1,14 @@
 //! Flushes, begun and waited for.
-ghost use Rattle.std.specs.Prelude.{◌≡◌};
 ghost use Rattle.fa_ops.specs.Accounts.{IsAccounted};
-ghost use Rattle.fa_ops.specs.Moves.{Turned, after_begin, after_state};
-ghost use Rattle.fa_ops.specs.declared.request.Task.{Task};
-ghost use Rattle.fa_ops.specs.declared.stage.Stage.TheVariants.{BeginningFlush, Flushing};
+ghost use Rattle.fa_ops.specs.Moves.{Turned};
+ghost use Rattle.fa_stages.specs.declared.request.Task.{Task};
+ghost use Rattle.fa_stages.specs.declared.stage.Stage.TheVariants.{BeginningFlush, Flushing};
 
 use crate::events::{flush_begin, flush_state};
-use crate::stage::Stage;
-use fa_machine::{Flush, FlushRefused, FlushState};
+use fa_machine::Flush;
 use fa_map::Map;
 use fa_shared::{Locked, Seat};
-use fa_types::BlockFault;
+use fa_stages::{Stage, begun, flushed};
 use std::alloc::Allocator;
 use std::sync::ledger::Ledger;
 
@@ -26,16 +24,6 @@ pub(crate) fn begin_flush<L: Ledger, M: Map + Drop, A: Allocator + Copy>(
     begun(flush_begin(alloc, locked, seat))
 }
 
-/// What the request does behind its FlushBegin.
-fn begun<A: Allocator>(answer: Result<Flush, FlushRefused>) -> Stage<A>
-    ensures { result ≡ after_begin answer }
-{
-    match answer {
-        Ok(flush) => Stage::Flushing(flush),
-        Err(FlushRefused::Spent) => Stage::Ended(Some(BlockFault::Spent)),
-    }
-}
-
 /// The flush is waited for, until each die that was live when it began has synced or is out.
 pub(crate) fn flush<L: Ledger, M: Map + Drop, A: Allocator + Copy>(
     alloc: A,
@@ -47,15 +35,4 @@ pub(crate) fn flush<L: Ledger, M: Map + Drop, A: Allocator + Copy>(
     ensures account { IsAccounted locked.old seat.old locked.new seat.new }
 {
     flushed(asked, flush_state(alloc, locked, seat, asked))
-}
-
-/// What the request does behind its FlushState.
-fn flushed<A: Allocator>(asked: Flush, state: FlushState) -> Stage<A>
-    ensures { result ≡ after_state asked state }
-{
-    match state {
-        FlushState::Waiting => Stage::Flushing(asked),
-        FlushState::Synced => Stage::Ended(None),
-        FlushState::NoDie => Stage::Ended(Some(BlockFault::Lost)),
-    }
 }

@@ -6,16 +6,17 @@ use Rattle.fa_machine.specs.declared.refusals.AdmitRefused.{AdmitRefused}
 use Rattle.fa_machine.specs.declared.refusals.AdmitRefused.TheVariants.{Lost as PageLost, CalendarFull, Spent as RoundsSpent}
 use Rattle.fa_machine.specs.declared.refusals.AdmitRefused.TheVariants.{NoMemory as AdmitNoMemory}
 use Rattle.fa_ops.specs.Founded.{IsFounded}
-use Rattle.fa_ops.specs.Moves.{AfterPlanned, Folded, IsSorting, Moved, Moves, Rested, Strayed, Strays, Turned, stopped}
+use Rattle.fa_ops.specs.Moves.{Folded, Moved, Moves, Rested, Strayed, Strays, Turned}
+use Rattle.fa_stages.specs.Stages.{AfterPlanned, IsSorting, stopped}
 use Rattle.fa_ops.specs.Ops.{Prepares}
-use Rattle.fa_ops.specs.Prepared.{IsListed, SortsAnswer, after_batch, pages_between, until}
-use Rattle.fa_ops.specs.Ranges.{first_page, past_page}
-use Rattle.fa_ops.specs.declared.range.Range.{Range}
-use Rattle.fa_ops.specs.declared.request.Task.{Task}
-use Rattle.fa_ops.specs.declared.stage.Purpose.{Purpose}
-use Rattle.fa_ops.specs.declared.stage.Purpose.TheVariants.{Answer, Merge}
-use Rattle.fa_ops.specs.declared.stage.Stage.{Stage}
-use Rattle.fa_ops.specs.declared.stage.Stage.TheVariants.{Listing, Asking, Reading, Sorting, Ended}
+use Rattle.fa_stages.specs.Prepared.{IsListed, SortsAnswer, after_batch, pages_between, until}
+use Rattle.fa_stages.specs.Ranges.{first_page, past_page}
+use Rattle.fa_stages.specs.declared.range.Range.{Range}
+use Rattle.fa_stages.specs.declared.request.Task.{Task}
+use Rattle.fa_stages.specs.declared.stage.Purpose.{Purpose}
+use Rattle.fa_stages.specs.declared.stage.Purpose.TheVariants.{Answer, Merge}
+use Rattle.fa_stages.specs.declared.stage.Stage.{Stage}
+use Rattle.fa_stages.specs.declared.stage.Stage.TheVariants.{Listing, Asking, Reading, Sorting, Ended}
 use Rattle.fa_rounds.proofs.Admitting.{admit_read}
 use Rattle.fa_rounds.proofs.Closed.{IsQuiet, Keeps, keeps_both, quiet_fold}
 use Rattle.fa_rounds.proofs.Ending.{end_read, never_torn}

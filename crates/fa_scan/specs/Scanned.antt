@@ -15,6 +15,7 @@ use Rattle.fa_types.specs.declared.geometry.Geometry.{Geometry}
 use Rattle.fa_scan.specs.Content.{Contents, IsMountedContent}
 use Rattle.fa_scan.specs.ContentReading.{image_read}
 use Rattle.fa_headers.specs.Rules.{refused}
+use Rattle.fa_standing.specs.Standing.{found_where_live}
 
 -- what came of reading a die, if its image was to be read
 abbrev pub Outcome : Type 0
@@ -34,8 +35,7 @@ settled standing outcome = standing
 
 -- what is mounted of a die: what was found on it, where it is live
 abbrev pub mounted_of : Standing → Outcome → Option (List SlotContent)
-mounted_of (Live index) (Some (Ok slots)) = Some slots
-mounted_of standing outcome = None
+mounted_of = found_where_live
 
 -- how all dies stand, and what is mounted of them
 pub record AreSettled (standings : List Standing) (outcomes : List Outcome) (dies : List Standing) (contents : Contents) : Type 0 where

@@ -9,13 +9,13 @@ use Rattle.fa_ops.specs.Accounts.{IsAccounted}
 use Rattle.fa_ops.specs.Moves.{Turned}
 use Rattle.fa_ops.specs.Ops.{Prepares, answer_of, stage_of, task_in}
 use Rattle.fa_ops.specs.Tallies.{Tally, pages_in, tally_at, tally_of}
-use Rattle.fa_ops.specs.Tasks.{task_of}
-use Rattle.fa_ops.specs.declared.request.Request.{Request}
+use Rattle.fa_stages.specs.Tasks.{task_of}
+use Rattle.fa_stages.specs.declared.request.Request.{Request}
 use Rattle.fa_ops.specs.declared.op.Op.{Op}
 use Rattle.fa_ops.specs.Waiting.{HasNoWindow, awaits_flush, waits, without_room}
-use Rattle.fa_ops.specs.declared.request.Task.{Task}
-use Rattle.fa_ops.specs.declared.stage.Stage.{Stage}
-use Rattle.fa_ops.specs.declared.stage.Stage.TheVariants.{Reserving}
+use Rattle.fa_stages.specs.declared.request.Task.{Task}
+use Rattle.fa_stages.specs.declared.stage.Stage.{Stage}
+use Rattle.fa_stages.specs.declared.stage.Stage.TheVariants.{Reserving}
 use Rattle.fa_shared.specs.Locked.{LockedState}
 use Rattle.fa_shared.specs.Seats.{commits_with, number_of}
 use Rattle.fa_shared.specs.declared.seat.Seat.{Seat}

@@ -4,12 +4,13 @@ use Rattle.std.proofs.Common.{arith, inl, inr}
 use Rattle.std.specs.Prelude.{IfOk, IfErr, OnOk}
 use Rattle.std.proofs.lemmas.Bool.{false≢true}
 use Rattle.fa_image.specs.Image.{ImageAnswer, ImageCall}
-use Rattle.fa_ops.specs.Ops.{answer_of, beginning, ended, stage_of, task_in}
-use Rattle.fa_ops.specs.Tasks.{answered, task_of}
+use Rattle.fa_ops.specs.Ops.{answer_of, ended, stage_of, task_in}
+use Rattle.fa_stages.specs.Stages.{beginning}
+use Rattle.fa_stages.specs.Tasks.{answered, task_of}
 use Rattle.fa_ops.specs.declared.op.Op.{Op}
-use Rattle.fa_ops.specs.declared.request.Request.{Request}
-use Rattle.fa_ops.specs.declared.request.Request.TheVariants.{Flush, Read}
-use Rattle.fa_ops.specs.declared.request.Task.{Task}
+use Rattle.fa_stages.specs.declared.request.Request.{Request}
+use Rattle.fa_stages.specs.declared.request.Request.TheVariants.{Flush, Read}
+use Rattle.fa_stages.specs.declared.request.Task.{Task}
 use Rattle.fa_solo.specs.Calls.{Ended, EndsBy, answer_by, IsOfFlush, IsOfRead, IsRefused, Made, MakesRequest, MakesWhole, NotHandedOut, OfOtherLength, WithoutMemory, WithoutRoom}
 use Rattle.fa_solo.specs.Calls.{Endless, NoMemory as NoMemoryFor}
 use Rattle.fa_solo.specs.Deeds.{IsForRequests}

@@ -2,10 +2,11 @@
 use Rattle.std.specs.Prelude.{◌≡◌, ◌⊎◌, ℕ, ◌-◌, ◌^◌, ◌<◌, ◌≤◌, true, false, List, [], length, Some, None, Result, Ok, Err}
 use Rattle.fa_blocks.specs.Counts.{request_of}
 use Rattle.fa_image.specs.Image.{ImageAnswer, ImageCall}
-use Rattle.fa_ops.specs.Ops.{answer_of, beginning, ended, stage_of, task_in}
-use Rattle.fa_ops.specs.Tasks.{answered, task_of}
+use Rattle.fa_ops.specs.Ops.{answer_of, ended, stage_of, task_in}
+use Rattle.fa_stages.specs.Stages.{beginning}
+use Rattle.fa_stages.specs.Tasks.{answered, task_of}
 use Rattle.fa_ops.specs.declared.op.Op.{Op}
-use Rattle.fa_ops.specs.declared.request.Task.{Task}
+use Rattle.fa_stages.specs.declared.request.Task.{Task}
 use Rattle.fa_solo.specs.Deeds.{IsForRequests}
 use Rattle.fa_solo.specs.Rigs.{Does, Tidies}
 use Rattle.fa_solo.specs.Turns.{RunsOn}

@@ -7,8 +7,8 @@ use Rattle.fa_ops.specs.Moves.{Turned}
 use Rattle.fa_ops.specs.Ops.{Prepares, answer_of, stage_of, task_in}
 use Rattle.fa_ops.specs.Waiting.{HasNoWindow, awaits_flush, waits, without_room}
 use Rattle.fa_ops.specs.declared.op.Op.{Op}
-use Rattle.fa_ops.specs.declared.request.Task.{Task}
-use Rattle.fa_ops.specs.declared.stage.Stage.{Stage}
+use Rattle.fa_stages.specs.declared.request.Task.{Task}
+use Rattle.fa_stages.specs.declared.stage.Stage.{Stage}
 use Rattle.fa_shared.specs.Seats.{commits_with, number_of}
 use Rattle.fa_shared.specs.declared.seat.Seat.{Seat}
 use Rattle.fa_solo.specs.Deeds.{Goes, IsMeanwhile}

@@ -7,7 +7,7 @@ use crate::rig::{Parts, Rig};
 use crate::whole::{call, call_flush, call_read};
 use fa_image::Image;
 use fa_map::Map;
-use fa_ops::Request;
+use fa_stages::Request;
 use fa_types::{BlockFault, Blocks, Geometry, Round};
 use std::alloc::{Allocator, Global};
 use std::sync::ledger::{Blank, Ledger};

@@ -27,10 +27,31 @@ pub fn fill(into: &mut [u8], offset: usize, len: usize, byte: u8)
     into[offset..offset + len].fill(byte);
 }
 
+/// How many bytes are looked at together: enough for the processor's widest vectors, and few where the first one tells.
+const LOOKED_AT: usize = 64;
+
 /// Whether each byte is `ff`, as those of an erased slot are.
 pub fn is_erased(bytes: &[u8]) -> bool
     ensures test { result ≡ list_all (λ byte. byte == 0xff) bytes.now }
     ensures all { IsTrue result ↔ All (λ byte. byte ≡ 0xff) bytes.now }
 {
-    bytes.iter().all(|byte| *byte == 0xff)
+    let mut at = 0;
+    while bytes.len() - at > LOOKED_AT {
+        if !all_ff(part(bytes, at, LOOKED_AT)) {
+            return false;
+        }
+        at += LOOKED_AT;
+    }
+    all_ff(&bytes[at..])
+}
+
+/// Whether each byte of a part is `ff`. All are looked at, so that vectors can do it.
+fn all_ff(part: &[u8]) -> bool
+    ensures { result ≡ list_all (λ byte. byte == 0xff) part.now }
+{
+    let mut all = true;
+    for byte in part {
+        all &= *byte == 0xff;
+    }
+    all
 }

@@ -1,12 +1,13 @@
 //! How the dies stand once their slots were read.
 ghost use Rattle.std.specs.Prelude.{◌≡◌, ◌<◌, ◌≤◌, [], ◌∷◌, ◌++◌, List, length, position, IfOk, IfSome, OnOk};
 ghost use Rattle.std.specs.List.{list_all};
-ghost use Rattle.fa_scan.specs.Scanned.{AreSettled, Outcome, any_live as any_live_of, is_erased, is_refused, mounted_of, settled};
+ghost use Rattle.fa_scan.specs.Scanned.{AreSettled, Outcome, any_live as any_live_of, is_erased, is_refused, settled};
 ghost use Rattle.fa_scan.specs.Scanned.{fault_at as refusal_at, image_refusal as refusal_of_images};
 
 use crate::slots::content::{DieContents, SlotContent};
 use crate::slots::dies::{DieRead, index_read};
 use fa_headers::{MountFault, MountRefused, Standing};
+use fa_standing::found_on_live;
 use fa_types::Die;
 use std::alloc::{AllocError, Allocator};
 
@@ -48,7 +49,7 @@ fn settle_next<A: Allocator>(
 {
     let standing = standings[settled.dies.len()];
     settled.dies.push(settled_by(standing, &outcome))?;
-    settled.contents.push(mounted_from(standing, outcome))?;
+    settled.contents.push(found_on_live(standing, outcome))?;
     Ok(())
 }
 
@@ -78,19 +79,6 @@ fn is_blank(slots: &[SlotContent]) -> bool
     slots
         .iter()
         .all(|content| matches!(content, SlotContent::Erased))
-}
-
-/// What is mounted of a die.
-fn mounted_from<A: Allocator>(
-    standing: Standing,
-    outcome: Option<DieRead<A>>,
-) -> Option<DieContents<A>>
-    ensures { result ≡ mounted_of standing outcome }
-{
-    match (standing, outcome) {
-        (Standing::Live(_), Some(Ok(found))) => Some(found),
-        _ => None,
-    }
 }
 
 /// The refusal for the first die whose image refused a read, unless the array may be mounted unclean.

@@ -2,7 +2,7 @@ use Rattle.std.proofs.Common.{◌∙◌, ap}
 use Rattle.fa_blocks.proofs.Tallies.{pushed}
 use Rattle.fa_blocks.specs.Counts.{left_in}
 use Rattle.fa_ops.specs.Tallies.{Tally, pages_in}
-use Rattle.fa_ops.specs.Tasks.{task_of}
+use Rattle.fa_stages.specs.Tasks.{task_of}
 use Rattle.fa_blocks.proofs.parts.push_part.Goals as goal
 
 pub returns-clause-left : goal.returns-clause-left

@@ -3,7 +3,7 @@ use Rattle.std.specs.List.{sum_by}
 use Rattle.fa_blocks.proofs.Tallies.{if_ok, made_parts}
 use Rattle.fa_blocks.specs.Counts.{left_in, refusals_in}
 use Rattle.fa_ops.specs.Tallies.{pages_in}
-use Rattle.fa_ops.specs.Tasks.{task_of}
+use Rattle.fa_stages.specs.Tasks.{task_of}
 use Rattle.fa_blocks.proofs.parts.run_parts.Goals as goal
 
 pub returns : goal.returns

@@ -6,8 +6,8 @@ use Rattle.std.proofs.lemmas.Bool.{and_left, cases_lt, false_from_ne_true}
 use Rattle.std.specs.Prelude.{nat_lt}
 use Rattle.fa_mirror.proofs.placement.has_any_room.Goals as goal
 
-pub returns : goal.returns
-returns g c = λ is die.
+pub returns-clause-none : goal.returns-clause-none
+returns-clause-none g c = λ is die.
     let m = g.M.Map.view c.args.map.now in
     let dies = ap (λ (k : Geometry). k.dies) c.geometry-die-end.ensures in
     let all = c.loop-die-test.false in

@@ -29,4 +29,4 @@ module _ (copies : ℕ) (m : MapState) (full : (die : ℕ) → has_room m die �
 pub returns-else-has_any_room : goal.returns-else-has_any_room
 returns-else-has_any_room g c =
     let m = g.M.Map.view c.args.map.now in
-    sym (none_goes c.args.copies.number m (c.has_any_room.ensures c.if-has_any_room.false))
+    sym (none_goes c.args.copies.number m (c.has_any_room.ensures.none c.if-has_any_room.false))

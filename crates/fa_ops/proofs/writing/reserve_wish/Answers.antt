@@ -1,5 +1,5 @@
 use Rattle.std.proofs.Common.{ap}
-use Rattle.fa_ops.specs.declared.stage.Stage.TheVariants.{Reserving}
+use Rattle.fa_stages.specs.declared.stage.Stage.TheVariants.{Reserving}
 use Rattle.fa_ops.proofs.Turns.{at_stage}
 use Rattle.fa_ops.proofs.writing.reserve_wish.Goals as goal
 

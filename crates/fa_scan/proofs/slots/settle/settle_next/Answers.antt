@@ -24,7 +24,7 @@ returns g c = λ outcomes before.
     let dies : c.push.new.self.items ≡ old_dies ++ settled standing outcome ∷ [] =
     c.in_ok-push.ensures.items ∙ ap (λ (x : Standing). old_dies ++ x ∷ []) c.settled_by.ensures in
     let contents : c.push-2.new.self.items ≡ old_contents ++ mounted_of standing outcome ∷ [] =
-    c.in_ok-push-2.ensures.items ∙ ap (λ (x : Option (List SlotContent)). old_contents ++ x ∷ []) c.mounted_from.ensures in
+    c.in_ok-push-2.ensures.items ∙ ap (λ (x : Option (List SlotContent)). old_contents ++ x ∷ []) c.found_on_live.ensures in
     subst (λ (l : List Standing). AreSettled c.args.standings.now (outcomes ++ outcome ∷ []) l c.push-2.new.self.items) (sym dies)
     (subst (λ (l : Contents). AreSettled c.args.standings.now (outcomes ++ outcome ∷ []) (old_dies ++ settled standing outcome ∷ []) l) (sym contents)
     (one_more_settled c.args.standings.now outcomes old_dies old_contents standing outcome at before))

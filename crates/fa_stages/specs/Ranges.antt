@@ -1,6 +1,6 @@
 -- The pages of a range of bytes, and the bytes of a page that are in it.
 use Rattle.std.specs.Prelude.{ℕ, ◌+◌, ◌-◌, ◌*◌, ◌/◌, ◌^◌, ◌≤◌, ◌==◌, ◌&&◌, Bool, nat_le, min, if◌then◌else◌, List}
-use Rattle.fa_ops.specs.declared.range.Range.{Range}
+use Rattle.fa_stages.specs.declared.range.Range.{Range}
 use Rattle.fa_types.specs.Store.{bytes_at}
 
 -- A range of a store: a page has some bytes, and there are not too many.

@@ -1,12 +1,12 @@
 //! What a request makes while no lock is held: lists of pages, and what pages are to hold.
 ghost use Rattle.std.specs.Prelude.{◌≡◌, ◌+◌, ◌-◌, ◌*◌, ◌^◌, ◌≤◌, ◌∷◌, [], ◌&&◌, true, false, if◌then◌else◌, length, nat_le, map, IfOk, IfSome, IfNone};
-ghost use Rattle.fa_ops.specs.Prepared.{IsFilled, IsListed, IsMerged, SortsPage, content as rule_content, has_content as rule_has, until as rule_until};
-ghost use Rattle.fa_ops.specs.Prepared.{has_part as rule_part, pages_between};
-ghost use Rattle.fa_ops.specs.Ranges.{IsRange, begins_at};
+ghost use Rattle.fa_stages.specs.Prepared.{IsFilled, IsListed, IsMerged, SortsPage, content as rule_content, has_content as rule_has, until as rule_until};
+ghost use Rattle.fa_stages.specs.Prepared.{has_part as rule_part, pages_between};
+ghost use Rattle.fa_stages.specs.Ranges.{IsRange, begins_at};
 ghost use Rattle.fa_types.specs.Store.{with_bytes};
 
+use crate::next::stopped;
 use crate::range::Range;
-use crate::reading::stopped;
 use crate::request::{Fill, Task};
 use crate::stage::{Held, Purpose, Stage, Wish};
 use fa_tag::Payload;
@@ -18,7 +18,7 @@ use std::alloc::{AllocError, Allocator};
 const MAX_BATCH: u64 = 1024;
 
 /// The pages of the next batch.
-pub(crate) fn list<A: Allocator + Copy>(alloc: A, range: Range, purpose: Purpose) -> Stage<A>
+pub fn list<A: Allocator + Copy>(alloc: A, range: Range, purpose: Purpose) -> Stage<A>
     requires { IsRange range }
     ensures { IsListed range purpose result }
 {
@@ -60,7 +60,7 @@ fn pages_from<A: Allocator>(alloc: A, page: u64, past: u64) -> Result<Vec<Page, 
 }
 
 /// What a page that is written whole is to hold.
-pub(crate) fn fill_page<A: Allocator + Copy>(
+pub fn fill_page<A: Allocator + Copy>(
     alloc: A,
     task: Task,
     bytes: &[u8],
@@ -84,7 +84,7 @@ pub(crate) fn fill_page<A: Allocator + Copy>(
 }
 
 /// The same with a payload that may have been made for it: where it has other bytes it is made anew.
-pub(crate) fn fill_with<A: Allocator + Copy>(
+pub fn fill_with<A: Allocator + Copy>(
     alloc: A,
     task: Task,
     bytes: &[u8],
@@ -126,7 +126,7 @@ fn wish_of<A: Allocator>(payload: Payload<A>, fewer: bool) -> Wish<A>
 }
 
 /// What goes into a page, in memory of its own. None where the request has no bytes for it. The error is out of memory.
-pub(crate) fn content<A: Allocator + Copy>(
+pub fn content<A: Allocator + Copy>(
     alloc: A,
     task: Task,
     bytes: &[u8],
@@ -148,7 +148,7 @@ pub(crate) fn content<A: Allocator + Copy>(
 }
 
 /// What a page that is written in part is to hold, where it held these bytes.
-pub(crate) fn merge_page<A: Allocator + Copy>(
+fn merge_page<A: Allocator + Copy>(
     task: Task,
     bytes: &[u8],
     held: Held,
@@ -198,7 +198,7 @@ pub(crate) fn fits(offset: usize, count: usize, len: usize) -> bool
 }
 
 /// What a page is to hold behind a batch of it alone.
-pub(crate) fn sort_page<A: Allocator + Copy>(
+pub fn sort_page<A: Allocator + Copy>(
     task: Task,
     bytes: &[u8],
     held: Held,

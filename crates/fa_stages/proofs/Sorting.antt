@@ -3,11 +3,11 @@ use Rattle.std.proofs.Common.{◌≡◌, ◌++◌, ◌∙◌, ◌∷◌, [], ℕ
 use Rattle.std.proofs.lemmas.List.Concat.{flat_map-cons}
 use Rattle.std.proofs.lemmas.List.Folds.{list_all-map}
 use Rattle.std.specs.List.{flat_map, list_all}
-use Rattle.fa_ops.specs.Prepared.{SortsAnswer, after_batch, has_part}
-use Rattle.fa_ops.specs.Ranges.{part_of}
-use Rattle.fa_ops.specs.declared.range.Range.{Range}
-use Rattle.fa_ops.specs.declared.stage.Stage.{Stage}
-use Rattle.fa_ops.specs.declared.stage.Stage.TheVariants.{Ended}
+use Rattle.fa_stages.specs.Prepared.{SortsAnswer, after_batch, has_part}
+use Rattle.fa_stages.specs.Ranges.{part_of}
+use Rattle.fa_stages.specs.declared.range.Range.{Range}
+use Rattle.fa_stages.specs.declared.stage.Stage.{Stage}
+use Rattle.fa_stages.specs.declared.stage.Stage.TheVariants.{Ended}
 use Rattle.fa_types.specs.declared.blocks.BlockFault.TheVariants.{Lost}
 
 -- the pieces of mapped elements

@@ -1,8 +1,8 @@
 //! The answer of a read, put together of what its batches gave.
 ghost use Rattle.std.specs.Prelude.{◌≡◌, ◌++◌, ◌^◌, ◌≤◌, true, false, length, map, IfOk};
 ghost use Rattle.std.specs.List.{flat_map, list_all};
-ghost use Rattle.fa_ops.specs.Prepared.{SortsAnswer, after_batch as rule_after, has_part};
-ghost use Rattle.fa_ops.specs.Ranges.{IsRange, part_of};
+ghost use Rattle.fa_stages.specs.Prepared.{SortsAnswer, after_batch as rule_after, has_part};
+ghost use Rattle.fa_stages.specs.Ranges.{IsRange, part_of};
 
 use crate::preparing::fits;
 use crate::range::Range;
@@ -12,7 +12,7 @@ use fa_types::{BlockFault, Page};
 use std::alloc::{AllocError, Allocator};
 
 /// What a read comes to behind a batch that gave this: its answer has the pages' parts behind what it had.
-pub(crate) fn sort_answer<A: Allocator>(
+pub fn sort_answer<A: Allocator>(
     range: Range,
     page: u64,
     answers: &[(Page, Vec<u8, A>)],
@@ -44,7 +44,7 @@ fn after_batch<A: Allocator>(range: Range, page: u64, answer: &[u8]) -> Stage<A>
 }
 
 /// Adds the part of each page that is in the range to the answer, and says whether each page had it. The error is out of memory.
-pub(crate) fn gather<A: Allocator>(
+fn gather<A: Allocator>(
     range: Range,
     answers: &[(Page, Vec<u8, A>)],
     out: &mut Vec<u8, A>,

@@ -1,7 +1,7 @@
 //! Requests, and what each comes to.
 ghost use Rattle.std.specs.Prelude.{◌≡◌, ℕ, ◌+◌, ◌*◌, ◌^◌, ◌≤◌};
-ghost use Rattle.fa_ops.specs.Ranges.{IsRange};
-ghost use Rattle.fa_ops.specs.Tasks.{begin_of, bytes_from as range_from, end_of, task_of, whole_range, within as rule_within};
+ghost use Rattle.fa_stages.specs.Ranges.{IsRange};
+ghost use Rattle.fa_stages.specs.Tasks.{begin_of, bytes_from as range_from, end_of, task_of, whole_range, within as rule_within};
 
 use crate::range::Range;
 

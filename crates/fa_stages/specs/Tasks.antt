@@ -1,11 +1,11 @@
 -- What a request comes to.
 use Rattle.std.specs.Prelude.{ℕ, ◌+◌, ◌-◌, ◌*◌, ◌/◌, Bool, true, false, nat_le, if◌then◌else◌, Option, Some, None}
-use Rattle.fa_ops.specs.declared.range.Range.{Range}
-use Rattle.fa_ops.specs.declared.request.Fill.{Fill}
-use Rattle.fa_ops.specs.declared.request.Fill.TheVariants.{Bytes, Zeros, Holes}
-use Rattle.fa_ops.specs.declared.request.Request.{Request}
-use Rattle.fa_ops.specs.declared.request.Request.TheVariants.{Read, Write, Zero, Trim, Flush}
-use Rattle.fa_ops.specs.declared.request.Task.{Task}
+use Rattle.fa_stages.specs.declared.range.Range.{Range}
+use Rattle.fa_stages.specs.declared.request.Fill.{Fill}
+use Rattle.fa_stages.specs.declared.request.Fill.TheVariants.{Bytes, Zeros, Holes}
+use Rattle.fa_stages.specs.declared.request.Request.{Request}
+use Rattle.fa_stages.specs.declared.request.Request.TheVariants.{Read, Write, Zero, Trim, Flush}
+use Rattle.fa_stages.specs.declared.request.Task.{Task}
 use Rattle.fa_types.specs.Store.{whole_offset}
 
 -- the offset of the first byte of a request's range

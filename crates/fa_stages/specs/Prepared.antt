@@ -2,19 +2,19 @@
 use Rattle.std.specs.Prelude.{◌≡◌, ℕ, ◌+◌, ◌-◌, ◌*◌, ◌⊎◌, ◌∷◌, [], ◌++◌, ◌==◌, ◌&&◌, Bool, true, false, min, nat_le, nat_lt, if◌then◌else◌}
 use Rattle.std.specs.Prelude.{List, length, map, replicate, Option, Some, None}
 use Rattle.std.specs.List.{flat_map, list_all, range_with_len}
-use Rattle.fa_ops.specs.Moves.{stopped}
-use Rattle.fa_ops.specs.Ranges.{begins_at, bytes_in, part_for, part_of, past_page}
-use Rattle.fa_ops.specs.declared.range.Range.{Range}
-use Rattle.fa_ops.specs.declared.request.Fill.{Fill}
-use Rattle.fa_ops.specs.declared.request.Fill.TheVariants.{Bytes, Holes}
-use Rattle.fa_ops.specs.declared.request.Task.{Task}
-use Rattle.fa_ops.specs.declared.stage.Held.{Held}
-use Rattle.fa_ops.specs.declared.stage.Purpose.{Purpose}
-use Rattle.fa_ops.specs.declared.stage.Purpose.TheVariants.{Answer, Merge}
-use Rattle.fa_ops.specs.declared.stage.Stage.{Stage}
-use Rattle.fa_ops.specs.declared.stage.Stage.TheVariants.{Asking, Ended, Listing, Reserving, Releasing}
-use Rattle.fa_ops.specs.declared.stage.Wish.{Wish}
-use Rattle.fa_ops.specs.declared.stage.Wish.TheVariants.{Data, Fewer, Hole}
+use Rattle.fa_stages.specs.Stages.{stopped}
+use Rattle.fa_stages.specs.Ranges.{begins_at, bytes_in, part_for, part_of, past_page}
+use Rattle.fa_stages.specs.declared.range.Range.{Range}
+use Rattle.fa_stages.specs.declared.request.Fill.{Fill}
+use Rattle.fa_stages.specs.declared.request.Fill.TheVariants.{Bytes, Holes}
+use Rattle.fa_stages.specs.declared.request.Task.{Task}
+use Rattle.fa_stages.specs.declared.stage.Held.{Held}
+use Rattle.fa_stages.specs.declared.stage.Purpose.{Purpose}
+use Rattle.fa_stages.specs.declared.stage.Purpose.TheVariants.{Answer, Merge}
+use Rattle.fa_stages.specs.declared.stage.Stage.{Stage}
+use Rattle.fa_stages.specs.declared.stage.Stage.TheVariants.{Asking, Ended, Listing, Reserving, Releasing}
+use Rattle.fa_stages.specs.declared.stage.Wish.{Wish}
+use Rattle.fa_stages.specs.declared.stage.Wish.TheVariants.{Data, Fewer, Hole}
 use Rattle.fa_types.specs.Store.{with_bytes}
 use Rattle.fa_types.specs.declared.blocks.BlockFault.TheVariants.{Lost, NoMemory}
 use Rattle.fa_types.specs.declared.numbers.Page.{Page}

@@ -1,0 +1,4 @@
+pub mod Prepared
+pub mod Ranges
+pub mod Stages
+pub mod Tasks
