@@ -47,9 +47,8 @@ use Rattle.fa_stages.specs.declared.stage.Stage.TheVariants.{Listing, Asking, Re
 use Rattle.fa_stages.specs.declared.stage.Stage.TheVariants.{Committing, Abandoning, Releasing, BeginningFlush, Flushing, Ended}
 use Rattle.fa_stages.specs.declared.stage.Wish.{Wish}
 use Rattle.fa_stages.specs.declared.stage.Wish.TheVariants.{Data, Fewer, Hole}
-use Rattle.fa_ops.specs.Ops.{Prepares, answer_of, ended, stage_of, task_in}
+use Rattle.fa_ops.specs.Ops.{OpView, Prepares, answer_of, ended, stage_of, task_in}
 use Rattle.fa_stages.specs.Tasks.{task_of}
-use Rattle.fa_ops.specs.declared.op.Op.{Op}
 use Rattle.fa_stages.specs.declared.request.Request.{Request}
 use Rattle.fa_stages.specs.Prepared.{IsFilled, IsListed, IsMerged, SortsAnswer, SortsPage, after_batch}
 use Rattle.fa_stages.specs.declared.range.Range.{Range}
@@ -322,7 +321,7 @@ ended_left t (Ended f) fault e = (refl, ap refusals_by (same_Some f fault e))
 ended_left t stage fault e = absurd (none-some fault e)
 
 -- One after the other.
-pub goes_further : {L A : Type 0} (a b c : Seat L) (x y z : Op A) → GoesOn a x b y → GoesOn b y c z → GoesOn a x c z
+pub goes_further : {L A : Type 0} (a b c : Seat L) (x y z : OpView A) → GoesOn a x b y → GoesOn b y c z → GoesOn a x c z
 goes_further a b c x y z one two = record {
   counts = counts_on _ _ _ one.counts two.counts;
   task = two.task ∙ one.task;
@@ -334,7 +333,7 @@ pub retasked : {A : Type 0} (old : Tally) (commits : ℕ) (t u : Task) (stage : 
     → Counts old (tally_at commits u stage)
 retasked old commits t u stage e counts = let P : Task → Type 0 = λ x. Counts old (tally_at commits x stage) in subst P (sym e) counts
 
-pub turned_on : {L A : Type 0} (before after : Seat L) (op next : Op A) (old new : Core)
+pub turned_on : {L A : Type 0} (before after : Seat L) (op next : OpView A) (old new : Core)
     → Turned (task_in op) before after old (stage_of op) new (stage_of next) → task_in next ≡ task_in op
     → number_of after ≡ number_of before
     → GoesOn before op after next
@@ -345,7 +344,7 @@ turned_on before after op next old new turned task number = record {
   number = number;
 }
 
-pub prepared_on : {L A : Type 0} (seat : Seat L) (op next : Op A) (bytes : List ℕ)
+pub prepared_on : {L A : Type 0} (seat : Seat L) (op next : OpView A) (bytes : List ℕ)
     → Prepares (task_in op) bytes (stage_of op) (answer_of op) (stage_of next) (answer_of next) → task_in next ≡ task_in op
     → GoesOn seat op seat next
 prepared_on seat op next bytes prepared task = record {
@@ -366,7 +365,7 @@ made_whole before after old new pages accepted begins ends lefts none no_left no
   number = number;
 }
 
-pub made_op : {L A : Type 0} (before after : Seat L) (op next : Op A) (pages : ℕ) (end : Option BlockFault) (accepted : Bool)
+pub made_op : {L A : Type 0} (before after : Seat L) (op next : OpView A) (pages : ℕ) (end : Option BlockFault) (accepted : Bool)
     → ((commits : ℕ) → tally_of commits op ≡ record { commits = commits; left = pages; refused = 0 }) → GoesOn before op after next
     → ended (stage_of next) ≡ Some end → (IsTrue accepted → end ≡ None) → IsMade pages before accepted after
 made_op before after op next pages end accepted begins goes ends well =
@@ -375,7 +374,7 @@ made_op before after op next pages end accepted begins goes ends well =
     (ap (λ (t : Tally). t.left) (begins 0)) (ap (λ (t : Tally). t.refused) (begins 0)) (at_end.0)
     (λ is. at_end.1 ∙ ap refusals_by (well is)) goes.counts goes.number
 
-pub made_new : {L A : Type 0} (before after : Seat L) (op next : Op A) (request : Request) (page_bytes same : ℕ) (end : Option BlockFault)
+pub made_new : {L A : Type 0} (before after : Seat L) (op next : OpView A) (request : Request) (page_bytes same : ℕ) (end : Option BlockFault)
     (accepted : Bool) → same ≡ page_bytes
     → ((commits : ℕ) → tally_of commits op ≡ record { commits = commits; left = pages_in (task_of same request); refused = 0 })
     → GoesOn before op after next → ended (stage_of next) ≡ Some end → (IsTrue accepted → end ≡ None)

@@ -10,9 +10,8 @@ use Rattle.std.specs.Prelude.{is_ok, is_some, OnOk}
 use Rattle.fa_blocks.proofs.Counts.{counts_on, made_whole, prepared_counts, retasked}
 use Rattle.fa_blocks.specs.Counts.{Counts, GoesOn, IsMade, PartsGoOn, has_ended, is_served, left_in, refusals_in, tally_of_parts}
 use Rattle.fa_blocks.specs.declared.parts.Part.{Part}
-use Rattle.fa_ops.specs.Ops.{Prepares, answer_of, ended, stage_of, task_in}
+use Rattle.fa_ops.specs.Ops.{OpView, Prepares, answer_of, ended, stage_of, task_in}
 use Rattle.fa_ops.specs.Tallies.{left, tally_of}
-use Rattle.fa_ops.specs.declared.op.Op.{Op}
 use Rattle.fa_stages.specs.declared.request.Task.{Task}
 use Rattle.fa_stages.specs.declared.stage.Stage.{Stage}
 use Rattle.fa_stages.specs.declared.stage.Stage.TheVariants.{Ended}
@@ -91,7 +90,7 @@ made_parts before after parts next pages accepted lefts none goes all_ended well
     made_whole before after (tally_of_parts (commits_with before) parts) (tally_of_parts (commits_with after) next) pages accepted refl refl
     lefts none (none_left next all_ended) well goes.counts goes.number
 
-pub op_prepared : {A : Type 0} (commits : ℕ) (op next : Op A) (bytes : List ℕ)
+pub op_prepared : {A : Type 0} (commits : ℕ) (op next : OpView A) (bytes : List ℕ)
     → Prepares (task_in op) bytes (stage_of op) (answer_of op) (stage_of next) (answer_of next) → task_in next ≡ task_in op
     → Counts (tally_of commits op) (tally_of commits next)
 op_prepared commits op next bytes prepared task =

@@ -2,10 +2,9 @@
 use Rattle.std.specs.Prelude.{◌≡◌, ℕ, ◌+◌, ◌≤◌, Bool, true, false, IsTrue, List, length, None, is_some}
 use Rattle.std.specs.List.{sum_by}
 use Rattle.fa_blocks.specs.declared.parts.Part.{Part}
-use Rattle.fa_ops.specs.Ops.{ended, stage_of, task_in}
+use Rattle.fa_ops.specs.Ops.{OpView, ended, stage_of, task_in}
 use Rattle.fa_ops.specs.Tallies.{Tally, left, pages_in, refusals, tally_of}
 use Rattle.fa_stages.specs.Tasks.{task_of, within}
-use Rattle.fa_ops.specs.declared.op.Op.{Op}
 use Rattle.fa_stages.specs.declared.request.Request.{Request}
 use Rattle.fa_stages.specs.declared.request.Request.TheVariants.{Read, Write, Zero, Trim, Flush}
 use Rattle.fa_stages.specs.declared.stage.Stage.{Stage}
@@ -48,7 +47,7 @@ module _ {A : Type 0} where
 
 module _ {L A : Type 0} where
   -- A request went on, by turns that were made with a seat.
-  pub record GoesOn (before : Seat L) (op : Op A) (after : Seat L) (next : Op A) : Type 0 where
+  pub record GoesOn (before : Seat L) (op : OpView A) (after : Seat L) (next : OpView A) : Type 0 where
     pub counts : Counts (tally_of (commits_with before) op) (tally_of (commits_with after) next)
     pub task : task_in next ≡ task_in op
     pub number : number_of after ≡ number_of before

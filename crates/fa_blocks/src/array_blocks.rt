@@ -73,7 +73,7 @@ impl<
 
     /// Goes on with a request until it has ended, and hands it back. No turn of it was made before. The bytes are those of a write. Each
     /// page that it writes is committed with the seat, once, if it isn't refused.
-    pub fn run(&mut self, op: Op<A>, bytes: &[u8]) -> Op<A>
+    pub fn run(&mut self, op: Op<A, A>, bytes: &[u8]) -> Op<A, A>
         requires { stage_of op ≡ beginning (task_in op) }
         ensures task { task_in result ≡ task_in op }
         ensures ended { is_some (ended (stage_of result)) ≡ true }

@@ -26,7 +26,7 @@ const SIDE_BY_SIDE: usize = 8;
 /// A part of a request.
 #[derive(Drop)]
 struct Part<A: Allocator = Global> {
-    op: Op<A>,
+    op: Op<A, A>,
     /// Which of the request's bytes are its own.
     from: usize,
     to: usize,
@@ -48,7 +48,7 @@ impl Stand {
     fn count<L: Ledger, M: Map + Drop, A: Allocator + Copy>(
         &mut self,
         turn: Turn,
-        op: &Op<A>,
+        op: &Op<A, A>,
         locked: &Locked<L, M, A>,
     ) {
         match turn {
@@ -167,7 +167,7 @@ fn push_part<A: Allocator + Copy>(
     if from == to {
         return Ok(());
     }
-    let op = Op::new(alloc, request.within(from, to), page_bytes)?;
+    let op = Op::new(alloc, alloc, request.within(from, to), page_bytes)?;
     let offset = request.extent().0;
     parts.push(Part {
         op,

@@ -46,7 +46,7 @@ fn run_whole<R: Wait + Clock, L: Ledger, M: Map + Drop, A: Allocator + Copy, H: 
     requires inside { end_of request ≤ 2 ^ 32 }
     ensures { IsMade (pages_in (task_of page_bytes request)) seat.old (is_ok result) seat.new }
 {
-    let mut op = match Op::new(alloc, request, u64::from(page_bytes)) {
+    let mut op = match Op::new(alloc, alloc, request, u64::from(page_bytes)) {
         Ok(op) => op,
         Err(_) => return Err(BlockFault::NoMemory),
     };
@@ -124,21 +124,20 @@ pub(crate) fn run_read<
     ensures made { IsMade 0 seat.old (is_ok result) seat.new }
 {
     let request = Request::Read { offset, len };
-    let mut op = match Op::new(alloc, request, u64::from(page_bytes)) {
+    let mut op = match Op::new(alloc, into, request, u64::from(page_bytes)) {
         Ok(op) => op,
         Err(_) => return Err(BlockFault::NoMemory),
     };
     match finish(rt, shared, seat, hands, &mut op, &[]) {
-        None => handed_out(op, len, into),
+        None => handed_out(op, len),
         Some(fault) => Err(of_read(fault)),
     }
 }
 
 /// The answer of a read, if it has so many bytes.
 fn handed_out<A: Allocator + Copy, B: Allocator>(
-    op: Op<A>,
+    op: Op<A, B>,
     len: u64,
-    into: B,
 ) -> Result<Vec<u8, B>, BlockFault>
     ensures length { IfOk result (λ answer. length answer.items ≡ len) }
     ensures room { IfErr result (λ fault. fault ≡ NoRoom → ⊥) }
@@ -147,10 +146,7 @@ fn handed_out<A: Allocator + Copy, B: Allocator>(
     if answer.len() as u64 != len {
         return Err(BlockFault::Lost);
     }
-    match Vec::from_slice(into, answer.as_slice()) {
-        Ok(bytes) => Ok(bytes),
-        Err(_) => Err(BlockFault::NoMemory),
-    }
+    Ok(answer)
 }
 
 /// Why a read was refused. No read wants room.
@@ -169,13 +165,14 @@ pub(crate) fn finish<
     L: Ledger,
     M: Map + Drop,
     A: Allocator + Copy,
+    B: Allocator,
     H: Hands<L, M, A>,
 >(
     rt: &R,
     shared: &Shared<L, M, A>,
     seat: &mut Seat<L>,
     hands: &mut H,
-    op: &mut Op<A>,
+    op: &mut Op<A, B>,
     bytes: &[u8],
 ) -> Option<BlockFault>
     ensures goes_on { GoesOn seat.old op.old seat.new op.new }
@@ -193,13 +190,14 @@ pub(crate) fn finish<
 
 /// Makes turns until the request has something to prepare, or has ended. The lock is free while it waits, and behind. What it waits for is
 /// made by these hands, as far as they can.
-fn make_turns<R: Wait + Clock, L: Ledger, M: Map + Drop, A: Allocator + Copy, H: Hands<L, M, A>>(
-    rt: &R,
-    shared: &Shared<L, M, A>,
-    seat: &mut Seat<L>,
-    hands: &mut H,
-    op: &mut Op<A>,
-)
+fn make_turns<
+    R: Wait + Clock,
+    L: Ledger,
+    M: Map + Drop,
+    A: Allocator + Copy,
+    B: Allocator,
+    H: Hands<L, M, A>,
+>(rt: &R, shared: &Shared<L, M, A>, seat: &mut Seat<L>, hands: &mut H, op: &mut Op<A, B>)
     ensures { GoesOn seat.old op.old seat.new op.new }
 {
     let mut guard = shared.lock(rt);
@@ -245,9 +243,9 @@ pub(crate) fn pass_time<
 }
 
 /// Makes turns of a request while each leads to the next.
-pub(crate) fn turn_on<R: Wait, L: Ledger, M: Map + Drop, A: Allocator + Copy>(
+pub(crate) fn turn_on<R: Wait, L: Ledger, M: Map + Drop, A: Allocator + Copy, B: Allocator>(
     rt: &R,
-    op: &mut Op<A>,
+    op: &mut Op<A, B>,
     locked: &mut Locked<L, M, A>,
     seat: &mut Seat<L>,
 ) -> Turn

@@ -13,10 +13,9 @@ use Rattle.fa_laws.proofs.Within.{GeometryLaw}
 use Rattle.fa_laws.specs.Reached.{IsReached}
 use Rattle.fa_machine.specs.World.{World}
 use Rattle.fa_mount.specs.Standings.{AreApart}
-use Rattle.fa_ops.specs.Ops.{answer_of, ended, stage_of, task_in}
+use Rattle.fa_ops.specs.Ops.{OpView, answer_of, ended, stage_of, task_in}
 use Rattle.fa_stages.specs.Stages.{beginning}
 use Rattle.fa_stages.specs.Tasks.{answered, end_of, task_of}
-use Rattle.fa_ops.specs.declared.op.Op.{Op}
 use Rattle.fa_stages.specs.declared.request.Request.{Request}
 use Rattle.fa_stages.specs.declared.request.Request.TheVariants.{Read, Write, Zero, Trim, Flush}
 use Rattle.fa_stages.specs.declared.request.Task.{Task}
@@ -24,7 +23,7 @@ use Rattle.fa_stages.specs.declared.stage.Stage.{Stage}
 use Rattle.fa_stages.specs.declared.stage.Stage.TheVariants.{Ended}
 use Rattle.fa_runs.specs.Drives.{AreHonest, AreImages}
 use Rattle.fa_shared.specs.Seats.{number_of}
-use Rattle.fa_solo.specs.Calls.{Ended as EndedSo, Endless, EndsBy, IsRefused, Made, MakesRequest, NoMemory, NotHandedOut, OfOtherLength}
+use Rattle.fa_solo.specs.Calls.{Ended as EndedSo, Endless, EndsBy, IsRefused, Made, MakesRequest, NoMemory, OfOtherLength}
 use Rattle.fa_solo.specs.Calls.{WithoutMemory, WithoutRoom}
 use Rattle.fa_solo.specs.Rigs.{house_of}
 use Rattle.fa_solo.specs.Turns.{RunsOn, asking_of}
@@ -74,16 +73,6 @@ by_answer (Trim offset len fua) bytes given before after (Gave it) fits done gav
 by_answer Flush bytes given before after (Gave it) fits done gave refused = absurd fits
 by_answer request bytes given before after (Refused fault) fits done gave refused = refused fault refl
 
--- a read that gave its bytes is refused for want of memory for them
-unhanded : (request : Request) (page_bytes : ℕ) (bytes given : List ℕ) (before after : Store) → (task_of page_bytes request).fill ≡ None
-    → (task_of page_bytes request).flush ≡ false → Serves before (call_of request bytes) (answer_at request None given) after
-    → Serves before (call_of request bytes) (Refused OutOfMemory) after
-unhanded (Read offset len) page_bytes bytes given before after fill flush serves = (tt, serves.2)
-unhanded (Write offset len fua) page_bytes bytes given before after fill flush serves = absurd (none-some _ (sym fill))
-unhanded (Zero offset len fua hole) page_bytes bytes given before after fill flush serves = absurd (none-some _ (sym fill))
-unhanded (Trim offset len fua) page_bytes bytes given before after fill flush serves = absurd (none-some _ (sym fill))
-unhanded Flush page_bytes bytes given before after fill flush serves = absurd (false≢true (sym flush))
-
 -- a request that answers some bytes is a read
 unmade : (request : Request) (page_bytes : ℕ) (bytes : List ℕ) (store : Store) → 0 < answered (task_of page_bytes request)
     → Serves store (call_of request bytes) (Refused OutOfMemory) store
@@ -132,7 +121,7 @@ module _ {L M I A : Type 0} (view : I → ImageState) (honest : I → Bool) (mad
   size = w.core.page_map.geometry.page_bytes
 
   -- how a request that went to its end serves
-  module _ (op next : Op A) (task : task_in op ≡ task_of size request) (stage : stage_of op ≡ beginning (task_of size request))
+  module _ (op next : OpView A) (task : task_in op ≡ task_of size request) (stage : stage_of op ≡ beginning (task_of size request))
       (none : answer_of op ≡ []) (runs : RunsOn made bytes old op new next) (few : runs.turns < 2 ^ 64 - 1) where
     stands : Stands view old.dies.items (house_of old) w
     stands = record { core = of_old.core; images = of_old.images; idle = of_old.idle }
@@ -178,10 +167,6 @@ module _ {L M I A : Type 0} (view : I → ImageState) (honest : I → Bool) (mad
     refused : (fault : BlockFault) → IsRefused fault runs.turns next
         → Serves (store_of w) (call_of request bytes) (Refused fault) (store_of one.last)
     refused fault (EndedSo is) = serves_so (Some fault) is
-    refused fault (NotHandedOut is fill flush end) =
-        subst (λ (f : BlockFault). Serves (store_of w) (call_of request bytes) (Refused f) (store_of one.last)) (sym is)
-        (unhanded request size bytes (answer_of next) (store_of w) (store_of one.last)
-        (subst (λ (t : Task). t.fill ≡ None) its_task fill) (subst (λ (t : Task). t.flush ≡ false) its_task flush) (serves_so None end))
     refused fault (OfOtherLength is fill flush end other) =
         absurd (other (its_length request size bytes (answer_of next) (subst (λ (t : Task). t.fill ≡ None) its_task fill)
         (subst (λ (t : Task). t.flush ≡ false) its_task flush) (gives_so None end) ∙ ap answered (sym its_task)))

@@ -19,9 +19,8 @@ use Rattle.fa_laws.proofs.Returning.{IsOut}
 use Rattle.fa_machine.specs.State.{Core, is_live}
 use Rattle.fa_machine.specs.World.{World}
 use Rattle.fa_mount.specs.Standings.{AreApart}
-use Rattle.fa_ops.specs.Ops.{stage_of, task_in}
+use Rattle.fa_ops.specs.Ops.{OpView, stage_of, task_in}
 use Rattle.fa_stages.specs.Stages.{beginning}
-use Rattle.fa_ops.specs.declared.op.Op.{Op}
 use Rattle.fa_stages.specs.declared.request.Task.{Task}
 use Rattle.fa_stages.specs.declared.stage.Stage.{Stage}
 use Rattle.fa_stages.specs.declared.stage.Stage.TheVariants.{Ended}
@@ -88,7 +87,7 @@ module _ {L M I A : Type 0} (view : I → ImageState) (honest : I → Bool) (mad
 
   -- a request
   module _ (task : Task) (bytes : List ℕ) (old new : Rig L M I A) (apart : AreApart old.dies.items) (fair : Fair new) (h : Homed old) where
-    module _ (op next : Op A) (its : task_in op ≡ task) (runs : RunsOn made bytes old op new next) where
+    module _ (op next : OpView A) (its : task_in op ≡ task) (runs : RunsOn made bytes old op new next) where
       there : AreHonest honest (image_on old.dies.items new.images.items)
       there = fair_of old.dies.items new runs.dies fair
 

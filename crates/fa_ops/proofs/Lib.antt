@@ -1,3 +1,4 @@
 pub mod Begun
 pub mod Rooms
+pub mod Sorting
 pub mod Turns

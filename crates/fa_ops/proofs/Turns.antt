@@ -10,6 +10,7 @@ use Rattle.fa_machine.specs.declared.ids.BatchId.{BatchId}
 use Rattle.fa_machine.specs.declared.refusals.AbandonRefused.{AbandonRefused}
 use Rattle.fa_ops.specs.Accounts.{IsAccounted}
 use Rattle.fa_ops.specs.Moves.{Turned, Moved, Rested, Strayed}
+use Rattle.fa_ops.specs.Ops.{OpView, stage_of, task_in}
 use Rattle.fa_stages.specs.Stages.{stopped}
 use Rattle.fa_stages.specs.declared.request.Task.{Task}
 use Rattle.fa_stages.specs.declared.stage.Held.{Held}
@@ -26,6 +27,12 @@ pub at_stage : {L A : Type 0} {t : Task} {before after : Seat L} {old new : Core
     → Turned t before after old same new next → Turned t before after old stage new next
 at_stage {A = A} {t = t} {before = before} {after = after} {old = old} {new = new} {next = next} e turned =
     let P : Stage A → Type 0 = λ s. Turned t before after old s new next in subst P (sym e) turned
+
+-- a turn of a request, by what is seen of it
+pub at_view : {L A : Type 0} {before after : Seat L} {old new : Core} {v w : OpView A} {next : Stage A} → v ≡ w
+    → Turned (task_in v) before after old (stage_of v) new next → Turned (task_in w) before after old (stage_of w) new next
+at_view {A = A} {before = before} {after = after} {old = old} {new = new} {next = next} e turned =
+    let P : OpView A → Type 0 = λ x. Turned (task_in x) before after old (stage_of x) new next in subst P e turned
 
 -- where no Commit was accepted the count of a seat stays
 pub no_rise : {after before : ℕ} → after ≡ before → after ≡ before + 0

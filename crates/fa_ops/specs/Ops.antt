@@ -1,23 +1,27 @@
 -- What contracts see of a request, and what each of its calls does beside its turns.
 use Rattle.std.specs.Prelude.{◌≡◌, ℕ, List, map, Option, Some, None}
 use Rattle.fa_stages.specs.Prepared.{IsFilled, IsListed, SortsAnswer, SortsPage}
-use Rattle.fa_ops.specs.declared.op.Op.{Op}
 use Rattle.fa_stages.specs.declared.request.Task.{Task}
 use Rattle.fa_stages.specs.declared.stage.Purpose.TheVariants.{Answer, Merge}
 use Rattle.fa_stages.specs.declared.stage.Stage.{Stage}
 use Rattle.fa_stages.specs.declared.stage.Stage.TheVariants.{Ended, Filling, Listing, Sorting}
 use Rattle.fa_types.specs.declared.blocks.BlockFault.{BlockFault}
 
+-- what the request comes to, how far it is, and the answer so far
+pub record OpView (A : Type 0) : Type 0 where
+  pub task : Task
+  pub stage : Stage A
+  pub answer : List ℕ
+
 module _ {A : Type 0} where
-  -- what the request comes to, how far it is, and the answer so far
-  abbrev pub task_in : Op A → Task
+  abbrev pub task_in : OpView A → Task
   task_in op = op.task
 
-  abbrev pub stage_of : Op A → Stage A
+  abbrev pub stage_of : OpView A → Stage A
   stage_of op = op.stage
 
-  abbrev pub answer_of : Op A → List ℕ
-  answer_of op = op.answer.items
+  abbrev pub answer_of : OpView A → List ℕ
+  answer_of op = op.answer
 
   -- how a request ended, if it has
   abbrev pub ended : Stage A → Option (Option BlockFault)

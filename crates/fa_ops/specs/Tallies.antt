@@ -1,8 +1,7 @@
 -- How many pages a request writes, and how many of them are still to be committed.
 use Rattle.std.specs.Prelude.{ℕ, ◌+◌, ◌-◌, Option, Some, None}
-use Rattle.fa_ops.specs.Ops.{stage_of, task_in}
+use Rattle.fa_ops.specs.Ops.{OpView, stage_of, task_in}
 use Rattle.fa_stages.specs.Ranges.{first_page, past_page}
-use Rattle.fa_ops.specs.declared.op.Op.{Op}
 use Rattle.fa_stages.specs.declared.range.Range.{Range}
 use Rattle.fa_stages.specs.declared.request.Fill.{Fill}
 use Rattle.fa_stages.specs.declared.request.Task.{Task}
@@ -72,5 +71,5 @@ module _ {A : Type 0} where
   abbrev pub tally_at : ℕ → Task → Stage A → Tally
   tally_at commits t stage = record { commits = commits; left = left t stage; refused = refusals stage }
 
-  abbrev pub tally_of : ℕ → Op A → Tally
+  abbrev pub tally_of : ℕ → OpView A → Tally
   tally_of commits op = tally_at commits (task_in op) (stage_of op)

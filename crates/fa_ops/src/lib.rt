@@ -2,6 +2,7 @@
 #![tactic(auto)]
 
 mod events;
+mod gathering;
 mod kinds;
 mod op;
 mod reading;

@@ -1,18 +1,18 @@
 //! A request, from its beginning to its answer.
-ghost use Rattle.fa_stages.specs.Ranges.{IsRange};
 
+use crate::gathering::sort_answer;
 use crate::kinds::{kind_of, turn_from};
 use crate::stages::{answer_len, memory_for, turn_stage};
 use fa_machine::ReadState;
 use fa_map::Map;
 use fa_shared::{Awaits, Locked, Seat};
 use fa_stages::{
-    Fill, Purpose, Request, Stage, Task, begin, content, fill_page, fill_with, list, sort_answer,
-    sort_page,
+    Fill, Purpose, Request, Stage, Task, begin, content, fill_page, fill_with, list, sort_page,
 };
 use fa_tag::Payload;
 use fa_types::BlockFault;
 use std::alloc::{AllocError, Allocator, Global};
+use std::marker::Model;
 use std::mem::replace;
 use std::sync::ledger::Ledger;
 
@@ -32,15 +32,25 @@ pub enum Turn {
 /// A request of a block store over an array that others use too. A turn is made with the array's lock held and makes at most one event of
 /// the array, behind a Fold where the history is full. Between turns the lock is free, and [`Op::prepare`] does what wants no lock.
 #[derive(Drop)]
-pub struct Op<A: Allocator = Global> {
+pub struct Op<A: Allocator = Global, B: Allocator = Global> {
     alloc: A,
     task: Task,
     stage: Stage<A>,
-    answer: Vec<u8, A>,
-    ghost fits: { IsRange task.range },
+    answer: Vec<u8, B>,
 }
 
-impl<A: Allocator + Copy> Op<A> {
+impl<A: Allocator, B: Allocator> Model for Op<A, B> {
+    ghost use Rattle.fa_ops.specs.Ops.{OpView};
+    ghost use Rattle.fa_stages.specs.Ranges.{IsRange};
+
+    ghost Value = { OpView A };
+
+    ghost view = { λ op. record { task = op.task; stage = op.stage; answer = op.answer.items } };
+
+    ghost invariant = { λ op. IsRange op.task.range };
+}
+
+impl<A: Allocator + Copy, B: Allocator> Op<A, B> {
     ghost use Rattle.std.specs.Prelude.{◌≡◌, ℕ, ◌^◌, ◌<◌, ◌≤◌, [], IfErr, IfOk};
     ghost use Rattle.fa_ops.specs.Accounts.{IsAccounted};
     ghost use Rattle.fa_ops.specs.Moves.{Turned};
@@ -51,8 +61,8 @@ impl<A: Allocator + Copy> Op<A> {
     ghost use Rattle.fa_ops.specs.Waiting.{awaits_flush as rule_flush, waits, wants_room as rule_room, without_room};
 
     /// A request of a store whose pages have so many bytes, of which no turn was made. A read has all memory for its answer from the
-    /// beginning. The error is out of memory, for a request that is to answer some bytes.
-    pub fn new(alloc: A, request: Request, page_bytes: u64) -> Result<Op<A>, AllocError>
+    /// beginning, of the second allocator. The error is out of memory, for a request that is to answer some bytes.
+    pub fn new(alloc: A, into: B, request: Request, page_bytes: u64) -> Result<Op<A, B>, AllocError>
         requires some_bytes { 1 ≤ page_bytes }
         requires small { page_bytes ≤ 4096 }
         requires inside { end_of request ≤ 2 ^ 32 }
@@ -65,7 +75,7 @@ impl<A: Allocator + Copy> Op<A> {
     {
         let task = request.task(page_bytes);
         let stage = begin(task);
-        let answer = memory_for(alloc, answer_len(task))?;
+        let answer = memory_for(into, answer_len(task))?;
         Ok(Op {
             alloc,
             task,
@@ -222,7 +232,7 @@ impl<A: Allocator + Copy> Op<A> {
     }
 
     /// The answer of a read, as far as it was made.
-    pub fn into_answer(self) -> Vec<u8, A>
+    pub fn into_answer(self) -> Vec<u8, B>
         ensures { result.items ≡ answer_of self }
     {
         let Op { answer, .. } = self;

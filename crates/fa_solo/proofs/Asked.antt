@@ -7,11 +7,10 @@ use Rattle.fa_headers.specs.declared.judging.Standing.{Standing}
 use Rattle.fa_image.specs.Image.{ImageAnswer, ImageCall}
 use Rattle.fa_ops.specs.Accounts.{IsAccounted}
 use Rattle.fa_ops.specs.Moves.{Turned}
-use Rattle.fa_ops.specs.Ops.{Prepares, answer_of, stage_of, task_in}
+use Rattle.fa_ops.specs.Ops.{OpView, Prepares, answer_of, stage_of, task_in}
 use Rattle.fa_ops.specs.Tallies.{Tally, pages_in, tally_at, tally_of}
 use Rattle.fa_stages.specs.Tasks.{task_of}
 use Rattle.fa_stages.specs.declared.request.Request.{Request}
-use Rattle.fa_ops.specs.declared.op.Op.{Op}
 use Rattle.fa_ops.specs.Waiting.{HasNoWindow, awaits_flush, waits, without_room}
 use Rattle.fa_stages.specs.declared.request.Task.{Task}
 use Rattle.fa_stages.specs.declared.stage.Stage.{Stage}
@@ -54,7 +53,7 @@ with_book a b e =
     e ∙ ap (λ (n : ℕ). record a { core = b.core; book = n }) (sym (ap (λ (l : LockedState). l.book) e))
 
 -- a seat with as many Commits
-same_counts : {L A : Type 0} (a b : Seat L) (op : Op A) → commits_with b ≡ commits_with a → number_of b ≡ number_of a → GoesOn a op b op
+same_counts : {L A : Type 0} (a b : Seat L) (op : OpView A) → commits_with b ≡ commits_with a → number_of b ≡ number_of a → GoesOn a op b op
 same_counts a b op commits number = record {
   counts = record {
     rises = omega (arith, commits);
@@ -77,7 +76,7 @@ refused_counts commits t fault (Reserving held wish) = record {
 }
 refused_counts commits t fault stage = record { rises = omega arith; stays = omega arith; most = omega arith; all = λ same. omega arith }
 
-refused_on : {L A : Type 0} (seat : Seat L) (op next : Op A) (fault : BlockFault) → stage_of next ≡ without_room fault (stage_of op)
+refused_on : {L A : Type 0} (seat : Seat L) (op next : OpView A) (fault : BlockFault) → stage_of next ≡ without_room fault (stage_of op)
     → task_in next ≡ task_in op → GoesOn seat op seat next
 refused_on seat op next fault stage task = record {
   counts =
@@ -90,7 +89,7 @@ refused_on seat op next fault stage task = record {
 }
 
 -- a request that is refused, however far it is
-pub refused_by : {L A : Type 0} (before after : Seat L) (op next : Op A) (request : Request) (page_bytes same : ℕ) → same ≡ page_bytes
+pub refused_by : {L A : Type 0} (before after : Seat L) (op next : OpView A) (request : Request) (page_bytes same : ℕ) → same ≡ page_bytes
     → ((commits : ℕ) → tally_of commits op ≡ record { commits = commits; left = pages_in (task_of same request); refused = 0 })
     → GoesOn before op after next → IsMade (pages_in (task_of page_bytes request)) before false after
 refused_by before after op next request page_bytes same e begins goes =
@@ -104,7 +103,7 @@ refused_by before after op next request page_bytes same e begins goes =
     })
 
 -- a request that writes no page
-pub none_made : {L A : Type 0} (before after : Seat L) (op next : Op A) (accepted : Bool)
+pub none_made : {L A : Type 0} (before after : Seat L) (op next : OpView A) (accepted : Bool)
     → ((commits : ℕ) → tally_of commits op ≡ record { commits = commits; left = 0; refused = 0 })
     → GoesOn before op after next → IsMade 0 before accepted after
 none_made before after op next accepted begins goes =
@@ -116,10 +115,10 @@ none_made before after op next accepted begins goes =
     }
 
 module _ {L M I A : Type 0} (made : I → ImageCall → ImageAnswer → I → Type 0) (bytes : List ℕ) where
-  pub runs_none : (rig : Rig L M I A) (op : Op A) → RunsOn made bytes rig op rig op
+  pub runs_none : (rig : Rig L M I A) (op : OpView A) → RunsOn made bytes rig op rig op
   runs_none rig op = record { turns = 0; asks = Begins; counts = same_counts rig.seat rig.seat op refl refl; rest = refl; dies = refl }
 
-  runs_both : (a b c : Rig L M I A) (x y z : Op A) (one : RunsOn made bytes a x b y) (two : RunsOn made bytes b y c z)
+  runs_both : (a b c : Rig L M I A) (x y z : OpView A) (one : RunsOn made bytes a x b y) (two : RunsOn made bytes b y c z)
       → (all : RunsOn made bytes a x c z) × (all.turns ≡ one.turns + two.turns)
   runs_both a b c x y z one two = (
     record {
@@ -136,10 +135,10 @@ module _ {L M I A : Type 0} (made : I → ImageCall → ImageAnswer → I → Ty
     refl,
   )
 
-  pub runs_more : (a b c : Rig L M I A) (x y z : Op A) → RunsOn made bytes a x b y → RunsOn made bytes b y c z → RunsOn made bytes a x c z
+  pub runs_more : (a b c : Rig L M I A) (x y z : OpView A) → RunsOn made bytes a x b y → RunsOn made bytes b y c z → RunsOn made bytes a x c z
   runs_more a b c x y z one two = (runs_both a b c x y z one two).0
 
-  pub runs_turn : (a b : Rig L M I A) (x y : Op A)
+  pub runs_turn : (a b : Rig L M I A) (x y : OpView A)
       → Turned (task_in x) a.seat b.seat a.locked.core (stage_of x) b.locked.core (stage_of y) → task_in y ≡ task_in x
       → answer_of y ≡ answer_of x → IsAccounted a.locked a.seat b.locked b.seat → b.images.items ≡ a.images.items
       → b.dies.items ≡ a.dies.items → (runs : RunsOn made bytes a x b y) × (1 ≤ runs.turns)
@@ -155,7 +154,7 @@ module _ {L M I A : Type 0} (made : I → ImageCall → ImageAnswer → I → Ty
     omega arith,
   )
 
-  pub runs_ready : (a : Rig L M I A) (x y : Op A)
+  pub runs_ready : (a : Rig L M I A) (x y : OpView A)
       → Prepares (task_in x) bytes (stage_of x) (answer_of x) (stage_of y) (answer_of y) → task_in y ≡ task_in x → RunsOn made bytes a x a y
   runs_ready a x y prepares task = record {
     turns = 0;
@@ -165,7 +164,7 @@ module _ {L M I A : Type 0} (made : I → ImageCall → ImageAnswer → I → Ty
     dies = refl;
   }
 
-  pub runs_time : (a b : Rig L M I A) (x : Op A) (flush : Bool) → waits (stage_of x) ≡ true → awaits_flush (stage_of x) ≡ flush
+  pub runs_time : (a b : Rig L M I A) (x : OpView A) (flush : Bool) → waits (stage_of x) ≡ true → awaits_flush (stage_of x) ≡ flush
       → Does made (IsMeanwhile flush) a b → RunsOn made bytes a x b x
   runs_time a b x flush in_time is does = record {
     turns = 0;
@@ -184,7 +183,7 @@ module _ {L M I A : Type 0} (made : I → ImageCall → ImageAnswer → I → Ty
     dies = does.dies;
   }
 
-  pub runs_refused : (a : Rig L M I A) (x y : Op A) (fault : BlockFault)
+  pub runs_refused : (a : Rig L M I A) (x y : OpView A) (fault : BlockFault)
       → HasNoWindow a.locked.core fault → stage_of y ≡ without_room fault (stage_of x)
       → task_in y ≡ task_in x → answer_of y ≡ answer_of x → RunsOn made bytes a x a y
   runs_refused a x y fault cause stage task answer = record {
@@ -197,13 +196,13 @@ module _ {L M I A : Type 0} (made : I → ImageCall → ImageAnswer → I → Ty
   }
 
   -- one step more of a request, of which some are turns
-  pub runs_step : (a b c d : Rig L M I A) (x y z : Op A) (n : ℕ) → (one : RunsOn made bytes a x b y) × (n ≤ one.turns)
-      → RunsOn made bytes b y c z → (w : Op A) → (two : RunsOn made bytes c z d w) × (1 ≤ two.turns)
+  pub runs_step : (a b c d : Rig L M I A) (x y z : OpView A) (n : ℕ) → (one : RunsOn made bytes a x b y) × (n ≤ one.turns)
+      → RunsOn made bytes b y c z → (w : OpView A) → (two : RunsOn made bytes c z d w) × (1 ≤ two.turns)
       → (all : RunsOn made bytes a x d w) × (n + 1 ≤ all.turns)
   runs_step a b c d x y z n (one, some) ready w (two, turn) =
       let first = runs_both a b c x y z one ready in
       let all = runs_both a c d x z w first.0 two in (all.0, omega (arith, some, turn, first.1, all.1))
 
-  pub runs_behind : (a b c : Rig L M I A) (x y z : Op A) → (one : RunsOn made bytes a x b y) × (1 ≤ one.turns) → RunsOn made bytes b y c z
+  pub runs_behind : (a b c : Rig L M I A) (x y z : OpView A) → (one : RunsOn made bytes a x b y) × (1 ≤ one.turns) → RunsOn made bytes b y c z
       → (all : RunsOn made bytes a x c z) × (1 ≤ all.turns)
   runs_behind a b c x y z (one, some) two = let all = runs_both a b c x y z one two in (all.0, omega (arith, some, all.1))

@@ -2,16 +2,14 @@
 use Rattle.std.proofs.Common.{◌≡◌, ◌∙◌, ◌⊎◌, ◌-◌, ◌^◌, ◌<◌, ◌≤◌, ℕ, List, [], length, Result, Ok, Err, Some, None, Vec, ap, refl, subst, sym}
 use Rattle.std.proofs.Common.{arith, inl, inr}
 use Rattle.std.specs.Prelude.{IfOk, IfErr, OnOk}
-use Rattle.std.proofs.lemmas.Bool.{false≢true}
 use Rattle.fa_image.specs.Image.{ImageAnswer, ImageCall}
-use Rattle.fa_ops.specs.Ops.{answer_of, ended, stage_of, task_in}
+use Rattle.fa_ops.specs.Ops.{OpView, answer_of, ended, stage_of, task_in}
 use Rattle.fa_stages.specs.Stages.{beginning}
 use Rattle.fa_stages.specs.Tasks.{answered, task_of}
-use Rattle.fa_ops.specs.declared.op.Op.{Op}
 use Rattle.fa_stages.specs.declared.request.Request.{Request}
 use Rattle.fa_stages.specs.declared.request.Request.TheVariants.{Flush, Read}
 use Rattle.fa_stages.specs.declared.request.Task.{Task}
-use Rattle.fa_solo.specs.Calls.{Ended, EndsBy, answer_by, IsOfFlush, IsOfRead, IsRefused, Made, MakesRequest, MakesWhole, NotHandedOut, OfOtherLength, WithoutMemory, WithoutRoom}
+use Rattle.fa_solo.specs.Calls.{Ended, EndsBy, answer_by, IsOfFlush, IsOfRead, IsRefused, Made, MakesRequest, MakesWhole, OfOtherLength, WithoutMemory, WithoutRoom}
 use Rattle.fa_solo.specs.Calls.{Endless, NoMemory as NoMemoryFor}
 use Rattle.fa_solo.specs.Deeds.{IsForRequests}
 use Rattle.fa_solo.specs.Rigs.{Does, Tidies}
@@ -22,20 +20,19 @@ use Rattle.fa_types.specs.declared.blocks.BlockFault.{BlockFault}
 use Rattle.fa_types.specs.declared.blocks.BlockFault.TheVariants.{Lost, NoMemory, NoRoom}
 
 -- A flush that was refused for room or memory is told as lost.
-told : {A : Type 0} (own : BlockFault) (page_bytes turns : ℕ) (y : Op A) → task_in y ≡ task_of page_bytes Flush
+told : {A : Type 0} (own : BlockFault) (page_bytes turns : ℕ) (y : OpView A) → task_in y ≡ task_of page_bytes Flush
     → (own ≡ NoRoom) ⊎ (own ≡ NoMemory) → IsRefused own turns y → IsRefused Lost turns y
 told own page_bytes turns y task (inl is) (Ended end) =
     WithoutRoom refl (ap (λ (t : Task). t.fill) task) (end ∙ ap (λ (f : BlockFault). Some (Some f)) is)
 told own page_bytes turns y task (inr is) (Ended end) =
     WithoutMemory refl (ap (λ (t : Task). t.fill) task) (ap (λ (t : Task). t.flush) task) (end ∙ ap (λ (f : BlockFault). Some (Some f)) is)
-told own page_bytes turns y task why (NotHandedOut is fill flush end) = absurd (false≢true (sym flush ∙ ap (λ (t : Task). t.flush) task))
 told own page_bytes turns y task why (OfOtherLength is fill flush end other) = OfOtherLength refl fill flush end other
 told own page_bytes turns y task why (WithoutRoom is fill end) = WithoutRoom refl fill end
 told own page_bytes turns y task why (WithoutMemory is fill flush end) = WithoutMemory refl fill flush end
 told own page_bytes turns y task why (Endless is most) = Endless refl most
 
 module _ {L M I A : Type 0} (made : I → ImageCall → ImageAnswer → I → Type 0) where
-  pub made_request : (a b : Rig L M I A) (x y : Op A) (request : Request) (page_bytes same : ℕ) (bytes : List ℕ) (answer : Answer)
+  pub made_request : (a b : Rig L M I A) (x y : OpView A) (request : Request) (page_bytes same : ℕ) (bytes : List ℕ) (answer : Answer)
       → same ≡ page_bytes → task_in x ≡ task_of same request → stage_of x ≡ beginning (task_of same request) → answer_of x ≡ []
       → (runs : RunsOn made bytes a x b y) → EndsBy answer runs.turns y → MakesRequest made (task_of page_bytes request) bytes answer a b
   made_request a b x y request page_bytes same bytes answer e task stage none runs end =
@@ -50,7 +47,7 @@ module _ {L M I A : Type 0} (made : I → ImageCall → ImageAnswer → I → Ty
       subst P e (NoMemoryFor refl some refl)
 
   -- a read whose answer was handed out, or not
-  module _ (a b : Rig L M I A) (x y : Op A) (offset len page_bytes same : ℕ) (e : same ≡ page_bytes)
+  module _ (a b : Rig L M I A) (x y : OpView A) (offset len page_bytes same : ℕ) (e : same ≡ page_bytes)
       (task : task_in x ≡ task_of same (Read offset len)) (stage : stage_of x ≡ beginning (task_of same (Read offset len)))
       (none : answer_of x ≡ []) (runs : RunsOn made [] a x b y) where
     its_task : task_in y ≡ task_of same (Read offset len)
@@ -60,10 +57,8 @@ module _ {L M I A : Type 0} (made : I → ImageCall → ImageAnswer → I → Ty
     read_with answer end = made_request a b x y (Read offset len) page_bytes same [] answer e task stage none runs end
 
     refused_with : (fault : BlockFault) → ended (stage_of y) ≡ Some None
-        → (fault ≡ NoMemory) ⊎ ((fault ≡ Lost) × (length (answer_of y) ≡ len → ⊥)) → IsRefused fault runs.turns y
-    refused_with fault end (inl is) =
-        NotHandedOut is (ap (λ (t : Task). t.fill) its_task) (ap (λ (t : Task). t.flush) its_task) end
-    refused_with fault end (inr (is, other)) =
+        → (fault ≡ Lost) × (length (answer_of y) ≡ len → ⊥) → IsRefused fault runs.turns y
+    refused_with fault end (is, other) =
         OfOtherLength is (ap (λ (t : Task). t.fill) its_task) (ap (λ (t : Task). t.flush) its_task) end (λ same_length.
         let all : answered (task_in y) ≡ len = omega (arith, ap answered its_task) in other (same_length ∙ all))
 
@@ -74,7 +69,7 @@ module _ {L M I A : Type 0} (made : I → ImageCall → ImageAnswer → I → Ty
     gave_request (Err fault) end is = tt
 
     pub refused_request : {B : Type 0} (result : Result (Vec ℕ B) BlockFault) → ended (stage_of y) ≡ Some None
-        → IfErr result (λ fault. (fault ≡ NoMemory) ⊎ ((fault ≡ Lost) × (length (answer_of y) ≡ len → ⊥)))
+        → IfErr result (λ fault. (fault ≡ Lost) × (length (answer_of y) ≡ len → ⊥))
         → IfErr result (λ fault. MakesRequest made (task_of page_bytes (Read offset len)) [] (Refused fault) a b)
     refused_request (Ok given) end why = tt
     refused_request (Err fault) end why = read_with (Refused fault) (refused_with fault end why)

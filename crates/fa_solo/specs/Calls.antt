@@ -2,10 +2,9 @@
 use Rattle.std.specs.Prelude.{◌≡◌, ◌⊎◌, ℕ, ◌-◌, ◌^◌, ◌<◌, ◌≤◌, true, false, List, [], length, Some, None, Result, Ok, Err}
 use Rattle.fa_blocks.specs.Counts.{request_of}
 use Rattle.fa_image.specs.Image.{ImageAnswer, ImageCall}
-use Rattle.fa_ops.specs.Ops.{answer_of, ended, stage_of, task_in}
+use Rattle.fa_ops.specs.Ops.{OpView, answer_of, ended, stage_of, task_in}
 use Rattle.fa_stages.specs.Stages.{beginning}
 use Rattle.fa_stages.specs.Tasks.{answered, task_of}
-use Rattle.fa_ops.specs.declared.op.Op.{Op}
 use Rattle.fa_stages.specs.declared.request.Task.{Task}
 use Rattle.fa_solo.specs.Deeds.{IsForRequests}
 use Rattle.fa_solo.specs.Rigs.{Does, Tidies}
@@ -36,12 +35,10 @@ IsOfFlush own fault =
     × ((fault ≡ own) ⊎ (((own ≡ NoRoom) ⊎ (own ≡ OutOfMemory)) × (fault ≡ Lost)))
 
 module _ {A : Type 0} where
-  -- Why a call is refused: its request has ended so; or a read found no memory for its answer, or has an answer of another length; or a read
-  -- has ended for want of room, or a flush for want of room or memory, which are no answers of theirs; or it did not end within 2^64 - 1 turns.
-  pub data IsRefused (fault : BlockFault) (turns : ℕ) (op : Op A) : Type 0 where
+  -- Why a call is refused: its request has ended so; or a read has an answer of another length; or a read has ended for want of room, or a
+  -- flush for want of room or memory, which are no answers of theirs; or it did not end within 2^64 - 1 turns.
+  pub data IsRefused (fault : BlockFault) (turns : ℕ) (op : OpView A) : Type 0 where
     Ended : ended (stage_of op) ≡ Some (Some fault) → IsRefused fault turns op
-    NotHandedOut : fault ≡ OutOfMemory → (task_in op).fill ≡ None → (task_in op).flush ≡ false → ended (stage_of op) ≡ Some None
-        → IsRefused fault turns op
     OfOtherLength : fault ≡ Lost → (task_in op).fill ≡ None → (task_in op).flush ≡ false → ended (stage_of op) ≡ Some None
         → (length (answer_of op) ≡ answered (task_in op) → ⊥) → IsRefused fault turns op
     WithoutRoom : fault ≡ Lost → (task_in op).fill ≡ None → ended (stage_of op) ≡ Some (Some NoRoom) → IsRefused fault turns op
@@ -50,7 +47,7 @@ module _ {A : Type 0} where
     Endless : fault ≡ Lost → 2 ^ 64 - 1 ≤ turns → IsRefused fault turns op
 
   -- How a request has ended behind so many turns, by the answer of its call. A read that was accepted has the answer that was given.
-  abbrev pub EndsBy : Answer → ℕ → Op A → Type 0
+  abbrev pub EndsBy : Answer → ℕ → OpView A → Type 0
   EndsBy (Gave bytes) turns op = (ended (stage_of op) ≡ Some None) × (answer_of op ≡ bytes)
   EndsBy Done turns op = ended (stage_of op) ≡ Some None
   EndsBy (Refused fault) turns op = IsRefused fault turns op
@@ -60,7 +57,7 @@ module _ {L M I A : Type 0} (made : I → ImageCall → ImageAnswer → I → Ty
   -- answer.
   pub data MakesRequest (task : Task) (bytes : List ℕ) (answer : Answer) (old new : Rig L M I A) : Type 0 where
     NoMemory : answer ≡ Refused OutOfMemory → 0 < answered task → new ≡ old → MakesRequest task bytes answer old new
-    Made : (op next : Op A) → task_in op ≡ task → stage_of op ≡ beginning task → answer_of op ≡ []
+    Made : (op next : OpView A) → task_in op ≡ task → stage_of op ≡ beginning task → answer_of op ≡ []
         → (runs : RunsOn made bytes old op new next) → EndsBy answer runs.turns next → MakesRequest task bytes answer old new
 
   -- A call: spares that are brought in before it, the request, and what is for the array's order behind it. Nothing is where there was no room.

@@ -4,9 +4,8 @@ use Rattle.fa_blocks.specs.Counts.{GoesOn}
 use Rattle.fa_headers.specs.declared.judging.Standing.{Standing}
 use Rattle.fa_image.specs.Image.{ImageAnswer, ImageCall}
 use Rattle.fa_ops.specs.Moves.{Turned}
-use Rattle.fa_ops.specs.Ops.{Prepares, answer_of, stage_of, task_in}
+use Rattle.fa_ops.specs.Ops.{OpView, Prepares, answer_of, stage_of, task_in}
 use Rattle.fa_ops.specs.Waiting.{HasNoWindow, awaits_flush, waits, without_room}
-use Rattle.fa_ops.specs.declared.op.Op.{Op}
 use Rattle.fa_stages.specs.declared.request.Task.{Task}
 use Rattle.fa_stages.specs.declared.stage.Stage.{Stage}
 use Rattle.fa_shared.specs.Seats.{commits_with, number_of}
@@ -66,13 +65,13 @@ module _ {L I A : Type 0} (made : I → ImageCall → ImageAnswer → I → Type
     Refuses : (turns : ℕ) (middle new : Asking L I A) → Asks old turns middle → GivesUp middle new → Asks old turns new
 
 module _ {L M I A : Type 0} where
-  abbrev pub asking_of : Rig L M I A → Op A → Asking L I A
+  abbrev pub asking_of : Rig L M I A → OpView A → Asking L I A
   asking_of rig op = record { house = house_of rig; seat = rig.seat; stage = stage_of op; answer = answer_of op }
 
   -- A request went on so, with these bytes. The Commits of the seat keep up with its pages, and nothing else of the array under its lock has
   -- changed.
-  pub record RunsOn (made : I → ImageCall → ImageAnswer → I → Type 0) (bytes : List ℕ) (rig : Rig L M I A) (op : Op A) (new : Rig L M I A)
-      (next : Op A) : Type 0 where
+  pub record RunsOn (made : I → ImageCall → ImageAnswer → I → Type 0) (bytes : List ℕ) (rig : Rig L M I A) (op : OpView A) (new : Rig L M I A)
+      (next : OpView A) : Type 0 where
     pub turns : ℕ
     pub asks : Asks made rig.locked.number rig.dies.items (number_of rig.seat) (task_in op) bytes (asking_of rig op) turns (asking_of new next)
     pub counts : GoesOn rig.seat op new.seat next

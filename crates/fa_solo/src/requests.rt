@@ -1,5 +1,5 @@
 //! Requests, from their beginning to their end.
-ghost use Rattle.std.specs.Prelude.{◌≡◌, ◌⊎◌, ◌+◌, ◌-◌, ◌^◌, ◌≤◌, ℕ, IsTrue, List, [], length, is_ok, true, false, IfOk, IfErr, IfSome, Some, None};
+ghost use Rattle.std.specs.Prelude.{◌≡◌, ◌+◌, ◌-◌, ◌^◌, ◌≤◌, ℕ, IsTrue, List, [], length, is_ok, true, false, IfOk, IfErr, IfSome, Some, None};
 ghost use Rattle.fa_blocks.specs.Counts.{IsMade};
 ghost use Rattle.fa_core.specs.Array.{state_of};
 ghost use Rattle.fa_machine.specs.Reading.{is_late as rule_late};
@@ -45,7 +45,7 @@ pub(crate) fn run<L: Ledger, M: Map + Drop, I: Image, A: Allocator + Copy>(
     ensures made { IsMade (pages_in (task_of page_bytes request)) rig.old.seat (is_ok result) rig.new.seat }
     ensures request { MakesRequest I.made (task_of page_bytes request) bytes.now (answer_by result) rig.old rig.new }
 {
-    let mut op = match Op::new(rig.alloc, request, u64::from(page_bytes)) {
+    let mut op = match Op::new(rig.alloc, rig.alloc, request, u64::from(page_bytes)) {
         Ok(op) => op,
         Err(_) => return Err(BlockFault::NoMemory),
     };
@@ -74,12 +74,12 @@ pub(crate) fn run_read<L: Ledger, M: Map + Drop, I: Image, A: Allocator + Copy, 
     ensures refused { IfErr result (λ fault. MakesRequest I.made (task_of page_bytes (Read offset len)) [] (Refused fault) rig.old rig.new) }
 {
     let request = Request::Read { offset, len };
-    let mut op = match Op::new(rig.alloc, request, u64::from(page_bytes)) {
+    let mut op = match Op::new(rig.alloc, into, request, u64::from(page_bytes)) {
         Ok(op) => op,
         Err(_) => return Err(BlockFault::NoMemory),
     };
     match finish(rig, &mut op, &[]) {
-        Some(None) => handed_out(op, len, into),
+        Some(None) => handed_out(op, len),
         Some(Some(fault)) => Err(of_read(fault)),
         None => Err(BlockFault::Lost),
     }
@@ -87,22 +87,18 @@ pub(crate) fn run_read<L: Ledger, M: Map + Drop, I: Image, A: Allocator + Copy, 
 
 /// The answer of a read, if it has so many bytes.
 fn handed_out<A: Allocator + Copy, B: Allocator>(
-    op: Op<A>,
+    op: Op<A, B>,
     len: u64,
-    into: B,
 ) -> Result<Vec<u8, B>, BlockFault>
     ensures length { IfOk result (λ answer. length answer.items ≡ len) }
     ensures answer { IfOk result (λ answer. answer.items ≡ answer_of op) }
-    ensures refused { IfErr result (λ fault. (fault ≡ NoMemory) ⊎ ((fault ≡ Lost) × (length (answer_of op) ≡ len → ⊥))) }
+    ensures refused { IfErr result (λ fault. (fault ≡ Lost) × (length (answer_of op) ≡ len → ⊥)) }
 {
     let answer = op.into_answer();
     if answer.len() as u64 != len {
         return Err(BlockFault::Lost);
     }
-    match Vec::from_slice(into, answer.as_slice()) {
-        Ok(bytes) => Ok(bytes),
-        Err(_) => Err(BlockFault::NoMemory),
-    }
+    Ok(answer)
 }
 
 /// Why a read is refused that ended so. No read wants room.
@@ -116,9 +112,9 @@ fn of_read(fault: BlockFault) -> BlockFault
 }
 
 /// Goes on with a request until it has ended, and tells how. None where it has not ended within 2^64 - 1 turns.
-fn finish<L: Ledger, M: Map + Drop, I: Image, A: Allocator + Copy>(
+fn finish<L: Ledger, M: Map + Drop, I: Image, A: Allocator + Copy, B: Allocator>(
     rig: &mut Rig<L, M, I, A>,
-    op: &mut Op<A>,
+    op: &mut Op<A, B>,
     bytes: &[u8],
 ) -> Option<Option<BlockFault>>
     ensures runs { (runs : RunsOn I.made bytes.now rig.old op.old rig.new op.new) × (result ≡ None → 2 ^ 64 - 1 ≤ runs.turns) }
@@ -135,9 +131,9 @@ fn finish<L: Ledger, M: Map + Drop, I: Image, A: Allocator + Copy>(
 }
 
 /// A turn of a request. Where it comes to waiting, what there is to be done for dies is made.
-fn step<L: Ledger, M: Map + Drop, I: Image, A: Allocator + Copy>(
+fn step<L: Ledger, M: Map + Drop, I: Image, A: Allocator + Copy, B: Allocator>(
     rig: &mut Rig<L, M, I, A>,
-    op: &mut Op<A>,
+    op: &mut Op<A, B>,
 )
     ensures { (bytes : List ℕ) → (runs : RunsOn I.made bytes rig.old op.old rig.new op.new) × (1 ≤ runs.turns) }
 {
@@ -148,9 +144,9 @@ fn step<L: Ledger, M: Map + Drop, I: Image, A: Allocator + Copy>(
 }
 
 /// A turn of a request.
-fn turn<L: Ledger, M: Map + Drop, I: Image, A: Allocator + Copy>(
+fn turn<L: Ledger, M: Map + Drop, I: Image, A: Allocator + Copy, B: Allocator>(
     rig: &mut Rig<L, M, I, A>,
-    op: &mut Op<A>,
+    op: &mut Op<A, B>,
 ) -> Turn
     ensures { (bytes : List ℕ) → (runs : RunsOn I.made bytes rig.old op.old rig.new op.new) × (1 ≤ runs.turns) }
 {
@@ -159,9 +155,9 @@ fn turn<L: Ledger, M: Map + Drop, I: Image, A: Allocator + Copy>(
 
 /// Makes what there is to be done for dies, where the request may have to wait. Where there is nothing, and it wants room, dies without room
 /// are collected.
-fn pass_time<L: Ledger, M: Map + Drop, I: Image, A: Allocator + Copy>(
+fn pass_time<L: Ledger, M: Map + Drop, I: Image, A: Allocator + Copy, B: Allocator>(
     rig: &mut Rig<L, M, I, A>,
-    op: &mut Op<A>,
+    op: &mut Op<A, B>,
 )
     ensures { (bytes : List ℕ) → RunsOn I.made bytes rig.old op.old rig.new op.new }
 {
@@ -182,8 +178,8 @@ fn pass_time<L: Ledger, M: Map + Drop, I: Image, A: Allocator + Copy>(
 }
 
 /// The batch that a request waits for, if it waits for one.
-fn batch_of<L: Ledger, M: Map + Drop, I: Image, A: Allocator + Copy>(
-    op: &Op<A>,
+fn batch_of<L: Ledger, M: Map + Drop, I: Image, A: Allocator + Copy, B: Allocator>(
+    op: &Op<A, B>,
     rig: &Rig<L, M, I, A>,
 ) -> Option<BatchId> {
     match op.awaits(&rig.locked) {
@@ -205,9 +201,9 @@ fn work_at_once<L: Ledger, M: Map + Drop, I: Image, A: Allocator + Copy>(
 }
 
 /// Gives windows to dies without room, for a request that wants some. Where that is refused, so is the request.
-fn collect_for<L: Ledger, M: Map + Drop, I: Image, A: Allocator + Copy>(
+fn collect_for<L: Ledger, M: Map + Drop, I: Image, A: Allocator + Copy, B: Allocator>(
     rig: &mut Rig<L, M, I, A>,
-    op: &mut Op<A>,
+    op: &mut Op<A, B>,
 )
     requires waits { waits (stage_of op.old) ≡ true }
     requires flush { awaits_flush (stage_of op.old) ≡ false }

@@ -2,16 +2,14 @@
 //! each answer of the array leads to the next stage.
 #![tactic(auto)]
 
-mod gathering;
 mod next;
 mod preparing;
 mod range;
 mod request;
 mod stage;
 
-pub use gathering::sort_answer;
 pub use next::{abandoned, begin, begun, claimed, committed, flushed, released, reserved, stopped};
-pub use preparing::{content, fill_page, fill_with, list, sort_page};
+pub use preparing::{content, fill_page, fill_with, fits, list, sort_page};
 pub use range::Range;
 pub use request::{Fill, Request, Task};
 pub use stage::{Held, Purpose, Stage, Wish};

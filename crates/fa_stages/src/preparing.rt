@@ -191,7 +191,7 @@ fn put_content(into: &mut [u8], task: Task, bytes: &[u8], page: Page) -> bool
 }
 
 /// Whether so many bytes from an offset are within the length.
-pub(crate) fn fits(offset: usize, count: usize, len: usize) -> bool
+pub fn fits(offset: usize, count: usize, len: usize) -> bool
     ensures { result ≡ nat_le (offset + count) len }
 {
     count <= len && offset <= len - count

@@ -1,7 +1,7 @@
 use Rattle.std.proofs.Common.{◌≡◌, ◌++◌, take}
 use Rattle.std.specs.List.{flat_map}
 use Rattle.fa_stages.specs.Ranges.{part_of}
-use Rattle.fa_stages.proofs.gathering.gather.Given as goal
+use Rattle.fa_ops.proofs.gathering.gather.Given as goal
 
 -- the parts of the pages so far were added
 abbrev pub invariant-loop-page : goal.invariant-loop-page

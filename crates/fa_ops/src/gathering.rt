@@ -4,19 +4,17 @@ ghost use Rattle.std.specs.List.{flat_map, list_all};
 ghost use Rattle.fa_stages.specs.Prepared.{SortsAnswer, after_batch as rule_after, has_part};
 ghost use Rattle.fa_stages.specs.Ranges.{IsRange, part_of};
 
-use crate::preparing::fits;
-use crate::range::Range;
-use crate::stage::{Purpose, Stage};
+use fa_stages::{Purpose, Range, Stage, fits};
 use fa_types::bytes::part;
 use fa_types::{BlockFault, Page};
 use std::alloc::{AllocError, Allocator};
 
 /// What a read comes to behind a batch that gave this: its answer has the pages' parts behind what it had.
-pub fn sort_answer<A: Allocator>(
+pub(crate) fn sort_answer<A: Allocator, B: Allocator>(
     range: Range,
     page: u64,
     answers: &[(Page, Vec<u8, A>)],
-    out: &mut Vec<u8, A>,
+    out: &mut Vec<u8, B>,
 ) -> Stage<A>
     requires { IsRange range }
     ensures { SortsAnswer range page (map (λ e. (e.0.0, e.1.items)) answers.now) out.old.items result out.new.items }
@@ -44,10 +42,10 @@ fn after_batch<A: Allocator>(range: Range, page: u64, answer: &[u8]) -> Stage<A>
 }
 
 /// Adds the part of each page that is in the range to the answer, and says whether each page had it. The error is out of memory.
-fn gather<A: Allocator>(
+fn gather<A: Allocator, B: Allocator>(
     range: Range,
     answers: &[(Page, Vec<u8, A>)],
-    out: &mut Vec<u8, A>,
+    out: &mut Vec<u8, B>,
 ) -> Result<bool, AllocError>
     requires { IsRange range }
     ensures whole { IfOk result (λ whole. whole ≡ true
@@ -64,11 +62,11 @@ fn gather<A: Allocator>(
 }
 
 /// Adds the part of a page that is in the range, and says whether the page has it. The error is out of memory.
-fn add_part<A: Allocator>(
+fn add_part<B: Allocator>(
     range: Range,
     page: Page,
     bytes: &[u8],
-    out: &mut Vec<u8, A>,
+    out: &mut Vec<u8, B>,
 ) -> Result<bool, AllocError>
     requires { IsRange range }
     ensures test { IfOk result (λ has. has ≡ has_part range page.0 (length bytes.now)) }

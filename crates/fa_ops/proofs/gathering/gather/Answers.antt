@@ -1,7 +1,7 @@
 use Rattle.std.proofs.Common.{◌≡◌, ◌∙◌, false, length, sym, ap}
 use Rattle.std.proofs.lemmas.List.Folds.{list_all_at}
 use Rattle.fa_stages.specs.Prepared.{has_part}
-use Rattle.fa_stages.proofs.gathering.gather.Goals as goal
+use Rattle.fa_ops.proofs.gathering.gather.Goals as goal
 
 pub returns-then-not-branch-clause-short : goal.returns-then-not-branch-clause-short
 returns-then-not-branch-clause-short g c =

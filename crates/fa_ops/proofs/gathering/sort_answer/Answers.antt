@@ -1,7 +1,7 @@
 use Rattle.std.proofs.Common.{◌∙◌, ap, refl}
 use Rattle.fa_stages.specs.Prepared.{after_batch}
-use Rattle.fa_stages.proofs.Sorting.{short, sorted}
-use Rattle.fa_stages.proofs.gathering.sort_answer.Goals as goal
+use Rattle.fa_ops.proofs.Sorting.{short, sorted}
+use Rattle.fa_ops.proofs.gathering.sort_answer.Goals as goal
 
 pub returns-in-Ok-true : goal.returns-in-Ok-true
 returns-in-Ok-true g c =
