@@ -1,8 +1,5 @@
-//! The tests of the program and its settings, of what no process shows: memory that is refused, streams that fail, and
-//! values of calls. What is seen from outside is tested by tests/program.
+//! The test of the program where its arguments cannot be had, which no process shows. What is seen from outside is tested by tests/program.
 #![tactic(auto)]
 
 #[cfg(test)]
 mod program;
-#[cfg(test)]
-mod settings;
