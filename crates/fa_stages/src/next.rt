@@ -1,5 +1,5 @@
 //! How a request goes on, by what the array answered.
-ghost use Rattle.std.specs.Prelude.{◌≡◌, true, Err};
+ghost use Rattle.std.specs.Prelude.{◌≡◌, true, false, Err};
 ghost use Rattle.fa_stages.specs.Ranges.{IsRange};
 ghost use Rattle.fa_stages.specs.Stages.{AfterReserve, after_abandon, after_begin, after_claim, after_commit, after_release, after_state, beginning};
 ghost use Rattle.fa_stages.specs.Stages.{after_pages as rule_after, from_page as rule_from, opened as rule_opened, stopped as rule_stopped, with_fewer as rule_fewer};
@@ -102,6 +102,7 @@ pub fn reserved<A: Allocator>(
 ) -> Stage<A>
     ensures after { AfterReserve held wish answer result }
     ensures waits { answer ≡ Err ReserveRefused.NoRoom → waits ≡ true → result ≡ Reserving held wish }
+    ensures gives_up { answer ≡ Err ReserveRefused.NoRoom → waits ≡ false → result ≡ rule_fewer held wish }
 {
     match answer {
         Ok(_) => Stage::Committing(held, wish),
