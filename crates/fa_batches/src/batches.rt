@@ -14,13 +14,15 @@ ghost use Rattle.fa_machine.specs.Reading.{answered as answered_of};
 use crate::lists::{count_anew, count_change, hand_out, insert_list, push_page, take_list};
 use crate::page::{BatchList, BatchPage, PageState};
 use crate::pages::{insert_page, lose_die, set_answer, set_state};
+use crate::pool::Pool;
 use fa_machine::BatchId;
 use fa_types::{Die, Page};
 use std::alloc::{AllocError, Allocator, Global};
 use std::collections::BTreeMap;
 
 /// The batches that are open, by their numbers. A number never comes back. A page of a batch is looked up in as many steps as the
-/// logarithm of the number of pages of all of them. Only [`Batches::begin`] and [`Batches::add`] take memory.
+/// logarithm of the number of pages of all of them. Only [`Batches::begin`], [`Batches::add`] and [`Batches::give_back`] take memory,
+/// the last of them as far as there is some.
 #[derive(Drop)]
 pub struct Batches<A: Allocator = Global> {
     page_bytes: usize,
@@ -30,6 +32,8 @@ pub struct Batches<A: Allocator = Global> {
     lists: BTreeMap<u64, BatchList<A>, A>,
     // By batch and page.
     pages: BTreeMap<(u64, u64), BatchPage<A>, A>,
+    // Buffers that came back.
+    pool: Pool<A>,
     ghost whole: { IsWhole page_bytes next lists.entries pages.entries },
     ghost counted: { AreCounted lists.entries pages.entries },
 }
@@ -48,6 +52,7 @@ impl<A: Allocator + Copy> Batches<A> {
             next: 0,
             lists: BTreeMap::new(alloc),
             pages: BTreeMap::new(alloc),
+            pool: Pool::new(alloc),
         }
     }
 
@@ -105,7 +110,7 @@ impl<A: Allocator + Copy> Batches<A> {
         ensures refused { OnErr result (batches_of self.new ≡ batches_of self.old) }
         ensures refused_states { OnErr result ((b p : ℕ) → state_of self.new b p ≡ state_of self.old b p) }
     {
-        let buffer = vec![in alloc; 0u8; self.page_bytes]?;
+        let buffer = self.pool.take(alloc, self.page_bytes, answered)?;
         let state = if answered {
             PageState::Answered
         } else {
@@ -219,6 +224,18 @@ impl<A: Allocator + Clone> Batches<A> {
         };
         hand_out(&mut self.pages, batch, &list.pages, &mut list.answers);
         list.answers
+    }
+
+    /// Buffers that [`Batches::end`] handed out come back, and pages that are added get them in place of new ones. At most 1,024 are kept,
+    /// and the others are dropped. Which are kept is in no clause.
+    pub fn give_back(&mut self, buffers: Vec<(Page, Vec<u8, A>), A>)
+        ensures batches { batches_of self.new ≡ batches_of self.old }
+        ensures states { (b p : ℕ) → state_of self.new b p ≡ state_of self.old b p }
+        ensures number { next_of self.new ≡ next_of self.old }
+        ensures bytes { bytes_of self.new ≡ bytes_of self.old }
+        ensures room { (b : ℕ) → room_of self.new b ≡ room_of self.old b }
+    {
+        self.pool.put(buffers);
     }
 
     /// Whether a page of the open batch has no answer, and no read that is booked or in flight. It takes no look at a page.

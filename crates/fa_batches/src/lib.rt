@@ -5,6 +5,7 @@ mod batches;
 mod lists;
 mod page;
 mod pages;
+mod pool;
 
 pub use batches::Batches;
 pub use page::PageState;

@@ -242,8 +242,21 @@ pub(crate) fn pass_time<
     guard
 }
 
-/// Makes turns of a request while each leads to the next.
+/// Gives back what a batch of the request handed out, and makes its turns while each leads to the next.
 pub(crate) fn turn_on<R: Wait, L: Ledger, M: Map + Drop, A: Allocator + Copy, B: Allocator>(
+    rt: &R,
+    op: &mut Op<A, B>,
+    locked: &mut Locked<L, M, A>,
+    seat: &mut Seat<L>,
+) -> Turn
+    ensures { GoesOn seat.old op.old seat.new op.new }
+{
+    op.give_back(locked);
+    turn_further(rt, op, locked, seat)
+}
+
+/// Makes turns of a request while each leads to the next.
+fn turn_further<R: Wait, L: Ledger, M: Map + Drop, A: Allocator + Copy, B: Allocator>(
     rt: &R,
     op: &mut Op<A, B>,
     locked: &mut Locked<L, M, A>,

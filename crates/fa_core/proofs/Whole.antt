@@ -1,4 +1,7 @@
--- What is true of an array as it is mounted, and after an event.
+-- What is true of an array as it is mounted, after an event, and once buffers came back.
+use Rattle.fa_batches.specs.Batches.{batches_of, bytes_of, next_of, state_of as stands_in}
+use Rattle.fa_batches.specs.Pages.{opened}
+use Rattle.fa_batches.specs.declared.batches.Batches.{Batches}
 use Rattle.fa_core.specs.Array.{IsWhole, state_of}
 use Rattle.fa_core.specs.Begun.{begun, numbers_of}
 use Rattle.fa_core.specs.declared.array.Array.{Array}
@@ -7,21 +10,22 @@ use Rattle.fa_machine.proofs.Maps.{found_changed, has_some, nat_same}
 use Rattle.fa_machine.specs.Conditions.{claim_open}
 use Rattle.fa_machine.specs.Maps.{Numbers}
 use Rattle.fa_machine.specs.Reading.{zeros}
-use Rattle.fa_machine.specs.State.{Core, MapState, OpenClaim, is_live}
+use Rattle.fa_machine.specs.State.{Core, MapState, OpenBatch, OpenClaim, is_live}
 use Rattle.fa_machine.specs.Step.{Act, Step}
 use Rattle.fa_machine.specs.Writing.{claimed_page}
 use Rattle.fa_machine.specs.declared.places.Used.TheVariants.{Held}
 use Rattle.fa_machine.specs.declared.places.Version.{Version}
 use Rattle.fa_map.specs.Slots.{IsPageMap}
+use Rattle.fa_reads.proofs.Others.{AreInside, fitted_with, tracked_again}
 use Rattle.fa_sound.specs.Owners.{Owned, owned_claim, owned_of}
 use Rattle.fa_sound.specs.Ready.{AreReady}
 use Rattle.fa_sound.specs.Sound.{IsSound}
 use Rattle.fa_state.specs.Fitted.{IsFitted}
 use Rattle.fa_types.specs.declared.geometry.Geometry.{Geometry}
-use Rattle.std.proofs.Common.{None, Option, Some, ap, false, map, refl, subst, sym, true, ℕ, ◌-◌, ◌<◌, ◌≤◌, ◌∙◌, ◌≡◌}
+use Rattle.std.proofs.Common.{None, Option, Some, ap, arith, false, length, map, refl, subst, sym, true, ℕ, ◌-◌, ◌<◌, ◌≤◌, ◌∙◌, ◌≡◌}
 use Rattle.std.proofs.lemmas.Option.{none-some, same_Some}
 use Rattle.std.specs.Cmp.{nat_cmp_total}
-use Rattle.std.specs.FinMap.{contains_key, empty, entries, get, get-empty, get-entries, get-from_entries}
+use Rattle.std.specs.FinMap.{FinMap, contains_key, empty, entries, get, get-empty, get-entries, get-from_entries}
 use Rattle.std.specs.Ordering.{nat_cmp}
 use Rattle.std.specs.Prelude.{is_some, option_and_then, option_map, replicate, unwrap_or}
 
@@ -92,4 +96,26 @@ module _ {M A : Type 0} (view : M → MapState) (old new : Array M A) (act : Act
     history = history (state_of view old) (state_of view new) act step whole.history;
     zeros = same ∙ whole.zeros
         ∙ sym (ap (λ (k : Geometry). replicate k.page_bytes 0) (geometry (state_of view old) (state_of view new) act step));
+  }
+
+-- an array with other batches of which clauses see the same
+module _ {M A : Type 0} (view : M → MapState) (array : Array M A) (after : Batches A) where
+  same_state : batches_of after ≡ batches_of array.state.batches
+      → state_of view (record array { state = record array.state { batches = after } }) ≡ state_of view array
+  same_state same = ap (λ (m : FinMap nat_cmp OpenBatch). record (state_of view array) { batches = m }) same
+
+  pub whole_with : batches_of after ≡ batches_of array.state.batches
+      → ((b p : ℕ) → stands_in after b p ≡ stands_in array.state.batches b p) → next_of after ≡ next_of array.state.batches
+      → bytes_of after ≡ bytes_of array.state.batches → IsWhole view array
+      → IsWhole view (record array { state = record array.state { batches = after } })
+  whole_with batches states number bytes whole = record {
+    sound = subst IsSound (sym (same_state batches)) whole.sound;
+    ready = subst AreReady (sym (same_state batches)) whole.ready;
+    fitted = fitted_with view array.state whole.fitted after bytes
+        (tracked_again array.state.batches after _ _ whole.fitted.tracked states batches (omega (arith, number)))
+        (λ batch. subst (λ (m : FinMap nat_cmp OpenBatch). AreInside (view array.state.page_map).geometry.pages (opened m batch).pages)
+        (sym batches) (whole.fitted.listed batch))
+        (λ batch. subst (λ (m : FinMap nat_cmp OpenBatch). length (opened m batch).pages ≤ 1024) (sym batches) (whole.fitted.few batch));
+    history = subst HasHistory (sym (same_state batches)) whole.history;
+    zeros = whole.zeros;
   }

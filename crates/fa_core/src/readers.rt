@@ -92,6 +92,16 @@ impl<M: Map, A: Allocator + Clone> Array<M, A> {
         answers
     }
 
+    /// Buffers that were handed out come back, for the pages of batches to come. It is no event.
+    pub fn give_back(&mut self, buffers: Vec<(Page, Vec<u8, A>), A>)
+        requires whole { IsWhole M.view self.old }
+        ensures state { state_of M.view self.new ≡ state_of M.view self.old }
+        ensures number { number_of self.new ≡ number_of self.old }
+        ensures whole { IsWhole M.view self.new }
+    {
+        self.state.batches.give_back(buffers);
+    }
+
     /// How the batch stands.
     pub fn results(&self, batch: BatchId) -> ReadState
         requires whole { IsWhole M.view self.now }

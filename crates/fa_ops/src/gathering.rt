@@ -9,8 +9,24 @@ use fa_types::bytes::part;
 use fa_types::{BlockFault, Page};
 use std::alloc::{AllocError, Allocator};
 
+/// What a read comes to behind a batch that gave this, with the buffers kept, to be given back.
+pub(crate) fn sort_lent<A: Allocator, B: Allocator>(
+    range: Range,
+    page: u64,
+    answers: Vec<(Page, Vec<u8, A>), A>,
+    out: &mut Vec<u8, B>,
+    lent: &mut Vec<(Page, Vec<u8, A>), A>,
+) -> Stage<A>
+    requires { IsRange range }
+    ensures { SortsAnswer range page (map (λ e. (e.0.0, e.1.items)) answers.items) out.old.items result out.new.items }
+{
+    let next = sort_answer(range, page, answers.as_slice(), out);
+    *lent = answers;
+    next
+}
+
 /// What a read comes to behind a batch that gave this: its answer has the pages' parts behind what it had.
-pub(crate) fn sort_answer<A: Allocator, B: Allocator>(
+fn sort_answer<A: Allocator, B: Allocator>(
     range: Range,
     page: u64,
     answers: &[(Page, Vec<u8, A>)],

@@ -1,16 +1,13 @@
 //! A request, from its beginning to its answer.
 
-use crate::gathering::sort_answer;
 use crate::kinds::{kind_of, turn_from};
-use crate::stages::{answer_len, memory_for, turn_stage};
+use crate::stages::{answer_len, memory_for, prepare_stage, turn_stage};
 use fa_machine::ReadState;
 use fa_map::Map;
 use fa_shared::{Awaits, Locked, Seat};
-use fa_stages::{
-    Fill, Purpose, Request, Stage, Task, begin, content, fill_page, fill_with, list, sort_page,
-};
+use fa_stages::{Fill, Request, Stage, Task, begin, content, fill_with};
 use fa_tag::Payload;
-use fa_types::BlockFault;
+use fa_types::{BlockFault, Page};
 use std::alloc::{AllocError, Allocator, Global};
 use std::marker::Model;
 use std::mem::replace;
@@ -37,6 +34,8 @@ pub struct Op<A: Allocator = Global, B: Allocator = Global> {
     task: Task,
     stage: Stage<A>,
     answer: Vec<u8, B>,
+    // Buffers of the array whose bytes the answer has, to be given back. They are no part of what clauses see.
+    lent: Vec<(Page, Vec<u8, A>), A>,
 }
 
 impl<A: Allocator, B: Allocator> Model for Op<A, B> {
@@ -81,6 +80,7 @@ impl<A: Allocator + Copy, B: Allocator> Op<A, B> {
             task,
             stage,
             answer,
+            lent: Vec::new(alloc),
         })
     }
 
@@ -111,17 +111,24 @@ impl<A: Allocator + Copy, B: Allocator> Op<A, B> {
         ensures task { task_in self.new ≡ task_in self.old }
     {
         let stage = replace(&mut self.stage, Stage::Ended(None));
-        self.stage = match stage {
-            Stage::Listing(purpose) => list(self.alloc, self.task.range, purpose),
-            Stage::Filling(held, fewer) => fill_page(self.alloc, self.task, bytes, held, fewer),
-            Stage::Sorting(Purpose::Merge(held), answers) => {
-                sort_page(self.task, bytes, held, answers)
-            }
-            Stage::Sorting(Purpose::Answer(page), answers) => {
-                sort_answer(self.task.range, page, answers.as_slice(), &mut self.answer)
-            }
-            stage => stage,
-        };
+        self.stage = prepare_stage(
+            self.alloc,
+            self.task,
+            bytes,
+            stage,
+            &mut self.answer,
+            &mut self.lent,
+        );
+    }
+
+    /// Gives the array the buffers back that its last batch handed out, where their bytes are in the answer. It is no event.
+    pub fn give_back<L: Ledger, M: Map + Drop>(&mut self, locked: &mut Locked<L, M, A>)
+        ensures op { self.new ≡ self.old }
+        ensures locked { locked.new ≡ locked.old }
+    {
+        if !self.lent.is_empty() {
+            locked.give_back(replace(&mut self.lent, Vec::new(self.alloc)));
+        }
     }
 
     /// Whether the bytes of a page are to be hashed next. [`Op::next_content`] gives them, and [`Op::prepare_with`] takes what is made of them.

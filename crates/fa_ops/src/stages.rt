@@ -1,16 +1,19 @@
-//! A turn at each stage.
+//! A turn at each stage, and what is prepared at each.
 ghost use Rattle.std.specs.Prelude.{◌≡◌, ◌<◌, [], IfErr, IfOk};
 ghost use Rattle.fa_ops.specs.Accounts.{IsAccounted};
 ghost use Rattle.fa_ops.specs.Moves.{Turned};
+ghost use Rattle.fa_ops.specs.Ops.{Prepares};
 ghost use Rattle.fa_stages.specs.Ranges.{IsRange};
 ghost use Rattle.fa_stages.specs.Tasks.{answered};
 
+use crate::gathering::sort_lent;
 use crate::reading::{ask, leave, read};
 use crate::syncing::{begin_flush, flush};
 use crate::writing::{abandon_wish, claim_page, commit_wish, release_page, reserve_wish};
 use fa_map::Map;
 use fa_shared::{Locked, Seat};
-use fa_stages::{Stage, Task};
+use fa_stages::{Purpose, Stage, Task, fill_page, list, sort_page};
+use fa_types::Page;
 use std::alloc::{AllocError, Allocator};
 use std::sync::ledger::Ledger;
 
@@ -37,6 +40,29 @@ pub(crate) fn turn_stage<L: Ledger, M: Map + Drop, A: Allocator + Copy>(
         Stage::Releasing(held, fault) => release_page(alloc, locked, seat, task, held, fault),
         Stage::BeginningFlush => begin_flush(alloc, locked, seat),
         Stage::Flushing(asked) => flush(alloc, locked, seat, asked),
+        stage => stage,
+    }
+}
+
+/// What a request that is so far prepares, if it is to prepare something. Buffers whose bytes are in the answer are kept, to be given back.
+pub(crate) fn prepare_stage<A: Allocator + Copy, B: Allocator>(
+    alloc: A,
+    task: Task,
+    bytes: &[u8],
+    stage: Stage<A>,
+    answer: &mut Vec<u8, B>,
+    lent: &mut Vec<(Page, Vec<u8, A>), A>,
+) -> Stage<A>
+    requires { IsRange task.range }
+    ensures { Prepares task bytes.now stage answer.old.items result answer.new.items }
+{
+    match stage {
+        Stage::Listing(purpose) => list(alloc, task.range, purpose),
+        Stage::Filling(held, fewer) => fill_page(alloc, task, bytes, held, fewer),
+        Stage::Sorting(Purpose::Merge(held), answers) => sort_page(task, bytes, held, answers),
+        Stage::Sorting(Purpose::Answer(page), answers) => {
+            sort_lent(task.range, page, answers, answer, lent)
+        }
         stage => stage,
     }
 }

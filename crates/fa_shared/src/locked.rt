@@ -9,6 +9,7 @@ use crate::seat::Seat;
 use crate::sleepers::{Awaits, SeatSet, Sleepers};
 use fa_core::{Answer, Array, Call};
 use fa_map::Map;
+use fa_types::Page;
 use std::alloc::{Allocator, Global};
 use std::marker::Model;
 use std::sync::ledger::{Blank, Book, Ledger, Share};
@@ -182,6 +183,13 @@ impl<L: Ledger, M: Map + Drop, A: Allocator + Copy> Locked<L, M, A> {
             return false;
         };
         answer.is_ok()
+    }
+
+    /// Buffers that a batch handed out come back, for the pages of batches to come. It is no event.
+    pub fn give_back(&mut self, buffers: Vec<(Page, Vec<u8, A>), A>)
+        ensures { self.new ≡ self.old }
+    {
+        self.array.give_back(buffers);
     }
 
     /// Something has changed that others may wait for.

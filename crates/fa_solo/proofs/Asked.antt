@@ -154,6 +154,18 @@ module _ {L M I A : Type 0} (made : I → ImageCall → ImageAnswer → I → Ty
     omega arith,
   )
 
+  -- the same of a request and an array of which clauses see that they are these
+  pub runs_turn_seen : (a b : Rig L M I A) (x y op : OpView A) (locked : LockedState) → op ≡ x → locked ≡ a.locked
+      → Turned (task_in op) a.seat b.seat locked.core (stage_of op) b.locked.core (stage_of y) → task_in y ≡ task_in op
+      → answer_of y ≡ answer_of op → IsAccounted locked a.seat b.locked b.seat → b.images.items ≡ a.images.items
+      → b.dies.items ≡ a.dies.items → (runs : RunsOn made bytes a x b y) × (1 ≤ runs.turns)
+  runs_turn_seen a b x y op locked op_is locked_is turned task answer account images dies =
+      let there = subst (λ (l : LockedState). Turned (task_in op) a.seat b.seat l.core (stage_of op) b.locked.core (stage_of y)) locked_is turned in
+      runs_turn a b x y
+      (subst (λ (o : OpView A). Turned (task_in o) a.seat b.seat a.locked.core (stage_of o) b.locked.core (stage_of y)) op_is there)
+      (task ∙ ap task_in op_is) (answer ∙ ap answer_of op_is)
+      (subst (λ (l : LockedState). IsAccounted l a.seat b.locked b.seat) locked_is account) images dies
+
   pub runs_ready : (a : Rig L M I A) (x y : OpView A)
       → Prepares (task_in x) bytes (stage_of x) (answer_of x) (stage_of y) (answer_of y) → task_in y ≡ task_in x → RunsOn made bytes a x a y
   runs_ready a x y prepares task = record {

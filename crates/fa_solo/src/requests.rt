@@ -143,13 +143,14 @@ fn step<L: Ledger, M: Map + Drop, I: Image, A: Allocator + Copy, B: Allocator>(
     }
 }
 
-/// A turn of a request.
+/// A turn of a request. What its last batch handed out is given back first.
 fn turn<L: Ledger, M: Map + Drop, I: Image, A: Allocator + Copy, B: Allocator>(
     rig: &mut Rig<L, M, I, A>,
     op: &mut Op<A, B>,
 ) -> Turn
     ensures { (bytes : List ℕ) → (runs : RunsOn I.made bytes rig.old op.old rig.new op.new) × (1 ≤ runs.turns) }
 {
+    op.give_back(&mut rig.locked);
     op.turn(&mut rig.locked, &mut rig.seat)
 }
 

@@ -163,8 +163,25 @@ fn read_pages<M: Map, A: Allocator + Copy>(
     let call = plain(&heap, Call::Replan(batch));
     do_plain(rt, array, heap, bench, amount.replan, call);
     read_out(rt, array, heap, bench, batch);
+    end_batch(rt, array, heap, bench, amount, batch);
+}
+
+/// The batch is ended, and its buffers are given back.
+fn end_batch<M: Map, A: Allocator + Copy>(
+    rt: &impl Clock,
+    array: &mut Array<M, A>,
+    heap: A,
+    bench: &mut Bench<A>,
+    amount: Amount,
+    batch: BatchId,
+)
+    requires { IsWhole M.view array.old }
+    ensures { IsWhole M.view array.new }
+{
     let call = plain(&heap, Call::EndBatch(batch));
-    do_plain(rt, array, heap, bench, amount.end_batch, call);
+    if let Answer::EndBatch(answers) = make_plain(rt, array, heap, bench, amount.end_batch, call) {
+        array.give_back(answers);
+    }
 }
 
 /// The batch of these pages, if they may be read.

@@ -35,8 +35,8 @@ push_page-requires-clause-open g c =
     subst (λ (o : Option (BatchList g.row.A.Denot)). option_map_or (λ (list : BatchList g.row.A.Denot). list.unanswered) o 0
     ≤ option_map_or (λ (list : BatchList g.row.A.Denot). length list.pages.items) o 0) (sym l.1) (omega (arith, unanswered, few))
 
-pub invariant_of-self : goal.invariant_of-self
-invariant_of-self g c =
+pub invariant_of-self-in-Break-branch-2 : goal.invariant_of-self-in-Break-branch-2
+invariant_of-self-in-Break-branch-2 g c =
     let old = c.args.self.now in
     let same : old.pages.entries ≡ c.insert_page.new.pages.entries = search rules in
     record {

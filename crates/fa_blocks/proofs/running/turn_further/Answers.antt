@@ -1,5 +1,5 @@
 use Rattle.fa_blocks.proofs.Counts.{goes_further, turned_on}
-use Rattle.fa_blocks.proofs.running.turn_on.Goals as goal
+use Rattle.fa_blocks.proofs.running.turn_further.Goals as goal
 
 pub returns-then-matches : goal.returns-then-matches
 returns-then-matches g c =
