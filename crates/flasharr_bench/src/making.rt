@@ -30,44 +30,41 @@ const SLACK: u64 = 16;
 
 const MORE_BLOCKS: u64 = 3;
 
-/// How many dies are in use, and how many slots a block has.
-#[derive(Clone, Copy)]
-struct Size {
-    dies: u32,
-    slots: u32,
-    ghost within: { (4 ≤ dies) × (dies ≤ 63) × (4 ≤ slots) },
-}
+/// How many slots a block has: as many in each array, so that each erase is of as many.
+const BLOCK_SLOTS: u32 = 32;
 
 /// The geometry of an array of so many pages, which fill nearly all of its dies. The error is that no array has so many.
 pub(crate) fn geometry_of(pages: u64) -> io::Result<Geometry> {
     if pages > MAX_PAGES {
         return Err(ErrorKind::InvalidInput.into());
     }
-    let Size { dies, slots, .. } = size_of(pages);
-    let full = u64::from(COPIES) * pages / u64::from(dies) / u64::from(slots);
+    let dies = dies_of(pages);
+    let full = u64::from(COPIES) * pages / u64::from(dies) / u64::from(BLOCK_SLOTS);
     let blocks = full
         .saturating_add(full / SLACK)
         .saturating_add(MORE_BLOCKS);
     let blocks = u32::try_from(blocks).unwrap_or(u32::MAX);
-    match Geometry::new(dies + SPARES, SPARES, blocks, slots, PAGE_BYTES, pages) {
+    match Geometry::new(
+        dies + SPARES,
+        SPARES,
+        blocks,
+        BLOCK_SLOTS,
+        PAGE_BYTES,
+        pages,
+    ) {
         Ok(geometry) => Ok(geometry),
         Err(_) => Err(ErrorKind::InvalidInput.into()),
     }
 }
 
-/// The dies and the blocks of an array of so many pages.
-fn size_of(pages: u64) -> Size {
+/// How many dies an array of so many pages has in use.
+fn dies_of(pages: u64) -> u32
+    ensures { (4 ≤ result) × (result ≤ 63) }
+{
     match pages {
-        0..2_000 => Size { dies: 4, slots: 32 },
-        2_000..20_000 => Size { dies: 4, slots: 64 },
-        20_000..200_000 => Size {
-            dies: 16,
-            slots: 128,
-        },
-        _ => Size {
-            dies: 63,
-            slots: 256,
-        },
+        0..20_000 => 4,
+        20_000..200_000 => 16,
+        _ => 63,
     }
 }
 
