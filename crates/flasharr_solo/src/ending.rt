@@ -106,7 +106,7 @@ fn judge_unmounted(desk: &mut Desk, fault: MountFault, faulted: bool, starved: b
 }
 
 /// The faults of all images.
-fn all_faults(images: &[DieImage]) -> u64 {
+fn all_faults<I: Image>(images: &[I]) -> u64 {
     let mut sum = 0u64;
     for image in images {
         sum = sum.wrapping_add(image.faults());

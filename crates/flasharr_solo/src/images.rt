@@ -86,7 +86,7 @@ pub(crate) fn arm_second(images: &mut [DieImage], place: usize, calls: u64) {
 }
 
 /// How many faults an image told.
-pub(crate) fn faults_of(images: &[DieImage], place: usize) -> u64 {
+pub(crate) fn faults_of<I: Image>(images: &[I], place: usize) -> u64 {
     match images.get(place) {
         Some(image) => image.faults(),
         None => 0,

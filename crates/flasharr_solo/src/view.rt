@@ -2,10 +2,11 @@
 use crate::heap::Heap;
 use crate::images::{DieImage, faults_of, has_lied};
 use fa_core::Array;
-use fa_map::PageMap;
+use fa_map::{Map, PageMap};
 use fa_mount::MountedArray;
 use fa_solo::Parts;
 use fa_types::{Copies, Die, Page};
+use std::alloc::Allocator;
 
 /// The array over a heap.
 pub(crate) type Held<'a> = Array<PageMap<&'a Heap>, &'a Heap>;
@@ -109,7 +110,7 @@ pub(crate) fn bits(first: u64, past: u64) -> u64 {
 }
 
 /// The dies that are live.
-fn live_mask(array: &Held<'_>) -> u64 {
+fn live_mask<M: Map, A: Allocator + Copy>(array: &Array<M, A>) -> u64 {
     let mut mask = 0;
     for die in 0..MOST_DIES {
         if is_live(array, Die(die as u8)) {
@@ -120,12 +121,12 @@ fn live_mask(array: &Held<'_>) -> u64 {
 }
 
 /// Whether a die is live.
-pub(crate) fn is_live(array: &Held<'_>, die: Die) -> bool {
+pub(crate) fn is_live<M: Map, A: Allocator + Copy>(array: &Array<M, A>, die: Die) -> bool {
     array.is_die(die) && array.is_live(die)
 }
 
 /// The dies that are live and have room.
-fn roomy_mask(array: &Held<'_>) -> u64 {
+fn roomy_mask<M: Map, A: Allocator + Copy>(array: &Array<M, A>) -> u64 {
     let mut mask = 0;
     for die in 0..MOST_DIES {
         if is_live(array, Die(die as u8)) && room_of(array, Die(die as u8)) != 0 {
@@ -136,7 +137,7 @@ fn roomy_mask(array: &Held<'_>) -> u64 {
 }
 
 /// The room of a die.
-pub(crate) fn room_of(array: &Held<'_>, die: Die) -> u32 {
+pub(crate) fn room_of<M: Map, A: Allocator + Copy>(array: &Array<M, A>, die: Die) -> u32 {
     if array.is_die(die) {
         array.room(die)
     } else {
@@ -145,7 +146,11 @@ pub(crate) fn room_of(array: &Held<'_>, die: Die) -> u32 {
 }
 
 /// The slot of a page's copy on a die.
-pub(crate) fn slot_on(array: &Held<'_>, page: Page, die: Die) -> Option<u32> {
+pub(crate) fn slot_on<M: Map, A: Allocator + Copy>(
+    array: &Array<M, A>,
+    page: Page,
+    die: Die,
+) -> Option<u32> {
     if !array.is_page(page) || !array.is_die(die) {
         return None;
     }
@@ -156,12 +161,12 @@ pub(crate) fn slot_on(array: &Held<'_>, page: Page, die: Die) -> Option<u32> {
 }
 
 /// The pages that were written and that no die holds.
-pub(crate) fn lost_mask(array: &Held<'_>) -> u64 {
+pub(crate) fn lost_mask<M: Map, A: Allocator + Copy>(array: &Array<M, A>) -> u64 {
     lost_outside(array, u64::MAX)
 }
 
 /// The pages that were written and that none of these dies holds.
-pub(crate) fn lost_outside(array: &Held<'_>, dies: u64) -> u64 {
+pub(crate) fn lost_outside<M: Map, A: Allocator + Copy>(array: &Array<M, A>, dies: u64) -> u64 {
     let mut mask = 0;
     for page in 0..array.geometry().pages {
         if is_written(array, Page(page)) && holders(array, Page(page), dies) == 0 {
@@ -172,7 +177,7 @@ pub(crate) fn lost_outside(array: &Held<'_>, dies: u64) -> u64 {
 }
 
 /// How many pages are thin with so many copies.
-pub(crate) fn count_thin(array: &Held<'_>, copies: Copies) -> u32 {
+pub(crate) fn count_thin<M: Map, A: Allocator + Copy>(array: &Array<M, A>, copies: Copies) -> u32 {
     let asked = copies.number.min(live_mask(array).count_ones());
     let mut count = 0u32;
     for page in 0..array.geometry().pages {
@@ -184,12 +189,12 @@ pub(crate) fn count_thin(array: &Held<'_>, copies: Copies) -> u32 {
     count
 }
 
-fn is_written(array: &Held<'_>, page: Page) -> bool {
+fn is_written<M: Map, A: Allocator + Copy>(array: &Array<M, A>, page: Page) -> bool {
     array.is_page(page) && array.version(page).is_some()
 }
 
 /// Those of these dies that hold a page.
-fn holders(array: &Held<'_>, page: Page, dies: u64) -> u64 {
+fn holders<M: Map, A: Allocator + Copy>(array: &Array<M, A>, page: Page, dies: u64) -> u64 {
     let mut mask = 0;
     for die in 0..MOST_DIES {
         if dies & bit(die as u64) != 0 && holds(array, page, Die(die as u8)) {
@@ -199,6 +204,6 @@ fn holders(array: &Held<'_>, page: Page, dies: u64) -> u64 {
     mask
 }
 
-fn holds(array: &Held<'_>, page: Page, die: Die) -> bool {
+fn holds<M: Map, A: Allocator + Copy>(array: &Array<M, A>, page: Page, die: Die) -> bool {
     array.is_page(page) && array.is_die(die) && array.copy_on(page, die).is_some()
 }
