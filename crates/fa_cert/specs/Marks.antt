@@ -1,13 +1,8 @@
 -- Tables of marks: of dies by their numbers, and of the entries of a batch by their indices.
-use Rattle.std.specs.Prelude.{◌≡◌, ℕ, zero, suc, ◌<◌, Bool, false, if◌then◌else◌, List, [], ◌∷◌, length, slice_index_or}
+use Rattle.std.specs.Prelude.{◌≡◌, ℕ, ◌<◌, Bool, false, List, length, slice_index_or}
 use Rattle.fa_types.specs.declared.numbers.Page.{Page}
 use Rattle.fa_batch.specs.Batch.{Entry}
 use Rattle.fa_batch.specs.Certificate.{holds_any}
-
--- the dies below a number that are marked, each once
-unfoldable pub marked : List Bool → ℕ → List ℕ
-marked marks zero = []
-marked marks (suc n) = if slice_index_or marks n false then n ∷ marked marks n else marked marks n
 
 -- a table marks the dies that hold any of the pages
 pub record AreHoldersMarked (batch : List Entry) (pages : List Page) (marks : List Bool) : Type 0 where

@@ -6,13 +6,14 @@ ghost use Rattle.std.specs.Ordering.{nat_cmp};
 ghost use Rattle.std.specs.BTreeSet.{contains};
 ghost use Rattle.fa_types.specs.declared.numbers.Page.{Page};
 ghost use Rattle.fa_batch.specs.Batch.{IsSound, holds, is_among, times_named};
-ghost use Rattle.fa_batch.specs.Certificate.{IsCertificate, AreNamed, AreTooMany, ShowsNoFewer, holds_any, open_places};
-ghost use Rattle.fa_cert.specs.Marks.{AreHoldersMarked, AreMarks, marked};
+ghost use Rattle.fa_batch.specs.Certificate.{IsCertificate, AreNamed, ShowsNoFewer, holds_any};
+ghost use Rattle.fa_cert.specs.Marks.{AreHoldersMarked, AreMarks};
 ghost use Rattle.fa_batch.specs.Plan.{IsPlan, ArePlaced, ArePlacedOnce, AreHeld, AreOpen, AreApart, rounds_of};
 ghost use Rattle.fa_cert.specs.Verdict.{IsVerdict, IsRefused};
 
 use crate::verdict::{Refusal, Verdict};
 use fa_batch::{Batch, MAX_PAGES, Place, Plan, Shortage};
+use fa_room::are_more;
 use fa_types::{Die, Page, Round, Rounds};
 use std::alloc::{AllocError, Allocator};
 use std::collections::BTreeSet;
@@ -308,22 +309,4 @@ fn mark(marks: &mut [bool; 256], dies: &[Die])
     for die in dies {
         marks[die.0 as usize] = true;
     }
-}
-
-/// Whether so many pages are more than the marked dies have open places in so many rounds.
-pub fn are_more<R: Rounds>(calendar: &R, rounds: u64, marks: &[bool; 256], pages: usize) -> bool
-    requires { R.current calendar.now + rounds < 2 ^ 64 }
-    ensures { IsTrue result ↔ (open_places (R.current calendar.now) (R.closed calendar.now) (marked marks.now 256) rounds < pages) }
-{
-    let mut left = pages as u64;
-    for die in 0..256usize {
-        if marks[die] {
-            let open = calendar.open_count(Die(die as u8), rounds);
-            if left <= open {
-                return false;
-            }
-            left -= open;
-        }
-    }
-    0 < left
 }

@@ -6,5 +6,5 @@ mod checker;
 pub mod laws;
 mod verdict;
 
-pub use checker::{are_more, check, holders_of};
+pub use checker::{check, holders_of};
 pub use verdict::{Refusal, Verdict};

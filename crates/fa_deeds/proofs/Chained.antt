@@ -1,4 +1,5 @@
 -- The calls of a connection, one after the other.
+use Rattle.fa_asking.specs.Asking.{call_of as wanted_call}
 use Rattle.fa_asks.specs.Calls.{HasBytes, call_of as asked_call}
 use Rattle.fa_asks.specs.Shown.{store_of}
 use Rattle.fa_blocks.specs.Counts.{request_of}
@@ -22,7 +23,7 @@ use Rattle.fa_machine.specs.World.{World}
 use Rattle.fa_mount.specs.Standings.{AreApart}
 use Rattle.fa_stages.specs.Tasks.{end_of, task_of}
 use Rattle.fa_runs.specs.Drives.{AreHonest}
-use Rattle.fa_session.specs.Exchanges.{Asked, Chain, Exchange, IsExchange, Makes, MayCome, NoneForData, NotAsked, Outcome, call_of as wanted_call}
+use Rattle.fa_session.specs.Exchanges.{Asked, Chain, Exchange, IsExchange, Makes, MayCome, NoneForData, NotAsked, Outcome}
 use Rattle.fa_session.specs.Session.{Session}
 use Rattle.fa_session.specs.declared.session_end.SessionEnd.{SessionEnd}
 use Rattle.fa_solo.specs.Calls.{MakesWhole, bytes_of}

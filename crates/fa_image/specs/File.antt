@@ -1,14 +1,13 @@
 -- The bytes of an image file after each call, by what the calls did. A file that answers otherwise is not honest.
-use Rattle.std.specs.Prelude.{ℕ, ◌+◌, ◌-◌, ◌*◌, Bool, true, ◌&&◌, List, [], ◌++◌, length, take, drop, replicate, slice_index_or, bytes_eq}
+use Rattle.std.specs.Prelude.{ℕ, ◌+◌, ◌-◌, ◌*◌, true, List, ◌++◌, length, take, replicate}
 use Rattle.std.specs.List.{concat}
-use Rattle.fa_types.specs.Store.{with_bytes, bytes_at}
+use Rattle.fa_types.specs.Store.{bytes_at}
 use Rattle.fa_types.specs.declared.geometry.Geometry.{Geometry}
+use Rattle.fa_contents.specs.Contents.{Contents, after_read, after_write, after_failure}
 use Rattle.fa_image.specs.Cut.{cut}
 use Rattle.fa_image.specs.Image.{ImageState, slot_bytes, slot_count}
 use Rattle.fa_image.specs.Image.{ImageCall, ReadingSlot, Programming, Erasing, ReadingHeader, WritingHeader}
 use Rattle.fa_image.specs.Image.{ImageAnswer, Gave, Done, Refused}
-use Rattle.fa_image.specs.declared.deed.Deed.{Deed}
-use Rattle.fa_image.specs.declared.deed.Deed.TheVariants.{Read, Wrote, Failed}
 
 -- the bytes of a file: 4,096, of which the first 112 are the header, and then the slots
 abbrev pub file_bytes : Geometry → ℕ
@@ -38,14 +37,6 @@ pub record Start : Type 0 where
   pub bytes : List ℕ
   pub lefts : List (List ℕ)
 
--- what a file holds
-pub record Contents : Type 0 where
-  pub bytes : List ℕ
-  -- what the refused writes that are still to come will leave, the next one first
-  pub lefts : List (List ℕ)
-  -- each read so far gave what stands there
-  pub honest : Bool
-
 -- the bytes with zeros behind them, up to so many
 abbrev pub filled_up : ℕ → List ℕ → List ℕ
 filled_up n bytes = bytes ++ replicate (n - length bytes) 0
@@ -68,33 +59,6 @@ of_zeros g = record {
   syncs = 0;
   faults = 0;
 }
-
--- so many bytes of a list, with zeros where it has no more
-abbrev pub fitted : ℕ → List ℕ → List ℕ
-fitted n bytes = take n (bytes ++ replicate n 0)
-
--- what the next refused write leaves
-abbrev pub next_left : Contents → List ℕ
-next_left file = slice_index_or file.lefts 0 []
-
--- the file after a read that gave these bytes from an offset
-abbrev pub after_read : ℕ → List ℕ → Contents → Contents
-after_read offset bytes file = record file { honest = file.honest && bytes_eq bytes (bytes_at offset (length bytes) file.bytes) }
-
--- the file after a write
-abbrev pub after_write : ℕ → List ℕ → Contents → Contents
-after_write offset bytes file = record file { bytes = with_bytes offset bytes file.bytes }
-
--- the file after a write of so many bytes that was refused
-abbrev pub after_failure : ℕ → ℕ → Contents → Contents
-after_failure offset len file =
-    record file { bytes = with_bytes offset (fitted len (next_left file)) file.bytes; lefts = drop 1 file.lefts }
-
--- the file after what a call of it did
-abbrev pub after_deed : Deed → Contents → Contents
-after_deed (Read offset bytes) file = after_read offset bytes.now file
-after_deed (Wrote offset bytes) file = after_write offset bytes.now file
-after_deed (Failed offset len) file = after_failure offset len file
 
 -- The file after a call of its image with its answer: each is one read or one write, and a sync changes nothing.
 abbrev pub after_call : Geometry → ImageCall → ImageAnswer → Contents → Contents

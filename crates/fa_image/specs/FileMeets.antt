@@ -9,8 +9,9 @@ use Rattle.std.proofs.Math.Seq.{take-append-add}
 use Rattle.fa_types.specs.Store.{with_bytes, bytes_at}
 use Rattle.fa_types.specs.MemoryMeets.{length-bytes_at}
 use Rattle.fa_types.specs.declared.geometry.Geometry.{Geometry}
+use Rattle.fa_contents.specs.Contents.{Contents, fitted, next_left}
 use Rattle.fa_image.specs.Cut.{cut, AreSlots-cut}
-use Rattle.fa_image.specs.File.{Contents, slots_in, state_in, slot_offset, file_bytes, fitted, next_left, after_call}
+use Rattle.fa_image.specs.File.{slots_in, state_in, slot_offset, file_bytes, after_call}
 use Rattle.fa_image.specs.FileMade.{file_view, file_is_honest, FileMade}
 use Rattle.fa_image.specs.Image.{ImageState, IsImage, with_slots, slot_bytes, slot_count}
 use Rattle.fa_image.specs.Image.{ImageCall, ReadingSlot, Programming, Erasing, ReadingHeader, WritingHeader, Syncing}

@@ -1,11 +1,12 @@
 //! An image in a file.
 ghost use Rattle.std.specs.Prelude.{◌≡◌, ◌+◌, ◌*◌, ◌≤◌, length, replicate};
-ghost use Rattle.fa_image.specs.File.{Contents, file_bytes as bytes_of_file};
+ghost use Rattle.fa_contents.specs.Contents.{Contents};
+ghost use Rattle.fa_image.specs.File.{file_bytes as bytes_of_file};
 
-use crate::deed::{Deed, FileContents, note};
 use crate::fault::{ImageFault, refuse};
 use crate::image::Image;
 use crate::shape::{file_bytes, slot_bytes, slot_offset};
+use fa_contents::{FileContents, note_failed, note_read, note_written};
 use fa_ghost::History;
 use fa_types::{Geometry, HEADER_BYTES, Slot};
 use std::alloc::{AllocError, Global};
@@ -169,19 +170,17 @@ impl Image for FileImage {
         if self.file.read_exact_at(into, offset).is_err() {
             return refuse(ImageFault::ReadSlot, &mut self.faults);
         }
-        let bytes: &[u8] = into;
-        note(&mut self.held, Deed::Read { offset, bytes });
+        note_read(&mut self.held, offset, into);
         Ok(())
     }
 
     fn program(&mut self, slot: Slot, bytes: &[u8]) -> Result<(), ImageFault> {
         let offset = slot_offset(self.geometry, slot.0);
         if self.file.write_all_at(bytes, offset).is_err() {
-            let len = bytes.len();
-            note(&mut self.held, Deed::Failed { offset, len });
+            note_failed(&mut self.held, offset, bytes.len());
             return refuse(ImageFault::Program, &mut self.faults);
         }
-        note(&mut self.held, Deed::Wrote { offset, bytes });
+        note_written(&mut self.held, offset, bytes);
         Ok(())
     }
 
@@ -189,11 +188,10 @@ impl Image for FileImage {
         let offset = slot_offset(self.geometry, block * self.geometry.slots);
         let bytes = self.erased.as_slice();
         if self.file.write_all_at(bytes, offset).is_err() {
-            let len = bytes.len();
-            note(&mut self.held, Deed::Failed { offset, len });
+            note_failed(&mut self.held, offset, bytes.len());
             return refuse(ImageFault::EraseBlock, &mut self.faults);
         }
-        note(&mut self.held, Deed::Wrote { offset, bytes });
+        note_written(&mut self.held, offset, bytes);
         Ok(())
     }
 
@@ -201,28 +199,16 @@ impl Image for FileImage {
         if self.file.read_exact_at(into, 0).is_err() {
             return refuse(ImageFault::ReadHeader, &mut self.faults);
         }
-        note(
-            &mut self.held,
-            Deed::Read {
-                offset: 0,
-                bytes: into,
-            },
-        );
+        note_read(&mut self.held, 0, into);
         Ok(())
     }
 
     fn write_header(&mut self, bytes: &[u8; HEADER_BYTES]) -> Result<(), ImageFault> {
         if self.file.write_all_at(bytes, 0).is_err() || self.file.sync_data().is_err() {
-            note(
-                &mut self.held,
-                Deed::Failed {
-                    offset: 0,
-                    len: HEADER_BYTES,
-                },
-            );
+            note_failed(&mut self.held, 0, HEADER_BYTES);
             return refuse(ImageFault::WriteHeader, &mut self.faults);
         }
-        note(&mut self.held, Deed::Wrote { offset: 0, bytes });
+        note_written(&mut self.held, 0, bytes);
         Ok(())
     }
 

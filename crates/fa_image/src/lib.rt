@@ -2,7 +2,6 @@
 //! demand and one that lies on demand, all under one contract. Only what makes an image takes memory.
 #![tactic(auto)]
 
-mod deed;
 mod fault;
 mod file_image;
 mod fuse_image;

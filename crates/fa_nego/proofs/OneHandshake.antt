@@ -3,7 +3,8 @@ use Rattle.std.proofs.Common.{◌≡◌, ◌≢◌, ℕ, List, [], ◌∷◌, �
 use Rattle.std.specs.List.{AllByRecursion}
 use Rattle.std.proofs.lemmas.List.{take-append-le}
 use Rattle.byteorder.specs.Endian.{big_bytes}
-use Rattle.fa_nego.specs.Negotiation.{Turn, IsPassed, turns_heard, Negotiates, head_bytes, option_bytes}
+use Rattle.fa_heads.specs.Heads.{head_bytes}
+use Rattle.fa_nego.specs.Negotiation.{Turn, IsPassed, turns_heard, Negotiates, option_bytes}
 use Rattle.fa_nego.specs.declared.step.Step.{Step}
 use Rattle.fa_nego.specs.declared.step.Step.TheVariants.{More}
 use Rattle.fa_nego.proofs.Heads.{length-head_bytes, take-head_bytes}

@@ -1,14 +1,12 @@
 -- What the parts of a negotiation do with the bytes of one item.
-use Rattle.std.specs.Prelude.{◌≡◌, ◌≢◌, ℕ, ◌^◌, ◌<◌, ◌≤◌, ◌⊎◌, List, [], ◌++◌, length, take, Option, None, Some}
+use Rattle.std.specs.Prelude.{◌≡◌, ◌≢◌, ℕ, ◌^◌, ◌<◌, ◌≤◌, ◌⊎◌, List, [], ◌++◌, length, Option, None, Some}
 use Rattle.std.specs.List.{AllByRecursion}
-use Rattle.byteorder.specs.Endian.{big_bytes}
-use Rattle.fa_nego.specs.Negotiation.{Turn, Opens, Negotiates, kinds_bytes, head_bytes, max_data}
+use Rattle.fa_heads.specs.Heads.{head_bytes, max_data}
+use Rattle.fa_nego.specs.Negotiation.{Turn, Opens, Negotiates, kinds_bytes}
 use Rattle.fa_nego.specs.declared.step.Step.TheVariants.{More}
 use Rattle.fa_nego.specs.NegoState.{Stage, Flags, Options, Over, NegoState, IsAt}
 use Rattle.fa_nego.specs.View.{stage_at}
 use Rattle.fa_nego.specs.declared.phase.Phase.{Phase}
-use Rattle.fa_nego.specs.declared.judge.Head.{Head}
-use Rattle.fa_nego.specs.declared.judge.Head.TheVariants.{WrongMagic, TooLong, Good}
 
 -- a negotiation about this export at this stage
 abbrev pub state_at : List ℕ → ℕ → Stage → NegoState
@@ -17,13 +15,6 @@ state_at export size stage = record { export = export; size = size; stage = stag
 -- the bytes are those of these kinds of information
 abbrev pub AreKinds : List ℕ → List ℕ → Type 0
 AreKinds bytes kinds = AllByRecursion (λ kind. kind < 2 ^ 16) kinds × (kinds_bytes kinds ≡ bytes)
-
--- what 16 bytes before an option's data say
-abbrev pub IsHead : List ℕ → Head → Type 0
-IsHead bytes WrongMagic = take 8 bytes ≢ big_bytes 8 0x49484156454f5054
-IsHead bytes TooLong =
-    (option len : ℕ) × (option < 2 ^ 32) × (max_data < len) × (len < 2 ^ 32) × (bytes ≡ head_bytes option len)
-IsHead bytes (Good option len) = (option < 2 ^ 32) × (len ≤ max_data) × (bytes ≡ head_bytes option len)
 
 -- no more than a whole option
 abbrev pub IsWithin : List ℕ → Type 0

@@ -4,6 +4,7 @@
 use Rattle.std.specs.Prelude.{◌≡◌, ◌≢◌, ℕ, ◌^◌, ◌<◌, ◌≤◌, ◌==◌, ◌⊎◌, Bool, if◌then◌else◌, bit_and, List, [], ◌++◌, length, take, replicate}
 use Rattle.std.specs.List.{flat_map, list_any, AllByRecursion}
 use Rattle.byteorder.specs.Endian.{big_bytes}
+use Rattle.fa_heads.specs.Heads.{head_bytes, max_data, IsPart}
 use Rattle.fa_nego.specs.Numbers.{flag_no_zeroes, opt_export_name, opt_abort, opt_list, opt_info, opt_go, rep_ack, rep_server, rep_info, rep_err_unsup, rep_err_invalid, rep_err_unknown, info_export, info_name, info_block_size}
 use Rattle.fa_nego.specs.declared.step.Step.{Step}
 use Rattle.fa_nego.specs.declared.step.Step.TheVariants.{More, Go, Aborted, Closed}
@@ -18,16 +19,8 @@ pub record Sent : Type 0 where
   pub option : ℕ
   pub given : List ℕ
 
--- what stands before an option's data
-unfoldable pub head_bytes : ℕ → ℕ → List ℕ
-head_bytes option len = big_bytes 8 0x49484156454f5054 ++ big_bytes 4 option ++ big_bytes 4 len
-
 abbrev pub option_bytes : Sent → List ℕ
 option_bytes sent = head_bytes sent.option (length sent.given) ++ sent.given
-
--- the longest data of an option
-abbrev pub max_data : ℕ
-max_data = 65536
 
 -- an option that the server hears to its end
 pub record IsOption (sent : Sent) : Type 0 where
@@ -196,13 +189,6 @@ pub record Opens (export : List ℕ) (size flags : ℕ) (turns : List Turn) (hea
   pub passed : AllByRecursion (IsPassed export size flags) turns
   pub from_client : heard ≡ big_bytes 4 flags ++ turns_heard turns
   pub from_server : said ≡ turns_said turns
-
--- less than a whole option, and nothing wrong in what has come of it
-abbrev pub IsPart : List ℕ → Type 0
-IsPart rest =
-    (length rest < 16)
-    ⊎ ((option len : ℕ) × (more : List ℕ) × (option < 2 ^ 32) × (len ≤ max_data) × (length more < len)
-    × (rest ≡ head_bytes option len ++ more))
 
 -- The bytes of a client, what the server has said to them behind its greeting, and how the negotiation
 -- stands: the client sends flags, and then options.

@@ -3,7 +3,7 @@ ghost use Rattle.std.specs.Prelude.{◌≡◌, ℕ, ◌≤◌, List, [], length,
 ghost use Rattle.fa_nego.specs.Negotiation.{NameComesTo, ListComesTo, InfoComesTo, ComesTo, refusal};
 ghost use Rattle.fa_nego.specs.NegoState.{Flags, Options};
 ghost use Rattle.fa_nego.specs.View.{stage_at};
-ghost use Rattle.fa_nego.specs.Heard.{IsHead, Judges, stage_after};
+ghost use Rattle.fa_nego.specs.Heard.{Judges, stage_after};
 
 use crate::asked::{is_known, read_query};
 use crate::nego::MAX_NAME_BYTES;
@@ -12,19 +12,14 @@ use crate::numbers::{
     REP_ERR_UNKNOWN, REP_ERR_UNSUP,
 };
 use crate::phase::Phase;
-use crate::reply::{OPTION_MAGIC, export_data, information, listing, reply};
+use crate::reply::{export_data, information, listing, reply};
 use crate::step::{CloseCause, Step};
 use byteorder::{BigEndian, ByteOrder};
+use fa_heads::{Held, option_in};
 use std::alloc::{AllocError, Allocator};
 
 /// How many bytes the client's flags have.
 pub const FLAGS_LEN: usize = 4;
-
-/// How many bytes stand before an option's data.
-pub const HEAD_LEN: usize = 16;
-
-/// The most bytes of data that an option may have.
-const MAX_DATA_BYTES: u32 = 65_536;
 
 /// What an option comes to: what the server says to it, and how the negotiation stands after it.
 #[derive(Drop)]
@@ -39,17 +34,6 @@ pub struct Come<A: Allocator> {
 pub struct ItemAnswer<A: Allocator> {
     pub said: Vec<u8, A>,
     pub next: Option<Phase>,
-}
-
-/// What stands before an option's data.
-#[derive(Clone, Copy, Debug, PartialEq, Eq)]
-enum Head {
-    /// Not the magic number of an option.
-    WrongMagic,
-    /// More data is announced than an option may have.
-    TooLong,
-    /// An option with so many bytes of data.
-    Good { option: u32, len: u32 },
 }
 
 /// Judges the bytes that are held of an item.
@@ -103,17 +87,11 @@ fn judge_option<A: Allocator>(
     ensures { IfOk result (λ judged. Judges export.now size (Options flags held.now) judged.said.items
         (stage_after (Phase.Options flags) held.now judged.next)) }
 {
-    if held.len() < HEAD_LEN {
-        return Ok(waits(alloc));
-    }
-    let (head, given) = held.split_at(HEAD_LEN);
-    match head_of(head) {
-        Head::WrongMagic => Ok(closed(alloc, CloseCause::WrongMagic)),
-        Head::TooLong => Ok(closed(alloc, CloseCause::TooLong)),
-        Head::Good { option, len } => {
-            if given.len() < len as usize {
-                return Ok(waits(alloc));
-            }
+    match option_in(held) {
+        Held::Waits => Ok(waits(alloc)),
+        Held::WrongMagic => Ok(closed(alloc, CloseCause::WrongMagic)),
+        Held::TooLong => Ok(closed(alloc, CloseCause::TooLong)),
+        Held::Whole { option, given } => {
             let come = answer(alloc, export, size, flags, option, given)?;
             let next = match come.next {
                 Step::More => Phase::Options { flags },
@@ -147,22 +125,6 @@ fn closed<A: Allocator>(alloc: A, cause: CloseCause) -> ItemAnswer<A>
         said: Vec::new(alloc),
         next: Some(Phase::Over(Step::Closed(cause))),
     }
-}
-
-/// Judges the 16 bytes before an option's data.
-fn head_of(head: &[u8]) -> Head
-    requires { length head.now ≡ HEAD_LEN }
-    ensures { IsHead head.now result }
-{
-    if BigEndian::read_u64(head) != OPTION_MAGIC {
-        return Head::WrongMagic;
-    }
-    let len = BigEndian::read_u32(&head[12..]);
-    if len > MAX_DATA_BYTES {
-        return Head::TooLong;
-    }
-    let option = BigEndian::read_u32(&head[8..]);
-    Head::Good { option, len }
 }
 
 /// What an option with this data comes to, for a client with these flags.

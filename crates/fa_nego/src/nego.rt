@@ -5,11 +5,12 @@ ghost use Rattle.fa_nego.specs.NegoState.{new_state, step_of, cause_of, wanted, 
 ghost use Rattle.fa_nego.specs.View.{stage_at};
 ghost use Rattle.fa_nego.specs.Heard.{Hears};
 
-use crate::judge::{FLAGS_LEN, HEAD_LEN, judge};
+use crate::judge::{FLAGS_LEN, judge};
 use crate::phase::Phase;
 use crate::reply::first_words;
 use crate::step::{CloseCause, Fed, Step};
 use byteorder::{BigEndian, ByteOrder};
+use fa_heads::HEAD_LEN;
 use std::alloc::{AllocError, Allocator, Global};
 use std::marker::Model;
 

@@ -21,13 +21,11 @@ use crate::numbers::{
     REP_SERVER,
 };
 use byteorder::{BigEndian, ByteOrder};
+use fa_heads::OPTION_MAGIC;
 use std::alloc::{AllocError, Allocator};
 
 /// The magic number with which the server's first words begin.
 const GREETING_MAGIC: u64 = 0x4e42_444d_4147_4943;
-
-/// The magic number of an option.
-pub const OPTION_MAGIC: u64 = 0x4948_4156_454f_5054;
 
 /// The magic number of a reply to an option.
 const REPLY_MAGIC: u64 = 0x0003_e889_0455_65a9;

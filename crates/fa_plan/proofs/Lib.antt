@@ -1,6 +1,6 @@
 pub mod Bounds
+pub mod Handing
 pub mod Laid
 pub mod Making
 pub mod Reached
 pub mod Seats
-pub mod Walks

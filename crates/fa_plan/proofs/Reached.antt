@@ -1,32 +1,26 @@
 -- The pages that a walk reached, and that they are too many for the open places of the dies that hold them.
-use Rattle.std.proofs.Common.{◌≡◌, ℕ, zero, suc, ◌+◌, ◌<◌, ◌≤◌, inl, inr, Bool, true, false, cond, ◌&&◌, List, [], ◌∷◌, ◌++◌, length, get_or, take, nat_eq, ◌==◌, refl, sym, ap, ◌∙◌, subst, arith, eq-eqb, eqb-true, length-append}
+use Rattle.std.proofs.Common.{◌≡◌, ℕ, zero, suc, ◌+◌, ◌<◌, ◌≤◌, inl, inr, Bool, true, false, cond, ◌&&◌, List, [], ◌∷◌, length, get_or, nat_eq, ◌==◌, refl, sym, ap, ◌∙◌, subst, arith, eq-eqb, eqb-true}
 use Rattle.std.specs.List.{AllByRecursion, count_by, list_any, sum_by}
 use Rattle.std.proofs.lemmas.Bool.{and_from, and_parts, cases_lt, cases_eq, or_cases, or_left, or_right, ne_eqb}
-use Rattle.std.proofs.lemmas.List.{get_or_default, get_or_past, map_push, take_all, take_more}
-use Rattle.std.proofs.lemmas.List.Elements.{All-push, recursion_from_All}
+use Rattle.std.proofs.lemmas.List.{get_or_past}
+use Rattle.std.proofs.lemmas.List.Elements.{recursion_from_All}
 use Rattle.std.proofs.lemmas.List.Folds.{list_any_at}
-use Rattle.std.proofs.lemmas.List.Sums.{sum_by_push, sum_by_more, sum_by-cons, sum_by-le-sum_by, sum_by-take-le, count_by_more_yes, count_by_more_no}
+use Rattle.std.proofs.lemmas.List.Sums.{sum_by-cons, sum_by-le-sum_by}
 use Rattle.fa_types.specs.Open.{open_among}
 use Rattle.fa_types.specs.declared.numbers.Die.{Die}
 use Rattle.fa_types.specs.declared.numbers.Page.{Page}
 use Rattle.fa_batch.specs.Batch.{AreFine, Entry, holds, is_among, times_named}
 use Rattle.fa_batch.specs.Certificate.{AreNamed, AreTheHolders, holds_any, open_places}
-use Rattle.fa_cert.specs.Marks.{marked}
+use Rattle.fa_room.specs.Rooms.{AreRooms, marked}
 use Rattle.fa_batch.proofs.Counting.{AllByRecursion-of, AllByRecursion-weaker, count-from-any, count_by-cons, count_by-le-on, sum_by-add, sum_by-le-on}
 use Rattle.fa_cert.proofs.Marked.{are_the_holders, shows_iff, sum_by-same_counts}
-use Rattle.fa_plan.specs.declared.walk.Walk.{Walk}
-use Rattle.fa_plan.specs.Bound.{AreRooms, IsFirstEnough, IsSomeMarked, pages_of, places_of}
-use Rattle.fa_plan.specs.Reading.{can_read, load_of, no_die, no_entry}
-use Rattle.fa_plan.specs.Search.{IsAtItsEnd, has_reached}
-use Rattle.fa_plan.specs.Shortage.{AreReached, AreReachedAmong, AreTooFew, IsRaised, IsReachedPage}
-use Rattle.fa_plan.proofs.Walks.{among_at, reached_is_known}
-
--- one page more of a batch
-pub pages_more : (batch : List Entry) (i : ℕ) (pages : List Page) (page : Page) → i < length batch → pages ≡ pages_of (take i batch) → (get_or batch i no_entry).page ≡ page
-    → pages ++ page ∷ [] ≡ pages_of (take (i + 1) batch)
-pages_more batch i pages page below so_far is =
-    ap (λ v. v ++ page ∷ []) so_far ∙ ap (λ v. pages_of (take i batch) ++ v ∷ []) (sym is) ∙ sym (map_push (λ (e : Entry). e.page) (take i batch) (get_or batch i no_entry))
-    ∙ ap pages_of (sym (take_more batch i no_entry below))
+use Rattle.fa_walk.specs.declared.walk.Walk.{Walk}
+use Rattle.fa_plan.specs.Bound.{IsFirstEnough, IsSomeMarked, places_of}
+use Rattle.fa_walk.specs.Reading.{can_read, load_of, no_die, no_entry}
+use Rattle.fa_walk.specs.Search.{IsAtItsEnd, has_reached}
+use Rattle.fa_walk.specs.Pages.{AreReached, IsReachedPage, pages_of}
+use Rattle.fa_plan.specs.Shortage.{AreTooFew, IsRaised}
+use Rattle.fa_walk.proofs.Walks.{among_at, reached_is_known}
 
 -- the pages of a batch are named as often as it names them
 pub times_of_pages : (batch : List Entry) (page : ℕ) → count_by (λ p. p.0 == page) (pages_of batch) ≡ times_named batch page
@@ -80,53 +74,6 @@ pub holds_if_reads : (batch : List Entry) (i die : ℕ) → i < length batch →
 holds_if_reads batch i die below reads =
     list_any_at (λ (e : Entry). e.page.0 == (get_or batch i no_entry).page.0 && is_among e.holders die) batch i no_entry below
     (and_from (nat_eq (get_or batch i no_entry).page.0 (get_or batch i no_entry).page.0) (can_read batch i die) (eq-eqb (get_or batch i no_entry).page.0 (get_or batch i no_entry).page.0 refl) reads)
-
--- The pages so far, with one more or without.
-module _ (batch : List Entry) (given : List Die) (w : Walk) (i : ℕ) (pages : List Page) (page : Page) (is : (get_or batch i no_entry).page ≡ page) (under : i < length batch) where
-  once_with : ((p : ℕ) → count_by (λ v. v.0 == p) pages ≤ times_named (take i batch) p) → (p : ℕ) → count_by (λ v. v.0 == p) (pages ++ page ∷ []) ≤ times_named (take (i + 1) batch) p
-  once_with once p =
-      let pushed = sum_by_push (λ (v : Page). cond (v.0 == p) 1 0) pages page in
-      let more = sum_by_more (λ (e : Entry). cond (e.page.0 == p) 1 0) batch i no_entry under in
-      let same = ap (λ (v : Page). cond {A = ℕ} (v.0 == p) 1 0) is in
-      let was = once p in
-      omega (arith, pushed, more, same, was)
-
-  once_without : ((p : ℕ) → count_by (λ v. v.0 == p) pages ≤ times_named (take i batch) p) → (p : ℕ) → count_by (λ v. v.0 == p) pages ≤ times_named (take (i + 1) batch) p
-  once_without once p =
-      let more = sum_by_more (λ (e : Entry). cond (e.page.0 == p) 1 0) batch i no_entry under in
-      let was = once p in
-      omega (arith, more, was)
-
-  pub reached_with : (d : Die) → i < length given → has_reached w (get_or given i d).0 ≡ true → AreReachedAmong batch given w i pages → AreReachedAmong batch given w (i + 1) (pages ++ page ∷ [])
-  reached_with d below met so_far = record {
-    many = let more = count_by_more_yes (λ (v : Die). has_reached w v.0) given i d below met in let was = so_far.many in let long = length-append pages (page ∷ []) in omega (arith, more, was, long);
-    once = once_with so_far.once;
-    each = All-push (IsReachedPage batch given w) pages page so_far.each (record {
-      index = i;
-      within = under;
-      reached = record { within = omega arith; taken = λ b. ap (λ (v : Die). has_reached w v.0) (get_or_default given i no_die d below) ∙ met };
-      is = is;
-    });
-  }
-
-  pub reached_without : (d : Die) → i < length given → has_reached w (get_or given i d).0 ≡ false → AreReachedAmong batch given w i pages → AreReachedAmong batch given w (i + 1) pages
-  reached_without d below unmet so_far = record {
-    many = let more = count_by_more_no (λ (v : Die). has_reached w v.0) given i d below unmet in let was = so_far.many in omega (arith, more, was);
-    once = once_without so_far.once;
-    each = so_far.each;
-  }
-
-  pub reached_all : i ≡ length given → AreReachedAmong batch given w i pages → AreReached batch given w (pages ++ page ∷ [])
-  reached_all end so_far = record {
-    many = let was = so_far.many in let long = length-append pages (page ∷ []) in let whole = ap (λ v. count_by (λ (d : Die). has_reached w d.0) v) (take_all i given (omega (arith, end))) in omega (arith, was, long, whole);
-    once = λ p. let some = once_with so_far.once p in let all = sum_by-take-le (λ (e : Entry). cond (e.page.0 == p) 1 0) batch (i + 1) in omega (arith, some, all);
-    each = All-push (IsReachedPage batch given w) pages page so_far.each (record {
-      index = i;
-      within = under;
-      reached = record { within = omega (arith, end); taken = λ b. absurd (omega (arith, b, end)) };
-      is = is;
-    });
-  }
 
 -- the pages that were reached are named
 page_is_named : (batch : List Entry) (given : List Die) (w : Walk) (page : Page) → IsReachedPage batch given w page → 1 ≤ times_named batch page.0

@@ -1,14 +1,9 @@
 -- How many rounds a batch takes at least, by the open places of dies.
-use Rattle.std.specs.Prelude.{◌≡◌, ℕ, ◌+◌, ◌-◌, ◌<◌, ◌≤◌, Bool, true, false, List, length, map, slice_index, slice_index_or}
-use Rattle.fa_types.specs.Open.{open_among}
-use Rattle.fa_types.specs.declared.numbers.Page.{Page}
+use Rattle.std.specs.Prelude.{◌≡◌, ℕ, ◌+◌, ◌-◌, ◌<◌, ◌≤◌, Bool, true, false, List, length, slice_index_or}
 use Rattle.fa_batch.specs.Batch.{Entry}
 use Rattle.fa_batch.specs.Certificate.{AreTheHolders, open_places}
-use Rattle.fa_cert.specs.Marks.{marked}
-
--- the pages of a batch
-abbrev pub pages_of : List Entry → List Page
-pages_of batch = map (λ e. e.page) batch
+use Rattle.fa_room.specs.Rooms.{marked}
+use Rattle.fa_walk.specs.Pages.{pages_of}
 
 -- The simple bound: the least number of rounds in which the dies that hold any of the pages have as many open places
 -- as there are pages.
@@ -34,7 +29,3 @@ pub record IsFirstEnough (current : ℕ) (closed : ℕ → ℕ → Bool) (marks 
   pub limit : rounds ≤ pages + 1048576
   pub fewer : places_of current closed marks (rounds - 1) < pages
   pub enough : pages ≤ places_of current closed marks rounds
-
--- a table has the open rounds of each die
-abbrev pub AreRooms : ℕ → (ℕ → ℕ → Bool) → ℕ → List ℕ → Type 0
-AreRooms current closed rounds rooms = (die : ℕ) → die < 256 → slice_index rooms die ≡ open_among current closed die rounds

@@ -1,6 +1,5 @@
 pub mod Bound
+pub mod Giving
 pub mod Layout
 pub mod Progress
-pub mod Reading
-pub mod Search
 pub mod Shortage

@@ -1,9 +1,9 @@
 //! How many rounds are enough for some pages, by the open places of the dies that hold them.
 ghost use Rattle.std.specs.Prelude.{◌≡◌, ℕ, ◌<◌, ◌≤◌, ◌+◌, ◌^◌};
-ghost use Rattle.fa_plan.specs.Bound.{AreRooms, IsFirstEnough, IsSomeMarked, places_of};
+ghost use Rattle.fa_plan.specs.Bound.{IsFirstEnough, IsSomeMarked, places_of};
 
-use fa_cert::are_more;
-use fa_types::{Die, Rounds};
+use fa_room::are_more;
+use fa_types::Rounds;
 
 /// The rounds of a die from the current one on that may be closed.
 const MAX_CLOSED: u64 = 1_048_576;
@@ -33,16 +33,4 @@ pub(crate) fn first_enough<R: Rounds>(
         }
     }
     enough
-}
-
-/// How many of so many rounds are open for each die, by its number.
-pub(crate) fn count_rooms<R: Rounds>(calendar: &R, rounds: u64) -> [u64; 256]
-    requires { R.current calendar.now + rounds < 2 ^ 64 }
-    ensures { AreRooms (R.current calendar.now) (R.closed calendar.now) rounds result }
-{
-    let mut rooms = [0; 256];
-    for die in 0..256usize {
-        rooms[die] = calendar.open_count(Die(die as u8), rounds);
-    }
-    rooms
 }

@@ -7,6 +7,5 @@ mod giving;
 mod layout;
 mod planner;
 mod shortage;
-mod walk;
 
 pub use planner::{Planned, plan};

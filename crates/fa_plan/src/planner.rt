@@ -5,17 +5,18 @@ ghost use Rattle.fa_batch.specs.Certificate.{IsCertificate};
 ghost use Rattle.fa_batch.specs.Plan.{AreFirstRounds};
 ghost use Rattle.std.specs.List.Sorted.{IsPermutation};
 ghost use Rattle.fa_plan.specs.declared.layout.Seat.{Seat};
-ghost use Rattle.fa_plan.specs.Bound.{IsSimpleBound, pages_of};
+ghost use Rattle.fa_walk.specs.Pages.{pages_of};
+ghost use Rattle.fa_plan.specs.Bound.{IsSimpleBound};
 ghost use Rattle.fa_plan.specs.Layout.{AreRising};
 ghost use Rattle.fa_plan.specs.Progress.{AreSeats, IsProgress, steps_left};
 
-use crate::bound::count_rooms;
 use crate::giving::give;
 use crate::layout::{Seat, lay_out};
-use crate::shortage::{all_pages, reached_pages, rounds_for};
-use crate::walk::{Tables, Walk};
+use crate::shortage::rounds_for;
 use fa_batch::{Batch, Plan, Shortage};
+use fa_room::count_rooms;
 use fa_types::{Die, Rounds};
+use fa_walk::{Tables, Walk, all_pages, reached_pages};
 use std::alloc::{AllocError, Allocator, Global};
 
 /// A plan that no plan beats, with what shows it.

@@ -1,20 +1,20 @@
 -- Transmission: the requests of a client, the calls of the store that they ask for, and the replies.
 -- NBD protocol text, "Transmission phase".
-use Rattle.std.specs.Prelude.{◌≡◌, ◌≢◌, ℕ, ◌<◌, ◌≤◌, ◌⊎◌, not, List, [], ◌∷◌, ◌++◌, length, take, Option, None, Some}
+use Rattle.std.specs.Prelude.{◌≡◌, ◌≢◌, ℕ, ◌<◌, ◌≤◌, ◌⊎◌, List, [], ◌∷◌, ◌++◌, length, take, Option, Some}
 use Rattle.std.specs.List.{flat_map, AllByRecursion}
 use Rattle.std.specs.Io.KnownBytes.{IsAtEnd}
 use Rattle.byteorder.specs.Endian.{big_bytes}
 use Rattle.fa_io.specs.Streams.{Streams, Reads, Writes}
-use Rattle.fa_types.specs.Store.{Call, Reading, Writing, Zeroing, Trimming, Flushing, Answer, Gave, Done, Refused}
+use Rattle.fa_types.specs.Store.{Call, Answer, Gave, Done, Refused}
 use Rattle.fa_types.specs.declared.blocks.BlockFault.{BlockFault}
 use Rattle.fa_types.specs.declared.blocks.BlockFault.TheVariants.{Lost, NoRoom, NoMemory, Spent}
 use Rattle.fa_cmds.specs.declared.request.Request.{Request}
-use Rattle.fa_cmds.specs.declared.request.Command.{Command}
-use Rattle.fa_cmds.specs.declared.request.Command.TheVariants.{Read, Write, Disconnect, Flush, Trim, WriteZeroes, Other}
+use Rattle.fa_cmds.specs.declared.request.Command.TheVariants.{Write}
 use Rattle.fa_cmds.specs.declared.decision.Decision.TheVariants.{Disconnect as Leave, Do, Refuse}
 use Rattle.fa_cmds.specs.declared.reply.ReplyCode.{ReplyCode}
 use Rattle.fa_cmds.specs.declared.reply.ReplyCode.TheVariants.{Success, Io, NoMemory as OutOfMemory, NoSpace}
-use Rattle.fa_cmds.specs.Requests.{IsRequest, request_bytes, body_length, reply_bytes, decision, is_fua, is_no_hole}
+use Rattle.fa_cmds.specs.Requests.{IsRequest, request_bytes, body_length, reply_bytes, decision}
+use Rattle.fa_asking.specs.Asking.{call_of}
 use Rattle.fa_session.specs.declared.session_end.SessionEnd.{SessionEnd}
 use Rattle.fa_session.specs.declared.session_end.SessionEnd.TheVariants.{Disconnected, Aborted, Closed}
 use Rattle.fa_session.specs.declared.session_end.SessionEnd.TheVariants.{InputEnded, ReadFailed, WriteFailed}
@@ -39,17 +39,6 @@ pub record Exchange : Type 0 where
   pub request : Request
   pub body : List ℕ
   pub outcome : Outcome
-
--- The call that a command asks for, with the range and the data of its request. A FLUSH asks for all that was
--- answered before, whatever its range, and a WRITE_ZEROES for holes unless its flag says that it wants none.
-abbrev pub call_of : Command → Request → List ℕ → Option Call
-call_of Read r body = Some (Reading r.offset r.length)
-call_of Write r body = Some (Writing r.offset body (is_fua r.flags))
-call_of Flush r body = Some Flushing
-call_of Trim r body = Some (Trimming r.offset r.length (is_fua r.flags))
-call_of WriteZeroes r body = Some (Zeroing r.offset r.length (is_fua r.flags) (not (is_no_hole r.flags)))
-call_of Disconnect r body = None
-call_of (Other number) r body = None
 
 -- what may come of a request to a store of this size
 abbrev pub MayCome : ℕ → Request → List ℕ → Outcome → Type 0

@@ -1,7 +1,5 @@
 -- What the parts of one exchange come to: what the streams did, and the store where it is asked.
-use Rattle.std.specs.Prelude.{◌≡◌, ℕ, ◌+◌, ◌*◌, ◌<◌, ◌≤◌, max, List, [], ◌++◌, length, take}
-use Rattle.std.specs.Prelude.{Option, Some, Result, Ok, Err}
-use Rattle.std.specs.Io.KnownBytes.{Consumes}
+use Rattle.std.specs.Prelude.{◌≡◌, ℕ, ◌<◌, List, [], length, Option, Result, Ok, Err}
 use Rattle.fa_io.specs.Streams.{Streams, Reads, Writes, WritesPart, Sends, EndsReading}
 use Rattle.fa_io.specs.declared.reading.ReadEnd.{ReadEnd}
 use Rattle.fa_io.specs.declared.sending.SendFailed.{SendFailed}
@@ -9,35 +7,10 @@ use Rattle.fa_types.specs.Store.{Call, Answer}
 use Rattle.fa_cmds.specs.declared.request.Request.{Request}
 use Rattle.fa_cmds.specs.declared.reply.ReplyCode.{ReplyCode}
 use Rattle.fa_cmds.specs.Requests.{body_length, reply_bytes}
-use Rattle.fa_session.specs.Exchanges.{Outcome, Exchange, call_of, MayCome, IsExchange, heard_of, reply_of, reply_to, Makes, Transmitted}
-use Rattle.fa_session.specs.declared.memory.Received.{Received}
-use Rattle.fa_session.specs.declared.memory.Received.TheVariants.{Whole, Dropped}
+use Rattle.fa_session.specs.Exchanges.{Outcome, Exchange, MayCome, IsExchange, heard_of, reply_of, reply_to, Makes, Transmitted}
 use Rattle.fa_session.specs.declared.stream_end.StreamEnd.{StreamEnd}
 use Rattle.fa_session.specs.declared.stream_end.StreamEnd.TheVariants.{Unread, Unsent}
 use Rattle.fa_session.specs.declared.session_end.SessionEnd.{SessionEnd}
-
--- Memory that had some bytes has so many after as many came: at most twice as many as came, or 64 KiB, or as
--- many as before.
-abbrev pub IsModest : (before after came : ℕ) → Type 0
-IsModest before after came = after ≤ max before (max 65536 (2 * came))
-
--- A buffer was filled from one offset to another behind what it had, or no byte came before that.
-abbrev pub FillsPart : (old new : Option (List ℕ)) → (at end : ℕ) → (before after : List ℕ) → Result (Unit {0}) ReadEnd → Type 0
-FillsPart old new at end before after (Ok done) =
-    (bytes : List ℕ) × (at + length bytes ≡ end) × Consumes old new bytes × (take end after ≡ take at before ++ bytes)
-FillsPart old new at end before after (Err fault) =
-    ((bytes : List ℕ) × (at + length bytes < end) × Consumes old new bytes) × EndsReading fault new
-
--- Data of so many bytes was read: it is at the front of the memory, or was dropped; or no byte came before its
--- end. Whatever of it came, the memory is modest.
-abbrev pub Receives : (old new : Option (List ℕ)) → (count before : ℕ) → List ℕ → Result Received ReadEnd → Type 0
-Receives old new count before memory (Ok Whole) =
-    (count ≤ length memory) × Consumes old new (take count memory) × IsModest before (length memory) count
-Receives old new count before memory (Ok Dropped) =
-    (bytes : List ℕ) × (length bytes ≡ count) × Consumes old new bytes × IsModest before (length memory) count
-Receives old new count before memory (Err end) =
-    ((bytes : List ℕ) × (length bytes < count) × Consumes old new bytes × IsModest before (length memory) (length bytes))
-    × EndsReading end new
 
 -- the whole of a request's data was read
 abbrev pub ReadsBody : Request → Streams → List ℕ → Type 0
@@ -72,10 +45,6 @@ AnswersRequest made size r streams before after (Ok done) = Follows made size r 
 AnswersRequest made size r streams before after (Err (Unsent failed)) =
     Follows made size r streams before after (WritesPart streams)
 AnswersRequest made size r streams before after (Err (Unread end)) = StopsInBody r streams end × (after ≡ before)
-
--- The store was asked for what a request with this data wants, and this was its answer.
-abbrev pub WasAsked : {S : Type 0} → (S → Call → Answer → S → Type 0) → Request → List ℕ → Answer → S → S → Type 0
-WasAsked made r body answer before after = (call : Call) × (call_of r.command r body ≡ Some call) × made before call answer after
 
 -- The store was asked for what a request with this data wants, and the reply was sent.
 pub record AsksStore {S : Type 0} (made : S → Call → Answer → S → Type 0) (size : ℕ) (r : Request) (body : List ℕ)

@@ -1,17 +1,17 @@
 //! What is done with one request.
-ghost use Rattle.std.specs.Prelude.{◌≡◌, ◌≢◌, ◌+◌, ◌≤◌, [], length, IfErr, OnOk};
+ghost use Rattle.std.specs.Prelude.{◌≡◌, ◌≢◌, ◌+◌, ◌≤◌, [], length};
 ghost use Rattle.fa_cmds.specs.Requests.{decision, body_length, IsToDo};
 ghost use Rattle.fa_io.specs.Streams.{between};
-ghost use Rattle.fa_session.specs.Serving.{Declines, AnswersRequest, AsksStore, WasAsked};
-ghost use Rattle.fa_types.specs.Store.{Done, Refused};
+ghost use Rattle.fa_session.specs.Serving.{Declines, AnswersRequest, AsksStore};
 ghost use Rattle.fa_cmds.specs.declared.decision.Decision.TheVariants.{Do};
 
-use crate::memory::{DataMemory, Received};
 use crate::replies::{code_of, reply, reply_with_data};
 use crate::stream_end::StreamEnd;
+use fa_asking::ask;
 use fa_cmds::{Command, ReplyCode, Request, body_len};
 use fa_io::{Calls, SendFailed, WriteBoth};
-use fa_types::{BlockFault, Blocks};
+use fa_memory::{DataMemory, Received};
+use fa_types::Blocks;
 use std::alloc::Allocator;
 use std::io::{Read, Write};
 
@@ -132,25 +132,5 @@ fn change<W: Write, B: Blocks>(
     match ask(blocks, request, body) {
         Ok(()) => reply(writer, calls, ReplyCode::Success, request.cookie),
         Err(fault) => reply(writer, calls, code_of(fault), request.cookie),
-    }
-}
-
-/// Asks the store for what a request with this data wants that is no READ.
-fn ask<B: Blocks>(blocks: &mut B, request: Request, body: &[u8]) -> Result<(), BlockFault>
-    requires no_read { request.command ≢ Command.Read }
-    requires to_do { IsToDo request (B.view blocks.old).size }
-    requires whole { length body.now ≡ body_length request }
-    ensures done { OnOk result (WasAsked B.made request body.now Done blocks.old blocks.new) }
-    ensures refused { IfErr result (λ fault. WasAsked B.made request body.now (Refused fault) blocks.old blocks.new) }
-    ensures size { (B.view blocks.new).size ≡ (B.view blocks.old).size }
-{
-    let len = u64::from(request.length);
-    let fua = request.is_fua();
-    match request.command {
-        Command::Write => blocks.write(request.offset, body, fua),
-        Command::Flush => blocks.flush(),
-        Command::Trim => blocks.trim(request.offset, len, fua),
-        Command::WriteZeroes => blocks.zero(request.offset, len, fua, !request.is_no_hole()),
-        Command::Read | Command::Disconnect | Command::Other(_) => unreachable!(),
     }
 }

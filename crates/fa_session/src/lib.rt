@@ -4,7 +4,6 @@
 mod exchange;
 mod handshake;
 pub mod laws;
-mod memory;
 mod replies;
 mod session;
 mod session_end;

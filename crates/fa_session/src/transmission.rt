@@ -5,10 +5,10 @@ ghost use Rattle.fa_session.specs.Exchanges.{Transmitted};
 ghost use Rattle.fa_session.specs.Serving.{ServesOne};
 
 use crate::exchange::{decline, perform};
-use crate::memory::{DataMemory, MAX_KEPT};
 use crate::session_end::SessionEnd;
 use fa_cmds::{Decision, REQUEST_BYTES, decide, read_request};
 use fa_io::{Calls, WriteBoth, fill};
+use fa_memory::{DataMemory, MAX_KEPT};
 use fa_types::Blocks;
 use std::alloc::Allocator;
 use std::io::Read;

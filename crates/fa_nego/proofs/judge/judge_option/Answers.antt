@@ -1,4 +1,4 @@
-use Rattle.std.proofs.Common.{◌≡◌, drop, refl, sym, ◌∙◌}
+use Rattle.std.proofs.Common.{◌≡◌, drop, refl}
 use Rattle.std.proofs.lemmas.List.{append-nil}
 use Rattle.fa_nego.specs.Negotiation.{Turn}
 use Rattle.fa_nego.proofs.Stages.{magic_refused, length_refused, holds_option, passes, is_over}
@@ -7,26 +7,28 @@ use Rattle.fa_nego.proofs.judge.judge_option.Goals.{in-More, in_default}
 
 pub returns-in-WrongMagic : goal.returns-in-WrongMagic
 returns-in-WrongMagic g c heard said at =
-    let wrong = rw c.split_at.ensures.front at c.in-WrongMagic.ensures in
+    let head = c.in-WrongMagic.ensures in
     rw (c.closed.ensures.next, c.closed.ensures.said, append-nil)
-    (magic_refused c.args.export.now c.args.size c.args.flags c.args.held.now heard said c.if-held-lt-HEAD_LEN.false at wrong)
+    (magic_refused c.args.export.now c.args.size c.args.flags c.args.held.now heard said head.0 at head.1)
 
 pub returns-in-TooLong : goal.returns-in-TooLong
 returns-in-TooLong g c heard said at =
-    let head = c.in-TooLong.ensures in
+    let long = c.in-TooLong.ensures.0 in
+    let head = c.in-TooLong.ensures.1 in
     rw (c.closed-in-TooLong.ensures.next, c.closed-in-TooLong.ensures.said, append-nil)
-    (length_refused c.args.export.now c.args.size c.args.flags c.args.held.now heard said c.if-held-lt-HEAD_LEN.false at head.0 head.1 head.2 head.3 head.4 (sym c.split_at.ensures.front ∙ head.5))
+    (length_refused c.args.export.now c.args.size c.args.flags c.args.held.now heard said long at head.0 head.1 head.2 head.3 head.4 head.5)
 
 pub returns-after-come : goal.returns-after-come
 returns-after-come g c heard said at =
-    let good = c.in-Good.ensures in
-    let come = c.in_ok-come-in-Good.come in
+    let option = c.in-Whole.ensures in
+    let head = option.1 in
+    let come = c.in_ok-come-in-Whole.come in
     let held = c.args.held.now in
-    let given : c.split_at.result.1.now ≡ drop 16 held = c.split_at.ensures.back in
-    let whole = holds_option held c.in-Good.option c.in-Good.len at.3 good.0 good.1 (sym c.split_at.ensures.front ∙ good.2) (rw (← given) c.if-given-len.false) in
-    let comes = rw given at c.in_ok-come-in-Good.ensures in
+    let given : c.in-Whole.given.now ≡ drop 16 held = option.2 in
+    let whole = holds_option held c.in-Whole.option option.0 at.3 head.0 head.1 head.2 (rw (← given) option.3) in
+    let comes = rw given at c.in_ok-come-in-Whole.ensures in
     let turn : Turn = record {
-      sent = record { option = c.in-Good.option; given = drop 16 held };
+      sent = record { option = c.in-Whole.option; given = drop 16 held };
       come = record { said = come.said.items; next = come.next };
     } in
     elim c.match-come.branch [

@@ -3,9 +3,10 @@ use Rattle.std.proofs.Common.{◌≡◌, ◌∙◌, ap, ℕ, ◌+◌, ◌*◌, L
 use Rattle.std.proofs.lemmas.List.{take-replicate, drop-replicate, take_all, length-replicate}
 use Rattle.fa_types.specs.declared.geometry.Geometry.{Geometry}
 use Rattle.fa_types.specs.Store.{bytes_at}
+use Rattle.fa_contents.specs.Contents.{Contents}
 use Rattle.fa_image.specs.Cut.{cut}
 use Rattle.fa_image.specs.Cuts.{cut-replicate}
-use Rattle.fa_image.specs.File.{Contents, state_in, of_zeros, file_bytes}
+use Rattle.fa_image.specs.File.{state_in, of_zeros, file_bytes}
 use Rattle.fa_image.specs.Image.{ImageState, slot_bytes, slot_count}
 use Rattle.fa_image.proofs.file_image.FileImage.empty.Goals as goal
 

@@ -1,0 +1,6 @@
+//! The head of a client's option in the NBD handshake, and whether the option is whole.
+#![tactic(auto)]
+
+mod option;
+
+pub use option::{HEAD_LEN, Held, OPTION_MAGIC, option_in};

@@ -1,0 +1,2 @@
+pub mod ReachedPages
+pub mod Walks
