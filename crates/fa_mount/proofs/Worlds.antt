@@ -27,13 +27,13 @@ use Rattle.fa_mount.proofs.Mounted.{may_begin}
 use Rattle.fa_mount.specs.Begins.{AreSpares, IsGreatestNumber, MayBegin}
 use Rattle.fa_mount.specs.MountsArray.{MountsArray}
 use Rattle.fa_scan.proofs.Filling.{read_die_below}
-use Rattle.fa_scan.proofs.HonestSlots.{mounted_there}
+use Rattle.fa_found.proofs.HonestSlots.{mounted_there}
 use Rattle.fa_scan.proofs.LastWrites.{found_on}
-use Rattle.fa_scan.proofs.MountedFacts.{held_found, live_found, used_within, written_held}
-use Rattle.fa_scan.proofs.MountedWorlds.{is_beginning}
+use Rattle.fa_found.proofs.MountedFacts.{held_found, live_found, used_within, written_held}
+use Rattle.fa_found.proofs.MountedWorlds.{is_beginning}
 use Rattle.fa_scan.proofs.OnlyReading.{die_only_read}
 use Rattle.fa_scan.proofs.Readable.{are_readable}
-use Rattle.fa_scan.proofs.SlotCells.{copy_bytes, found_cell}
+use Rattle.fa_found.proofs.SlotCells.{copy_bytes, found_cell}
 use Rattle.fa_scan.specs.Content.{slots_on}
 use Rattle.fa_scan.specs.ContentCells.{IsCellOf}
 use Rattle.fa_scan.specs.ContentReading.{HasOutcome, ReadsAt, image_read}

@@ -8,7 +8,7 @@ use Rattle.fa_machine.specs.State.{MapState}
 use Rattle.fa_machine.specs.World.{Accepted, Calls, DieImage, ErasesBlock, Gave, GaveCell, JobCall, ProgramsSlot, ReadsSlot, Refused}
 use Rattle.fa_machine.specs.World.{Syncs, WritesHeader, with_cell}
 use Rattle.fa_runs.proofs.AnyCell.{any_cell}
-use Rattle.fa_scan.proofs.Cells.{one_cell}
+use Rattle.fa_found.proofs.Cells.{one_cell}
 use Rattle.fa_scan.specs.ContentCells.{IsCellOf, tag_of}
 use Rattle.fa_ends.specs.Outcomes.{cell_of}
 use Rattle.fa_tag.specs.HeaderGrammar.{header_bytes}

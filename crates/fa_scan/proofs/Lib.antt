@@ -1,15 +1,10 @@
 pub mod ByDie
-pub mod Cells
 pub mod ContentsRead
 pub mod Filling
 pub mod FoundMounted
 pub mod GivenNumbers
-pub mod HonestSlots
 pub mod LastWrites
 pub mod Merging
-pub mod MountedFacts
-pub mod MountedWorlds
-pub mod OneMap
 pub mod OnlyReading
 pub mod Outcomes
 pub mod PagesGiven
@@ -19,6 +14,5 @@ pub mod Readable
 pub mod Settling
 pub mod SideBySide
 pub mod SideOutcomes
-pub mod SlotCells
 pub mod SlotsScanned
 pub mod Tallying

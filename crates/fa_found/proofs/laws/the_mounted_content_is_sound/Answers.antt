@@ -1,7 +1,7 @@
 use Rattle.std.proofs.Common.{ap}
 use Rattle.std.specs.Prelude.{is_some}
-use Rattle.fa_scan.proofs.MountedFacts.{current_once, held_found, live_within, none_found, none_reserved, used_within, written_held, written_within}
-use Rattle.fa_scan.proofs.laws.the_mounted_content_is_sound.Goals as goal
+use Rattle.fa_found.proofs.MountedFacts.{current_once, held_found, live_within, none_found, none_reserved, used_within, written_held, written_within}
+use Rattle.fa_found.proofs.laws.the_mounted_content_is_sound.Goals as goal
 
 pub returns-clause-live : goal.returns-clause-live
 returns-clause-live c = λ geometry contents m die are is. live_within geometry contents m are is die

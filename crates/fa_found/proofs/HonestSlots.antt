@@ -14,7 +14,7 @@ use Rattle.fa_machine.specs.State.{MapState}
 use Rattle.fa_scan.proofs.ContentsRead.{are_contents}
 use Rattle.fa_scan.proofs.Filling.{read_die_below, slots_of_found}
 use Rattle.fa_scan.proofs.OnlyReading.{die_only_read}
-use Rattle.fa_scan.proofs.SlotCells.{erased_bytes}
+use Rattle.fa_found.proofs.SlotCells.{erased_bytes}
 use Rattle.fa_scan.specs.Content.{Contents, IsMountedContent, slots_on}
 use Rattle.fa_scan.specs.ContentReading.{AreOutcomes, HasOutcome, IsContentOf, ReadsAt, ReadsSlots, image_read}
 use Rattle.fa_headers.specs.Judged.{standing_of}

@@ -14,9 +14,9 @@ use Rattle.fa_machine.specs.World.{World, plain_page}
 use Rattle.fa_machine.specs.declared.places.Used.{Used}
 use Rattle.fa_machine.specs.declared.places.Used.TheVariants.{Reserved, Held, Stale as StaleSlot}
 use Rattle.fa_machine.specs.declared.places.Version.{Version}
-use Rattle.fa_scan.proofs.Cells.{one_cell}
-use Rattle.fa_scan.proofs.MountedFacts.{current_once, held_found, live_within, none_found, none_reserved, used_within, written_within}
-use Rattle.fa_scan.proofs.SlotCells.{copy_bytes, erased_bytes}
+use Rattle.fa_found.proofs.Cells.{one_cell}
+use Rattle.fa_found.proofs.MountedFacts.{current_once, held_found, live_within, none_found, none_reserved, used_within, written_within}
+use Rattle.fa_found.proofs.SlotCells.{copy_bytes, erased_bytes}
 use Rattle.fa_scan.specs.MountedWorld.{HoldsPayload, IsFirstPlain, IsMountedWorld, SlotBytes}
 use Rattle.fa_scan.specs.declared.slots.content.SlotContent.TheVariants.{Erased, Copy}
 

@@ -9,7 +9,7 @@ use Rattle.fa_tag.specs.declared.tag.Opened.TheVariants.{Erased as ErasedBytes, 
 use Rattle.fa_tag.specs.declared.tag.Tag.{Tag}
 use Rattle.fa_machine.specs.Cells.{Broken, Cell, Empty, Sealed}
 use Rattle.fa_machine.specs.declared.places.Version.{Version}
-use Rattle.fa_scan.proofs.Cells.{one_cell}
+use Rattle.fa_found.proofs.Cells.{one_cell}
 use Rattle.fa_scan.specs.Content.{content_of}
 use Rattle.fa_scan.specs.ContentCells.{IsCellOf, tag_of}
 use Rattle.fa_scan.specs.ContentReading.{IsContentOf}

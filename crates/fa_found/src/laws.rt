@@ -94,7 +94,7 @@ pub fn what_was_mounted_is_a_beginning()
 
 /// Of a page map: a page is one of its written pages exactly where it was ever written, with its last write, and its places
 /// are exactly those of its current copies. The pages rise, and so do the dies of a page's places, so none comes twice; and
-/// there are as many pages as [`crate::Mounted::report`] counts.
+/// there are as many pages as [`fa_scan::Mounted::report`] counts.
 pub fn written_pages_are_those_of_the_map()
     ensures written { (m : MapState) (page : Written) → IsPageMap m
         → Contains (written_pages m) page

@@ -1,5 +1,5 @@
 use Rattle.fa_scan.proofs.PagesGiven.{all_counted, current_is_place, dies_rise, given_is_written, pages_rise, place_is_current, written_is_given}
-use Rattle.fa_scan.proofs.laws.written_pages_are_those_of_the_map.Goals as goal
+use Rattle.fa_found.proofs.laws.written_pages_are_those_of_the_map.Goals as goal
 
 pub returns-clause-written : goal.returns-clause-written
 returns-clause-written c = λ m page whole. (given_is_written m page, λ is. written_is_given m whole page is.0 is.1)

@@ -1,5 +1,5 @@
-use Rattle.fa_scan.proofs.SlotCells.{copy_is_sealed, erased_is_empty, found_cell}
-use Rattle.fa_scan.proofs.laws.what_was_found_is_what_is_seen.Goals as goal
+use Rattle.fa_found.proofs.SlotCells.{copy_is_sealed, erased_is_empty, found_cell}
+use Rattle.fa_found.proofs.laws.what_was_found_is_what_is_seen.Goals as goal
 
 pub returns-clause-seen : goal.returns-clause-seen
 returns-clause-seen c = λ bytes pages die slot content holds. found_cell bytes pages die slot content holds
