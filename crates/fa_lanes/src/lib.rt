@@ -7,8 +7,6 @@ mod hash;
 mod messages;
 mod rounds;
 mod tail;
-#[cfg(test)]
-mod tests;
 mod words;
 
 pub use begun::{Begun, begin, finish};

@@ -19,13 +19,6 @@ impl Status {
     {
         Status { number }
     }
-
-    /// The number.
-    pub fn number(self) -> u8
-        ensures { result ≡ self.number }
-    {
-        self.number
-    }
 }
 
 impl Termination for Status {

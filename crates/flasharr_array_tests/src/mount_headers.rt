@@ -1,5 +1,5 @@
 //! New images, and what headers say. The bytes of headers were made by another program.
-use crate::mounting::{ARRAY, Fused, formatted, shape};
+use crate::mounting::{ARRAY, formatted, shape};
 use fa_headers::{
     FormatFault, Judged, MountFault, MountRefused, Standing, expect, judge, read_headers,
 };
@@ -62,9 +62,9 @@ fn are_expected<I: Image>(rt: &HostRuntime, images: &mut [I]) -> Result<bool, Fa
 }
 
 /// Asks that images were made a new array.
-fn are_new(
+fn are_new<I: Image>(
     rt: &HostRuntime,
-    images: &mut [Fused],
+    images: &mut [I],
     came: Result<(), FormatFault>,
 ) -> Result<(), Fail> {
     let copies = Copies::new(2, shape()?)?;
@@ -82,9 +82,9 @@ fn a_new_array_is_clean_in_epoch_1(rt: HostRuntime) -> Result<(), Fail> {
 }
 
 /// Asks that the header of image 2 was refused, after which image 3 was not called.
-fn stopped_at_image_2(
+fn stopped_at_image_2<I: Image>(
     rt: &HostRuntime,
-    images: &mut [Fused],
+    images: &mut [I],
     came: Result<(), FormatFault>,
 ) -> Result<(), Fail> {
     let fault = FormatFault {
@@ -135,9 +135,9 @@ fn is_fault(
 
 /// Asks that images of which image 2 refuses its header first are no array, nor the last alone, nor all where each
 /// page is to have three copies.
-fn are_none(
+fn are_none<I: Image>(
     rt: &HostRuntime,
-    images: &mut [Fused],
+    images: &mut [I],
     came: Result<(), FormatFault>,
 ) -> Result<(), Fail> {
     let two = Copies::new(2, shape()?)?;

@@ -50,7 +50,7 @@ fn copy_header<I: Image>(from: &mut I, to: &mut I) -> Result<(), Fail> {
 }
 
 /// Gives dies 1 and 3 their headers of another array.
-fn copy_headers(from: &mut [Fused], to: &mut [Fused]) -> Result<(), Fail> {
+fn copy_headers<I: Image>(from: &mut [I], to: &mut [I]) -> Result<(), Fail> {
     ensure!(from.len() == 4 && to.len() == 4);
     copy_header(&mut from[1], &mut to[1])?;
     copy_header(&mut from[3], &mut to[3])
@@ -64,7 +64,7 @@ fn renew_headers(rt: &HostRuntime, images: &mut [Fused]) -> Result<(), Fail> {
 
 /// Writes two copies of each page: one on die 0 in the older version of slots and one on die 1 in the newer
 /// one. Page 7 becomes a hole then, on dies 2 and 3.
-fn write_pages(images: &mut [Fused]) -> Result<(), Fail> {
+fn write_pages<I: Image>(images: &mut [I]) -> Result<(), Fail> {
     for slot in 0..8u32 {
         let page = u64::from(slot);
         put(images, slot, tag(page, page + 1, Kind::Data, 0, slot), true)?;
@@ -128,9 +128,9 @@ fn has_live(came: Result<Report, MountRefused>, live: u32) -> bool {
 }
 
 /// Mounts images that are to have so many copies of each page, and tells the numbers of the array.
-fn reported<A: Allocator + Copy>(
+fn reported<A: Allocator + Copy, I: Image>(
     alloc: A,
-    images: &mut [Fused],
+    images: &mut [I],
     copies: Copies,
     unclean: bool,
 ) -> Result<Report, MountRefused> {
@@ -138,9 +138,9 @@ fn reported<A: Allocator + Copy>(
 }
 
 /// The same with the dies read side by side.
-fn reported_side_by_side(
+fn reported_side_by_side<I: Image + Send>(
     rt: &(impl AllocGlobal + Threads + Sync),
-    images: &mut [Fused],
+    images: &mut [I],
     copies: Copies,
     unclean: bool,
 ) -> Result<Report, MountRefused> {
@@ -169,7 +169,7 @@ fn push_image<I: Image>(image: &mut I, bytes: &mut Vec<u8>) -> Result<(), Fail> 
 }
 
 /// Puts the bytes of all images behind one another.
-fn push_images(images: &mut [Fused], bytes: &mut Vec<u8>) -> Result<(), Fail> {
+fn push_images<I: Image>(images: &mut [I], bytes: &mut Vec<u8>) -> Result<(), Fail> {
     for image in images.iter_mut() {
         push_image(image, bytes)?;
     }
@@ -177,7 +177,7 @@ fn push_images(images: &mut [Fused], bytes: &mut Vec<u8>) -> Result<(), Fail> {
 }
 
 /// The bytes of all images.
-fn all_bytes(alloc: Global, images: &mut [Fused]) -> Result<Vec<u8>, Fail> {
+fn all_bytes<I: Image>(alloc: Global, images: &mut [I]) -> Result<Vec<u8>, Fail> {
     let mut bytes = Vec::new(alloc);
     push_images(images, &mut bytes)?;
     Ok(bytes)
@@ -255,9 +255,9 @@ fn each_read_of_mounting_is_refused_in_turn(rt: HostRuntime) -> Result<(), Fail>
 }
 
 /// Mounts images in so much memory.
-fn reported_in(
+fn reported_in<I: Image>(
     alloc: Global,
-    images: &mut [Fused],
+    images: &mut [I],
     copies: Copies,
     room: usize,
 ) -> Result<Result<Report, MountRefused>, Fail> {
@@ -266,9 +266,9 @@ fn reported_in(
 }
 
 /// Whether so much memory is too little to mount images, which are mounted in more then.
-fn is_short(
+fn is_short<I: Image>(
     alloc: Global,
-    images: &mut [Fused],
+    images: &mut [I],
     copies: Copies,
     room: usize,
 ) -> Result<bool, Fail> {
@@ -285,7 +285,7 @@ fn is_short(
 }
 
 /// In how many runs the memory was too little, until it was enough.
-fn short_runs(alloc: Global, images: &mut [Fused], copies: Copies) -> Result<u32, Fail> {
+fn short_runs<I: Image>(alloc: Global, images: &mut [I], copies: Copies) -> Result<u32, Fail> {
     for run in 0..1_024u32 {
         if !is_short(alloc, images, copies, run as usize * 64)? {
             return Ok(run);
@@ -295,7 +295,7 @@ fn short_runs(alloc: Global, images: &mut [Fused], copies: Copies) -> Result<u32
 }
 
 /// Asks that each allocation is refused in some run, after which the bytes of the images are what they were.
-fn allocations_are_refused(alloc: Global, images: &mut [Fused]) -> Result<(), Fail> {
+fn allocations_are_refused<I: Image>(alloc: Global, images: &mut [I]) -> Result<(), Fail> {
     let two = Copies::new(2, shape()?)?;
     let bytes = all_bytes(alloc, images)?;
     let short = short_runs(alloc, images, two)?;

@@ -6,7 +6,7 @@ ghost use Rattle.fa_image.specs.Memory.{mem_image_view};
 
 use crate::slots::{put, tag};
 use fa_headers::{FormatFault, MountFault, MountRefused, Standing, format, format_1};
-use fa_image::{FuseImage, MemImage};
+use fa_image::{FuseImage, Image, MemImage};
 use fa_machine::Version;
 use fa_map::{Map, PageMap, SlotState};
 use fa_scan::{Mounted, scan};
@@ -75,7 +75,7 @@ pub fn new_array(rt: &HostRuntime, geometry: Geometry, older: bool) -> Result<Ve
 
 /// Writes page 0 in an older and a newer copy, page 1 in copies of one number that are of two kinds, and page
 /// 2 in two copies on one die. A tag names another slot, and one another page than there is.
-fn write_pages(images: &mut [Fused]) -> Result<(), Fail> {
+fn write_pages<I: Image>(images: &mut [I]) -> Result<(), Fail> {
     let slots = [
         (0, tag(0, 1, Kind::Data, 0, 0)),
         (0, tag(0, 2, Kind::Data, 1, 0)),
@@ -102,9 +102,9 @@ fn refusing(rt: &HostRuntime) -> Result<Vec<Fused>, Fail> {
 }
 
 /// Mounts images.
-fn mounted(
+fn mounted<I: Image>(
     rt: &HostRuntime,
-    images: &mut [Fused],
+    images: &mut [I],
     copies: Copies,
     unclean: bool,
 ) -> Result<Mounted<PageMap>, MountRefused> {

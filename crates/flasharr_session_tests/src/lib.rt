@@ -1,7 +1,9 @@
-//! The tests of whole sessions, of what no process shows: memory that is refused, streams that fail, and bytes that are
-//! cut at every place.
+//! The tests of whole sessions and of the commands that work on text, of what no process shows: memory that is refused, streams
+//! that fail, and bytes that are cut at every place.
 #![tactic(auto)]
 
+#[cfg(test)]
+mod commands;
 #[cfg(test)]
 mod fails;
 #[cfg(test)]

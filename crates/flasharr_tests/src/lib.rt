@@ -30,6 +30,8 @@ mod image;
 #[cfg(test)]
 mod io;
 #[cfg(test)]
+mod lanes;
+#[cfg(test)]
 mod nego;
 #[cfg(test)]
 mod plans;
@@ -37,6 +39,8 @@ mod plans;
 mod reopened;
 #[cfg(test)]
 mod sets;
+#[cfg(test)]
+mod settings;
 #[cfg(test)]
 mod sockets;
 pub mod spelling;

@@ -1,6 +1,6 @@
 use Rattle.std.proofs.Common.{◌≡◌, [], ◌∷◌, get_or, length}
 use Rattle.fa_lanes.proofs.Loading.{each_lane}
-use Rattle.fa_lanes.proofs.tests.messages.Goals as goal
+use Rattle.flasharr_tests.proofs.lanes.messages.Goals as goal
 
 pub returns-clause-each : goal.returns-clause-each
 returns-clause-each c = λ k d lt.

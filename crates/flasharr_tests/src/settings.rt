@@ -1,6 +1,5 @@
 //! What a text of settings says, and what comes of it where memory is refused.
 use fa_settings::{Settings, SettingsFault};
-use flasharr_tests::ensure;
 use linked_list_allocator::LocalHeap;
 use std::alloc::Global;
 use std::test::Fail;
