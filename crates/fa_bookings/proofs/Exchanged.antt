@@ -2,7 +2,8 @@
 use Rattle.fa_batch.specs.declared.plan.Place.{Place}
 use Rattle.fa_bookings.proofs.Booked.{at, same_bookings, some_left}
 use Rattle.fa_bookings.specs.Found.{booked_is, get_booked, window_is}
-use Rattle.fa_bookings.proofs.Placed.{get_over, over_same, over_some}
+use Rattle.fa_bookings.proofs.Placed.{get_over, or_parts, over_same, over_some}
+use Rattle.fa_calendar.proofs.Places.{where_at}
 use Rattle.fa_bookings.specs.Booked.{Entries}
 use Rattle.fa_bookings.specs.Bookings.{calendar_of}
 use Rattle.fa_bookings.specs.Places.{booked_over, without_places}
@@ -18,7 +19,8 @@ use Rattle.fa_machine.specs.declared.ids.BatchId.{BatchId}
 use Rattle.fa_machine.specs.declared.places.Booking.{Booking}
 use Rattle.fa_types.specs.Open.{IsOpen}
 use Rattle.fa_types.specs.Windows.{IsFull, is_in_window}
-use Rattle.std.proofs.Common.{Bool, List, None, Option, Some, ap, false, refl, subst, sym, true, ℕ, ◌∙◌, ◌≡◌}
+use Rattle.std.proofs.Common.{Bool, List, None, Option, Some, [], ap, false, refl, subst, sym, true, ℕ, ◌∙◌, ◌≡◌}
+use Rattle.std.proofs.lemmas.Bool.{false_from_ne_true, false≢true}
 use Rattle.std.specs.FinMap.{contains_key, from_entries, get}
 use Rattle.std.specs.List.{AllByRecursion}
 use Rattle.std.specs.Prelude.{if◌then◌else◌, is_some, not, ◌&&◌, ◌||◌}
@@ -192,3 +194,20 @@ refused_is b new roomed back now same kept others out d r =
 
 pub bookings_stay : (a b : Entries) → ((d r : ℕ) → at b (d, r) ≡ at a (d, r)) → from_entries {R = place_cmp} b ≡ from_entries a
 bookings_stay a b same = same_bookings _ _ (λ d r. get_booked b (d, r) ∙ same d r ∙ sym (get_booked a (d, r)))
+
+-- Places that are open have no entries.
+pub none_there : {A : Type 0} (b : Bookings A) (new : List Place)
+    → AllByRecursion (λ x. IsOpen (calendar_of b).round (is_taken (without_places [] (calendar_of b))) x.die.0 x.round.0) new
+    → (d r : ℕ) → is_at new d r ≡ true → is_some (at b.booked.entries (d, r)) ≡ false
+none_there b new opens d r met =
+    let one = where_at (IsOpen b.calendar.current (is_closed_without b.calendar [])) new (all_open b [] new opens) d r met in
+    let free = or_parts (is_booked b.calendar d r && true) (is_in_window (window_of b.calendar d) r) one.1 in
+    sym (b.agree d r) ∙ flip true (is_booked b.calendar d r) ∙ free.0
+
+-- Where such places got entries, those that there were stay.
+pub open_kept : {A : Type 0} (b : Bookings A) (new : List Place) (roomed : Entries)
+    → AllByRecursion (λ x. IsOpen (calendar_of b).round (is_taken (without_places [] (calendar_of b))) x.die.0 x.round.0) new
+    → ((d r : ℕ) → is_at new d r ≡ false → at roomed (d, r) ≡ at b.booked.entries (d, r))
+    → (d r : ℕ) → is_some (at b.booked.entries (d, r)) ≡ true → at roomed (d, r) ≡ at b.booked.entries (d, r)
+open_kept b new roomed opens others d r some =
+    others d r (false_from_ne_true (is_at new d r) (λ met. false≢true (sym (none_there b new opens d r met) ∙ some)))

@@ -1,6 +1,6 @@
 //! The booked rounds, over a calendar of closed rounds.
 ghost use Rattle.std.specs.Prelude.{◌≡◌, ℕ, ◌+◌, ◌-◌, ◌^◌, ◌<◌, ◌≤◌, ◌==◌, ◌&&◌, ◌||◌, ◌↔◌, not, nat_lt, true, false, is_some};
-ghost use Rattle.std.specs.Prelude.{IfOk, IsOk, IsTrue, OnErr, OnOk, IsErrOf, None};
+ghost use Rattle.std.specs.Prelude.{IfOk, IsOk, IsTrue, OnErr, OnOk, IsErrOf, None, []};
 ghost use Rattle.std.specs.FinMap.{contains_key, empty, get, insert, remove, len};
 ghost use Rattle.std.specs.List.{AllByRecursion};
 ghost use Rattle.fa_batch.specs.Plan.{AreApart};
@@ -13,7 +13,7 @@ ghost use Rattle.fa_machine.specs.Rounds.{is_taken, is_taken_with, HasRoomFor};
 ghost use Rattle.fa_types.specs.Open.{FewClosed, IsOpen};
 ghost use Rattle.fa_types.specs.Windows.{IsFirstWindow, IsFull};
 
-use crate::places::{make_room, overwrite_all, take_out_open};
+use crate::places::{book_all, make_room, overwrite_all, take_out_open};
 use crate::tree::{forget_die, forget_round, overwrite, take_out};
 use fa_batch::{Closed, Place};
 use fa_calendar::{Calendar, CalendarRefused};
@@ -121,6 +121,9 @@ impl<A: Allocator + Clone> Bookings<A> {
             × IsFull (calendar_of self.old).round (is_taken_with (without_places old.now (calendar_of self.old)) new.now die) 0 }
         ensures err { OnErr result (calendar_of self.new ≡ calendar_of self.old) }
     {
+        if old.is_empty() {
+            return self.book(batch, new);
+        }
         if let Err(_) = make_room(&mut self.booked, batch, new) {
             take_out_open(&mut self.booked, &self.calendar, new);
             return Err(CalendarRefused::NoMemory);
@@ -131,6 +134,29 @@ impl<A: Allocator + Clone> Bookings<A> {
         }
         take_out_open(&mut self.booked, &self.calendar, old);
         overwrite_all(&mut self.booked, batch, new);
+        Ok(())
+    }
+
+    /// Books these places, which are open, for the batch, no two the same. Refused, nothing has changed.
+    fn book(&mut self, batch: BatchId, new: &[Place]) -> Result<(), CalendarRefused>
+        requires opens { AllByRecursion (λ x. IsOpen (calendar_of self.old).round (is_taken (without_places [] (calendar_of self.old)))
+            x.die.0 x.round.0) new.now }
+        requires apart { AreApart new.now }
+        ensures ok { OnOk result (calendar_of self.new ≡ booked batch new.now (without_places [] (calendar_of self.old))) }
+        ensures fits { OnOk result (FewClosed (calendar_of self.old).round
+            (is_taken_with (without_places [] (calendar_of self.old)) new.now)) }
+        ensures full { IsErrOf result CalendarRefused.Full → (die : ℕ)
+            × IsFull (calendar_of self.old).round (is_taken_with (without_places [] (calendar_of self.old)) new.now die) 0 }
+        ensures err { OnErr result (calendar_of self.new ≡ calendar_of self.old) }
+    {
+        if let Err(_) = book_all(&mut self.booked, batch, new) {
+            take_out_open(&mut self.booked, &self.calendar, new);
+            return Err(CalendarRefused::NoMemory);
+        }
+        if let Err(refused) = self.calendar.exchange(&[], new) {
+            take_out_open(&mut self.booked, &self.calendar, new);
+            return Err(refused);
+        }
         Ok(())
     }
 

@@ -5,7 +5,8 @@ use Rattle.fa_bookings.specs.Booked.{windows_in}
 use Rattle.fa_bookings.specs.Found.{past}
 use Rattle.fa_calendar.specs.Calendar.{is_booked, window_of}
 use Rattle.fa_types.specs.Open.{FewClosed}
-use Rattle.std.proofs.Common.{Bool, refl, subst, ℕ}
+use Rattle.std.proofs.Common.{Bool, List, [], ◌∷◌, arith, eqb-true, length, refl, subst, sym, ℕ, ◌≡◌}
+use Rattle.fa_batch.specs.declared.plan.Place.{Place}
 use Rattle.fa_bookings.proofs.bookings.Bookings.exchange.Goals as goal
 
 pub returns-in-Err-clause-err : goal.returns-in-Err-clause-err
@@ -67,3 +68,20 @@ returns-clause-fits g c =
       taken_with c.args.self.now c.args.old.now c.args.new.now (is_booked c.exchange.new.self) c.in_default-exchange.ensures.ok
           c.exchange.new.self (λ d r. refl) c.exchange.ensures.windows i,
     )) c.exchange.new.self.sound.few
+
+nothing : (places : List Place) → length places ≡ 0 → places ≡ []
+nothing [] is = refl
+nothing (x ∷ places) is = let no : ⊥ = omega (arith, is) in absurd no
+
+pub book-requires-clause-opens : goal.book-requires-clause-opens
+book-requires-clause-opens g c =
+    let none : c.args.old.now ≡ [] = nothing c.args.old.now (eqb-true _ _ (sym c.if-is_empty.ensures)) in rw none at c.requires.opens
+
+pub returns-then-is_empty-clause-ok : goal.returns-then-is_empty-clause-ok
+returns-then-is_empty-clause-ok g c = rw (nothing c.args.old.now (eqb-true _ _ (sym c.if-is_empty.ensures))) c.book.ensures.ok
+
+pub returns-then-is_empty-clause-fits : goal.returns-then-is_empty-clause-fits
+returns-then-is_empty-clause-fits g c = rw (nothing c.args.old.now (eqb-true _ _ (sym c.if-is_empty.ensures))) c.book.ensures.fits
+
+pub returns-then-is_empty-clause-full : goal.returns-then-is_empty-clause-full
+returns-then-is_empty-clause-full g c = rw (nothing c.args.old.now (eqb-true _ _ (sym c.if-is_empty.ensures))) c.book.ensures.full
