@@ -1,6 +1,5 @@
 //! What `check` and `dump` print as one JSON document.
 ghost use Rattle.std.specs.Prelude.{◌≡◌, ℕ, List, [], ◌∷◌, ◌++◌, Some, map, string_bytes, IfOk, OnOk};
-ghost use Rattle.fa_map.specs.PageView.{page_view};
 ghost use Rattle.fa_scan.specs.Pages.{written_pages};
 ghost use Rattle.serde.specs.Event.{Log};
 ghost use Rattle.serde_json.specs.Sent.{IsTextOf};
@@ -8,7 +7,7 @@ ghost use Rattle.fa_documents.specs.Documents.{WritesMember, check_data, documen
 
 use crate::table::DieRow;
 use fa_machine::Version;
-use fa_map::{Map, PageMap};
+use fa_map::Map;
 use fa_scan::{Mounted, Report, WrittenPage};
 use fa_types::{Die, Kind, Page, Slot};
 use serde::{Described, Serialize, Serializer};
@@ -60,12 +59,12 @@ pub fn check_json(
 }
 
 /// The document of `dump`, on a line of its own.
-pub fn dump_json(
+pub fn dump_json<M: Map + Drop>(
     global: Global,
-    mounted: &Mounted<PageMap>,
+    mounted: &Mounted<M>,
     table: &[DieRow<'_>],
 ) -> Result<String, AllocError>
-    ensures { IfOk result (λ line. string_bytes line ≡ document_line (dump_data (written_pages (page_view mounted.now.map)) table.now)) }
+    ensures { IfOk result (λ line. string_bytes line ≡ document_line (dump_data (written_pages (M.view mounted.now.map)) table.now)) }
 {
     let pages = page_rows(global, mounted)?;
     line_of(

@@ -1,24 +1,23 @@
 //! The end of a server: the array is closed, and it is told how.
 ghost use Rattle.std.specs.Prelude.{◌≡◌, ◌++◌, List, ℕ, IfOk, OnOk, string_bytes};
 ghost use Rattle.fa_core.specs.Array.{IsWhole};
-ghost use Rattle.fa_map.specs.PageView.{page_view};
 ghost use Rattle.fa_server.specs.Serving.{TellsEnd, closed_line, closed_status, fault_line, fault_lines};
 ghost use Rattle.std.specs.Fmt.{decimal};
 
 use fa_host::printing::{DONE, REFUSED, print, push_number, refuse_for_memory};
 use fa_image::Image;
-use fa_map::PageMap;
+use fa_map::Map;
 use fa_mount::{CloseFault, MountedArray, close_clean};
 use fa_shared::Fault;
 use std::alloc::{AllocError, Global};
 use std::io::Write;
 
 /// Closes the array over its images. Where a live die has none, nothing is closed, and the fault is that the array is busy.
-pub(crate) fn close<I: Image>(
-    mounted: &MountedArray<PageMap>,
+pub(crate) fn close<M: Map + Drop, I: Image>(
+    mounted: &MountedArray<M>,
     images: &mut [I],
 ) -> Result<u64, CloseFault>
-    requires { IsWhole page_view mounted.now.array }
+    requires { IsWhole M.view mounted.now.array }
 {
     if mounted.has_images(images.len()) {
         close_clean(mounted, images)

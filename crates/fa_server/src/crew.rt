@@ -2,7 +2,7 @@
 use fa_clients::Networked;
 use fa_headers::Standing;
 use fa_image::Image;
-use fa_map::PageMap;
+use fa_map::Map;
 use fa_mount::place_of;
 use fa_shared::{Seat, Shared};
 use fa_types::Die;
@@ -32,9 +32,9 @@ pub(crate) struct Crew<L: Ledger + Send, I: Drop> {
 }
 
 /// A task for each image of a die that is live or a spare. The error is out of memory, or of seats.
-pub(crate) fn crew_of<R: Networked, L: Ledger + Send, I: Image + Drop>(
+pub(crate) fn crew_of<R: Networked, L: Ledger + Send, M: Map + Drop, I: Image + Drop>(
     rt: &R,
-    shared: &Shared<L, PageMap>,
+    shared: &Shared<L, M>,
     dies: &[Standing],
     images: Vec<I>,
     page_bytes: u32,
@@ -104,9 +104,9 @@ fn index_at_work(standing: Standing) -> Option<usize> {
 }
 
 /// Works for a die until the array is to end, and hands the seat back.
-pub(crate) fn work_die<R: Networked, L: Ledger + Send, I: Image + Drop>(
+pub(crate) fn work_die<R: Networked, L: Ledger + Send, M: Map + Drop, I: Image + Drop>(
     rt: &R,
-    shared: &Shared<L, PageMap>,
+    shared: &Shared<L, M>,
     bench: &Bench<I>,
     task: DieTask<L>,
 ) -> Seat<L> {
@@ -120,9 +120,9 @@ pub(crate) fn work_die<R: Networked, L: Ledger + Send, I: Image + Drop>(
 }
 
 /// Collects until the array is to end, and hands the seat back.
-pub(crate) fn collect<R: Networked, L: Ledger + Send>(
+pub(crate) fn collect<R: Networked, L: Ledger + Send, M: Map + Drop>(
     rt: &R,
-    shared: &Shared<L, PageMap>,
+    shared: &Shared<L, M>,
     mut seat: Seat<L>,
     window_rounds: u64,
 ) -> Seat<L> {
@@ -131,9 +131,9 @@ pub(crate) fn collect<R: Networked, L: Ledger + Send>(
 }
 
 /// Rebuilds until the array is to end, and hands the seat back.
-pub(crate) fn rebuild<R: Networked, L: Ledger + Send>(
+pub(crate) fn rebuild<R: Networked, L: Ledger + Send, M: Map + Drop>(
     rt: &R,
-    shared: &Shared<L, PageMap>,
+    shared: &Shared<L, M>,
     mut seat: Seat<L>,
 ) -> Seat<L> {
     rebuild_worker(rt, rt.alloc(), shared, &mut seat);

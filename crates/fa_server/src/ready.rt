@@ -8,7 +8,7 @@ use crate::serving::Seats;
 use fa_clients::{Lobby, Networked, Service, Session};
 use fa_headers::Standing;
 use fa_image::Image;
-use fa_map::PageMap;
+use fa_map::Map;
 use fa_mount::place_of;
 use fa_settings::Settings;
 use fa_shared::Shared;
@@ -34,9 +34,16 @@ pub(crate) struct Ready<'a, L: Ledger + Send, I: Drop> {
 }
 
 /// All that the server of a shared array needs, over images at these places of the settings' paths. The error is out of memory.
-pub(crate) fn ready_of<'a, R: Networked, L: Ledger + Send, I: Image + Drop, A: Allocator>(
+pub(crate) fn ready_of<
+    'a,
+    R: Networked,
+    L: Ledger + Send,
+    M: Map + Drop,
+    I: Image + Drop,
+    A: Allocator,
+>(
     rt: &R,
-    shared: &Shared<L, PageMap>,
+    shared: &Shared<L, M>,
     dies: &[Standing],
     images: Vec<I>,
     places: &[usize],
@@ -85,9 +92,9 @@ fn path_of<'a, A: Allocator>(
 }
 
 /// The seats of the collector, the rebuilder and the sessions. The error is that there are no more.
-fn seats_of<'a, R: Networked, L: Ledger + Send, A: Allocator>(
+fn seats_of<'a, R: Networked, L: Ledger + Send, M: Map + Drop, A: Allocator>(
     rt: &R,
-    shared: &Shared<L, PageMap>,
+    shared: &Shared<L, M>,
     settings: &'a Settings<A>,
     serve: Serve,
 ) -> Result<Seats<'a, L>, AllocError> {

@@ -10,7 +10,7 @@ use fa_clients::{Lobby, Networked, Session, accept_clients, serve_clients, stop_
 use fa_core::Array;
 use fa_host::tell;
 use fa_image::Image;
-use fa_map::PageMap;
+use fa_map::{Map, PageMap};
 use fa_shared::{Seat, Shared};
 use fa_types::Die;
 use fa_workers::Bench;
@@ -291,7 +291,7 @@ fn wake<R: Networked>(rt: &R, listener: &TcpListener) {
 }
 
 /// Waits until no die wants a window of the collector, or until a second has passed.
-fn let_collect<R: Networked, L: Ledger + Send>(rt: &R, shared: &Shared<L, PageMap>) {
+fn let_collect<R: Networked, L: Ledger + Send, M: Map + Drop>(rt: &R, shared: &Shared<L, M>) {
     for _ in 0..COLLECT_LOOKS {
         if shared.stopped(rt) || !is_collecting(shared.lock(rt).array()) {
             return;
@@ -301,7 +301,7 @@ fn let_collect<R: Networked, L: Ledger + Send>(rt: &R, shared: &Shared<L, PageMa
 }
 
 /// Whether a live die has less room than a block, and a victim.
-fn is_collecting(array: &Array<PageMap>) -> bool {
+fn is_collecting<M: Map>(array: &Array<M>) -> bool {
     for number in 0..array.geometry().dies {
         if array.wants_window(Die(number as u8)) {
             return true;

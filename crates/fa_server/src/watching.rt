@@ -2,7 +2,7 @@
 use fa_clients::Networked;
 use fa_core::Array;
 use fa_host::tell;
-use fa_map::PageMap;
+use fa_map::Map;
 use fa_shared::{Cause, Fault, Shared};
 use fa_types::{Die, Page};
 use log::kv::Source;
@@ -36,9 +36,9 @@ pub(crate) struct Sight {
 /// Tells on standard error which dies went out and came in, when all pages have their copies again, and that the array is running full,
 /// until the array is to end. The sight is how it stood before anybody worked for it, and the paths are those of the dies' images, by the
 /// dies' numbers.
-pub(crate) fn watch<R: Networked, L: Ledger + Send>(
+pub(crate) fn watch<R: Networked, L: Ledger + Send, M: Map + Drop>(
     rt: &R,
-    shared: &Shared<L, PageMap>,
+    shared: &Shared<L, M>,
     paths: &[&str],
     copies: u32,
     seen: Sight,
@@ -87,7 +87,7 @@ fn tell_healed<R: Networked>(rt: &R, lost: u64) {
 }
 
 /// How many pages were written and stand on no live die.
-fn count_lost<R: Networked, L: Ledger + Send>(rt: &R, shared: &Shared<L, PageMap>) -> u64 {
+fn count_lost<R: Networked, L: Ledger + Send, M: Map + Drop>(rt: &R, shared: &Shared<L, M>) -> u64 {
     let pages = shared.lock(rt).array().geometry().pages;
     let mut lost = 0u64;
     for hold in 0..pages / PAGES_A_HOLD + 1 {
@@ -103,7 +103,7 @@ fn count_lost<R: Networked, L: Ledger + Send>(rt: &R, shared: &Shared<L, PageMap
 }
 
 /// Whether a page was written and stands on no live die.
-fn is_lost(array: &Array<PageMap>, page: Page) -> bool {
+fn is_lost<M: Map>(array: &Array<M>, page: Page) -> bool {
     if !array.is_page(page) || array.version(page).is_none() {
         return false;
     }
@@ -117,7 +117,7 @@ fn is_lost(array: &Array<PageMap>, page: Page) -> bool {
 }
 
 /// How an array stands, each of whose pages is to have this number of copies.
-pub(crate) fn sight_of(array: &Array<PageMap>, copies: u32) -> Sight {
+pub(crate) fn sight_of<M: Map>(array: &Array<M>, copies: u32) -> Sight {
     let mut live = [false; 64];
     let (mut dies, mut open, mut roomy) = (0u32, 0u32, 0u32);
     for number in 0..array.geometry().dies {
@@ -147,9 +147,9 @@ pub(crate) fn sight_of(array: &Array<PageMap>, copies: u32) -> Sight {
 
 /// Tells of the faults behind those that were told already, and answers how many were told now. Where there is no memory for them they
 /// are told later.
-fn tell_faults<R: Networked, L: Ledger + Send>(
+fn tell_faults<R: Networked, L: Ledger + Send, M: Map + Drop>(
     rt: &R,
-    shared: &Shared<L, PageMap>,
+    shared: &Shared<L, M>,
     paths: &[&str],
     told: usize,
 ) -> usize {

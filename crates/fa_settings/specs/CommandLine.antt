@@ -44,13 +44,9 @@ program = record (new_shape (codes "flasharr")) {
   subcommand_required = true;
 }
 
--- the arguments of a command that looks at an array
-abbrev pub look_arguments : List Rule
-look_arguments = settings_argument ∷ flag (codes "unclean") ∷ flag (codes "json") ∷ []
-
--- the arguments of the command that serves an array
-abbrev pub serve_arguments : List Rule
-serve_arguments = settings_argument ∷ flag (codes "unclean") ∷ flag (codes "verbose") ∷ []
+-- the arguments of a command that mounts an array, which has this flag besides
+abbrev pub array_arguments : List ℕ → List Rule
+array_arguments name = settings_argument ∷ flag (codes "unclean") ∷ flag name ∷ []
 
 -- the program with its commands, each of which has --help besides
 abbrev pub command_line : App
@@ -58,8 +54,8 @@ command_line =
     with_subcommand (with_subcommand (with_subcommand (with_subcommand (with_subcommand (with_subcommand (with_subcommand
     (record { top = program; subs = [] })
     (with_arguments (codes "format") (settings_argument ∷ die_argument ∷ [])))
-    (with_arguments (codes "check") look_arguments)) (with_arguments (codes "dump") look_arguments))
-    (with_arguments (codes "serve") serve_arguments))
+    (with_arguments (codes "check") (array_arguments (codes "json")))) (with_arguments (codes "dump") (array_arguments (codes "json"))))
+    (with_arguments (codes "serve") (array_arguments (codes "verbose"))))
     (new_shape (codes "plan"))) (new_shape (codes "talk"))) (new_shape (codes "verify"))
 
 -- What the arguments are where they are no command: a request for help or for the version, or a mistake, as the

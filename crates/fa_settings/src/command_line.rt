@@ -6,7 +6,7 @@ ghost use Rattle.clap.specs.declared.builder.command.Command.TheViews.{out-Comma
 ghost use Rattle.clap.specs.Walk.{rows_of, rule_of, first_of, one_of};
 ghost use Rattle.clap.specs.Matches.{found_of};
 ghost use Rattle.fa_settings.specs.CommandLine.{command_line as line, found_instead, wanted_in, wanted_by, formats, checks, dumps, serves, IsWanted, IsDie};
-ghost use Rattle.fa_settings.specs.CommandLine.{is_given as flag_given, with_arguments, look_arguments, serve_arguments};
+ghost use Rattle.fa_settings.specs.CommandLine.{is_given as flag_given, with_arguments, array_arguments};
 ghost use Rattle.fa_settings.specs.CommandLine.{program as program_shape, settings_argument as settings_rule, die_argument as die_rule, flag as flag_rule};
 
 use crate::help::{self, Help};
@@ -85,13 +85,27 @@ fn command_line<'a>(global: Global) -> Result<Command<'a>, AllocError>
     let Ok(format) = with_format(global, program(global)) else {
         return Err(AllocError);
     };
-    let Ok(check) = with_look(global, format, "check", help::CHECK) else {
+    let Ok(check) = with_array(
+        global,
+        format,
+        "check",
+        help::CHECK,
+        "json",
+        help::ABOUT_JSON,
+    ) else {
         return Err(AllocError);
     };
-    let Ok(dump) = with_look(global, check, "dump", help::DUMP) else {
+    let Ok(dump) = with_array(global, check, "dump", help::DUMP, "json", help::ABOUT_JSON) else {
         return Err(AllocError);
     };
-    let Ok(serve) = with_serve(global, dump) else {
+    let Ok(serve) = with_array(
+        global,
+        dump,
+        "serve",
+        help::SERVE,
+        "verbose",
+        help::ABOUT_VERBOSE,
+    ) else {
         return Err(AllocError);
     };
     let Ok(plan) = serve.subcommand(plain_line(global, "plan", help::PLAN)) else {
@@ -142,43 +156,29 @@ fn with_format<'a>(global: Global, program: Command<'a>) -> Result<Command<'a>, 
     program.subcommand(format)
 }
 
-/// The program with a command that looks at an array besides.
-fn with_look<'a>(
+/// The program with a command besides that mounts an array. It has a flag besides `--unclean`, of this name and with this help.
+fn with_array<'a>(
     global: Global,
     program: Command<'a>,
     name: &'a str,
     help: Help,
+    flag_name: &'a str,
+    about: &'a str,
 ) -> Result<Command<'a>, AllocError>
-    ensures { IfOk result (λ c. app_of c ≡ with_subcommand (app_of program.entry) (with_arguments name.entry.now look_arguments)) }
+    ensures { IfOk result (λ c. app_of c ≡ with_subcommand (app_of program.entry)
+        (with_arguments name.entry.now (array_arguments flag_name.entry.now))) }
 {
-    let look = plain_line(global, name, help);
-    let Ok(look) = look.arg(settings_argument(global)) else {
+    let array = plain_line(global, name, help);
+    let Ok(array) = array.arg(settings_argument(global)) else {
         return Err(AllocError);
     };
-    let Ok(look) = look.arg(flag(global, "unclean", help::ABOUT_UNCLEAN)) else {
+    let Ok(array) = array.arg(flag(global, "unclean", help::ABOUT_UNCLEAN)) else {
         return Err(AllocError);
     };
-    let Ok(look) = look.arg(flag(global, "json", help::ABOUT_JSON)) else {
+    let Ok(array) = array.arg(flag(global, flag_name, about)) else {
         return Err(AllocError);
     };
-    program.subcommand(look)
-}
-
-/// The program with the command that serves an array besides.
-fn with_serve<'a>(global: Global, program: Command<'a>) -> Result<Command<'a>, AllocError>
-    ensures { IfOk result (λ c. app_of c ≡ with_subcommand (app_of program.entry) (with_arguments (codes "serve") serve_arguments)) }
-{
-    let serve = plain_line(global, "serve", help::SERVE);
-    let Ok(serve) = serve.arg(settings_argument(global)) else {
-        return Err(AllocError);
-    };
-    let Ok(serve) = serve.arg(flag(global, "unclean", help::ABOUT_UNCLEAN)) else {
-        return Err(AllocError);
-    };
-    let Ok(serve) = serve.arg(flag(global, "verbose", help::ABOUT_VERBOSE)) else {
-        return Err(AllocError);
-    };
-    program.subcommand(serve)
+    program.subcommand(array)
 }
 
 /// The path of the settings.
