@@ -1,5 +1,4 @@
-//! The program: its arguments, its input and its output go to the library, and it ends with the status
-//! that comes of them.
+//! The program: its arguments, its input and its output go to the library, and it ends with the status that comes of them.
 #![tactic(auto)]
 
 use fa_prog::Status;
