@@ -1,11 +1,11 @@
 -- A batch: the pages that it names, their holders, and what is wrong with it.
 use Rattle.std.proofs.Common.{◌≡◌, ◌≢◌, ℕ, suc, ◌+◌, ◌<◌, ◌≤◌, inl, inr, Bool, true, false, cond, ◌&&◌, ◌||◌, Option, Some, None, is_some, IfSome, List, [], ◌∷◌, ◌++◌, length, take, drop, get_or, nat_eq, nat_lt, ◌==◌, refl, sym, ap, ◌∙◌, subst, arith, eq-eqb, eqb-true, length-append}
-use Rattle.std.proofs.lemmas.Option.{slice_get-get_or}
+use Rattle.std.proofs.lemmas.Option.{slice_get-get_or, slice_get_cases}
 use Rattle.std.specs.List.{slice_get, find, list_any, position_or_len}
 use Rattle.std.specs.Option.{option_map, option_copied, option_map_or}
 use Rattle.std.specs.Borrow.{Bor}
 use Rattle.std.proofs.lemmas.Bool.{ltb-true, ltb-false, cases_eq, cases_lt, ne_eqb, or_left, cond-true, cond-false, false_from_ne_true}
-use Rattle.std.proofs.lemmas.List.{take_more, length-map, length-take, get_or-take, get_or-map}
+use Rattle.std.proofs.lemmas.List.{take_more, length-take, get_or-take, nil_from_length}
 use Rattle.std.proofs.lemmas.List.Elements.{All-push}
 use Rattle.std.proofs.lemmas.List.Folds.{list_any_at}
 use Rattle.std.proofs.lemmas.List.Quantifiers.{position-Some}
@@ -14,11 +14,10 @@ use Rattle.std.proofs.Math.Bool.{or-false}
 use Rattle.std.proofs.Math.Seq.{split_at, get_or-append_seam}
 use Rattle.fa_types.specs.declared.numbers.Die.{Die}
 use Rattle.fa_types.specs.declared.numbers.Page.{Page}
-use Rattle.fa_batch.specs.declared.batch.HeldPage.{HeldPage}
 use Rattle.fa_batch.specs.declared.batch.Unsound.{Unsound}
 use Rattle.fa_batch.specs.declared.batch.Unsound.TheVariants.{NoHolder, Twice}
-use Rattle.fa_batch.specs.Batch.{Entry, AreFine, IsFirstWrong, holds, is_among, times_named}
-use Rattle.fa_batch.specs.Index.{entry_of, entries_of, entry_index}
+use Rattle.fa_batch.specs.Batch.{Entry, AreFine, IsFirstWrong, holds, is_among, times_named, with_holder}
+use Rattle.fa_batch.specs.Index.{entry_index}
 use Rattle.fa_batch.proofs.Counting.{count_by-cons, count-from-any, count-before, once-push}
 use Rattle.fa_batch.proofs.Indexed.{position-at}
 
@@ -102,10 +101,10 @@ module _ (batch : List Entry) (i : ℕ) (e : Entry) (below : i < length batch) (
   whole_is : batch ≡ take i batch ++ e ∷ drop (suc i) batch
   whole_is = split_at batch i e below ∙ ap (λ v. take i batch ++ v ∷ drop (suc i) batch) read
 
-  pub no_holder : e.holders ≡ [] → IsFirstWrong batch (NoHolder e.page)
+  no_holder : e.holders ≡ [] → IsFirstWrong batch (NoHolder e.page)
   no_holder none = record { before = take i batch; entry = e; after = drop (suc i) batch; whole = whole_is; fine = fine; wrong = (refl, none) }
 
-  pub named_before : e.holders ≢ [] → (k : ℕ) → entry_index batch e.page.0 ≡ Some k → k < i → IsFirstWrong batch (Twice e.page)
+  named_before : e.holders ≢ [] → (k : ℕ) → entry_index batch e.page.0 ≡ Some k → k < i → IsFirstWrong batch (Twice e.page)
   named_before some k at earlier =
       let test : Entry → Bool = λ v. v.page.0 == e.page.0 in
       let place = position_is batch e.page.0 k at in
@@ -114,7 +113,7 @@ module _ (batch : List Entry) (i : ℕ) (e : Entry) (below : i < length batch) (
       let any = list_any_at test (take i batch) k e (omega (arith, bound)) there in
       record { before = take i batch; entry = e; after = drop (suc i) batch; whole = whole_is; fine = fine; wrong = (refl, some, count-from-any test (take i batch) any) }
 
-  pub fine_more : e.holders ≢ [] → ((k : ℕ) → entry_index batch e.page.0 ≡ Some k → i ≤ k) → AreFine (take (i + 1) batch)
+  fine_more : e.holders ≢ [] → ((k : ℕ) → entry_index batch e.page.0 ≡ Some k → i ≤ k) → AreFine (take (i + 1) batch)
   fine_more some first =
       let test : Entry → Bool = λ v. v.page.0 == e.page.0 in
       let start : i ≤ position_or_len test batch =
@@ -147,20 +146,66 @@ not_fine batch (Twice page) first fine =
     let before = first.wrong.2 in
     omega (arith, split, head, this, most, before)
 
--- the entry of what was read
-pub entry_at : {A : Type 0} (held : List (HeldPage A)) (i : ℕ) (h : HeldPage A) → i < length held → h ≡ get_or held i h → (i < length (entries_of held)) × (get_or (entries_of held) i (entry_of h) ≡ entry_of h)
-entry_at held i h below read =
-    let size = length-map held entry_of in
-    (omega (arith, below, size), get_or-map entry_of held i h (entry_of h) below ∙ ap entry_of (sym read))
+-- one more holder of the last entry
+pub with_holder-push : (batch : List Entry) (e : Entry) (die : Die)
+    → with_holder (batch ++ e ∷ []) die ≡ batch ++ record { page = e.page; holders = e.holders ++ die ∷ [] } ∷ []
+with_holder-push [] e die = refl
+with_holder-push (f ∷ []) e die = refl
+with_holder-push (f ∷ next ∷ batch) e die = ap (λ v. f ∷ v) (with_holder-push (next ∷ batch) e die)
+
+-- the entry at an index
+pub entry_here : (batch : List Entry) (i : ℕ) → i < length batch → (e : Entry) × (slice_get batch i ≡ Some e) × (get_or batch i e ≡ e)
+entry_here batch i below =
+    elim ((slice_get_cases batch i).1) [ inl f ↦ (f.0, f.2, f.3) | inr p ↦ absurd (omega (arith, below, p.0)) ]
 
 -- what the answer says of whether an index is earlier
-pub earlier_at : (o : Option ℕ) (i : ℕ) → option_map_or (λ k. nat_lt k i) o false ≡ true → (k : ℕ) × (o ≡ Some k) × (k < i)
+earlier_at : (o : Option ℕ) (i : ℕ) → option_map_or (λ k. nat_lt k i) o false ≡ true → (k : ℕ) × (o ≡ Some k) × (k < i)
 earlier_at None i h = cc
 earlier_at (Some k) i h = (k, refl, ltb-true k i h)
 
-pub not_earlier : (o : Option ℕ) (i : ℕ) → option_map_or (λ k. nat_lt k i) o false ≡ false → (k : ℕ) → o ≡ Some k → i ≤ k
+not_earlier : (o : Option ℕ) (i : ℕ) → option_map_or (λ k. nat_lt k i) o false ≡ false → (k : ℕ) → o ≡ Some k → i ≤ k
 not_earlier None i h k is = cc
 not_earlier (Some j) i h k is = let same : j ≡ k = cc in omega (arith, ltb-false j i h, same)
+
+-- The entries so far are fine, and the next one is as the code finds it.
+module _ (batch : List Entry) (i : ℕ) (holders : List Die) (fine : AreFine (take i batch)) (below : i < length batch)
+    (holders_are : IfSome (slice_get batch i) (λ e. e.holders ≡ holders)) where
+  pub next_without_holder : (page : Page) → IfSome (slice_get batch i) (λ e. e.page ≡ page) → (length holders == 0) ≡ true → IsFirstWrong batch (NoHolder page)
+  next_without_holder page page_is none =
+      let here = entry_here batch i below in
+      let same : here.0.page ≡ page = subst (λ o. IfSome o (λ (e : Entry). e.page ≡ page)) here.1 page_is in
+      let its : here.0.holders ≡ holders = subst (λ o. IfSome o (λ (e : Entry). e.holders ≡ holders)) here.1 holders_are in
+      subst (λ p. IsFirstWrong batch (NoHolder p)) same
+      (no_holder batch i here.0 below here.2 fine (its ∙ nil_from_length holders (eqb-true (length holders) 0 none)))
+
+  some_holder : (e : Entry) → slice_get batch i ≡ Some e → (length holders == 0) ≡ false → e.holders ≢ []
+  some_holder e is some none =
+      let its : e.holders ≡ holders = subst (λ o. IfSome o (λ (v : Entry). v.holders ≡ holders)) is holders_are in
+      let size : length holders ≡ 0 = ap (λ v. length v) (sym its ∙ none) in
+      let yes = eq-eqb (length holders) 0 size in
+      let no : ⊥ = cc in
+      no
+
+  -- whether it was named before
+  module _ (before : Bool) (before_is : IfSome (slice_get batch i) (λ e. before ≡ option_map_or (λ k. nat_lt k i) (entry_index batch e.page.0) false))
+      (some : (length holders == 0) ≡ false) where
+    pub next_named_before : (page : Page) → IfSome (slice_get batch i) (λ e. e.page ≡ page) → before ≡ true → IsFirstWrong batch (Twice page)
+    next_named_before page page_is named =
+        let here = entry_here batch i below in
+        let same : here.0.page ≡ page = subst (λ o. IfSome o (λ (e : Entry). e.page ≡ page)) here.1 page_is in
+        let earlier : before ≡ option_map_or (λ k. nat_lt k i) (entry_index batch here.0.page.0) false =
+        subst (λ o. IfSome o (λ (e : Entry). before ≡ option_map_or (λ k. nat_lt k i) (entry_index batch e.page.0) false)) here.1 before_is in
+        let found = earlier_at (entry_index batch here.0.page.0) i (sym earlier ∙ named) in
+        subst (λ p. IsFirstWrong batch (Twice p)) same
+        (named_before batch i here.0 below here.2 fine (some_holder here.0 here.1 some) found.0 found.1 found.2)
+
+    pub next_fine : before ≡ false → AreFine (take (i + 1) batch)
+    next_fine fresh =
+        let here = entry_here batch i below in
+        let earlier : before ≡ option_map_or (λ k. nat_lt k i) (entry_index batch here.0.page.0) false =
+        subst (λ o. IfSome o (λ (e : Entry). before ≡ option_map_or (λ k. nat_lt k i) (entry_index batch e.page.0) false)) here.1 before_is in
+        fine_more batch i here.0 below here.2 fine (some_holder here.0 here.1 some)
+        (λ k first. not_earlier (entry_index batch here.0.page.0) i (sym earlier ∙ fresh) k first)
 
 -- the page of an entry
 pub page_at : (batch : List Entry) (i : ℕ) (page : Page) → i < length batch → IfSome (slice_get batch i) (λ e. e.page ≡ page) → (d : Entry) → (get_or batch i d).page ≡ page

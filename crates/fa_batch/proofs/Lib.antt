@@ -1,6 +1,9 @@
 pub mod Batches
 pub mod Counting
 pub mod Covered
+pub mod Held
 pub mod Indexed
 pub mod Parts
+pub mod Pushed
+pub mod Rising
 pub mod Windows

@@ -11,6 +11,12 @@ pub record Entry : Type 0 where
   pub page : Page
   pub holders : List Die
 
+-- a batch whose last entry has one more holder, the last
+abbrev pub with_holder : List Entry → Die → List Entry
+with_holder [] die = []
+with_holder (e ∷ []) die = record { page = e.page; holders = e.holders ++ die ∷ [] } ∷ []
+with_holder (e ∷ next ∷ rest) die = e ∷ with_holder (next ∷ rest) die
+
 -- how often a batch names a page
 abbrev pub times_named : List Entry → ℕ → ℕ
 times_named batch page = count_by (λ e. e.page.0 == page) batch

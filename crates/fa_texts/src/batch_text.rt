@@ -67,7 +67,7 @@ pub fn read_batch<A: Allocator + Copy>(
                 if !runs.is_empty() || batch.len() >= MAX_PAGES {
                     return Err(TextError::Line(line));
                 }
-                batch.push(page, holders)?;
+                batch.push(page, holders.as_slice())?;
             }
             BatchLine::Closed(run) => {
                 if runs.len() >= MAX_RUNS {

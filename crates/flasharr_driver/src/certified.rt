@@ -33,7 +33,8 @@ pub(crate) fn held_pages<M: Map, A: Allocator + Copy>(
 ) -> Result<Batch<A>, AllocError> {
     let mut batch = Batch::new(heap);
     for page in pages {
-        batch.push(*page, holders(array, heap, *page)?)?;
+        let dies = holders(array, heap, *page)?;
+        batch.push(*page, dies.as_slice())?;
     }
     Ok(batch)
 }

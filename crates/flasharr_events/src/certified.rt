@@ -75,7 +75,8 @@ fn held_pages<M: Map, A: Allocator + Copy>(
 ) -> Result<Batch<A>, AllocError> {
     let mut batch = Batch::new(heap);
     for place in places {
-        batch.push(place.page, holders(array, heap, place.page)?)?;
+        let dies = holders(array, heap, place.page)?;
+        batch.push(place.page, dies.as_slice())?;
     }
     Ok(batch)
 }

@@ -22,7 +22,7 @@ pub fn holders_of(alloc: Global, dies: &[u8]) -> Result<Vec<Die>, Fail> {
 fn batch_of(alloc: Global, entries: &[(u64, &[u8])]) -> Result<Batch, Fail> {
     let mut batch = Batch::new(alloc);
     for (page, dies) in entries {
-        batch.push(Page(*page), holders_of(alloc, dies)?)?;
+        batch.push(Page(*page), holders_of(alloc, dies)?.as_slice())?;
     }
     Ok(batch)
 }

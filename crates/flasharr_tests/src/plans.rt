@@ -14,7 +14,7 @@ use std::test::Fail;
 fn batch_on(alloc: Global, pages: u64, dies: &[u8]) -> Result<Batch, Fail> {
     let mut batch = Batch::new(alloc);
     for page in 0..pages {
-        batch.push(Page(page), holders_of(alloc, dies)?)?;
+        batch.push(Page(page), holders_of(alloc, dies)?.as_slice())?;
     }
     Ok(batch)
 }
@@ -53,7 +53,7 @@ fn a_full_batch_on_one_die(rt: HostRuntime) -> Result<(), Fail> {
 #[test]
 fn one_failed_search(rt: HostRuntime) -> Result<(), Fail> {
     let mut batch = batch_on(rt.alloc(), 2, &[0])?;
-    batch.push(Page(2), holders_of(rt.alloc(), &[1, 2])?)?;
+    batch.push(Page(2), holders_of(rt.alloc(), &[1, 2])?.as_slice())?;
     let closed = closed_of(rt.alloc(), &[])?;
     let planned = planned(rt.alloc(), &batch, &closed)?;
     ensure!(planned.rounds == 2 && planned.searches == 4 && planned.looks == 5);

@@ -1,4 +1,4 @@
-use Rattle.std.proofs.Common.{◌+◌, ◌-◌, ◌<◌, length, sym, ap, ◌∙◌, subst, arith, eqb-true}
+use Rattle.std.proofs.Common.{◌+◌, ◌-◌, ◌<◌, ◌++◌, ◌∷◌, [], length, sym, ap, ◌∙◌, subst, arith, eqb-true}
 use Rattle.std.proofs.lemmas.Bool.{eqb-false, false≢true}
 use Rattle.std.proofs.lemmas.List.{nil_from_length}
 use Rattle.std.proofs.lemmas.List.Elements.{recursion_from_All}
@@ -85,7 +85,7 @@ loop-text-preserved g c =
             (let says = subst (λ v. SaysOfBatch (words_of c.in-Some-cut_line.text.now) v) w.in-Page.is c.in_ok-page.ensures in
             let none = nil_from_length c.loop-text.runs.items (let zero = eqb-true c.loop-text.runs.len 0 (sym w.is_empty.ensures ∙ w.if-not-is_empty.false) in let size = c.loop-text.runs.ok.0 in omega (arith, zero, size)) in
             let room : length c.loop-text.batch < 1024 = (let not_full = w.if-len-ge-MAX_PAGES.false in let size = w.len.ensures in omega (arith, not_full, size)) in
-            page_more read.fine none room says.0 says.1 (w.batch-is ∙ w.in_ok-push-in-Page.ensures.ok) (ap (λ v. v.items) w.runs-is))
+            page_more read.fine none room says.0 says.1 (w.batch-is ∙ w.in_ok-push-in-Page.ensures.ok ∙ ap (λ dies. c.loop-text.batch ++ record { page = w.in-Page.page; holders = dies } ∷ []) w.as_slice.ensures.value) (ap (λ v. v.items) w.runs-is))
         | in-Closed+else-len-ge-MAX_RUNS+in_ok-push-in-Closed w ↦
             (let says = subst (λ v. SaysOfBatch (words_of c.in-Some-cut_line.text.now) v) w.in-Closed.is c.in_ok-page.ensures in
             let room : length c.loop-text.runs.items < 4096 = (let not_full = w.if-len-ge-MAX_RUNS.false in let size = w.len-in-Closed.ensures in omega (arith, not_full, size)) in

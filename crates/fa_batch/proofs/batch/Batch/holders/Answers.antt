@@ -1,17 +1,12 @@
-use Rattle.std.proofs.Common.{Some, sym, ap, ◌∙◌, ◌==◌}
-use Rattle.std.specs.Option.{option_map, option_copied}
-use Rattle.std.specs.List.{find}
-use Rattle.fa_batch.proofs.Indexed.{holders_at, holders_nowhere}
+use Rattle.std.proofs.Common.{sym, ap, ◌∙◌, ◌==◌}
+use Rattle.std.specs.Option.{option_map}
+use Rattle.fa_batch.specs.Batch.{Entry}
+use Rattle.fa_batch.proofs.Indexed.{find-nowhere, found_at}
 use Rattle.fa_batch.proofs.batch.Batch.holders.Goals as goal
 
 pub returns-in-Some : goal.returns-in-Some
-returns-in-Some g c =
-    let found = sym c.get.ensures.value ∙ ap (λ o. option_copied o) c.in-Some.is in
-    let at = holders_at c.self.inside.entries.items c.self.inside.first c.self.invariant c.args.page.0 c.in-Some.index.now c.index.result.now found c.index.ensures in
-    ap (λ hs. Some hs) c.as_slice.ensures.value ∙ at ∙ ap (λ b. option_map (λ e. e.holders) (find (λ e. e.page.0 == c.args.page.0) b)) c.self.view_is
+returns-in-Some g c = found_at c.args.self.now c.args.page.0 c.in-Some.index c.holders_at.result.now (sym c.first_index.ensures ∙ c.in-Some.is) c.holders_at.ensures
 
 pub returns-in-None : goal.returns-in-None
 returns-in-None g c =
-    let none = sym c.get.ensures.value ∙ ap (λ o. option_copied o) c.in-None.is in
-    holders_nowhere c.self.inside.entries.items c.self.inside.first c.self.invariant c.args.page.0 none
-    ∙ ap (λ b. option_map (λ e. e.holders) (find (λ e. e.page.0 == c.args.page.0) b)) c.self.view_is
+    sym (ap (λ o. option_map (λ (e : Entry). e.holders) o) (find-nowhere (λ (e : Entry). e.page.0 == c.args.page.0) c.args.self.now (sym c.first_index.ensures ∙ c.in-None.is)))
