@@ -7,5 +7,7 @@ mod giving;
 mod layout;
 mod planner;
 mod shortage;
+mod workspace;
 
-pub use planner::{Planned, plan};
+pub use planner::{Planned, plan, plan_in};
+pub use workspace::Workspace;

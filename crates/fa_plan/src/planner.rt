@@ -13,6 +13,7 @@ ghost use Rattle.fa_plan.specs.Progress.{AreSeats, IsProgress, steps_left};
 use crate::giving::give;
 use crate::layout::{Seat, lay_out};
 use crate::shortage::rounds_for;
+use crate::workspace::Workspace;
 use fa_batch::{Batch, Plan, Shortage};
 use fa_room::count_rooms;
 use fa_types::{Die, Rounds};
@@ -53,7 +54,35 @@ pub(crate) struct Progress<A: Allocator> {
 
 /// Plans a batch in the least number of rounds, by augmenting paths. It begins with the number of rounds
 /// that the batch as a whole needs. Where no die can be found for a page, the pages that the search
-/// reached are kept as the shortage, and the next number of rounds is the first that they leave.
+/// reached are kept as the shortage, and the next number of rounds is the first that they leave. Memory comes from the workspace where it
+/// has some. The error is out of memory.
+pub fn plan_in<R: Rounds, A: Allocator + Copy>(
+    alloc: A,
+    workspace: &mut Workspace<A>,
+    batch: &Batch<A>,
+    calendar: &R,
+) -> Result<Planned<A>, AllocError>
+    requires sound { IsSound batch.now }
+    requires early { R.current calendar.now ≤ 2 ^ 56 - 2 ^ 24 }
+    ensures certificate { IfOk result (λ planned. IsCertificate batch.now (R.current calendar.now) (R.closed calendar.now)
+        planned.rounds planned.plan.places planned.shortage) }
+    ensures rounds { IfOk result (λ planned. planned.plan.rounds ≡ planned.rounds) }
+    ensures first { IfOk result (λ planned. AreFirstRounds (R.current calendar.now) (R.closed calendar.now) planned.plan.places) }
+    ensures searches { IfOk result (λ planned. (first : ℕ) → IsSimpleBound batch.now (R.current calendar.now) (R.closed calendar.now) first
+        → planned.searches + first ≤ length batch.now + planned.rounds) }
+    ensures most { IfOk result (λ planned. planned.searches ≤ length batch.now + planned.rounds) }
+    ensures counted { IfOk result (λ planned. length batch.now ≤ planned.searches) }
+    ensures whole { IfOk result (λ planned. planned.searches ≡ length batch.now → planned.shortage ≡ pages_of batch.now) }
+    ensures looks { IfOk result (λ planned. planned.looks ≤ planned.searches * length batch.now) }
+{
+    let mut progress = begin(alloc, workspace, batch, calendar)?;
+    'pages: while progress.given.len() < batch.len() {
+        step(alloc, batch, calendar, &mut progress)?;
+    }
+    finish(alloc, workspace, batch, calendar, progress)
+}
+
+/// Plans a batch as [`plan_in`] does, with no memory of an earlier plan.
 pub fn plan<R: Rounds, A: Allocator + Copy>(
     alloc: A,
     batch: &Batch<A>,
@@ -72,16 +101,13 @@ pub fn plan<R: Rounds, A: Allocator + Copy>(
     ensures whole { IfOk result (λ planned. planned.searches ≡ length batch.now → planned.shortage ≡ pages_of batch.now) }
     ensures looks { IfOk result (λ planned. planned.looks ≤ planned.searches * length batch.now) }
 {
-    let mut progress = begin(alloc, batch, calendar)?;
-    'pages: while progress.given.len() < batch.len() {
-        step(alloc, batch, calendar, &mut progress)?;
-    }
-    finish(alloc, batch, calendar, progress)
+    plan_in(alloc, &mut Workspace::new(alloc), batch, calendar)
 }
 
 /// A plan of no page yet, in the number of rounds that the batch as a whole needs.
 fn begin<R: Rounds, A: Allocator + Copy>(
     alloc: A,
+    workspace: &mut Workspace<A>,
     batch: &Batch<A>,
     calendar: &R,
 ) -> Result<Progress<A>, AllocError>
@@ -89,12 +115,12 @@ fn begin<R: Rounds, A: Allocator + Copy>(
     requires early { R.current calendar.now ≤ 2 ^ 56 - 2 ^ 24 }
     ensures { IfOk result (λ progress. IsProgress batch.now (R.current calendar.now) (R.closed calendar.now) progress) }
 {
-    let short = all_pages(alloc, batch)?;
+    let short = all_pages(workspace.take_pages(alloc), batch)?;
     let mut rounds = 0;
     if 0 < batch.len() {
         rounds = rounds_for(batch, calendar, short.as_slice(), 0);
     }
-    let given = Vec::with_capacity(alloc, batch.len())?;
+    let given = workspace.take_dies(alloc, batch.len())?;
     let tables = Tables {
         loads: [0; 256],
         rooms: count_rooms(calendar, rounds),
@@ -145,6 +171,7 @@ fn step<R: Rounds, A: Allocator + Copy>(
 /// The plan whose pages all have dies.
 fn finish<R: Rounds, A: Allocator + Copy>(
     alloc: A,
+    workspace: &mut Workspace<A>,
     batch: &Batch<A>,
     calendar: &R,
     progress: Progress<A>,
@@ -162,8 +189,9 @@ fn finish<R: Rounds, A: Allocator + Copy>(
     ensures searches { IfOk result (λ planned. planned.searches ≡ progress.searches) }
     ensures looks { IfOk result (λ planned. planned.looks ≡ progress.looks) }
 {
-    let seats = seats_of(alloc, batch, progress.given.as_slice())?;
-    let places = lay_out(alloc, calendar, seats.as_slice())?;
+    let seats = seats_of(alloc, workspace, batch, progress.given.as_slice())?;
+    let places = lay_out(workspace.take_places(alloc), calendar, seats.as_slice())?;
+    workspace.keep_lists(progress.given, seats);
     Ok(Planned {
         rounds: progress.rounds,
         plan: Plan {
@@ -179,6 +207,7 @@ fn finish<R: Rounds, A: Allocator + Copy>(
 /// The pages with their dies, by rising page.
 fn seats_of<A: Allocator + Copy>(
     alloc: A,
+    workspace: &mut Workspace<A>,
     batch: &Batch<A>,
     given: &[Die],
 ) -> Result<Vec<Seat, A>, AllocError>
@@ -187,7 +216,7 @@ fn seats_of<A: Allocator + Copy>(
     ensures rising { IfOk result (λ seats. AreRising seats.items) }
     ensures same { IfOk result (λ seats. (listed : List Seat) × AreSeats batch.now given.now listed × IsPermutation listed seats.items) }
 {
-    let mut seats = list_seats(alloc, batch, given)?;
+    let mut seats = list_seats(alloc, workspace, batch, given)?;
     seats.sort_unstable_by_key(|seat| seat.page.0);
     Ok(seats)
 }
@@ -195,13 +224,14 @@ fn seats_of<A: Allocator + Copy>(
 /// The pages with their dies, in the order of the batch.
 fn list_seats<A: Allocator + Copy>(
     alloc: A,
+    workspace: &mut Workspace<A>,
     batch: &Batch<A>,
     given: &[Die],
 ) -> Result<Vec<Seat, A>, AllocError>
     requires { length given.now ≡ length batch.now }
     ensures { IfOk result (λ seats. AreSeats batch.now given.now seats.items) }
 {
-    let mut seats = Vec::with_capacity(alloc, given.len())?;
+    let mut seats = workspace.take_seats(alloc, given.len())?;
     for (index, die) in given.iter().enumerate() {
         seats.push(Seat {
             page: batch.page(index),

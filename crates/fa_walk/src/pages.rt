@@ -1,5 +1,5 @@
 //! The pages of a batch, and those of them that a walk reached.
-ghost use Rattle.std.specs.Prelude.{◌≡◌, ◌<◌, length, IfOk};
+ghost use Rattle.std.specs.Prelude.{◌≡◌, ◌<◌, [], length, IfOk};
 ghost use Rattle.fa_walk.specs.Pages.{AreReached, pages_of};
 
 use crate::walk::Walk;
@@ -7,11 +7,15 @@ use fa_batch::{Batch, Listing, Shortage};
 use fa_types::Die;
 use std::alloc::{AllocError, Allocator};
 
-/// All pages of a batch.
-pub fn all_pages<A: Allocator + Copy>(alloc: A, batch: &Batch<A>) -> Result<Shortage<A>, AllocError>
+/// All pages of a batch, in a list that had none. The error is out of memory.
+pub fn all_pages<A: Allocator>(
+    empty: Shortage<A>,
+    batch: &Batch<A>,
+) -> Result<Shortage<A>, AllocError>
+    requires { empty ≡ [] }
     ensures { IfOk result (λ pages. pages ≡ pages_of batch.now) }
 {
-    let mut pages = Listing::new(alloc);
+    let mut pages = empty;
     for index in 0..batch.len() {
         pages.push(batch.page(index))?;
     }

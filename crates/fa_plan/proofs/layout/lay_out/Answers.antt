@@ -11,8 +11,8 @@ use Rattle.fa_plan.proofs.layout.lay_out.Goals as goal
 pub loop-seat-init : goal.loop-seat-init
 loop-seat-init g c = record {
   long = refl;
-  taken = λ die known. get_or-replicate_default 256 die 0 ∙ sym (ap (λ v. count_by (is_at_die die) v) c.new-places.ensures);
-  laid = subst (λ v. IsLaidOut (g.R.Rounds.current c.args.calendar.now) (g.R.Rounds.closed c.args.calendar.now) _ v) (sym c.new-places.ensures) (laid_none (g.R.Rounds.current c.args.calendar.now) (g.R.Rounds.closed c.args.calendar.now) c.args.seats.now);
+  taken = λ die known. get_or-replicate_default 256 die 0 ∙ sym (ap (λ v. count_by (is_at_die die) v) c.requires.empty);
+  laid = subst (λ v. IsLaidOut (g.R.Rounds.current c.args.calendar.now) (g.R.Rounds.closed c.args.calendar.now) _ v) (sym c.requires.empty) (laid_none (g.R.Rounds.current c.args.calendar.now) (g.R.Rounds.closed c.args.calendar.now) c.args.seats.now);
 }
 
 pub loop-seat-preserved : goal.loop-seat-preserved

@@ -1,7 +1,7 @@
 use Rattle.std.proofs.Common.{◌≡◌, ℕ, ◌+◌, ◌≤◌, length, arith}
 use Rattle.fa_plan.specs.Bound.{IsSimpleBound}
 use Rattle.fa_plan.proofs.Making.{if_ok_both}
-use Rattle.fa_plan.proofs.planner.plan.Goals as goal
+use Rattle.fa_plan.proofs.planner.plan_in.Goals as goal
 
 pub returns-clause-searches : goal.returns-clause-searches
 returns-clause-searches g c =

@@ -1,5 +1,5 @@
 use Rattle.fa_plan.specs.Progress.{IsProgress, steps_left}
-use Rattle.fa_plan.proofs.planner.plan.Given as goal
+use Rattle.fa_plan.proofs.planner.plan_in.Given as goal
 
 abbrev pub invariant-pages : goal.invariant-pages
 invariant-pages g l = IsProgress l.batch (g.R.Rounds.current l.calendar) (g.R.Rounds.closed l.calendar) l.progress
