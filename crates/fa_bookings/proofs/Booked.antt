@@ -1,22 +1,16 @@
--- Trees of bookings as finite maps.
-use Rattle.fa_bookings.specs.Booked.{Entries}
+-- Tables of booked rounds as finite maps.
+use Rattle.fa_bookings.specs.Booked.{Entries, booking_at}
 use Rattle.fa_bookings.specs.Found.{get_booked}
-use Rattle.fa_machine.proofs.Maps.{get-keep, if_equal, passed, place_cmp_total, place_same, place_tied}
+use Rattle.fa_machine.proofs.Maps.{get-keep, passed, place_cmp_total, place_same, place_tied}
 use Rattle.fa_machine.specs.Maps.{keep, place_cmp}
 use Rattle.fa_machine.specs.declared.places.Booking.{Booking}
 use Rattle.std.proofs.Common.{Bool, None, Option, Some, [], ap, arith, cond, eq-eqb, eqb-true, false, inl, inr, length, refl, sym, true}
 use Rattle.std.proofs.Common.{ℕ, ◌∙◌, ◌∷◌, ◌≡◌}
-use Rattle.std.proofs.lemmas.Bool.{and_parts, cases_Bool, cases_eq, false_from_ne_true, false≢true, lt-ltb, ltb-true, ne_eqb}
-use Rattle.std.proofs.lemmas.Cmp.{tied_itself}
-use Rattle.std.specs.BTreeMap.{is_at}
+use Rattle.std.proofs.lemmas.Bool.{and_from, and_parts, cases_Bool, cases_eq, false_from_ne_true, false≢true, lt-ltb, ltb-true, ne_eqb}
 use Rattle.std.specs.FinMap.{FinMap, contains_key, empty_of_len, from_entries, get, get-empty, get-insert}
 use Rattle.std.specs.FinMap.{get-remove, insert, len, len-empty, remove, same_map}
-use Rattle.std.specs.Map.{lookup}
-use Rattle.std.specs.Ordering.{eq_by_cmp, is_eq}
+use Rattle.std.specs.Ordering.{eq_by_cmp}
 use Rattle.std.specs.Prelude.{filter, if◌then◌else◌, is_some, nat_lt, not, ◌&&◌, ◌==◌, ◌<◌, ◌≤◌}
-
-abbrev pub at : Entries → ℕ × ℕ → Option Booking
-at es q = lookup (is_at (place_cmp q)) es
 
 pub same_bookings : (m n : FinMap place_cmp Booking) → ((die round : ℕ) → get m (die, round) ≡ get n (die, round)) → m ≡ n
 same_bookings m n alike = same_map place_cmp_total place_same m n (λ q. alike q.0 q.1)
@@ -31,14 +25,14 @@ eqb_swap a b =
 pub here_tied : (die round d r : ℕ) → (die == d && round == r) ≡ eq_by_cmp place_cmp (d, r) (die, round)
 here_tied die round d r = (λ i. eqb_swap die d i && eqb_swap round r i) ∙ sym (place_tied (d, r) (die, round))
 
--- two trees that differ at one place
+-- two tables that differ at one place
 module _ (old new : Entries) (die round : ℕ) (w : Option Booking)
-    (updated : (d r : ℕ) → at new (d, r) ≡ (if die == d && round == r then w else at old (d, r))) where
+    (updated : (d r : ℕ) → booking_at new d r ≡ (if die == d && round == r then w else booking_at old d r)) where
   get_updated : (d r : ℕ) → get (from_entries {R = place_cmp} new) (d, r)
       ≡ cond (eq_by_cmp place_cmp (d, r) (die, round)) w (get (from_entries {R = place_cmp} old) (d, r))
   get_updated d r =
-      get_booked new (d, r) ∙ updated d r ∙ ap (λ b. cond b w (at old (d, r))) (here_tied die round d r)
-      ∙ ap (cond (eq_by_cmp place_cmp (d, r) (die, round)) w) (sym (get_booked old (d, r)))
+      get_booked new d r ∙ updated d r ∙ ap (λ b. cond b w (booking_at old d r)) (here_tied die round d r)
+      ∙ ap (cond (eq_by_cmp place_cmp (d, r) (die, round)) w) (sym (get_booked old d r))
 
   pub inserted : (b : Booking) → w ≡ Some b → from_entries {R = place_cmp} new ≡ insert (from_entries old) (die, round) b
   inserted b is =
@@ -53,21 +47,22 @@ module _ (old new : Entries) (die round : ℕ) (w : Option Booking)
       ∙ sym (get-remove place_cmp_total (from_entries old) (die, round) (d, r)))
 
   -- where it was booked before and is, the same places are booked
-  pub still_there : is_some w ≡ true → is_some (at old (die, round)) ≡ true → (d r : ℕ) → is_some (at new (d, r)) ≡ is_some (at old (d, r))
+  pub still_there : is_some w ≡ true → is_some (booking_at old die round) ≡ true
+      → (d r : ℕ) → is_some (booking_at new d r) ≡ is_some (booking_at old d r)
   still_there now before d r =
       ap is_some (updated d r) ∙ elim (cases_Bool (die == d && round == r)) [
         | inl tied ↦
             let parts = and_parts (die == d) (round == r) tied in
-            ap (λ b. is_some (if b then w else at old (d, r))) tied ∙ now
-            ∙ sym (ap is_some (λ i. at old (sym (eqb-true die d parts.0) i, sym (eqb-true round r parts.1) i)) ∙ before)
-        | inr apart ↦ ap (λ b. is_some (if b then w else at old (d, r))) apart
+            ap (λ b. is_some (if b then w else booking_at old d r)) tied ∙ now
+            ∙ sym (ap is_some (λ i. booking_at old (sym (eqb-true die d parts.0) i) (sym (eqb-true round r parts.1) i)) ∙ before)
+        | inr apart ↦ ap (λ b. is_some (if b then w else booking_at old d r)) apart
       ]
 
   -- where it is gone, the others are as before
-  pub others_there : w ≡ None → (d r : ℕ) → is_some (at new (d, r)) ≡ (is_some (at old (d, r)) && not (die == d && round == r))
+  pub others_there : w ≡ None → (d r : ℕ) → is_some (booking_at new d r) ≡ (is_some (booking_at old d r) && not (die == d && round == r))
   others_there gone d r =
-      ap is_some (updated d r) ∙ ap (λ o. is_some (if die == d && round == r then o else at old (d, r))) gone
-      ∙ go (die == d && round == r) (at old (d, r))
+      ap is_some (updated d r) ∙ ap (λ o. is_some (if die == d && round == r then o else booking_at old d r)) gone
+      ∙ go (die == d && round == r) (booking_at old d r)
     where
       go : (b : Bool) (o : Option Booking) → is_some (if b then None else o) ≡ (is_some o && not b)
       go true None = refl
@@ -84,17 +79,18 @@ no_entries [] none = refl
 no_entries (e ∷ es) none =
     let nothing = empty_of_len (from_entries (e ∷ es)) none in
     absurd (false≢true (sym (ap (λ m. contains_key m e.0) nothing ∙ ap is_some (get-empty place_cmp e.0))
-    ∙ ap is_some (get_booked (e ∷ es) e.0)
-    ∙ ap (λ b. is_some (cond b (Some e.1) (at es e.0))) (ap is_eq (tied_itself place_cmp_total e.0))))
+    ∙ ap is_some (get_booked (e ∷ es) e.0.0 e.0.1)
+    ∙ ap (λ b. is_some (cond b (Some e.1) (booking_at es e.0.0 e.0.1)))
+    (and_from (e.0.0 == e.0.0) (e.0.1 == e.0.1) (eq-eqb e.0.0 e.0.0 refl) (eq-eqb e.0.1 e.0.1 refl))))
 
 -- The bookings that are left where some places are given up, by a test of places.
 pub left : (old new : Entries) (test : ℕ × ℕ → Bool)
-    → ((die round : ℕ) → at new (die, round) ≡ (if test (die, round) then at old (die, round) else None))
+    → ((die round : ℕ) → booking_at new die round ≡ (if test (die, round) then booking_at old die round else None))
     → from_entries {R = place_cmp} new ≡ keep (λ place b. test place) (from_entries old)
 left old new test same =
-    same_bookings _ _ (λ die round. get_booked new (die, round) ∙ same die round
-    ∙ go (test (die, round)) (at old (die, round))
-    ∙ ap (passed (λ b. test (die, round))) (sym (get_booked old (die, round)))
+    same_bookings _ _ (λ die round. get_booked new die round ∙ same die round
+    ∙ go (test (die, round)) (booking_at old die round)
+    ∙ ap (passed (λ b. test (die, round))) (sym (get_booked old die round))
     ∙ sym (get-keep place_cmp_total place_same (λ place b. test place) (from_entries old) (die, round)))
   where
     go : (b : Bool) (o : Option Booking) → (if b then o else None) ≡ passed (λ x. b) o
@@ -116,32 +112,35 @@ nothing_here true o none = none
 nothing_here false o none = refl
 
 -- what is left where a die's bookings go
-pub without_die : (die : ℕ) (es : Entries) (d r : ℕ) → at (filter (is_elsewhere die) es) (d, r) ≡ (if d == die then None else at es (d, r))
+pub without_die : (die : ℕ) (es : Entries) (d r : ℕ)
+    → booking_at (filter (is_elsewhere die) es) d r ≡ (if d == die then None else booking_at es d r)
 without_die die [] d r = sym (nothing_else (d == die) None refl)
 without_die die (e ∷ es) d r =
-    elim (cases_Bool (is_at (place_cmp (d, r)) e.0)) [
+    elim (cases_Bool (d == e.0.0 && r == e.0.1)) [
       | inl tied ↦
-          let at_die : e.0.0 ≡ d = sym (ap (λ (q : ℕ × ℕ). q.0) (place_same (d, r) e.0 (if_equal (place_cmp (d, r) e.0) tied))) in
+          let parts = and_parts (d == e.0.0) (r == e.0.1) tied in
+          let at_die : e.0.0 ≡ d = sym (eqb-true d e.0.0 parts.0) in
           elim (cases_Bool (d == die)) [
             | inl here ↦
-                ap (λ b. at (cond (not b) (e ∷ filter (is_elsewhere die) es) (filter (is_elsewhere die) es)) (d, r))
+                ap (λ b. booking_at (cond (not b) (e ∷ filter (is_elsewhere die) es) (filter (is_elsewhere die) es)) d r)
                 (ap (λ n. n == die) at_die ∙ here)
-                ∙ without_die die es d r ∙ ap (λ b. if b then None else at es (d, r)) here
-                ∙ sym (ap (λ b. if b then None else at (e ∷ es) (d, r)) here)
+                ∙ without_die die es d r ∙ ap (λ b. if b then None else booking_at es d r) here
+                ∙ sym (ap (λ b. if b then None else booking_at (e ∷ es) d r) here)
             | inr away ↦
-                ap (λ b. at (cond (not b) (e ∷ filter (is_elsewhere die) es) (filter (is_elsewhere die) es)) (d, r))
+                ap (λ b. booking_at (cond (not b) (e ∷ filter (is_elsewhere die) es) (filter (is_elsewhere die) es)) d r)
                 (ap (λ n. n == die) at_die ∙ away)
-                ∙ ap (λ b. cond b (Some e.1) (at (filter (is_elsewhere die) es) (d, r))) tied
-                ∙ sym (ap (λ b. cond b (Some e.1) (at es (d, r))) tied)
-                ∙ sym (ap (λ b. if b then None else at (e ∷ es) (d, r)) away)
+                ∙ ap (λ b. cond b (Some e.1) (booking_at (filter (is_elsewhere die) es) d r)) tied
+                ∙ sym (ap (λ b. cond b (Some e.1) (booking_at es d r)) tied)
+                ∙ sym (ap (λ b. if b then None else booking_at (e ∷ es) d r) away)
           ]
       | inr apart ↦
           passed_by apart (is_elsewhere die e) (filter (is_elsewhere die) es) ∙ without_die die es d r
-          ∙ ap (λ o. if d == die then None else o) (sym (ap (λ b. cond b (Some e.1) (at es (d, r))) apart))
+          ∙ ap (λ o. if d == die then None else o) (sym (ap (λ b. cond b (Some e.1) (booking_at es d r)) apart))
     ]
   where
-    passed_by : is_at (place_cmp (d, r)) e.0 ≡ false → (b : Bool) (rest : Entries) → at (cond b (e ∷ rest) rest) (d, r) ≡ at rest (d, r)
-    passed_by apart true rest = ap (λ b. cond b (Some e.1) (at rest (d, r))) apart
+    passed_by : (d == e.0.0 && r == e.0.1) ≡ false → (b : Bool) (rest : Entries)
+        → booking_at (cond b (e ∷ rest) rest) d r ≡ booking_at rest d r
+    passed_by apart true rest = ap (λ b. cond b (Some e.1) (booking_at rest d r)) apart
     passed_by apart false rest = refl
 
 pub flipped : (b : Bool) (o : Option Booking) → (if b then None else o) ≡ (if not b then o else None)

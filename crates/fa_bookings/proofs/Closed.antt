@@ -1,5 +1,5 @@
 -- The closed rounds of the calendar are those that are taken in the array's state.
-use Rattle.fa_bookings.proofs.Booked.{advanced, at}
+use Rattle.fa_bookings.proofs.Booked.{advanced}
 use Rattle.fa_bookings.specs.Found.{get_booked}
 use Rattle.fa_bookings.specs.Booked.{Entries, booking_at}
 use Rattle.fa_bookings.specs.Bookings.{calendar_of}
@@ -25,9 +25,9 @@ late calendar die round booked =
 pub remains : {A : Type 0} (b : Bookings A) (dies round : ℕ) (new : Entries) → round ≡ b.calendar.current
     → ((die r : ℕ) → contains_key (calendar_of b).bookings (die, r) ≡ true → die < dies)
     → ((d r : ℕ) → booking_at new d r ≡ (if r == round && nat_lt d dies then None else booking_at b.booked.entries d r))
-    → (d r : ℕ) → at new (d, r) ≡ (if nat_lt b.calendar.current r then at b.booked.entries (d, r) else None)
+    → (d r : ℕ) → booking_at new d r ≡ (if nat_lt b.calendar.current r then booking_at b.booked.entries d r else None)
 remains b dies round new now few forgotten d r =
     let old = b.booked.entries in
-    forgotten d r ∙ ap (λ n. if r == n && nat_lt d dies then None else at old (d, r)) now
-    ∙ advanced b.calendar.current dies d r (at old (d, r)) (λ some. late b.calendar d r (b.agree d r ∙ some))
-    (λ some. few d r (ap is_some (get_booked old (d, r)) ∙ some))
+    forgotten d r ∙ ap (λ n. if r == n && nat_lt d dies then None else booking_at old d r) now
+    ∙ advanced b.calendar.current dies d r (booking_at old d r) (λ some. late b.calendar d r (b.agree d r ∙ some))
+    (λ some. few d r (ap is_some (get_booked old d r) ∙ some))

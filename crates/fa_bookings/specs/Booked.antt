@@ -1,10 +1,9 @@
--- What a tree of bookings and a calendar stand for.
-use Rattle.std.specs.Prelude.{◌≡◌, ℕ, Bool, List, Option, is_some, filter_map, option_map}
-use Rattle.std.specs.BTreeMap.{is_at}
+-- What a table of booked rounds and a calendar stand for.
+use Rattle.std.specs.Prelude.{◌≡◌, ℕ, ◌==◌, ◌&&◌, Bool, List, Option, is_some, filter_map, option_map}
 use Rattle.std.specs.FinMap.{FinMap, from_entries}
 use Rattle.std.specs.Map.{lookup}
 use Rattle.std.specs.Ordering.{nat_cmp}
-use Rattle.fa_machine.specs.Maps.{place_cmp, below}
+use Rattle.fa_machine.specs.Maps.{below}
 use Rattle.fa_machine.specs.declared.places.Booking.{Booking}
 use Rattle.fa_types.specs.declared.window.Window.{Window}
 
@@ -13,9 +12,9 @@ Entries = List ((ℕ × ℕ) × Booking)
 
 -- the booking of a round of a die
 abbrev pub booking_at : Entries → ℕ → ℕ → Option Booking
-booking_at entries die round = lookup (is_at (place_cmp (die, round))) entries
+booking_at entries die round = lookup (λ place. die == place.0 && round == place.1) entries
 
--- the calendar and the tree have the same rounds
+-- the calendar and the table have the same rounds
 abbrev pub AreBooked : (ℕ → ℕ → Bool) → Entries → Type 0
 AreBooked is_booked entries = (die round : ℕ) → is_booked die round ≡ is_some (booking_at entries die round)
 

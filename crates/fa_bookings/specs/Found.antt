@@ -1,12 +1,12 @@
 -- What is found in the finite maps that bookings stand for; and, as the trait of rounds asks, the closed rounds of a die are few.
-use Rattle.fa_bookings.specs.Booked.{Entries, windows_in}
+use Rattle.fa_bookings.specs.Booked.{Entries, booking_at, windows_in}
 use Rattle.fa_bookings.specs.Bookings.{calendar_of}
 use Rattle.fa_bookings.specs.declared.bookings.Bookings.{Bookings}
 use Rattle.fa_calendar.specs.Calendar.{is_booked, is_closed, window_of}
 use Rattle.fa_calendar.specs.DieState.{DieState}
 use Rattle.fa_calendar.specs.Dies.{no_rounds}
 use Rattle.fa_calendar.specs.declared.calendar.Calendar.{Calendar}
-use Rattle.fa_machine.proofs.Maps.{place_cmp_total}
+use Rattle.fa_machine.proofs.Maps.{place_cmp_total, place_tied}
 use Rattle.fa_machine.specs.Maps.{place_cmp}
 use Rattle.fa_machine.specs.Rounds.{is_taken}
 use Rattle.fa_types.specs.Open.{FewClosed}
@@ -16,20 +16,18 @@ use Rattle.std.proofs.Common.{None, Option, Some, [], ap, arith, cond, eq-eqb, i
 use Rattle.std.proofs.Common.{◌+◌, ◌<◌, ◌≤◌, ◌∙◌, ◌∷◌, ◌≡◌}
 use Rattle.std.proofs.lemmas.Bool.{cases_eq, cases_lt, ne_eqb}
 use Rattle.std.proofs.lemmas.List.{get_or_past}
-use Rattle.std.specs.BTreeMap.{is_at}
 use Rattle.std.specs.Cmp.{nat_cmp_total, unsigned_tied}
 use Rattle.std.specs.FinMap.{contains_key, find, from_entries, get, get-from_entries}
 use Rattle.std.specs.List.{cons_option, filter_map, range_with_len}
-use Rattle.std.specs.Map.{lookup}
 use Rattle.std.specs.Ordering.{nat_cmp}
 use Rattle.std.specs.Prelude.{is_some, option_map, ◌||◌}
 
-found_is : (q : ℕ × ℕ) (es : Entries) → find place_cmp q es ≡ lookup (is_at (place_cmp q)) es
-found_is q [] = refl
-found_is q (e ∷ es) = ap (cond (is_at (place_cmp q) e.0) (Some e.1)) (found_is q es)
+found_is : (die round : ℕ) (es : Entries) → find place_cmp (die, round) es ≡ booking_at es die round
+found_is die round [] = refl
+found_is die round (e ∷ es) = λ i. cond (place_tied (die, round) e.0 i) (Some e.1) (found_is die round es i)
 
-pub get_booked : (es : Entries) (q : ℕ × ℕ) → get (from_entries {R = place_cmp} es) q ≡ lookup (is_at (place_cmp q)) es
-get_booked es q = get-from_entries place_cmp_total es q ∙ found_is q es
+pub get_booked : (es : Entries) (die round : ℕ) → get (from_entries {R = place_cmp} es) (die, round) ≡ booking_at es die round
+get_booked es die round = get-from_entries place_cmp_total es (die, round) ∙ found_is die round es
 
 module _ (f : ℕ → Option Window) where
   abbrev entry : ℕ → Option (ℕ × Window)
@@ -82,7 +80,7 @@ past calendar die high =
 
 module _ {A : Type 0} (b : Bookings A) where
   pub booked_is : (die round : ℕ) → is_booked b.calendar die round ≡ contains_key (calendar_of b).bookings (die, round)
-  booked_is die round = b.agree die round ∙ sym (ap is_some (get_booked b.booked.entries (die, round)))
+  booked_is die round = b.agree die round ∙ sym (ap is_some (get_booked b.booked.entries die round))
 
   pub window_is : (die : ℕ) → window_of b.calendar die ≡ get (calendar_of b).windows die
   window_is die = sym (get_windows (window_of b.calendar) (past b.calendar) die)

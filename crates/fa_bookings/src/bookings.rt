@@ -1,6 +1,6 @@
 //! The booked rounds, over a calendar of closed rounds.
-ghost use Rattle.std.specs.Prelude.{◌≡◌, ℕ, ◌+◌, ◌-◌, ◌^◌, ◌<◌, ◌≤◌, ◌==◌, ◌&&◌, ◌||◌, ◌↔◌, not, nat_lt, true, false, is_some};
-ghost use Rattle.std.specs.Prelude.{IfOk, IsOk, IsTrue, OnErr, OnOk, IsErrOf, None, []};
+ghost use Rattle.std.specs.Prelude.{◌≡◌, ℕ, ◌+◌, ◌-◌, ◌^◌, ◌<◌, ◌≤◌, ◌==◌, ◌↔◌, not, nat_lt, true, false};
+ghost use Rattle.std.specs.Prelude.{IfOk, IsOk, IsTrue, OnErr, OnOk, IsErrOf, None};
 ghost use Rattle.std.specs.FinMap.{contains_key, empty, get, insert, remove, len};
 ghost use Rattle.std.specs.List.{AllByRecursion};
 ghost use Rattle.fa_batch.specs.Plan.{AreApart};
@@ -13,25 +13,24 @@ ghost use Rattle.fa_machine.specs.Rounds.{is_taken, is_taken_with, HasRoomFor};
 ghost use Rattle.fa_types.specs.Open.{FewClosed, IsOpen};
 ghost use Rattle.fa_types.specs.Windows.{IsFirstWindow, IsFull};
 
-use crate::places::{book_all, make_room, overwrite_all, take_out_open};
-use crate::tree::{forget_die, forget_round, overwrite, take_out};
+use crate::places::{book_all, take_out_all};
+use crate::table::{BookedRounds, forget_die, forget_round, put, take_out};
 use fa_batch::{Closed, Place};
 use fa_calendar::{Calendar, CalendarRefused};
 use fa_machine::{BatchId, Booking};
 use fa_types::{Die, Page, Round, Rounds, Window};
 use std::alloc::{AllocError, Allocator, Global};
-use std::collections::BTreeMap;
+use std::collections::HashMap;
 
 // The most rounds that may be closed for a die.
 const MAX_ENTRIES: u64 = 1_048_576;
 
 /// The current round, the booked rounds of each die with what they are for, and the window of each die that has one which
-/// has not passed. A round is looked up in as many steps as the logarithm of their number.
+/// has not passed. What a round is booked for is found with one look into a table, as a rule.
 #[derive(Drop)]
 pub struct Bookings<A: Allocator = Global> {
     calendar: Calendar<A>,
-    // By die and round.
-    booked: BTreeMap<(u8, u64), Booking, A>,
+    booked: BookedRounds<A>,
     ghost agree: { AreBooked (is_booked calendar) booked.entries },
 }
 
@@ -45,7 +44,7 @@ impl<A: Allocator + Copy> Bookings<A> {
         let calendar = Calendar::new(alloc, round)?;
         Ok(Bookings {
             calendar,
-            booked: BTreeMap::new(alloc),
+            booked: HashMap::new(alloc),
         })
     }
 }
@@ -89,7 +88,7 @@ impl<A: Allocator + Clone> Bookings<A> {
             page,
             started: true,
         };
-        overwrite(&mut self.booked, die.0, round.0, booking);
+        put(&mut self.booked, die.0, round.0, booking);
     }
 
     /// A booked round is open again.
@@ -121,42 +120,14 @@ impl<A: Allocator + Clone> Bookings<A> {
             × IsFull (calendar_of self.old).round (is_taken_with (without_places old.now (calendar_of self.old)) new.now die) 0 }
         ensures err { OnErr result (calendar_of self.new ≡ calendar_of self.old) }
     {
-        if old.is_empty() {
-            return self.book(batch, new);
-        }
-        if let Err(_) = make_room(&mut self.booked, batch, new) {
-            take_out_open(&mut self.booked, &self.calendar, new);
+        if let Err(_) = self.booked.reserve(new.len()) {
             return Err(CalendarRefused::NoMemory);
         }
         if let Err(refused) = self.calendar.exchange(old, new) {
-            take_out_open(&mut self.booked, &self.calendar, new);
             return Err(refused);
         }
-        take_out_open(&mut self.booked, &self.calendar, old);
-        overwrite_all(&mut self.booked, batch, new);
-        Ok(())
-    }
-
-    /// Books these places, which are open, for the batch, no two the same. Refused, nothing has changed.
-    fn book(&mut self, batch: BatchId, new: &[Place]) -> Result<(), CalendarRefused>
-        requires opens { AllByRecursion (λ x. IsOpen (calendar_of self.old).round (is_taken (without_places [] (calendar_of self.old)))
-            x.die.0 x.round.0) new.now }
-        requires apart { AreApart new.now }
-        ensures ok { OnOk result (calendar_of self.new ≡ booked batch new.now (without_places [] (calendar_of self.old))) }
-        ensures fits { OnOk result (FewClosed (calendar_of self.old).round
-            (is_taken_with (without_places [] (calendar_of self.old)) new.now)) }
-        ensures full { IsErrOf result CalendarRefused.Full → (die : ℕ)
-            × IsFull (calendar_of self.old).round (is_taken_with (without_places [] (calendar_of self.old)) new.now die) 0 }
-        ensures err { OnErr result (calendar_of self.new ≡ calendar_of self.old) }
-    {
-        if let Err(_) = book_all(&mut self.booked, batch, new) {
-            take_out_open(&mut self.booked, &self.calendar, new);
-            return Err(CalendarRefused::NoMemory);
-        }
-        if let Err(refused) = self.calendar.exchange(&[], new) {
-            take_out_open(&mut self.booked, &self.calendar, new);
-            return Err(refused);
-        }
+        take_out_all(&mut self.booked, old);
+        book_all(&mut self.booked, batch, new);
         Ok(())
     }
 
@@ -166,7 +137,7 @@ impl<A: Allocator + Clone> Bookings<A> {
         ensures { calendar_of self.new ≡ without_places places.now (calendar_of self.old) }
     {
         self.calendar.release_all(places);
-        take_out_open(&mut self.booked, &self.calendar, places);
+        take_out_all(&mut self.booked, places);
     }
 
     /// A die's window, if it has one that has not passed.

@@ -3,6 +3,6 @@
 
 mod bookings;
 mod places;
-mod tree;
+mod table;
 
 pub use bookings::Bookings;

@@ -1,7 +1,8 @@
 use Rattle.std.proofs.Common.{ap, sym, ◌∙◌}
 use Rattle.fa_bookings.specs.Found.{past}
-use Rattle.fa_bookings.proofs.Booked.{at, left, some_left}
+use Rattle.fa_bookings.proofs.Booked.{left, some_left}
 use Rattle.fa_bookings.proofs.Closed.{remains}
+use Rattle.fa_bookings.specs.Booked.{booking_at}
 use Rattle.fa_bookings.proofs.Windows.{windows_pass}
 use Rattle.std.specs.Prelude.{is_some, nat_lt, ◌&&◌}
 use Rattle.fa_bookings.proofs.bookings.Bookings.advance.Goals as goal
@@ -9,7 +10,7 @@ use Rattle.fa_bookings.proofs.bookings.Bookings.advance.Goals as goal
 pub invariant_of-self : goal.invariant_of-self
 invariant_of-self g c = record {
   agree = λ d r. c.advance.ensures.booked d r ∙ ap (λ b. nat_lt c.args.self.now.calendar.current r && b) (c.args.self.now.agree d r)
-      ∙ sym (some_left (nat_lt c.args.self.now.calendar.current r) (at c.args.self.now.booked.entries (d, r)))
+      ∙ sym (some_left (nat_lt c.args.self.now.calendar.current r) (booking_at c.args.self.now.booked.entries d r))
       ∙ sym (ap is_some (remains c.args.self.now c.args.dies c.now-now.result.0 c.forget_round.new.booked.entries c.now-now.ensures
       c.requires.few
       c.forget_round.ensures d r));

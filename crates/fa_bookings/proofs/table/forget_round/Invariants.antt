@@ -1,7 +1,7 @@
 use Rattle.std.proofs.Common.{◌≡◌, ℕ, None}
 use Rattle.fa_bookings.specs.Booked.{booking_at}
 use Rattle.std.specs.Prelude.{if◌then◌else◌, nat_lt, ◌&&◌, ◌==◌}
-use Rattle.fa_bookings.proofs.tree.forget_round.Given as goal
+use Rattle.fa_bookings.proofs.table.forget_round.Given as goal
 
 abbrev pub invariant-loop-die : goal.invariant-loop-die
 invariant-loop-die g l = (d r : ℕ) → booking_at l.booked.entries d r
