@@ -75,6 +75,7 @@ module _ {A : Type 0} where
           let torn = counted.torn in
           let unanswered = counted.unanswered in
           let fits = (w.listed k l at).fits in
+          let wide = (w.listed k l at).wide in
           let low_torn = low is_torn l at in
           let low_open = low is_open l at in
           let step_torn = step is_torn l at in
@@ -83,8 +84,8 @@ module _ {A : Type 0} where
           let few_open = few_counted is_open (state_at pages' k) l in (
             omega (arith, torn, low_torn),
             omega (arith, unanswered, low_open),
-            omega (arith, torn, step_torn, few_torn, fits),
-            omega (arith, unanswered, step_open, few_open, fits),
+            omega (arith, torn, step_torn, few_torn, fits, wide),
+            omega (arith, unanswered, step_open, few_open, fits, wide),
           )
 
       pub can_change : IfSome (list_at lists k) (CanChange (state_at pages k n) s)

@@ -1,4 +1,4 @@
--- What stays true of the trees of batches.
+-- What stays true of the tables of batches.
 use Rattle.fa_batches.proofs.Opened.{some_mapped}
 use Rattle.fa_batches.specs.Pages.{Lists, Pages, list_at, numbers_of, page_at}
 use Rattle.fa_batches.specs.Whole.{IsList, IsWhole}
@@ -86,7 +86,7 @@ module _ {A : Type 0} (page_bytes next : ℕ) (lists : Lists A) (pages : Pages A
 
   -- a batch of no pages begins
   module _ (lists' : Lists A) (list : BatchList A) (no_pages : list.pages.items ≡ []) (no_answers : list.answers.items ≡ [])
-      (room : vec_capacity list.pages ≤ vec_capacity list.answers)
+      (wide : list.room ≤ vec_capacity list.pages) (room : list.room ≤ vec_capacity list.answers)
       (begun : (b : ℕ) → list_at lists' b ≡ (if b == next then Some list else list_at lists b)) where
     pub begun_here : list_at lists' next ≡ Some list
     begun_here = begun next ∙ at_batch next (Some list) (list_at lists next)
@@ -98,6 +98,7 @@ module _ {A : Type 0} (page_bytes next : ℕ) (lists : Lists A) (pages : Pages A
     new_list = record {
       distinct = ap (λ (ps : List Page). is_distinct (map (λ (page : Page). page.0) ps)) no_pages;
       fits = let none = ap {B = ℕ} (λ (ps : List Page). length ps) no_pages in omega (arith, none);
+      wide = wide;
       room = room;
       none = no_answers;
     }
@@ -125,8 +126,8 @@ module _ {A : Type 0} (page_bytes next : ℕ) (lists : Lists A) (pages : Pages A
   -- a page is added to a batch
   module _ (lists' : Lists A) (pages' : Pages A) (k : ℕ) (page : Page) (entry : BatchPage A) (l l' : BatchList A)
       (was : list_at lists k ≡ Some l) (is : list_at lists' k ≡ Some l')
-      (longer : l'.pages.items ≡ l.pages.items ++ page ∷ []) (same_room : vec_capacity l'.pages ≡ vec_capacity l.pages)
-      (same_answers : l'.answers ≡ l.answers) (has_room : length l.pages.items < vec_capacity l.pages)
+      (longer : l'.pages.items ≡ l.pages.items ++ page ∷ []) (same_wide : vec_capacity l'.pages ≡ vec_capacity l.pages)
+      (same_room : l'.room ≡ l.room) (same_answers : l'.answers ≡ l.answers) (has_room : length l.pages.items < l.room)
       (others : (b : ℕ) → (b ≡ k → ⊥) → list_at lists' b ≡ list_at lists b)
       (absent : page_at pages k page.0 ≡ None) (full : length entry.buffer.items ≡ page_bytes)
       (put : (b p : ℕ) → page_at pages' b p ≡ (if b == k && p == page.0 then Some entry else page_at pages b p)) where
@@ -145,6 +146,7 @@ module _ {A : Type 0} (page_bytes next : ℕ) (lists : Lists A) (pages : Pages A
               let more : length l'.pages.items ≡ length l.pages.items + 1
               = ap {B = ℕ} (λ (ps : List Page). length ps) longer ∙ length-append l.pages.items (page ∷ []) in
               omega (arith, more, same_room, has_room);
+          wide = let before = old.wide in omega (arith, same_wide, same_room, before);
           room =
               let same : vec_capacity l'.answers ≡ vec_capacity l.answers = ap {B = ℕ} (λ v. vec_capacity v) same_answers in
               let before = old.room in omega (arith, same, same_room, before);

@@ -1,4 +1,4 @@
--- The open batches that the trees stand for.
+-- The open batches that the tables stand for.
 use Rattle.fa_batches.proofs.Answered.{get_answers}
 use Rattle.fa_batches.specs.Pages.{Lists, Pages, answer_at, answer_in, answers_of, batch_in, is_answered, list_at, numbers_of, opened}
 use Rattle.fa_batches.specs.Pages.{page_at}
@@ -15,7 +15,10 @@ use Rattle.fa_machine.specs.State.{OpenBatch}
 use Rattle.std.proofs.Common.{Bool, eqb-true, List, None, Option, Some, [], ap, arith, false, inl, inr, map, refl, sym, true, ℕ, ◌∙◌, ◌≡◌}
 use Rattle.fa_types.specs.declared.numbers.Page.{Page}
 use Rattle.std.proofs.lemmas.Bool.{and_parts, cases_Bool, cases_eq, false≢true}
+use Rattle.std.specs.BTreeMap.{is_at}
+use Rattle.std.specs.Cmp.{unsigned_tied}
 use Rattle.std.specs.FinMap.{FinMap, contains_key, empty, get, get-empty, insert, remove}
+use Rattle.std.specs.Map.{lookup}
 use Rattle.std.specs.Option.{option_map_or}
 use Rattle.std.specs.Ordering.{nat_cmp}
 use Rattle.std.specs.Prelude.{if◌then◌else◌, is_some, option_and_then, option_map, unwrap_or, ◌==◌, ◌&&◌}
@@ -50,16 +53,20 @@ pub some_mapped : {X Y : Type 0} (f : X → Y) (o : Option X) → is_some (optio
 some_mapped f None = refl
 some_mapped f (Some x) = refl
 
+-- a table compares numbers by equality, and a finite map by their order
+pub by_number : {X : Type 0} (q : ℕ) (es : List (ℕ × X)) → lookup (is_at (nat_cmp q)) es ≡ lookup (λ k. q == k) es
+by_number q es = λ i. lookup (λ k. unsigned_tied q k i) es
+
 module _ {A : Type 0} where
   abbrev pub batches_in : Lists A → Pages A → FinMap nat_cmp OpenBatch
   batches_in lists pages = tree_of (batch_in pages) lists
 
   module _ (lists : Lists A) (pages : Pages A) where
     pub get_batches : (q : ℕ) → get (batches_in lists pages) q ≡ option_map (batch_in pages q) (list_at lists q)
-    get_batches q = get_tree (batch_in pages) lists q
+    get_batches q = get_tree (batch_in pages) lists q ∙ ap (option_map (batch_in pages q)) (by_number q lists)
 
     pub open_at : (q : ℕ) → is_some (list_at lists q) ≡ contains_key (batches_in lists pages) q
-    open_at q = there (batch_in pages) lists q
+    open_at q = ap is_some (sym (by_number q lists)) ∙ there (batch_in pages) lists q
 
     pub has_list : (q : ℕ) → contains_key (batches_in lists pages) q ≡ true → (list : BatchList A) × (list_at lists q ≡ Some list)
     has_list q is = has_some (list_at lists q) (open_at q ∙ is)
@@ -80,7 +87,7 @@ module _ {A : Type 0} where
     answers = answers_of (answer_at pages q) (map (λ (page : Page). page.0) (none i));
   }
 
-  -- trees that differ at one batch
+  -- tables that differ at one batch
   module _ (lists lists' : Lists A) (pages pages' : Pages A) (k : ℕ) (others : (q : ℕ) → (q ≡ k → ⊥) → list_at lists' q ≡ list_at lists q)
       (rest : (q p : ℕ) → (q ≡ k → ⊥) → page_at pages' q p ≡ page_at pages q p) where
     same_in : (q : ℕ) → (q ≡ k → ⊥) → (list : BatchList A) → batch_in pages' q list ≡ batch_in pages q list
@@ -115,13 +122,13 @@ module _ {A : Type 0} where
           | inr apart ↦ other q apart ∙ sym (get-remove_other (batches_in lists pages) k q apart)
         ])
 
-  -- trees of pages with the same answers
+  -- tables of pages with the same answers
   pub batches_same : (lists : Lists A) (pages pages' : Pages A) → ((q p : ℕ) → answer_at pages' q p ≡ answer_at pages q p)
       → batches_in lists pages' ≡ batches_in lists pages
   batches_same lists pages pages' same = λ i.
       tree_of (λ q (list : BatchList A). record { pages = numbers_of list; answers = answers_of (λ p. same q p i) (numbers_of list) }) lists
 
-  -- what is true of the trees of batches
+  -- what is true of the tables of batches
   module _ (page_bytes next : ℕ) (lists : Lists A) (pages : Pages A) (w : IsWhole page_bytes next lists pages) where
     pub none_next : contains_key (batches_in lists pages) next ≡ false
     none_next =

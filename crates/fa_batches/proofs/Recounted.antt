@@ -1,4 +1,4 @@
--- The trees of batches as pages stand otherwise, and the lists count them.
+-- The tables of batches as pages stand otherwise, and the lists count them.
 use Rattle.fa_batches.proofs.Counting.{count_at, counted_one}
 use Rattle.fa_batches.proofs.Opened.{batches_in, get_batches, some_mapped}
 use Rattle.fa_batches.specs.Counted.{changed, changed_at, count_in, moved, one, stands}
@@ -19,8 +19,7 @@ use Rattle.std.proofs.lemmas.Bool.{and_parts, false≢true}
 use Rattle.std.proofs.lemmas.List.Sums.{count_by-le-length}
 use Rattle.std.proofs.lemmas.List.{length-map}
 use Rattle.std.proofs.lemmas.Option.{none-some, same_Some}
-use Rattle.std.specs.BTreeMap.{is_at}
-use Rattle.std.specs.Cmp.{nat_cmp_total}
+use Rattle.std.specs.Cmp.{nat_cmp_total, unsigned_tied}
 use Rattle.std.specs.FinMap.{find}
 use Rattle.std.specs.Map.Calls.{RetainsPairs}
 use Rattle.std.specs.Map.{lookup}
@@ -52,7 +51,7 @@ module _ {A : Type 0} where
       let long = length-map list.pages.items (λ (page : Page). page.0) in
       omega (arith, few, long)
 
-  -- a list of which one page stands otherwise has its pages and its answers still
+  -- a list of which one page stands otherwise has its pages, its answers and its room still
   pub same_pages_at : (k : ℕ) (was : Option PageState) (s : PageState) (b : ℕ) (l : BatchList A) → (changed_at k was s b l).pages ≡ l.pages
   same_pages_at k was s b l = go (b == k)
     where
@@ -64,6 +63,13 @@ module _ {A : Type 0} where
   same_answers_at k was s b l = go (b == k)
     where
       go : (t : Bool) → (if t then changed was s l else l).answers ≡ l.answers
+      go true = refl
+      go false = refl
+
+  pub same_room_at : (k : ℕ) (was : Option PageState) (s : PageState) (b : ℕ) (l : BatchList A) → (changed_at k was s b l).room ≡ l.room
+  same_room_at k was s b l = go (b == k)
+    where
+      go : (t : Bool) → (if t then changed was s l else l).room ≡ l.room
       go true = refl
       go false = refl
 
@@ -113,6 +119,7 @@ module _ {A : Type 0} where
     -- lists that count otherwise
     module _ (lists' : Lists A) (f : ℕ → BatchList A → BatchList A) (same_pages : (b : ℕ) (l : BatchList A) → (f b l).pages ≡ l.pages)
         (same_answers : (b : ℕ) (l : BatchList A) → (f b l).answers ≡ l.answers)
+        (same_room : (b : ℕ) (l : BatchList A) → (f b l).room ≡ l.room)
         (put : (b : ℕ) → list_at lists' b ≡ option_map (f b) (list_at lists b)) where
       same_numbers : (b : ℕ) (l : BatchList A) → numbers_of (f b l) ≡ numbers_of l
       same_numbers b l = λ i. map (λ (page : Page). page.0) (same_pages b l i).items
@@ -123,13 +130,18 @@ module _ {A : Type 0} where
         fits =
             let fits = old.fits in
             let long : length (f b l).pages.items ≡ length l.pages.items = ap {B = ℕ} (λ v. length v.items) (same_pages b l) in
-            let wide : vec_capacity (f b l).pages ≡ vec_capacity l.pages = ap {B = ℕ} (λ v. vec_capacity v) (same_pages b l) in
-            omega (arith, fits, long, wide);
+            let same = same_room b l in
+            omega (arith, fits, long, same);
+        wide =
+            let wide = old.wide in
+            let pages : vec_capacity (f b l).pages ≡ vec_capacity l.pages = ap {B = ℕ} (λ v. vec_capacity v) (same_pages b l) in
+            let same = same_room b l in
+            omega (arith, wide, pages, same);
         room =
             let room = old.room in
             let answers : vec_capacity (f b l).answers ≡ vec_capacity l.answers = ap {B = ℕ} (λ v. vec_capacity v) (same_answers b l) in
-            let wide : vec_capacity (f b l).pages ≡ vec_capacity l.pages = ap {B = ℕ} (λ v. vec_capacity v) (same_pages b l) in
-            omega (arith, room, answers, wide);
+            let same = same_room b l in
+            omega (arith, room, answers, same);
         none = ap (λ v. v.items) (same_answers b l) ∙ old.none;
       }
 
@@ -164,10 +176,10 @@ module _ {A : Type 0} where
             answers = (batch_in pages q (record l { pages = same_pages q l i })).answers;
           })
 
--- a tree by numbers, of which each value is written anew by its number
-found_is : {X : Type 0} (q : ℕ) (es : List (ℕ × X)) → find nat_cmp q es ≡ lookup (is_at (nat_cmp q)) es
+-- a table by numbers, of which each value is written anew by its number
+found_is : {X : Type 0} (q : ℕ) (es : List (ℕ × X)) → find nat_cmp q es ≡ lookup (λ k. q == k) es
 found_is q [] = refl
-found_is q (e ∷ es) = ap (cond (is_at (nat_cmp q) e.0) (Some e.1)) (found_is q es)
+found_is q (e ∷ es) = λ i. cond (unsigned_tied q e.0 i) (Some e.1) (found_is q es i)
 
 module _ {F X : Type 0} (T : F → ℕ → X → Bool → X → F → Type 0) (g : ℕ → X → X) (f : F)
     (writes : (k : ℕ) (v : X) (b : Bool) (w : X) (f' : F) → T f k v b w f' → (b ≡ true) × (w ≡ g k v) × (f' ≡ f)) where
@@ -179,7 +191,7 @@ module _ {F X : Type 0} (T : F → ℕ → X → Bool → X → F → Type 0) (g
       r.6 ∙ ap (λ b. cond b ((e.0, r.1) ∷ r.3) r.3) a.0 ∙ (λ i. (e.0, a.1 i) ∷ rest i)
 
   pub each_written : (es kept : List (ℕ × X)) → RetainsPairs T f es kept → (q : ℕ)
-      → lookup (is_at (nat_cmp q)) kept ≡ option_map (g q) (lookup (is_at (nat_cmp q)) es)
+      → lookup (λ k. q == k) kept ≡ option_map (g q) (lookup (λ k. q == k) es)
   each_written es kept r q =
-      ap (lookup (is_at (nat_cmp q))) (all_written es kept r) ∙ sym (found_is q (map (λ e. (e.0, g e.0 e.1)) es))
+      ap (lookup (λ k. q == k)) (all_written es kept r) ∙ sym (found_is q (map (λ e. (e.0, g e.0 e.1)) es))
       ∙ found_changed nat_cmp_total nat_same g q es ∙ ap (option_map (g q)) (found_is q es)

@@ -41,6 +41,7 @@ module _ {A : Type 0} where
   changed was is list = record {
     pages = list.pages;
     answers = list.answers;
+    room = list.room;
     torn = moved list.torn (stands is_torn was) (is_torn is);
     unanswered = moved list.unanswered (stands is_open was) (is_open is);
   }
@@ -60,6 +61,7 @@ module _ {A : Type 0} where
   counted_anew pages batch list = record {
     pages = list.pages;
     answers = list.answers;
+    room = list.room;
     torn = count_in is_torn (state_at pages batch) (numbers_of list);
     unanswered = count_in is_open (state_at pages batch) (numbers_of list);
   }

@@ -1,16 +1,14 @@
--- What the trees of batches and their pages stand for.
-use Rattle.std.specs.BTreeMap.{is_at}
+-- What the tables of batches and their pages stand for.
 use Rattle.std.specs.FinMap.{FinMap, empty, from_entries, get}
 use Rattle.std.specs.Map.{lookup}
 use Rattle.std.specs.Ordering.{nat_cmp}
-use Rattle.std.specs.Prelude.{ℕ, ◌-◌, ◌==◌, Bool, true, false, if◌then◌else◌, List, [], Option, Some, None, map, filter_map}
-use Rattle.std.specs.Prelude.{option_map, option_and_then, length, unwrap_or, vec_capacity}
+use Rattle.std.specs.Prelude.{ℕ, ◌-◌, ◌==◌, ◌&&◌, Bool, true, false, if◌then◌else◌, List, [], Option, Some, None, map, filter_map}
+use Rattle.std.specs.Prelude.{option_map, option_and_then, length, unwrap_or}
 use Rattle.std.specs.declared.vec.Vec.{Vec}
 use Rattle.fa_batches.specs.declared.page.BatchList.{BatchList}
 use Rattle.fa_batches.specs.declared.page.BatchPage.{BatchPage}
 use Rattle.fa_batches.specs.declared.page.PageState.{PageState}
 use Rattle.fa_batches.specs.declared.page.PageState.TheVariants.{Answered, Booked, InFlight, Torn}
-use Rattle.fa_machine.specs.Maps.{place_cmp}
 use Rattle.fa_machine.specs.State.{OpenBatch}
 use Rattle.fa_types.specs.declared.numbers.Page.{Page}
 
@@ -47,9 +45,9 @@ abbrev pub Lists : Type 0 → Type 0
 Lists A = List (ℕ × BatchList A)
 
 module _ {A : Type 0} where
-  -- what a tree of pages has of a page of a batch
+  -- what a table of pages has of a page of a batch
   abbrev pub page_at : Pages A → ℕ → ℕ → Option (BatchPage A)
-  page_at entries batch page = lookup (is_at (place_cmp (batch, page))) entries
+  page_at entries batch page = lookup (λ place. batch == place.0 && page == place.1) entries
 
   abbrev pub answer_at : Pages A → ℕ → ℕ → Option (List ℕ)
   answer_at entries batch page = option_and_then (λ p. answer_in p.state p.buffer.items) (page_at entries batch page)
@@ -77,10 +75,10 @@ module _ {A : Type 0} where
   abbrev pub with_die_out : ℕ → BatchPage A → BatchPage A
   with_die_out die page = record { state = without_die die page.state; buffer = page.buffer }
 
-  -- what a tree of lists has of a batch
+  -- what a table of lists has of a batch
   abbrev pub list_at : Lists A → ℕ → Option (BatchList A)
-  list_at entries batch = lookup (is_at (nat_cmp batch)) entries
+  list_at entries batch = lookup (λ number. batch == number) entries
 
   -- for how many more pages a list has room
   abbrev pub room_in : BatchList A → ℕ
-  room_in list = vec_capacity list.pages - length list.pages.items
+  room_in list = list.room - length list.pages.items

@@ -19,15 +19,16 @@ module _ {A : Type 0} where
 
   pub record IsList (list : BatchList A) : Type 0 where
     pub distinct : is_distinct (numbers_of list) ≡ true
-    pub fits : length list.pages.items ≤ vec_capacity list.pages
-    pub room : vec_capacity list.pages ≤ vec_capacity list.answers
+    pub fits : length list.pages.items ≤ list.room
+    pub wide : list.room ≤ vec_capacity list.pages
+    pub room : list.room ≤ vec_capacity list.answers
     pub none : list.answers.items ≡ []
 
   -- a list and what it is with one page more, which stands so; no list is none still
   abbrev pub IsOneLonger : Page → PageState → Option (BatchList A) → Option (BatchList A) → Type 0
   IsOneLonger page state None new = new ≡ None
   IsOneLonger page state (Some old) new = (list : BatchList A) × (new ≡ Some list) × (list.pages.items ≡ old.pages.items ++ page ∷ [])
-      × (vec_capacity list.pages ≡ vec_capacity old.pages) × (list.answers ≡ old.answers)
+      × (vec_capacity list.pages ≡ vec_capacity old.pages) × (list.room ≡ old.room) × (list.answers ≡ old.answers)
       × (list.torn ≡ old.torn + one (is_torn state)) × (list.unanswered ≡ old.unanswered + one (is_open state))
 
   pub record IsWhole (page_bytes next : ℕ) (lists : Lists A) (pages : Pages A) : Type 0 where

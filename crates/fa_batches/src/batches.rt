@@ -1,8 +1,8 @@
 //! The batches of reads that are open.
-ghost use Rattle.std.specs.Prelude.{◌≡◌, ◌↔◌, ℕ, ◌+◌, ◌-◌, ◌<◌, ◌==◌, ◌&&◌, ◌++◌, [], ◌∷◌, true, false, IsTrue, IfOk, OnOk, OnErr, Some};
+ghost use Rattle.std.specs.Prelude.{◌≡◌, ◌↔◌, ℕ, ◌+◌, ◌<◌, ◌==◌, ◌&&◌, ◌++◌, [], ◌∷◌, true, false, IsTrue, IfOk, OnOk, OnErr, Some};
 ghost use Rattle.std.specs.Prelude.{None};
-ghost use Rattle.std.specs.Prelude.{if◌then◌else◌, is_some, length, map, option_map, replicate, vec_capacity};
-ghost use Rattle.std.specs.FinMap.{contains_key, empty, get, insert, len, remove};
+ghost use Rattle.std.specs.Prelude.{if◌then◌else◌, is_some, length, map, option_map, replicate};
+ghost use Rattle.std.specs.FinMap.{contains_key, empty, insert, len, remove};
 ghost use Rattle.std.specs.List.{list_all, list_any};
 ghost use Rattle.std.specs.Option.{option_map_or};
 ghost use Rattle.fa_batches.specs.Counted.{AreCounted};
@@ -12,26 +12,27 @@ ghost use Rattle.fa_machine.specs.Maps.{is_one_of};
 ghost use Rattle.fa_machine.specs.Reading.{answered as answered_of};
 
 use crate::lists::{count_anew, count_change, hand_out, insert_list, push_page, take_list};
-use crate::page::{BatchList, BatchPage, PageState};
+use crate::page::{BatchList, BatchPage, Lists, PageState, Pages};
 use crate::pages::{insert_page, lose_die, set_answer, set_state};
 use crate::pool::Pool;
 use fa_machine::BatchId;
 use fa_types::{Die, Page};
 use std::alloc::{AllocError, Allocator, Global};
-use std::collections::BTreeMap;
+use std::collections::HashMap;
 
-/// The batches that are open, by their numbers. A number never comes back. A page of a batch is looked up in as many steps as the
-/// logarithm of the number of pages of all of them. Only [`Batches::begin`], [`Batches::add`] and [`Batches::give_back`] take memory,
-/// the last of them as far as there is some.
+/// The batches that are open, by their numbers. A number never comes back. A batch, and a page of one, is found by one look into a table,
+/// as a rule. Only [`Batches::begin`], [`Batches::add`], [`Batches::end`] and [`Batches::give_back`] take memory, the last two of them as
+/// far as there is some. What a batch had is kept for those to come: where its buffers came back, the next that is no larger takes none,
+/// as a rule.
 #[derive(Drop)]
 pub struct Batches<A: Allocator = Global> {
     page_bytes: usize,
     // The number of the next batch.
     next: u64,
     // By their numbers.
-    lists: BTreeMap<u64, BatchList<A>, A>,
+    lists: Lists<A>,
     // By batch and page.
-    pages: BTreeMap<(u64, u64), BatchPage<A>, A>,
+    pages: Pages<A>,
     // Buffers that came back.
     pool: Pool<A>,
     ghost whole: { IsWhole page_bytes next lists.entries pages.entries },
@@ -50,8 +51,8 @@ impl<A: Allocator + Copy> Batches<A> {
         Batches {
             page_bytes,
             next: 0,
-            lists: BTreeMap::new(alloc),
-            pages: BTreeMap::new(alloc),
+            lists: HashMap::new(alloc),
+            pages: HashMap::new(alloc),
             pool: Pool::new(alloc),
         }
     }
@@ -73,8 +74,9 @@ impl<A: Allocator + Copy> Batches<A> {
             return Err(AllocError);
         }
         let list = BatchList {
-            pages: Vec::with_capacity(alloc, pages)?,
-            answers: Vec::with_capacity(alloc, pages)?,
+            pages: self.pool.take_pages(alloc, pages)?,
+            answers: self.pool.take_answers(alloc, pages)?,
+            room: pages,
             torn: 0,
             unanswered: 0,
         };
@@ -210,7 +212,8 @@ impl<A: Allocator + Clone> Batches<A> {
         count_anew(&mut self.lists, &self.pages);
     }
 
-    /// The batch is open no more. Its answers are handed out in the order of its list.
+    /// The batch is open no more. Its answers are handed out in the order of its list. The list of its pages is kept for batches to come,
+    /// if there is place and memory for it.
     pub fn end(&mut self, batch: BatchId) -> Vec<(Page, Vec<u8, A>), A>
         requires { contains_key (batches_of self.old) batch.0 ≡ true }
         ensures answers { map (λ e. (e.0.0, e.1.items)) result.items ≡ answered_of (opened (batches_of self.old) batch.0) }
@@ -223,11 +226,13 @@ impl<A: Allocator + Clone> Batches<A> {
             unreachable!()
         };
         hand_out(&mut self.pages, batch, &list.pages, &mut list.answers);
+        self.pool.put_pages(list.pages);
         list.answers
     }
 
-    /// Buffers that [`Batches::end`] handed out come back, and pages that are added get them in place of new ones. At most 1,024 are kept,
-    /// and the others are dropped. Which are kept is in no clause.
+    /// Buffers that [`Batches::end`] handed out come back, and pages that are added get them in place of new ones. So does their list,
+    /// which a batch that begins gets. At most 1,024 buffers and 64 lists are kept, and the others are dropped. Which are kept is in no
+    /// clause.
     pub fn give_back(&mut self, buffers: Vec<(Page, Vec<u8, A>), A>)
         ensures batches { batches_of self.new ≡ batches_of self.old }
         ensures states { (b p : ℕ) → state_of self.new b p ≡ state_of self.old b p }

@@ -1,24 +1,22 @@
-//! Changes of the tree of lists.
-ghost use Rattle.std.specs.Prelude.{◌≡◌, ℕ, ◌+◌, ◌==◌, ◌&&◌, ◌<◌, ◌≤◌, ◌++◌, ◌∷◌, [], true, false, if◌then◌else◌, is_some, Some, None};
-ghost use Rattle.std.specs.Prelude.{IfSome, OnOk, OnErr, ◌^◌, ◌-◌, option_map};
-ghost use Rattle.std.specs.Prelude.{length, map, take, vec_capacity, MatchOption};
+//! Changes of the table of lists.
+ghost use Rattle.std.specs.Prelude.{◌≡◌, ℕ, ◌+◌, ◌==◌, ◌&&◌, ◌<◌, ◌≤◌, ◌++◌, ◌∷◌, [], true, false, if◌then◌else◌, Some, None};
+ghost use Rattle.std.specs.Prelude.{IfSome, OnOk, OnErr, ◌^◌, length, map, option_map, vec_capacity};
 ghost use Rattle.fa_batches.specs.Counted.{CanChange, changed_at, count_in, counted_anew, is_open, moved, one, stands, state_at};
-ghost use Rattle.fa_batches.specs.Pages.{answers_in, is_torn, list_at, numbers_of, page_at, room_in};
-ghost use Rattle.fa_batches.specs.Whole.{IsList, IsOneLonger};
+ghost use Rattle.fa_batches.specs.Pages.{answers_in, is_torn, list_at, page_at, room_in};
+ghost use Rattle.fa_batches.specs.Whole.{IsOneLonger};
 ghost use Rattle.fa_machine.specs.Maps.{is_one_of};
 ghost use Rattle.fa_machine.specs.Step.{is_distinct};
 ghost use Rattle.std.specs.Option.{option_map_or};
 
-use crate::page::{BatchList, BatchPage, PageState};
+use crate::page::{BatchList, Lists, PageState, Pages};
 use crate::pages::take_page;
 use fa_machine::BatchId;
 use fa_types::Page;
 use std::alloc::{AllocError, Allocator};
-use std::collections::BTreeMap;
 
 /// The batch has this list from now on. The error is out of memory, and changes nothing.
 pub fn insert_list<A: Allocator + Clone>(
-    lists: &mut BTreeMap<u64, BatchList<A>, A>,
+    lists: &mut Lists<A>,
     batch: u64,
     list: BatchList<A>,
 ) -> Result<(), AllocError>
@@ -32,10 +30,7 @@ pub fn insert_list<A: Allocator + Clone>(
 }
 
 /// The batch has no list any more. It is handed out.
-pub fn take_list<A: Allocator + Clone>(
-    lists: &mut BTreeMap<u64, BatchList<A>, A>,
-    batch: BatchId,
-) -> Option<BatchList<A>>
+pub fn take_list<A: Allocator + Clone>(lists: &mut Lists<A>, batch: BatchId) -> Option<BatchList<A>>
     ensures taken { result ≡ list_at lists.old.entries batch.0 }
     ensures left { (b : ℕ) → list_at lists.new.entries b ≡ (if b == batch.0 then None else list_at lists.old.entries b) }
 {
@@ -44,12 +39,14 @@ pub fn take_list<A: Allocator + Clone>(
 
 /// One page more at the end of the batch's list, which has room for it.
 pub fn push_page<A: Allocator + Clone>(
-    lists: &mut BTreeMap<u64, BatchList<A>, A>,
+    lists: &mut Lists<A>,
     batch: BatchId,
     page: Page,
     state: PageState,
 )
     requires room { 0 < option_map_or (λ list. room_in list) (list_at lists.old.entries batch.0) 0 }
+    requires wide { option_map_or (λ list. list.room) (list_at lists.old.entries batch.0) 0
+        ≤ option_map_or (λ list. vec_capacity list.pages) (list_at lists.old.entries batch.0) 0 }
     requires few { option_map_or (λ list. list.torn) (list_at lists.old.entries batch.0) 0
         ≤ option_map_or (λ list. length list.pages.items) (list_at lists.old.entries batch.0) 0 }
     requires open { option_map_or (λ list. list.unanswered) (list_at lists.old.entries batch.0) 0
@@ -66,7 +63,7 @@ pub fn push_page<A: Allocator + Clone>(
 
 /// One page of the batch, which stood so, stands otherwise from now on.
 pub fn count_change<A: Allocator + Clone>(
-    lists: &mut BTreeMap<u64, BatchList<A>, A>,
+    lists: &mut Lists<A>,
     batch: BatchId,
     was: Option<PageState>,
     is: PageState,
@@ -108,10 +105,7 @@ fn was_open(was: Option<PageState>) -> bool
 }
 
 /// The pages of each list are counted anew. It takes a look at each page.
-pub fn count_anew<A: Allocator + Clone>(
-    lists: &mut BTreeMap<u64, BatchList<A>, A>,
-    pages: &BTreeMap<(u64, u64), BatchPage<A>, A>,
-)
+pub fn count_anew<A: Allocator + Clone>(lists: &mut Lists<A>, pages: &Pages<A>)
     ensures { (b : ℕ) → list_at lists.new.entries b ≡ option_map (counted_anew pages.now.entries b) (list_at lists.old.entries b) }
 {
     lists.retain(
@@ -128,11 +122,7 @@ pub fn count_anew<A: Allocator + Clone>(
 }
 
 /// How many of these pages of the batch have no answer, and no read that is booked or in flight.
-fn count_torn<A: Allocator + Clone>(
-    pages: &BTreeMap<(u64, u64), BatchPage<A>, A>,
-    batch: u64,
-    list: &[Page],
-) -> usize
+fn count_torn<A: Allocator + Clone>(pages: &Pages<A>, batch: u64, list: &[Page]) -> usize
     ensures { result ≡ count_in is_torn (state_at pages.now.entries batch) (map (λ page. page.0) list.now) }
 {
     list.iter()
@@ -141,11 +131,7 @@ fn count_torn<A: Allocator + Clone>(
 }
 
 /// How many of these pages of the batch have no answer.
-fn count_open<A: Allocator + Clone>(
-    pages: &BTreeMap<(u64, u64), BatchPage<A>, A>,
-    batch: u64,
-    list: &[Page],
-) -> usize
+fn count_open<A: Allocator + Clone>(pages: &Pages<A>, batch: u64, list: &[Page]) -> usize
     ensures { result ≡ count_in is_open (state_at pages.now.entries batch) (map (λ page. page.0) list.now) }
 {
     list.iter()
@@ -154,11 +140,7 @@ fn count_open<A: Allocator + Clone>(
 }
 
 /// How a page of the batch stands, if it is there.
-fn state_in<A: Allocator + Clone>(
-    pages: &BTreeMap<(u64, u64), BatchPage<A>, A>,
-    batch: u64,
-    page: Page,
-) -> Option<PageState>
+fn state_in<A: Allocator + Clone>(pages: &Pages<A>, batch: u64, page: Page) -> Option<PageState>
     ensures { result ≡ state_at pages.now.entries batch page.0 }
 {
     match pages.get(&(batch, page.0)) {
@@ -169,7 +151,7 @@ fn state_in<A: Allocator + Clone>(
 
 /// The answers of these pages of the batch, in their order. They have no entries any more.
 pub fn hand_out<A: Allocator + Clone>(
-    pages: &mut BTreeMap<(u64, u64), BatchPage<A>, A>,
+    pages: &mut Pages<A>,
     batch: BatchId,
     list: &[Page],
     answers: &mut Vec<(Page, Vec<u8, A>), A>,
@@ -189,7 +171,7 @@ pub fn hand_out<A: Allocator + Clone>(
 
 /// The answer of this page of the batch comes behind the others. The page has no entry any more.
 fn hand_out_page<A: Allocator + Clone>(
-    pages: &mut BTreeMap<(u64, u64), BatchPage<A>, A>,
+    pages: &mut Pages<A>,
     batch: BatchId,
     page: Page,
     answers: &mut Vec<(Page, Vec<u8, A>), A>,

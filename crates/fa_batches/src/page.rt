@@ -5,6 +5,14 @@ ghost use Rattle.fa_batches.specs.Pages.{is_torn as rule_torn, without_die as ru
 
 use fa_types::{Die, Page, Round};
 use std::alloc::{Allocator, Global};
+use std::collections::HashMap;
+use std::hash::{BuildHasherDefault, FoldHasher};
+
+/// The lists of the batches that are open, by the batches' numbers.
+pub type Lists<A> = HashMap<u64, BatchList<A>, BuildHasherDefault<FoldHasher>, A>;
+
+/// The pages of the batches that are open, by batch and page.
+pub type Pages<A> = HashMap<(u64, u64), BatchPage<A>, BuildHasherDefault<FoldHasher>, A>;
 
 /// How a page of a batch stands.
 #[derive(Clone, Copy, Debug, PartialEq, Eq)]
@@ -68,6 +76,8 @@ pub struct BatchList<A: Allocator = Global> {
     pub pages: Vec<Page, A>,
     /// Room for an answer of each page. It is empty until the batch ends.
     pub answers: Vec<(Page, Vec<u8, A>), A>,
+    /// For how many pages the batch was begun. Both lists have room for at least so many.
+    pub room: usize,
     /// How many of the pages have no answer, and no read that is booked or in flight.
     pub torn: usize,
     /// How many of the pages have no answer.

@@ -1,17 +1,16 @@
-//! Changes of the tree of pages.
-ghost use Rattle.std.specs.Prelude.{◌≡◌, ℕ, ◌==◌, ◌&&◌, if◌then◌else◌, true, false, is_some, Some, None, OnOk, OnErr, option_map, length};
+//! Changes of the table of pages.
+ghost use Rattle.std.specs.Prelude.{◌≡◌, ℕ, ◌==◌, ◌&&◌, if◌then◌else◌, true, is_some, Some, None, OnOk, OnErr, option_map};
 ghost use Rattle.fa_batches.specs.Counted.{state_at};
 ghost use Rattle.fa_batches.specs.Pages.{page_at, with_answer, with_state, with_die_out};
 
-use crate::page::{BatchPage, PageState};
+use crate::page::{BatchPage, PageState, Pages};
 use fa_machine::BatchId;
 use fa_types::{Die, Page};
 use std::alloc::{AllocError, Allocator};
-use std::collections::BTreeMap;
 
 /// The page of the batch has this entry from now on. The error is out of memory, and changes nothing.
 pub fn insert_page<A: Allocator + Clone>(
-    pages: &mut BTreeMap<(u64, u64), BatchPage<A>, A>,
+    pages: &mut Pages<A>,
     batch: BatchId,
     page: Page,
     entry: BatchPage<A>,
@@ -28,7 +27,7 @@ pub fn insert_page<A: Allocator + Clone>(
 
 /// The page of the batch has no entry any more. It is handed out.
 pub fn take_page<A: Allocator + Clone>(
-    pages: &mut BTreeMap<(u64, u64), BatchPage<A>, A>,
+    pages: &mut Pages<A>,
     batch: BatchId,
     page: Page,
 ) -> Option<BatchPage<A>>
@@ -41,7 +40,7 @@ pub fn take_page<A: Allocator + Clone>(
 
 /// The page of the batch stands otherwise from now on, if it is there. How it stood is answered.
 pub fn set_state<A: Allocator + Clone>(
-    pages: &mut BTreeMap<(u64, u64), BatchPage<A>, A>,
+    pages: &mut Pages<A>,
     batch: BatchId,
     page: Page,
     state: PageState,
@@ -60,7 +59,7 @@ pub fn set_state<A: Allocator + Clone>(
 /// The buffer has the answer of the page of the batch, if it is there. It and the page's buffer change places. How the page stood is
 /// answered.
 pub fn set_answer<A: Allocator + Clone>(
-    pages: &mut BTreeMap<(u64, u64), BatchPage<A>, A>,
+    pages: &mut Pages<A>,
     batch: BatchId,
     page: Page,
     buffer: &mut Vec<u8, A>,
@@ -80,7 +79,7 @@ pub fn set_answer<A: Allocator + Clone>(
 }
 
 /// A die is out: the reads that were booked or in flight there are lost. It takes a look at each page.
-pub fn lose_die<A: Allocator + Clone>(pages: &mut BTreeMap<(u64, u64), BatchPage<A>, A>, die: Die)
+pub fn lose_die<A: Allocator + Clone>(pages: &mut Pages<A>, die: Die)
     ensures { (b p : ℕ) → page_at pages.new.entries b p ≡ option_map (with_die_out die.0) (page_at pages.old.entries b p) }
 {
     pages.retain(

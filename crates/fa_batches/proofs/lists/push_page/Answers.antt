@@ -1,14 +1,20 @@
+use Rattle.fa_batches.proofs.Placed.{eqb_swap}
 use Rattle.fa_batches.specs.Pages.{list_at}
 use Rattle.fa_batches.specs.Whole.{IsOneLonger}
 use Rattle.fa_batches.specs.declared.page.BatchList.{BatchList}
-use Rattle.std.proofs.Common.{refl, rules, subst, ◌+◌}
+use Rattle.std.proofs.Common.{refl, rules, subst, ◌+◌, ◌∙◌}
 use Rattle.fa_batches.proofs.lists.push_page.Goals as goal
+
+pub returns-in-Some-clause-others : goal.returns-in-Some-clause-others
+returns-in-Some-clause-others g c b apart =
+    ((c.get_mut.follows.holds _).3 (search rules)).2 b (eqb_swap c.args.batch.0 b ∙ apart)
 
 pub returns-in-Some-clause-longer : goal.returns-in-Some-clause-longer
 returns-in-Some-clause-longer g c =
     let list : BatchList g.row.A.Denot = record {
       pages = c.push_reserved.new.self;
       answers = c.in-Some.list.now.answers;
+      room = c.in-Some.list.now.room;
       torn = c.in-Some.list.now.torn + c.from.result;
       unanswered = c.in-Some.list.now.unanswered + c.from-in-Some.result;
     } in
@@ -17,6 +23,7 @@ returns-in-Some-clause-longer g c =
       ((c.get_mut.follows.holds list).3 (search rules)).1,
       c.push_reserved.ensures.items,
       c.push_reserved.ensures.capacity,
+      refl,
       refl,
       search rules,
       search rules,

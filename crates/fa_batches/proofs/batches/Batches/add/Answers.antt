@@ -11,7 +11,7 @@ use Rattle.fa_batches.specs.declared.page.BatchPage.{BatchPage}
 use Rattle.std.proofs.Common.{List, None, Option, Some, ap, arith, length, rules, subst, sym, ℕ, ◌<◌, ◌∙◌, ◌≡◌, ◌≤◌}
 use Rattle.std.proofs.lemmas.Bool.{ne_eqb}
 use Rattle.std.specs.Option.{option_map_or}
-use Rattle.std.specs.Prelude.{if◌then◌else◌, replicate}
+use Rattle.std.specs.Prelude.{if◌then◌else◌, replicate, vec_capacity}
 use Rattle.fa_batches.proofs.batches.Batches.add.Goals as goal
 use Rattle.fa_batches.proofs.batches.Batches.add.Goals.{then-answered, else-answered}
 
@@ -35,6 +35,14 @@ push_page-requires-clause-open g c =
     subst (λ (o : Option (BatchList g.row.A.Denot)). option_map_or (λ (list : BatchList g.row.A.Denot). list.unanswered) o 0
     ≤ option_map_or (λ (list : BatchList g.row.A.Denot). length list.pages.items) o 0) (sym l.1) (omega (arith, unanswered, few))
 
+pub push_page-requires-clause-wide : goal.push_page-requires-clause-wide
+push_page-requires-clause-wide g c =
+    let old = c.args.self.now in
+    let k = c.args.batch.0 in
+    let l = has_list old.lists.entries old.pages.entries k c.requires.open in
+    subst (λ (o : Option (BatchList g.row.A.Denot)). option_map_or (λ (list : BatchList g.row.A.Denot). list.room) o 0
+    ≤ option_map_or (λ (list : BatchList g.row.A.Denot). vec_capacity list.pages) o 0) (sym l.1) (old.whole.listed k l.0 l.1).wide
+
 pub invariant_of-self-in-Break-branch-2 : goal.invariant_of-self-in-Break-branch-2
 invariant_of-self-in-Break-branch-2 g c =
     let old = c.args.self.now in
@@ -55,11 +63,11 @@ invariant_of-self-2 g c =
     let spare : 0 < room_in l.0 = subst (λ o. 0 < option_map_or (λ list. room_in list) o 0) l.1 c.requires.room in
     record {
       whole = whole_added old.page_bytes old.next old.lists.entries old.pages.entries old.whole c.push_page.new.lists.entries
-          c.insert_page.new.pages.entries k c.args.page entry l.0 more.0 l.1 more.1 more.2 more.3 more.4 (omega (arith, spare))
+          c.insert_page.new.pages.entries k c.args.page entry l.0 more.0 l.1 more.1 more.2 more.3 more.4 more.5 (omega (arith, spare))
           (λ b apart. c.push_page.ensures.others b (ne_eqb b k apart)) (none_before _ _ c.requires.other) (search rules)
           c.in_ok-insert_page.ensures.ok;
       counted = added_counted old.page_bytes old.next old.lists.entries old.pages.entries old.whole old.counted
-          c.push_page.new.lists.entries c.insert_page.new.pages.entries k c.args.page entry l.0 more.0 l.1 more.1 more.2 more.5 more.6
+          c.push_page.new.lists.entries c.insert_page.new.pages.entries k c.args.page entry l.0 more.0 l.1 more.1 more.2 more.6 more.7
           (λ b apart. c.push_page.ensures.others b (ne_eqb b k apart)) (none_before _ _ c.requires.other)
           c.in_ok-insert_page.ensures.ok;
     }

@@ -1,5 +1,6 @@
 use Rattle.fa_batches.proofs.Counts.{can_change, changed_counted}
-use Rattle.fa_batches.proofs.Recounted.{batches_recounted, same_answers_at, same_pages_at, states_from, whole_at, whole_recounted}
+use Rattle.fa_batches.proofs.Recounted.{batches_recounted, same_answers_at, same_pages_at, same_room_at, states_from, whole_at}
+use Rattle.fa_batches.proofs.Recounted.{whole_recounted}
 use Rattle.fa_batches.proofs.Written.{answered}
 use Rattle.fa_batches.specs.Counted.{CanChange, changed_at}
 use Rattle.fa_batches.specs.Pages.{list_at, with_answer}
@@ -31,7 +32,8 @@ invariant_of-self g c =
     record {
       whole = whole_recounted _ _ old.lists.entries pages
           (whole_at _ _ _ _ old.whole pages k n f (λ x long. c.requires.whole) c.set_answer-was.ensures.pages)
-          lists (changed_at k was Answered) (same_pages_at k was Answered) (same_answers_at k was Answered) c.count_change.ensures;
+          lists (changed_at k was Answered) (same_pages_at k was Answered) (same_answers_at k was Answered)
+          (same_room_at k was Answered) c.count_change.ensures;
       counted = changed_counted _ _ _ _ old.whole old.counted lists pages k n Answered c.requires.there
           (states_from old.pages.entries pages k n Answered f (λ x. refl) c.set_answer-was.ensures.pages c.requires.there)
           (λ b. c.count_change.ensures b
@@ -48,5 +50,5 @@ returns-clause-answered g c =
     batches_recounted old.page_bytes old.next old.lists.entries pages
     (whole_at _ _ _ _ old.whole pages k n (with_answer c.args.buffer.now) (λ x long. c.requires.whole) c.set_answer-was.ensures.pages)
     c.count_change.new.lists.entries (changed_at k was Answered) (same_pages_at k was Answered) (same_answers_at k was Answered)
-    c.count_change.ensures
+    (same_room_at k was Answered) c.count_change.ensures
     ∙ answered _ _ _ _ old.whole pages k n c.args.buffer.now c.requires.there c.set_answer-was.ensures.pages

@@ -16,7 +16,7 @@ invariant_of-self g c =
     record {
       whole = whole_recounted _ _ old.lists.entries pages
           (whole_changed _ _ _ _ old.whole pages (with_die_out c.args.die.0) (λ x. refl) c.lose_die.ensures)
-          c.count_anew.new.lists.entries (counted_anew pages) (λ b l. refl) (λ b l. refl) c.count_anew.ensures;
+          c.count_anew.new.lists.entries (counted_anew pages) (λ b l. refl) (λ b l. refl) (λ b l. refl) c.count_anew.ensures;
       counted = anew_counted old.lists.entries c.count_anew.new.lists.entries pages c.count_anew.ensures;
     }
 
@@ -26,7 +26,7 @@ returns-clause-batches g c =
     let pages = c.lose_die.new.pages.entries in
     batches_recounted old.page_bytes old.next old.lists.entries pages
     (whole_changed _ _ _ _ old.whole pages (with_die_out c.args.die.0) (λ x. refl) c.lose_die.ensures)
-    c.count_anew.new.lists.entries (counted_anew pages) (λ b l. refl) (λ b l. refl) c.count_anew.ensures
+    c.count_anew.new.lists.entries (counted_anew pages) (λ b l. refl) (λ b l. refl) (λ b l. refl) c.count_anew.ensures
     ∙ batches_same old.lists.entries old.pages.entries pages
     (λ q p. ap (option_and_then (λ (x : BatchPage g.row.A.Denot). answer_in x.state x.buffer.items)) (c.lose_die.ensures q p)
     ∙ lost_answer c.args.die.0 _)

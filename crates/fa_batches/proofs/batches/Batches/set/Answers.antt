@@ -1,6 +1,7 @@
 use Rattle.fa_batches.proofs.Counts.{can_change, changed_counted}
 use Rattle.fa_batches.proofs.Opened.{still_none_at}
-use Rattle.fa_batches.proofs.Recounted.{batches_recounted, same_answers_at, same_pages_at, states_from, whole_at, whole_recounted}
+use Rattle.fa_batches.proofs.Recounted.{batches_recounted, same_answers_at, same_pages_at, same_room_at, states_from, whole_at}
+use Rattle.fa_batches.proofs.Recounted.{whole_recounted}
 use Rattle.fa_batches.specs.Counted.{CanChange, changed_at}
 use Rattle.fa_batches.specs.Pages.{list_at, with_state}
 use Rattle.std.proofs.Common.{refl, subst, sym, ◌∙◌}
@@ -30,7 +31,7 @@ invariant_of-self g c =
     record {
       whole = whole_recounted _ _ old.lists.entries pages
           (whole_at _ _ _ _ old.whole pages k n (with_state s) (λ x long. long) c.set_state-was.ensures.pages)
-          lists (changed_at k was s) (same_pages_at k was s) (same_answers_at k was s) c.count_change.ensures;
+          lists (changed_at k was s) (same_pages_at k was s) (same_answers_at k was s) (same_room_at k was s) c.count_change.ensures;
       counted = changed_counted _ _ _ _ old.whole old.counted lists pages k n s c.requires.there
           (states_from old.pages.entries pages k n s (with_state s) (λ x. refl) c.set_state-was.ensures.pages c.requires.there)
           (λ b. c.count_change.ensures b ∙ (λ i. option_map (changed_at k (c.set_state-was.ensures.was i) s b) (list_at old.lists.entries b)));
@@ -46,5 +47,6 @@ returns-clause-batches g c =
     let pages = c.set_state-was.new.pages.entries in
     batches_recounted old.page_bytes old.next old.lists.entries pages
     (whole_at _ _ _ _ old.whole pages k n (with_state s) (λ x long. long) c.set_state-was.ensures.pages)
-    c.count_change.new.lists.entries (changed_at k was s) (same_pages_at k was s) (same_answers_at k was s) c.count_change.ensures
+    c.count_change.new.lists.entries (changed_at k was s) (same_pages_at k was s) (same_answers_at k was s)
+    (same_room_at k was s) c.count_change.ensures
     ∙ still_none_at old.lists.entries old.pages.entries pages k n s c.requires.without c.requires.open c.set_state-was.ensures.pages
