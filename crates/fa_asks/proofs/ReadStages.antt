@@ -87,7 +87,7 @@ module _ (r : Range) (first : World) where
     abbrev pub ReadsAt : World → Stage A → List ℕ → Type 0
     ReadsAt w (Listing (Answer page)) answer = AtPage page answer
     ReadsAt w (Asking (Answer next) pages) answer =
-        (page : ℕ) × IsNext page next answer × (map (λ (p : Page). p.0) pages.items ≡ range_with_len page (next - page))
+        (page : ℕ) × IsNext page next answer × (map (λ (p : Page). p.0) pages ≡ range_with_len page (next - page))
     ReadsAt w (Reading (Answer next) batch) answer = (page : ℕ) × IsNext page next answer × IsRead batch.0 page next w
     ReadsAt w (Leaving (Answer next) batch fault) answer = (pages : List ℕ) × IsOpen batch.0 pages w.core.batches × Cause w fault
     ReadsAt w (Sorting (Answer next) answers) answer =

@@ -211,7 +211,7 @@ module _ (A : Type 0) (laws : Laws) (t : Task) (seat : ℕ) (bytes : List ℕ) (
   WritesAt w (Claiming page) = IsAt t.range first all page.0 × Done page.0 w
   WritesAt w (Filling held fewer) = Own held w × (covers t.range held.page.0 ≡ true)
   WritesAt w (Listing (Merge held)) = Own held w
-  WritesAt w (Asking (Merge held) pages) = Own held w × (map (λ (p : Page). p.0) pages.items ≡ held.page.0 ∷ [])
+  WritesAt w (Asking (Merge held) pages) = Own held w × (map (λ (p : Page). p.0) pages ≡ held.page.0 ∷ [])
   WritesAt w (Reading (Merge held) batch) = Own held w × IsMerging t.range first all held.page.0 batch.0 w
   WritesAt w (Leaving (Merge held) batch fault) = Own held w × ((pages : List ℕ) × IsOpen batch.0 pages w.core.batches) × Cause w fault
   WritesAt w (Sorting (Merge held) answers) =

@@ -115,7 +115,7 @@ counted_planned t stage planned refused (Err CalendarFull) next goes stops e = c
 counted_planned t stage planned refused (Err RoundsSpent) next goes stops e = counted_to t stage next 0 _ e (stops Spent)
 counted_planned t stage planned refused (Err AdmitNoMemory) next goes stops e = counted_to t stage next 0 _ e (stops NoMemory)
 
-counted_admit : {A : Type 0} (t : Task) (purpose : Purpose) (pages : Vec Page A) (answer : Result Admitted AdmitRefused) (next : Stage A)
+counted_admit : {A : Type 0} (t : Task) (purpose : Purpose) (pages : List Page) (answer : Result Admitted AdmitRefused) (next : Stage A)
     → AfterAdmit purpose (Asking purpose pages) answer next → Counted t (Asking purpose pages) 0 next
 counted_admit t purpose pages (Ok admitted) next after =
     counted_planned t (Asking purpose pages) (Reading purpose admitted.batch) (stopped purpose) (Ok admitted.planned) next

@@ -2,7 +2,7 @@
 ghost use Rattle.std.specs.Prelude.{◌≡◌, ℕ, ◌+◌, ◌≤◌, ◌^◌, true, is_ok, IfOk, OnOk};
 ghost use Rattle.std.specs.List.{list_all, sum_by};
 ghost use Rattle.fa_blocks.specs.Counts.{Counts, IsMade, PartsGoOn, has_ended as rule_ended, left_in, pages_between, refusals_in, tally_of_parts};
-ghost use Rattle.fa_ops.specs.Tallies.{pages_in, tally_of};
+ghost use Rattle.fa_ops.specs.Tallies.{pages_in, refusals_by, tally_of};
 ghost use Rattle.fa_stages.specs.Tasks.{end_of, task_of};
 
 use crate::running::{pass_time, turn_on};
@@ -190,11 +190,22 @@ fn fault_of<A: Allocator + Copy>(parts: &[Part<A>]) -> Result<(), BlockFault>
     ensures { OnOk result (sum_by refusals_in parts.now ≡ 0) }
 {
     for part in parts {
-        if let Some(Some(fault)) = part.op.ended() {
+        if let Some(fault) = refusal(part) {
             return Err(fault);
         }
     }
     Ok(())
+}
+
+/// The fault of a part that has ended, if it was refused.
+fn refusal<A: Allocator + Copy>(part: &Part<A>) -> Option<BlockFault>
+    requires { rule_ended part.now ≡ true }
+    ensures { refusals_in part.now ≡ refusals_by result }
+{
+    match part.op.ended() {
+        Some(fault) => fault,
+        None => None,
+    }
 }
 
 /// Prepares each part that has something to prepare. The pages' bytes are hashed side by side, where there is memory for that.

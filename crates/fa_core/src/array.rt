@@ -9,6 +9,7 @@ ghost use Rattle.fa_set.specs.Members.{bound_of, members};
 
 use crate::mounting::begin;
 use fa_map::Map;
+use fa_reads::Planner;
 use fa_set::NumberSet;
 use fa_state::State;
 use fa_tag::Payload;
@@ -20,6 +21,8 @@ use std::alloc::{AllocError, Allocator, Global};
 #[derive(Drop)]
 pub struct Array<M, A: Allocator = Global> {
     pub(crate) state: State<M, A>,
+    // What batches are planned with.
+    pub(crate) planner: Planner<A>,
     // A page of zeros, which the copies of holes share.
     pub(crate) zeros: Payload<A>,
     // The number of the array.
@@ -58,6 +61,7 @@ impl<M: Map + Drop, A: Allocator + Copy> Array<M, A> {
         let state = begin(alloc, page_map, copies, epoch, spares, last)?;
         Ok(Array {
             state,
+            planner: Planner::new(alloc),
             zeros,
             array,
         })

@@ -33,7 +33,7 @@ impl<M: Map, A: Allocator + Copy> Array<M, A> {
         ensures number { number_of self.new ≡ number_of self.old }
         ensures whole { IsWhole M.view self.new }
     {
-        let answer = fa_reads::admit(alloc, &mut self.state, pages);
+        let answer = fa_reads::admit(alloc, &mut self.planner, &mut self.state, pages);
         an_event_keeps();
         answer
     }
@@ -47,9 +47,19 @@ impl<M: Map, A: Allocator + Copy> Array<M, A> {
         ensures number { number_of self.new ≡ number_of self.old }
         ensures whole { IsWhole M.view self.new }
     {
-        let answer = fa_reads::replan(alloc, &mut self.state, batch);
+        let answer = fa_reads::replan(alloc, &mut self.planner, &mut self.state, batch);
         an_event_keeps();
         answer
+    }
+
+    /// A plan that was answered and that nobody wants any more comes back, and plans to come are made in its memory. It is no event.
+    pub fn give_back_plan(&mut self, planned: Planned<A>)
+        requires whole { IsWhole M.view self.old }
+        ensures state { state_of M.view self.new ≡ state_of M.view self.old }
+        ensures number { number_of self.new ≡ number_of self.old }
+        ensures whole { IsWhole M.view self.new }
+    {
+        self.planner.keep(planned);
     }
 
     /// The closed rounds of all dies from the current one on. Those that are booked for the batch and were not started are left out. The

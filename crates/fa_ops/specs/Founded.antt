@@ -39,7 +39,7 @@ module _ {A : Type 0} where
   -- A condition of the event of a stage does not hold, where it is not told of what the request comes to then.
   abbrev pub IsBarred : Core → Stage A → Type 0
   IsBarred core (Asking purpose pages) =
-      (is_distinct (map (λ page. page.0) pages.items) && list_all (is_page core) (map (λ page. page.0) pages.items)
-      && nat_le (length (map (λ page. page.0) pages.items)) 1024) ≡ false
+      (is_distinct (map (λ page. page.0) pages) && list_all (is_page core) (map (λ page. page.0) pages)
+      && nat_le (length (map (λ page. page.0) pages)) 1024) ≡ false
   IsBarred core (Reserving held wish) = (claim_open core held.claim.0 && not (is_reserved core held.claim.0) && fits core wish) ≡ false
   IsBarred core stage = Unit {0}

@@ -20,7 +20,7 @@ module _ {A : Type 0} where
   -- Which event a request makes at each stage, of its own page, claim, batch and flush alone, and how far it is then.
   abbrev pub Moves : Task → ℕ → Stage A → Act → Stage A → Type 0
   Moves t seat (Asking purpose pages) (Admit asked answer) next =
-      (asked ≡ map (λ page. page.0) pages.items) × AfterAdmit purpose (Asking purpose pages) answer next
+      (asked ≡ map (λ page. page.0) pages) × AfterAdmit purpose (Asking purpose pages) answer next
   Moves t seat (Reading purpose batch) (Replan b answer) next =
       (b ≡ batch.0) × AfterPlanned (Reading purpose batch) (Reading purpose batch) (Leaving purpose batch) answer next
   Moves t seat (Reading purpose batch) (EndBatch b answers) next = (b ≡ batch.0) × IsSorting purpose answers next

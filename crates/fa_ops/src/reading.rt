@@ -14,8 +14,8 @@ use fa_machine::{AdmitRefused, BatchId, ReadState};
 use fa_map::Map;
 use fa_reads::Admitted;
 use fa_shared::{Locked, Seat};
-use fa_stages::{Purpose, Stage, stopped};
-use fa_types::{BlockFault, Page};
+use fa_stages::{PageList, Purpose, Stage, stopped};
+use fa_types::BlockFault;
 use std::alloc::Allocator;
 use std::sync::ledger::Ledger;
 
@@ -24,7 +24,7 @@ pub(crate) fn ask<L: Ledger, M: Map + Drop, A: Allocator + Copy>(
     locked: &mut Locked<L, M, A>,
     seat: &mut Seat<L>,
     purpose: Purpose,
-    pages: Vec<Page, A>,
+    pages: PageList<A>,
 ) -> Stage<A>
     ensures turned { (t : Task) → Turned t seat.old seat.new locked.old.core (Asking purpose pages) locked.new.core result }
     ensures account { IsAccounted locked.old seat.old locked.new seat.new }
@@ -32,21 +32,26 @@ pub(crate) fn ask<L: Ledger, M: Map + Drop, A: Allocator + Copy>(
     let waits = locked.array().copy_open();
     match admit(locked, seat, pages.as_slice()) {
         None => stopped(purpose, BlockFault::Lost),
-        Some(answer) => asked(purpose, pages, answer, waits),
+        Some(answer) => asked(locked, purpose, pages, answer, waits),
     }
 }
 
-/// What the request does behind its Admit. A page that is lost is waited for, if it is to be.
-fn asked<A: Allocator>(
+/// What the request does behind its Admit. A page that is lost is waited for, if it is to be. The plan goes back to the array.
+fn asked<L: Ledger, M: Map + Drop, A: Allocator + Copy>(
+    locked: &mut Locked<L, M, A>,
     purpose: Purpose,
-    pages: Vec<Page, A>,
+    pages: PageList<A>,
     answer: Result<Admitted<A>, AdmitRefused>,
     waits: bool,
 ) -> Stage<A>
-    ensures { AfterAdmit purpose (Asking purpose pages) (admit_answer answer) result }
+    ensures next { AfterAdmit purpose (Asking purpose pages) (admit_answer answer) result }
+    ensures locked { locked.new ≡ locked.old }
 {
     match answer {
-        Ok(admitted) => Stage::Reading(purpose, admitted.batch),
+        Ok(Admitted { batch, planned }) => {
+            locked.give_back_plan(planned);
+            Stage::Reading(purpose, batch)
+        }
         Err(AdmitRefused::Lost(_)) => {
             if waits {
                 Stage::Asking(purpose, pages)
@@ -111,21 +116,26 @@ fn plan_anew<L: Ledger, M: Map + Drop, A: Allocator + Copy>(
     let waits = locked.array().copy_open();
     match replan(alloc, locked, seat, batch) {
         None => stopped(purpose, BlockFault::Lost),
-        Some(answer) => planned_anew(purpose, batch, answer, waits),
+        Some(answer) => planned_anew(locked, purpose, batch, answer, waits),
     }
 }
 
-/// What the request does behind its Replan. A page that is lost is waited for, if it is to be.
-fn planned_anew<A: Allocator>(
+/// What the request does behind its Replan. A page that is lost is waited for, if it is to be. The plan goes back to the array.
+fn planned_anew<L: Ledger, M: Map + Drop, A: Allocator + Copy>(
+    locked: &mut Locked<L, M, A>,
     purpose: Purpose,
     batch: BatchId,
     answer: Result<Planned<A>, AdmitRefused>,
     waits: bool,
 ) -> Stage<A>
-    ensures { AfterPlanned (Reading purpose batch) (Reading purpose batch) (Leaving purpose batch) (plan_answer answer) result }
+    ensures next { AfterPlanned (Reading purpose batch) (Reading purpose batch) (Leaving purpose batch) (plan_answer answer) result }
+    ensures locked { locked.new ≡ locked.old }
 {
     match answer {
-        Ok(_) => Stage::Reading(purpose, batch),
+        Ok(planned) => {
+            locked.give_back_plan(planned);
+            Stage::Reading(purpose, batch)
+        }
         Err(AdmitRefused::Lost(_)) => {
             if waits {
                 Stage::Reading(purpose, batch)

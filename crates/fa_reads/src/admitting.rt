@@ -19,6 +19,7 @@ ghost use Rattle.fa_types.specs.Windows.{IsFull};
 
 use crate::booking::{book, open};
 use crate::lost::first_lost;
+use crate::planner::Planner;
 use crate::planning::{is_late, plan_written};
 use fa_batch::Place;
 use fa_calendar::CalendarRefused;
@@ -42,6 +43,7 @@ pub struct Admitted<A: Allocator = Global> {
 /// rounds, and booked; the others are answered with zeros at once. Refused, nothing has changed.
 pub fn admit<M: Map, A: Allocator + Copy>(
     alloc: A,
+    planner: &mut Planner<A>,
     state: &mut State<M, A>,
     pages: &[Page],
 ) -> Result<Admitted<A>, AdmitRefused>
@@ -58,7 +60,7 @@ pub fn admit<M: Map, A: Allocator + Copy>(
     if is_late(&state.bookings) {
         return Err(AdmitRefused::Spent);
     }
-    match plan_written(alloc, state, pages) {
+    match plan_written(alloc, planner, state, pages) {
         Ok(planned) => admit_planned(alloc, state, pages, planned),
         Err(_) => Err(AdmitRefused::NoMemory),
     }

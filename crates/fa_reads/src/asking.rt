@@ -7,7 +7,7 @@ ghost use Rattle.fa_batches.specs.Pages.{opened};
 ghost use Rattle.fa_machine.specs.Reading.{entries_for, has_data as rule_has_data, is_data as rule_data, to_read};
 ghost use Rattle.fa_reads.specs.Left.{is_left as rule_left, left_among, place_in as rule_place, places_among};
 
-use crate::holding::holders;
+use crate::holding::add_page;
 use fa_batch::{Batch, Place};
 use fa_batches::{Batches, PageState};
 use fa_machine::BatchId;
@@ -35,23 +35,8 @@ fn is_data(kind: Kind) -> bool
     }
 }
 
-/// One page more, with its holders. The error is out of memory.
-fn add_page<M: Map, A: Allocator + Copy>(
-    alloc: A,
-    page_map: &M,
-    batch: &mut Batch<A>,
-    page: Page,
-) -> Result<(), AllocError>
-    requires { page.0 < (M.view page_map.now).geometry.pages }
-    ensures { OnOk result (batch.new ≡ batch.old ++ entries_for (M.view page_map.now) (page.0 ∷ [])) }
-{
-    let dies = holders(alloc, page_map, page)?;
-    batch.push(page, dies)
-}
-
 /// One page more, if it has bytes on its dies. The error is out of memory.
 fn add_written<M: Map, A: Allocator + Copy>(
-    alloc: A,
     page_map: &M,
     batch: &mut Batch<A>,
     page: Page,
@@ -61,57 +46,52 @@ fn add_written<M: Map, A: Allocator + Copy>(
         ≡ batch.old ++ entries_for (M.view page_map.now) (to_read (M.view page_map.now) (page.0 ∷ []))) }
 {
     if has_data(page_map, page) {
-        add_page(alloc, page_map, batch, page)
+        add_page(page_map, batch, page)
     } else {
         Ok(())
     }
 }
 
-/// Those of these pages that have bytes on their dies, with their holders. The error is out of memory.
-pub fn written_pages<M: Map, A: Allocator + Copy>(
-    alloc: A,
+/// The batch has those of these pages that have bytes on their dies, with their holders, in place of what it had. The error is out of
+/// memory.
+pub fn list_written<M: Map, A: Allocator + Copy>(
     page_map: &M,
     pages: &[Page],
-) -> Result<Batch<A>, AllocError>
+    batch: &mut Batch<A>,
+) -> Result<(), AllocError>
     requires { All (λ page. page.0 < (M.view page_map.now).geometry.pages) pages.now }
-    ensures { IfOk result (λ batch. batch
+    ensures { OnOk result (batch.new
         ≡ entries_for (M.view page_map.now) (to_read (M.view page_map.now) (map (λ page. page.0) pages.now))) }
 {
-    let mut batch = Batch::new(alloc);
+    batch.clear();
     for page in pages {
-        add_written(alloc, page_map, &mut batch, *page)?;
+        add_written(page_map, batch, *page)?;
     }
-    Ok(batch)
+    Ok(())
 }
 
-/// Those of these pages that are left to be read in an open batch, with their holders. The error is out of memory.
-pub fn left_pages<M: Map, A: Allocator + Copy>(
-    alloc: A,
+/// The entries are those of these pages that are left to be read in an open batch, with their holders, in place of what they were. The
+/// error is out of memory.
+pub fn list_left<M: Map, A: Allocator + Copy>(
     page_map: &M,
     batches: &Batches<A>,
     batch: BatchId,
     pages: &[Page],
-) -> Result<Batch<A>, AllocError>
+    entries: &mut Batch<A>,
+) -> Result<(), AllocError>
     requires { All (λ page. page.0 < (M.view page_map.now).geometry.pages) pages.now }
-    ensures { IfOk result (λ entries. entries ≡ entries_for (M.view page_map.now)
+    ensures { OnOk result (entries.new ≡ entries_for (M.view page_map.now)
         (left_among (state_of batches.now batch.0) (map (λ page. page.0) pages.now))) }
 {
-    let mut entries = Batch::new(alloc);
+    entries.clear();
     for page in pages {
-        add_left(
-            alloc,
-            page_map,
-            &mut entries,
-            *page,
-            batches.state(batch, *page),
-        )?;
+        add_left(page_map, entries, *page, batches.state(batch, *page))?;
     }
-    Ok(entries)
+    Ok(())
 }
 
 /// One page more, if it is left to be read, as it stands. The error is out of memory.
 fn add_left<M: Map, A: Allocator + Copy>(
-    alloc: A,
     page_map: &M,
     entries: &mut Batch<A>,
     page: Page,
@@ -121,7 +101,7 @@ fn add_left<M: Map, A: Allocator + Copy>(
     ensures { OnOk result (entries.new ≡ entries.old ++ entries_for (M.view page_map.now) (left_among (λ _. state) (page.0 ∷ []))) }
 {
     if is_left(state) {
-        add_page(alloc, page_map, entries, page)
+        add_page(page_map, entries, page)
     } else {
         Ok(())
     }

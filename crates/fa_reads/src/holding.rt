@@ -1,26 +1,27 @@
 //! The dies that hold a page.
-ghost use Rattle.std.specs.Prelude.{◌≡◌, ◌<◌, map, IfOk};
-ghost use Rattle.fa_machine.specs.Copies.{holders as rule_holders};
+ghost use Rattle.std.specs.Prelude.{◌≡◌, ◌<◌, ◌++◌, [], ◌∷◌, OnOk};
+ghost use Rattle.fa_machine.specs.Reading.{entries_for};
 
+use fa_batch::Batch;
 use fa_map::Map;
-use fa_types::{Die, Page};
+use fa_types::Page;
 use std::alloc::{AllocError, Allocator};
 
-/// The live dies with a current copy of the page, rising. It takes a step along the page's chain for each. The error is out of
-/// memory.
-pub fn holders<M: Map, A: Allocator + Copy>(
-    alloc: A,
+/// One page more, with the live dies that have a current copy of it, rising. It takes a step along the page's chain for each. The error is
+/// out of memory.
+pub fn add_page<M: Map, A: Allocator + Copy>(
     page_map: &M,
+    batch: &mut Batch<A>,
     page: Page,
-) -> Result<Vec<Die, A>, AllocError>
+) -> Result<(), AllocError>
     requires { page.0 < (M.view page_map.now).geometry.pages }
-    ensures { IfOk result (λ dies. map (λ die. die.0) dies.items ≡ rule_holders (M.view page_map.now) page.0) }
+    ensures { OnOk result (batch.new ≡ batch.old ++ entries_for (M.view page_map.now) (page.0 ∷ [])) }
 {
-    let mut dies = Vec::with_capacity(alloc, page_map.copies_of(page) as usize)?;
+    batch.push(page, &[])?;
     let mut copy = page_map.first_copy(page);
     while let Some((die, slot)) = copy {
-        dies.push(die)?;
+        batch.hold(die)?;
         copy = page_map.next_copy(page, die, slot);
     }
-    Ok(dies)
+    Ok(())
 }

@@ -8,11 +8,13 @@ mod booking;
 mod ending;
 mod holding;
 mod lost;
+mod planner;
 mod planning;
 mod replanning;
 mod standing;
 
 pub use admitting::{Admitted, admit};
 pub use ending::end_batch;
+pub use planner::Planner;
 pub use replanning::{closed_without, replan};
 pub use standing::results;

@@ -7,10 +7,11 @@ ghost use Rattle.fa_machine.specs.Reading.{IsPlanned, is_late as rule_late, to_r
 ghost use Rattle.fa_machine.specs.Step.{is_distinct};
 ghost use Rattle.fa_reads.specs.Answers.{planned_of};
 
-use crate::asking::written_pages;
+use crate::asking::list_written;
+use crate::planner::Planner;
 use fa_bookings::Bookings;
 use fa_map::Map;
-use fa_plan::{Planned, plan};
+use fa_plan::{Planned, plan_in};
 use fa_state::State;
 use fa_types::Page;
 use std::alloc::{AllocError, Allocator};
@@ -26,6 +27,7 @@ pub fn is_late<A: Allocator + Clone>(bookings: &Bookings<A>) -> bool
 /// most 1,024, no two the same, and none of them is lost. The error is out of memory.
 pub fn plan_written<M: Map, A: Allocator + Copy>(
     alloc: A,
+    planner: &mut Planner<A>,
     state: &State<M, A>,
     pages: &[Page],
 ) -> Result<Planned<A>, AllocError>
@@ -37,6 +39,11 @@ pub fn plan_written<M: Map, A: Allocator + Copy>(
     ensures { IfOk result (λ planned. IsPlanned (M.view state.now.page_map) (calendar_of state.now.bookings)
         (to_read (M.view state.now.page_map) (map (λ page. page.0) pages.now)) (planned_of planned)) }
 {
-    let batch = written_pages(alloc, &state.page_map, pages)?;
-    plan(alloc, &batch, &state.bookings)
+    list_written(&state.page_map, pages, &mut planner.entries)?;
+    plan_in(
+        alloc,
+        &mut planner.workspace,
+        &planner.entries,
+        &state.bookings,
+    )
 }

@@ -20,16 +20,17 @@ ghost use Rattle.fa_reads.specs.Left.{is_left as rule_left, left_among, places_a
 ghost use Rattle.fa_types.specs.Open.{FewClosed};
 ghost use Rattle.fa_types.specs.Windows.{IsFull};
 
-use crate::asking::{booked_places, is_left, left_pages};
+use crate::asking::{booked_places, is_left, list_left};
 use crate::booking::book;
 use crate::lost::is_lost;
+use crate::planner::Planner;
 use crate::planning::is_late;
 use fa_batch::{Batch, Closed, Place};
 use fa_batches::Batches;
 use fa_calendar::CalendarRefused;
 use fa_machine::{AdmitRefused, BatchId};
 use fa_map::Map;
-use fa_plan::{Planned, plan};
+use fa_plan::{Planned, plan_in};
 use fa_state::State;
 use fa_types::Page;
 use std::alloc::{AllocError, Allocator};
@@ -38,6 +39,7 @@ use std::alloc::{AllocError, Allocator};
 /// the least number of rounds, and booked. Refused, nothing has changed.
 pub fn replan<M: Map, A: Allocator + Copy>(
     alloc: A,
+    planner: &mut Planner<A>,
     state: &mut State<M, A>,
     batch: BatchId,
 ) -> Result<Planned<A>, AdmitRefused>
@@ -52,7 +54,7 @@ pub fn replan<M: Map, A: Allocator + Copy>(
     if is_late(&state.bookings) {
         return Err(AdmitRefused::Spent);
     }
-    match plan_left(alloc, state, batch) {
+    match plan_left(alloc, planner, state, batch) {
         Ok(planned) => replan_with(alloc, state, batch, planned),
         Err(_) => Err(AdmitRefused::NoMemory),
     }
@@ -186,6 +188,7 @@ fn is_left_lost<M: Map, A: Allocator + Clone>(
 /// It is also answered where a page has no holder though none is lost, since no plan has such a page.
 fn plan_left<M: Map, A: Allocator + Copy>(
     alloc: A,
+    planner: &mut Planner<A>,
     state: &State<M, A>,
     batch: BatchId,
 ) -> Result<Planned<A>, AllocError>
@@ -196,27 +199,27 @@ fn plan_left<M: Map, A: Allocator + Copy>(
         (left_of (core_of M.view state.now) batch.0) (planned_of planned)) }
 {
     let closed = closed_without(alloc, state, batch)?;
-    let left = entries_left(alloc, state, batch)?;
-    if left.is_sound() {
-        plan(alloc, &left, &closed)
+    list_entries(state, batch, &mut planner.entries)?;
+    if planner.entries.is_sound() {
+        plan_in(alloc, &mut planner.workspace, &planner.entries, &closed)
     } else {
         Err(AllocError)
     }
 }
 
-/// The pages that are left of an open batch, with their holders. The error is out of memory.
-fn entries_left<M: Map, A: Allocator + Copy>(
-    alloc: A,
+/// The entries are the pages that are left of an open batch, with their holders, in place of what they were. The error is out of memory.
+fn list_entries<M: Map, A: Allocator + Copy>(
     state: &State<M, A>,
     batch: BatchId,
-) -> Result<Batch<A>, AllocError>
+    entries: &mut Batch<A>,
+) -> Result<(), AllocError>
     requires open { contains_key (batches_of state.now.batches) batch.0 ≡ true }
     requires fitted { IsFitted M.view state.now }
-    ensures { IfOk result (λ entries. entries
+    ensures { OnOk result (entries.new
         ≡ entries_for (M.view state.now.page_map) (left_of (core_of M.view state.now) batch.0)) }
 {
     let pages = state.batches.pages(batch);
-    left_pages(alloc, &state.page_map, &state.batches, batch, pages)
+    list_left(&state.page_map, &state.batches, batch, pages, entries)
 }
 
 /// The closed rounds of all dies from the current one on. Those that are booked for the batch and were not started are left out. The

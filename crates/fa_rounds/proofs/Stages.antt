@@ -77,7 +77,7 @@ module _ (m : MapState) (copies : ℕ) (in_time : ℕ → Type 0) where
     abbrev pub At : Core → Stage A → Type 0
     At core (Listing (Answer page)) = IsBefore m copies first core × (page ≡ first_page r)
     At core (Asking (Answer page) pages) =
-        IsBefore m copies first core × (page ≡ past_page r) × (map (λ page. page.0) pages.items ≡ pages_of r)
+        IsBefore m copies first core × (page ≡ past_page r) × (map (λ page. page.0) pages ≡ pages_of r)
     At core (Reading (Answer page) batch) = IsAmidst batch.0 core × (page ≡ past_page r)
     At core (Sorting (Answer page) given) = IsBehind core × (page ≡ past_page r)
     At core (Ended fault) = IsBehind core

@@ -7,7 +7,7 @@ ghost use Rattle.fa_shared.specs.Seats.{commits_together};
 
 use crate::seat::Seat;
 use crate::sleepers::{Awaits, SeatSet, Sleepers};
-use fa_core::{Answer, Array, Call};
+use fa_core::{Answer, Array, Call, Planned};
 use fa_map::Map;
 use fa_types::Page;
 use std::alloc::{Allocator, Global};
@@ -190,6 +190,13 @@ impl<L: Ledger, M: Map + Drop, A: Allocator + Copy> Locked<L, M, A> {
         ensures { self.new ≡ self.old }
     {
         self.array.give_back(buffers);
+    }
+
+    /// A plan that nobody wants any more comes back, and plans to come are made in its memory. It is no event.
+    pub fn give_back_plan(&mut self, planned: Planned<A>)
+        ensures { self.new ≡ self.old }
+    {
+        self.array.give_back_plan(planned);
     }
 
     /// Something has changed that others may wait for.

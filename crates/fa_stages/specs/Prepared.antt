@@ -48,7 +48,7 @@ Lists r (Answer page) purpose pages = (purpose ≡ Answer (until r page)) × (pa
 module _ {A : Type 0} where
   -- The pages of the next batch, or no memory for them.
   abbrev pub IsListed : Range → Purpose → Stage A → Type 0
-  IsListed r purpose (Asking next pages) = Lists r purpose next pages.items
+  IsListed r purpose (Asking next pages) = Lists r purpose next pages
   IsListed r purpose next = next ≡ stopped purpose NoMemory
 
   -- a page that is written whole, as it is asked for or on fewer dies

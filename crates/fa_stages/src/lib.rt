@@ -3,12 +3,14 @@
 #![tactic(auto)]
 
 mod next;
+mod page_list;
 mod preparing;
 mod range;
 mod request;
 mod stage;
 
 pub use next::{abandoned, begin, begun, claimed, committed, flushed, released, reserved, stopped};
+pub use page_list::PageList;
 pub use preparing::{content, fill_page, fill_with, fits, list, sort_page};
 pub use range::Range;
 pub use request::{Fill, Request, Task};

@@ -6,6 +6,7 @@ ghost use Rattle.fa_stages.specs.Ranges.{IsRange, begins_at};
 ghost use Rattle.fa_types.specs.Store.{with_bytes};
 
 use crate::next::stopped;
+use crate::page_list::PageList;
 use crate::range::Range;
 use crate::request::{Fill, Task};
 use crate::stage::{Held, Purpose, Stage, Wish};
@@ -23,10 +24,10 @@ pub fn list<A: Allocator + Copy>(alloc: A, range: Range, purpose: Purpose) -> St
     ensures { IsListed range purpose result }
 {
     let (next, listed) = match purpose {
-        Purpose::Merge(held) => (purpose, one_page(alloc, held.page)),
+        Purpose::Merge(held) => (purpose, Ok(PageList::one(alloc, held.page))),
         Purpose::Answer(page) => {
             let past = until(range, page);
-            (Purpose::Answer(past), pages_from(alloc, page, past))
+            (Purpose::Answer(past), PageList::between(alloc, page, past))
         }
     };
     match listed {
@@ -41,22 +42,6 @@ fn until(range: Range, page: u64) -> u64
     ensures { result ≡ rule_until range page }
 {
     range.past_page().min(page.saturating_add(MAX_BATCH))
-}
-
-/// A list of one page. The error is out of memory.
-fn one_page<A: Allocator>(alloc: A, page: Page) -> Result<Vec<Page, A>, AllocError>
-    ensures { IfOk result (λ pages. pages.items ≡ page ∷ []) }
-{
-    let mut pages = Vec::with_capacity(alloc, 1)?;
-    pages.push(page)?;
-    Ok(pages)
-}
-
-/// A list of the pages from one to before another. The error is out of memory.
-fn pages_from<A: Allocator>(alloc: A, page: u64, past: u64) -> Result<Vec<Page, A>, AllocError>
-    ensures { IfOk result (λ pages. pages.items ≡ pages_between page past) }
-{
-    (page..past).map(|number| Page(number)).collect(alloc)
 }
 
 /// What a page that is written whole is to hold.

@@ -1,6 +1,7 @@
 //! How far a request is.
 ghost use Rattle.std.specs.Prelude.{◌≡◌};
 
+use crate::page_list::PageList;
 use fa_machine::{BatchId, ClaimId, Flush};
 use fa_tag::Payload;
 use fa_types::{BlockFault, Page};
@@ -41,7 +42,7 @@ pub enum Stage<A: Allocator = Global> {
     /// The pages of a batch are to be listed.
     Listing(Purpose),
     /// A batch of these pages is to be admitted.
-    Asking(Purpose, Vec<Page, A>),
+    Asking(Purpose, PageList<A>),
     /// The batch is being read.
     Reading(Purpose, BatchId),
     /// The batch is to be ended, and the request is refused so.

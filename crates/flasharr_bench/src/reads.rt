@@ -5,7 +5,7 @@ use crate::random::Random;
 use crate::steps::{Bench, Mode, do_plain, make, make_plain, plain, turn, work_all};
 use crate::timings::{Timed, moment};
 use fa_batch::Batch;
-use fa_core::{Answer, Array, Call};
+use fa_core::{Admitted, Answer, Array, Call};
 use fa_machine::{BatchId, Flush, ReadState};
 use fa_map::Map;
 use fa_plan::plan;
@@ -120,7 +120,8 @@ fn held_pages<M: Map, A: Allocator + Copy>(
 ) -> Result<Batch<A>, AllocError> {
     let mut batch = Batch::new(heap);
     for page in pages {
-        batch.push(*page, holders(array, heap, *page)?)?;
+        let dies = holders(array, heap, *page)?;
+        batch.push(*page, dies.as_slice())?;
     }
     Ok(batch)
 }
@@ -160,10 +161,27 @@ fn read_pages<M: Map, A: Allocator + Copy>(
     let Some(batch) = admit(rt, array, heap, bench, amount.admit, pages) else {
         return;
     };
-    let call = plain(&heap, Call::Replan(batch));
-    do_plain(rt, array, heap, bench, amount.replan, call);
+    replan(rt, array, heap, bench, amount, batch);
     read_out(rt, array, heap, bench, batch);
     end_batch(rt, array, heap, bench, amount, batch);
+}
+
+/// The batch is planned anew, and the plan is given back.
+fn replan<M: Map, A: Allocator + Copy>(
+    rt: &impl Clock,
+    array: &mut Array<M, A>,
+    heap: A,
+    bench: &mut Bench<A>,
+    amount: Amount,
+    batch: BatchId,
+)
+    requires { IsWhole M.view array.old }
+    ensures { IsWhole M.view array.new }
+{
+    let call = plain(&heap, Call::Replan(batch));
+    if let Answer::Replan(Ok(planned)) = make_plain(rt, array, heap, bench, amount.replan, call) {
+        array.give_back_plan(planned);
+    }
 }
 
 /// The batch is ended, and its buffers are given back.
@@ -206,7 +224,10 @@ fn admit<M: Map, A: Allocator + Copy>(
         timed,
         Call::Admit(pages),
     ) {
-        Answer::Admit(Ok(admitted)) => Some(admitted.batch),
+        Answer::Admit(Ok(Admitted { batch, planned })) => {
+            array.give_back_plan(planned);
+            Some(batch)
+        }
         _ => None,
     }
 }

@@ -1,7 +1,7 @@
-use Rattle.std.proofs.Common.{◌≡◌, List, ap, false, length, map, subst}
+use Rattle.std.proofs.Common.{◌≡◌, List, ap, false, length, map, subst, sym}
 use Rattle.std.specs.List.{list_all}
 use Rattle.std.specs.Prelude.{◌&&◌, nat_le}
-use Rattle.fa_machine.specs.Step.{Admit, is_distinct, is_page}
+use Rattle.fa_machine.specs.Step.{Admit, Step, is_distinct, is_page}
 use Rattle.fa_ops.specs.Moves.{Moved, Strayed}
 use Rattle.fa_reads.specs.Answers.{admit_answer}
 use Rattle.fa_types.specs.declared.numbers.Page.{Page}
@@ -10,9 +10,10 @@ use Rattle.fa_ops.proofs.reading.ask.Goals as goal
 
 pub returns-in-Some-clause-turned : goal.returns-in-Some-clause-turned
 returns-in-Some-clause-turned g c =
-    λ t. Moved (Admit (map (λ (page : Page). page.0) c.as_slice.result.now) (admit_answer c.in-Some.answer)) c.in-Some.ensures.some
+    let act = Admit (map (λ (page : Page). page.0) c.as_slice.result.now) (admit_answer c.in-Some.answer) in
+    λ t. Moved act (subst (λ locked. Step c.args.locked.now.core act locked.core) (sym c.asked.ensures.locked) c.in-Some.ensures.some)
     (no_rise c.in-Some.ensures.commits)
-    (ap (map (λ (page : Page). page.0)) c.as_slice.ensures.value, c.asked.ensures) tt
+    (ap (map (λ (page : Page). page.0)) c.as_slice.ensures.value, c.asked.ensures.next) tt
 
 pub returns-in-None-clause-turned : goal.returns-in-None-clause-turned
 returns-in-None-clause-turned g c =

@@ -24,11 +24,11 @@ with_data : (version : Option Version) → has_data version ≡ true → is_some
 with_data None is = absurd (false≢true is)
 with_data (Some version) is = refl
 
-pub plan-requires-clause-sound : goal.plan-requires-clause-sound
-plan-requires-clause-sound g c =
+pub plan_in-requires-clause-sound : goal.plan_in-requires-clause-sound
+plan_in-requires-clause-sound g c =
     let m = g.M.Map.view c.args.state.now.page_map in
     let pages = map (λ (page : Page). page.0) c.args.pages.now in
-    subst IsSound (sym c.in_ok-batch.ensures)
+    subst IsSound (sym c.in_ok-list_written.ensures)
     (sound_of m (λ page. has_data (get m.versions page)) pages c.requires.distinct
     (subst (λ n. n ≤ 1024) (sym (length-map c.args.pages.now (λ (page : Page). page.0))) c.requires.few)
     (λ page is. with_data (get m.versions page) is)
@@ -41,10 +41,10 @@ returns g c =
     let pages = to_read m (map (λ (page : Page). page.0) c.args.pages.now) in
     ok_both
     (λ (planned : Planned g.row.A.Denot).
-    IsCertificate c.in_ok-batch.batch calendar.round (is_taken calendar) planned.rounds planned.plan.places planned.shortage)
+    IsCertificate c.list_written.new.batch calendar.round (is_taken calendar) planned.rounds planned.plan.places planned.shortage)
     (λ planned. AreFirstRounds calendar.round (is_taken calendar) planned.plan.places)
     (λ planned. IsPlanned m calendar pages (planned_of planned))
     (λ planned certificate first. planned_against m calendar pages (is_taken calendar) (λ die round up. refl) (planned_of planned)
     (subst (λ entries. IsCertificate entries calendar.round (is_taken calendar) planned.rounds planned.plan.places planned.shortage)
-    c.in_ok-batch.ensures certificate) first)
-    c.plan.result c.plan.ensures.certificate c.plan.ensures.first
+    c.in_ok-list_written.ensures certificate) first)
+    c.plan_in.result c.plan_in.ensures.certificate c.plan_in.ensures.first

@@ -19,13 +19,13 @@ returns-then-is_sound g c =
     let closed = is_closed c.in_ok-closed.closed in let current = current_of c.in_ok-closed.closed in
     ok_both
     (λ (planned : Planned g.row.A.Denot).
-    IsCertificate c.in_ok-left.left current closed planned.rounds planned.plan.places planned.shortage)
+    IsCertificate c.list_entries.new.entries current closed planned.rounds planned.plan.places planned.shortage)
     (λ planned. AreFirstRounds current closed planned.plan.places)
     (λ planned. IsPlanned m calendar pages (planned_of planned))
     (λ planned certificate first. planned_against m calendar pages closed c.in_ok-closed.ensures.closed (planned_of planned)
     (subst (λ (n : ℕ). IsCertificate (entries_for m pages) n closed planned.rounds planned.plan.places planned.shortage)
     c.in_ok-closed.ensures.current
     (subst (λ (entries : List Entry). IsCertificate entries current closed planned.rounds planned.plan.places planned.shortage)
-    c.in_ok-left.ensures certificate))
+    c.in_ok-list_entries.ensures certificate))
     (subst (λ (n : ℕ). AreFirstRounds n closed planned.plan.places) c.in_ok-closed.ensures.current first))
-    c.plan.result c.plan.ensures.certificate c.plan.ensures.first
+    c.plan_in.result c.plan_in.ensures.certificate c.plan_in.ensures.first

@@ -17,3 +17,9 @@ returns-in-Ok-clause-claims g c =
             ∙ ap (λ n. insert claims n (record { page = c.args.page.0; reserved = None })) (sym c.in-Ok.ensures.number)) i;
       },
     )
+
+pub returns-in-Err-clause-claims : goal.returns-in-Err-clause-claims
+returns-in-Err-clause-claims g c = (
+  sym c.is_claimed.ensures.claimed ∙ c.if-is_claimed.false,
+  λ i. record (core_of g.M.Map.view c.args.state.now) { claims = c.in-Err.ensures.refused i },
+)

@@ -1,6 +1,6 @@
 use Rattle.fa_batches.specs.Batches.{state_of}
 use Rattle.fa_machine.specs.Reading.{entries_for}
-use Rattle.fa_reads.proofs.asking.left_pages.Given as goal
+use Rattle.fa_reads.proofs.asking.list_left.Given as goal
 use Rattle.fa_reads.specs.Left.{left_among}
 use Rattle.fa_types.specs.declared.numbers.Page.{Page}
 use Rattle.std.proofs.Common.{map, ◌≡◌}

@@ -5,17 +5,14 @@ use Rattle.fa_parts.specs.Dies.{by_die}
 use Rattle.fa_reads.proofs.LeftOf.{left_same}
 use Rattle.fa_reads.proofs.Others.{AreInside, pages_inside}
 use Rattle.fa_reads.specs.Left.{left_among}
-use Rattle.std.proofs.Common.{ap, map, subst, sym, ◌∙◌, ◌≡◌}
-use Rattle.fa_batch.specs.Batch.{Entry}
+use Rattle.std.proofs.Common.{ap, subst, sym, ◌∙◌, ◌≡◌}
 use Rattle.fa_machine.specs.Reading.{entries_for, left_of}
-use Rattle.fa_reads.proofs.Answered.{ok_one}
-use Rattle.fa_reads.proofs.replanning.entries_left.Goals as goal
+use Rattle.fa_reads.proofs.replanning.list_entries.Goals as goal
 use Rattle.fa_state.specs.Core.{core_of}
-use Rattle.fa_types.specs.declared.numbers.Page.{Page}
-use Rattle.std.specs.Prelude.{List}
+use Rattle.std.specs.Prelude.{OnOk}
 
-pub left_pages-requires : goal.left_pages-requires
-left_pages-requires g c =
+pub list_left-requires : goal.list_left-requires
+list_left-requires g c =
     let bound = (g.M.Map.view c.args.state.now.page_map).geometry.pages in
     pages_inside bound c.pages-pages.result.now
     (subst (AreInside bound) (sym c.pages-pages.ensures.pages) (c.requires.fitted.listed c.args.batch.0))
@@ -27,7 +24,4 @@ returns g c =
     ∙ left_same state.batches (calendar_of state.bookings).bookings (by_die state.jobs) c.requires.fitted.tracked c.args.batch.0
     c.requires.open (opened (batches_of state.batches) c.args.batch.0).pages (opened (batches_of state.batches) c.args.batch.0).answers
     c.pages-pages.ensures.there c.pages-pages.ensures.answers in
-    ok_one (λ (entries : List Entry). entries
-    ≡ entries_for m (left_among (state_of state.batches c.args.batch.0) (map (λ (page : Page). page.0) c.pages-pages.result.now)))
-    (λ entries. entries ≡ entries_for m (left_of (core_of g.M.Map.view state) c.args.batch.0))
-    (λ entries is. is ∙ ap (entries_for m) here) c.left_pages.result c.left_pages.ensures
+    subst (λ pages. OnOk c.list_left.result (c.list_left.new.entries ≡ entries_for m pages)) here c.list_left.ensures

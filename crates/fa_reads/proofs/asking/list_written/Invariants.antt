@@ -1,5 +1,5 @@
 use Rattle.fa_machine.specs.Reading.{entries_for, to_read}
-use Rattle.fa_reads.proofs.asking.written_pages.Given as goal
+use Rattle.fa_reads.proofs.asking.list_written.Given as goal
 use Rattle.fa_types.specs.declared.numbers.Page.{Page}
 use Rattle.std.proofs.Common.{map, ◌≡◌}
 use Rattle.std.specs.Prelude.{take}
