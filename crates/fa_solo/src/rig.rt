@@ -190,6 +190,7 @@ fn memory_for<A: Allocator + Copy>(alloc: A, page_bytes: u32) -> Result<Memory<A
 {
     let page = page_bytes as usize;
     let scratch = vec![in alloc; 0u8; page + TAG_BYTES]?;
-    let buffer = vec![in alloc; 0u8; page]?;
+    let mut buffer = vec![in alloc; 0u8; page + TAG_BYTES]?;
+    buffer.truncate(page);
     Ok(Memory { scratch, buffer })
 }

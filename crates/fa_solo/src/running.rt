@@ -148,8 +148,8 @@ fn call_image<L: Ledger, M: Map + Drop, I: Image, A: Allocator + Copy>(
         &mut rig.images[place],
         &array,
         job,
-        rig.scratch.as_mut_slice(),
-        rig.buffer.as_mut_slice(),
+        &mut rig.scratch,
+        &mut rig.buffer,
         &Open,
     )
 }

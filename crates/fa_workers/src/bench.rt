@@ -53,12 +53,7 @@ impl<I: Image + Drop, A: Allocator> Bench<I, A> {
         };
         let mut guard = lock.lock(rt);
         match &mut *guard {
-            Some(image) => order.begin(
-                image,
-                room.scratch.as_mut_slice(),
-                room.buffer.as_mut_slice(),
-                gate,
-            ),
+            Some(image) => order.begin(image, &mut room.scratch, &mut room.buffer, gate),
             None => order.refused(),
         }
     }
@@ -77,12 +72,7 @@ impl<I: Image + Drop, A: Allocator> Bench<I, A> {
         };
         let mut guard = lock.lock(rt);
         match &mut *guard {
-            Some(image) => order.run(
-                image,
-                room.scratch.as_mut_slice(),
-                room.buffer.as_mut_slice(),
-                gate,
-            ),
+            Some(image) => order.run(image, &mut room.scratch, &mut room.buffer, gate),
             None => order.refused(),
         }
     }

@@ -4,6 +4,7 @@ ghost use Rattle.fa_workers.specs.Held.{LeavesRest};
 use crate::bench::Bench;
 use crate::die_events::{Ended, end_job, take_job};
 use crate::gate::Gate;
+use crate::handing::hand_over;
 use crate::order::Order;
 use crate::room::Room;
 use fa_ends::Outcome;
@@ -262,8 +263,7 @@ fn slot_in<A: Allocator>(rooms: &[Room<A>], place: usize) -> &[u8] {
 
 /// The payload of the slot that was read goes to where a read hands it out.
 fn hand_out<A: Allocator>(room: &mut Room<A>) {
-    let len = room.buffer.len();
-    if let Some(front) = room.scratch.get(..len) {
-        room.buffer.copy_from_slice(front);
+    if room.buffer.len() <= room.scratch.len() {
+        hand_over(&mut room.scratch, &mut room.buffer);
     }
 }

@@ -6,6 +6,7 @@ mod collecting;
 mod die_events;
 mod events;
 mod gate;
+mod handing;
 mod header;
 mod helping;
 mod moving;

@@ -63,20 +63,20 @@ impl<A: Allocator> Order<A> {
 
     /// Makes the job's calls on the image, if it is one for the array and the memory has the right sizes, and tells how the job ended.
     /// Otherwise the image refuses the job, and none of its calls is made.
-    pub(crate) fn run<I: Image, G: Gate>(
+    pub(crate) fn run<I: Image, G: Gate, B: Allocator>(
         &self,
         image: &mut I,
-        scratch: &mut [u8],
-        buffer: &mut [u8],
+        scratch: &mut Vec<u8, B>,
+        buffer: &mut Vec<u8, B>,
         gate: &G,
     ) -> Outcome
-        ensures ran { (I.view image.old).geometry ≡ self.now.geometry → length scratch.old ≡ self.now.geometry.page_bytes + 64
-            → length buffer.old ≡ self.now.geometry.page_bytes
-            → Ran I.made self.now.geometry self.now.array self.now.die.0 (handed_of self.now.job) (outcome_of result buffer.new)
+        ensures ran { (I.view image.old).geometry ≡ self.now.geometry → length scratch.old.items ≡ self.now.geometry.page_bytes + 64
+            → length buffer.old.items ≡ self.now.geometry.page_bytes
+            → Ran I.made self.now.geometry self.now.array self.now.die.0 (handed_of self.now.job) (outcome_of result buffer.new.items)
             image.old image.new }
         ensures geometry { (I.view image.new).geometry ≡ (I.view image.old).geometry }
-        ensures scratch { length scratch.new ≡ length scratch.old }
-        ensures buffer { length buffer.new ≡ length buffer.old }
+        ensures scratch { length scratch.new.items ≡ length scratch.old.items }
+        ensures buffer { length buffer.new.items ≡ length buffer.old.items }
     {
         let page_bytes = self.geometry.page_bytes as usize;
         if image.geometry() != self.geometry
@@ -97,15 +97,15 @@ impl<A: Allocator> Order<A> {
     }
 
     /// The same, but that a read's slot is only read: it stands as a bad one, and is to be opened.
-    pub(crate) fn begin<I: Image, G: Gate>(
+    pub(crate) fn begin<I: Image, G: Gate, B: Allocator>(
         &self,
         image: &mut I,
-        scratch: &mut [u8],
-        buffer: &mut [u8],
+        scratch: &mut Vec<u8, B>,
+        buffer: &mut Vec<u8, B>,
         gate: &G,
     ) -> Outcome
-        ensures scratch { length scratch.new ≡ length scratch.old }
-        ensures buffer { length buffer.new ≡ length buffer.old }
+        ensures scratch { length scratch.new.items ≡ length scratch.old.items }
+        ensures buffer { length buffer.new.items ≡ length buffer.old.items }
     {
         let Flight::Read { slot, .. } = self.job.flight else {
             return self.run(image, scratch, buffer, gate);
@@ -115,7 +115,7 @@ impl<A: Allocator> Order<A> {
             return self.refused();
         }
         gate.before(self.die, ImageCallKind::ReadSlot);
-        let read = image.read_slot(slot, scratch);
+        let read = image.read_slot(slot, scratch.as_mut_slice());
         gate.after(self.die, ImageCallKind::ReadSlot);
         match read {
             Ok(()) => Outcome::Read(Opened::Bad),

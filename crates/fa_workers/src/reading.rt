@@ -6,38 +6,41 @@ ghost use Rattle.fa_machine.specs.declared.jobs.Flight.TheVariants.{Read};
 ghost use Rattle.fa_workers.specs.Made.{Ran};
 
 use crate::gate::{Gate, ImageCallKind};
+use crate::handing::hand_over;
 use fa_ends::Outcome;
 use fa_image::Image;
 use fa_machine::{BatchId, Version};
 use fa_tag::open;
 use fa_types::{Die, Page, Slot};
+use std::alloc::Allocator;
 
-/// Reads a slot into `scratch`, and its payload from there into `buffer`.
-pub(crate) fn run_read<I: Image, G: Gate>(
+/// Reads a slot into `scratch`, and hands its payload out in `buffer`.
+pub(crate) fn run_read<I: Image, G: Gate, B: Allocator>(
     die: Die,
     image: &mut I,
     slot: Slot,
-    scratch: &mut [u8],
-    buffer: &mut [u8],
+    scratch: &mut Vec<u8, B>,
+    buffer: &mut Vec<u8, B>,
     gate: &G,
 ) -> Outcome
     requires slot { slot.0 < slot_count (I.view image.old).geometry }
-    requires scratch { length scratch.old ≡ slot_bytes (I.view image.old).geometry }
-    requires buffer { length buffer.old ≡ (I.view image.old).geometry.page_bytes }
+    requires scratch { length scratch.old.items ≡ slot_bytes (I.view image.old).geometry }
+    requires buffer { length buffer.old.items ≡ (I.view image.old).geometry.page_bytes }
     ensures ran { (batch : BatchId) (page : Page) (version : Version) (array payload : List ℕ)
         → Ran I.made (I.view image.old).geometry array die.0
-        (record { flight = Read batch page version slot; payload = payload }) (outcome_of result buffer.new) image.old image.new }
+        (record { flight = Read batch page version slot; payload = payload }) (outcome_of result buffer.new.items) image.old image.new }
     ensures geometry { (I.view image.new).geometry ≡ (I.view image.old).geometry }
-    ensures scratch { length scratch.new ≡ length scratch.old }
-    ensures buffer { length buffer.new ≡ length buffer.old }
+    ensures scratch { length scratch.new.items ≡ length scratch.old.items }
+    ensures buffer { length buffer.new.items ≡ length buffer.old.items }
 {
     gate.before(die, ImageCallKind::ReadSlot);
-    let read = image.read_slot(slot, scratch);
+    let read = image.read_slot(slot, scratch.as_mut_slice());
     gate.after(die, ImageCallKind::ReadSlot);
     match read {
         Ok(()) => {
-            buffer.copy_from_slice(&scratch[..buffer.len()]);
-            Outcome::Read(open(scratch))
+            let opened = open(scratch.as_slice());
+            hand_over(scratch, buffer);
+            Outcome::Read(opened)
         }
         Err(fault) => Outcome::Fault(fault),
     }

@@ -5,7 +5,7 @@ ghost use Rattle.fa_workers.specs.Rooms.{buffer_in, scratch_in};
 use fa_types::TAG_BYTES;
 use std::alloc::{AllocError, Allocator, Global};
 
-/// Memory for the jobs of a die: a slot's bytes, and a page's. It is made before the die's thread is started.
+/// Memory for the jobs of a die: a slot's bytes, and a page's, which has room for a slot. It is made before the die's thread is started.
 #[derive(Drop)]
 pub struct Room<A: Allocator = Global> {
     pub(crate) scratch: Vec<u8, A>,
@@ -20,7 +20,8 @@ impl<A: Allocator + Copy> Room<A> {
     {
         let page = page_bytes as usize;
         let scratch = vec![in alloc; 0u8; page + TAG_BYTES]?;
-        let buffer = vec![in alloc; 0u8; page]?;
+        let mut buffer = vec![in alloc; 0u8; page + TAG_BYTES]?;
+        buffer.truncate(page);
         Ok(Room { scratch, buffer })
     }
 }

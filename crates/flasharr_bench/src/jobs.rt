@@ -11,7 +11,7 @@ use fa_tag::{Opened, Payload};
 use fa_types::{Die, Geometry, Kind, Page, Seq, Slot};
 use fa_workers::{Open, run_job};
 use sha2::{Digest, Sha256};
-use std::alloc::Global;
+use std::alloc::{AllocError, Global};
 use std::fs::{File, OpenOptions};
 use std::io::{self, ErrorKind};
 use std::os::unix::fs::FileExt;
@@ -127,6 +127,13 @@ fn shape() -> io::Result<Geometry> {
     }
 }
 
+/// Memory for a page that has room for a slot. The error is out of memory.
+fn page_buffer(alloc: Global) -> Result<Vec<u8>, AllocError> {
+    let mut page = vec![in alloc; 0u8; SLOT_BYTES]?;
+    page.truncate(PAGE_BYTES);
+    Ok(page)
+}
+
 /// The best times of all turns.
 fn times_of(
     rt: &(impl Clock + AllocGlobal),
@@ -135,7 +142,7 @@ fn times_of(
 ) -> io::Result<Times> {
     let mut buffers = Buffers {
         scratch: vec![in rt.alloc(); 0u8; SLOT_BYTES]?,
-        page: vec![in rt.alloc(); 0u8; PAGE_BYTES]?,
+        page: page_buffer(rt.alloc())?,
     };
     let mut times = Times {
         program: Duration::MAX,
@@ -246,8 +253,8 @@ fn program<I: Image>(
         image,
         &ARRAY,
         &job,
-        buffers.scratch.as_mut_slice(),
-        buffers.page.as_mut_slice(),
+        &mut buffers.scratch,
+        &mut buffers.page,
         &Open,
     ))
 }
@@ -282,8 +289,8 @@ fn read<I: Image>(image: &mut I, slot: u32, buffers: &mut Buffers) -> Option<Out
         image,
         &ARRAY,
         &job,
-        buffers.scratch.as_mut_slice(),
-        buffers.page.as_mut_slice(),
+        &mut buffers.scratch,
+        &mut buffers.page,
         &Open,
     ))
 }

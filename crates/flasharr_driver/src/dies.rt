@@ -71,7 +71,7 @@ fn take<M: Map, A: Allocator + Copy>(
     let call = take_of(die, &heap);
     let answer = array.step(heap, SEAT, call);
     note(desk, &answer);
-    match begin(die, geometry, &number, &answer, life, buffer.as_mut_slice()) {
+    match begin(die, geometry, &number, &answer, life, &mut buffer) {
         Some(begun) => {
             life.start(die, begun, buffer);
             Ok(())
@@ -94,7 +94,7 @@ fn begin<A: Allocator>(
     number: &[u8; 16],
     answer: &Answer<A>,
     life: &mut Life<A>,
-    buffer: &mut [u8],
+    buffer: &mut Vec<u8, A>,
 ) -> Option<Begun>
     requires { FitsAnswer geometry number.now (Call.Take die) answer.now }
 {
@@ -128,20 +128,12 @@ fn run<A: Allocator>(
     number: &[u8; 16],
     job: &Job<A>,
     life: &mut Life<A>,
-    buffer: &mut [u8],
+    buffer: &mut Vec<u8, A>,
 ) -> Outcome
     requires { IsJobFor geometry number.now die.0 (handed_of job.now) }
 {
     match life.images.of(die) {
-        Some(image) => run_on(
-            die,
-            image,
-            geometry,
-            number,
-            job,
-            life.scratch.as_mut_slice(),
-            buffer,
-        ),
+        Some(image) => run_on(die, image, geometry, number, job, &mut life.scratch, buffer),
         None => Outcome::Wrong,
     }
 }
@@ -153,8 +145,8 @@ fn run_on<I: Image, A: Allocator>(
     geometry: Geometry,
     number: &[u8; 16],
     job: &Job<A>,
-    scratch: &mut [u8],
-    buffer: &mut [u8],
+    scratch: &mut Vec<u8, A>,
+    buffer: &mut Vec<u8, A>,
 ) -> Outcome
     requires { IsJobFor geometry number.now die.0 (handed_of job.now) }
 {

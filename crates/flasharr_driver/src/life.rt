@@ -35,7 +35,7 @@ pub(crate) struct Life<A: Allocator> {
     pub(crate) batches: Vec<OpenBatch>,
     pub(crate) flushes: Vec<Flush>,
     /// The bytes of a slot, for the jobs.
-    pub(crate) scratch: Vec<u8>,
+    pub(crate) scratch: Vec<u8, A>,
     flights: Vec<Option<Flying<A>>>,
     // Buffers of a page's bytes that no job has.
     buffers: Vec<Vec<u8, A>>,
@@ -52,9 +52,11 @@ pub(crate) fn die_of(number: u64) -> Die {
 }
 
 impl<A: Allocator + Copy> Life<A> {
-    /// What is kept beside an array of this geometry, of which no page was written. The error is out of memory.
+    /// What is kept beside an array of this geometry, of which no page was written. Buffers of jobs are of the array's heap. The error is out of
+    /// memory.
     pub(crate) fn new(
         alloc: Global,
+        heap: A,
         geometry: Geometry,
         images: Images,
         fault_every: u64,
@@ -71,7 +73,7 @@ impl<A: Allocator + Copy> Life<A> {
             claims: Claims::new(alloc),
             batches: Vec::new(alloc),
             flushes: Vec::new(alloc),
-            scratch: vec![in alloc; 0u8; slot_bytes]?,
+            scratch: vec![in heap; 0u8; slot_bytes]?,
             flights,
             buffers: Vec::new(alloc),
             fault_every,

@@ -80,7 +80,7 @@ fn run_array<A: Allocator + Copy>(heap: A, desk: &mut Desk, events: u64) -> Resu
     desk.arrays = desk.arrays.saturating_add(1);
     let every = desk.random.index(FAULTS_EVERY.len());
     let fault_every = FAULTS_EVERY.get(every).copied().unwrap_or(1);
-    let mut life = Life::new(desk.alloc, shape.geometry, images, fault_every)?;
+    let mut life = Life::new(desk.alloc, heap, shape.geometry, images, fault_every)?;
     write_last(shape, &mut life, desk)?;
     live_on(heap, &mut life, desk, shape.copies, events)?;
     let overwrites = life.images.overwrites();

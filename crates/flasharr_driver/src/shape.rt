@@ -125,7 +125,13 @@ pub(crate) fn write_last<A: Allocator + Copy>(
             scratch,
             ..
         } = life;
-        if !put_on(images, die, last, payload.as_slice(), scratch) {
+        if !put_on(
+            images,
+            die,
+            last,
+            payload.as_slice(),
+            scratch.as_mut_slice(),
+        ) {
             desk.differ("a slot is not written:", die, last);
         }
     }
@@ -134,7 +140,7 @@ pub(crate) fn write_last<A: Allocator + Copy>(
 }
 
 /// The page with that number stands in the first slot of a die then. False where it does not.
-fn put_on(images: &mut Images, die: u64, seq: u64, payload: &[u8], scratch: &mut Vec<u8>) -> bool {
+fn put_on(images: &mut Images, die: u64, seq: u64, payload: &[u8], scratch: &mut [u8]) -> bool {
     let die = die_of(die);
     let tag = Tag {
         page: OLD_PAGE,
@@ -144,7 +150,7 @@ fn put_on(images: &mut Images, die: u64, seq: u64, payload: &[u8], scratch: &mut
         slot: Slot(0),
     };
     match images.of(die) {
-        Some(image) => put_copy(image, tag, payload, scratch.as_mut_slice()),
+        Some(image) => put_copy(image, tag, payload, scratch),
         None => false,
     }
 }

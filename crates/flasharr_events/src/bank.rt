@@ -88,9 +88,14 @@ impl<A: Allocator> Bank<A> {
     }
 
     /// Makes the calls of a job on its die's image, and tells how it ended.
-    pub(crate) fn run(&mut self, taken: &Taken<A>, buffer: &mut [u8]) -> Outcome {
+    pub(crate) fn run<B: Allocator>(
+        &mut self,
+        taken: &Taken<A>,
+        scratch: &mut Vec<u8, B>,
+        buffer: &mut Vec<u8, B>,
+    ) -> Outcome {
         match self.images.get_mut(taken.die().0 as usize) {
-            Some(image) => taken.run(image, self.scratch.as_mut_slice(), buffer),
+            Some(image) => taken.run(image, scratch, buffer),
             None => Outcome::Wrong,
         }
     }

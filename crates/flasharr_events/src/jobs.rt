@@ -14,7 +14,7 @@ use fa_image::ImageFault;
 use fa_machine::Flight;
 use fa_map::Map;
 use fa_tag::Opened;
-use fa_types::{Die, Geometry};
+use fa_types::{Die, Geometry, TAG_BYTES};
 use std::alloc::{AllocError, Allocator};
 
 /// A die takes its next job. The error is out of memory.
@@ -93,8 +93,10 @@ fn run_job_of<M: Map, A: Allocator + Copy>(
     requires { IsWhole M.view array.old }
     ensures { IsWhole M.view array.new }
 {
-    let mut buffer = vec![in heap; 0u8; bank.geometry.page_bytes as usize]?;
-    let outcome = bank.run(taken, buffer.as_mut_slice());
+    let page_bytes = bank.geometry.page_bytes as usize;
+    let mut scratch = vec![in heap; 0u8; page_bytes.saturating_add(TAG_BYTES)]?;
+    let mut buffer = vec![in heap; 0u8; page_bytes]?;
+    let outcome = bank.run(taken, &mut scratch, &mut buffer);
     show_outcome(taken, outcome, buffer.as_slice(), told);
     let call = done_of(taken.die(), outcome, buffer, &heap);
     match array.step(heap, SEAT, call) {

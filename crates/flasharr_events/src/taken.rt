@@ -50,11 +50,11 @@ impl<A: Allocator> Taken<A> {
 
     /// Makes the job's calls on the image, and tells how the job ended. None is made where the memory has another size than the image
     /// wants.
-    pub(crate) fn run<I: Image>(
+    pub(crate) fn run<I: Image, B: Allocator>(
         &self,
         image: &mut I,
-        scratch: &mut [u8],
-        buffer: &mut [u8],
+        scratch: &mut Vec<u8, B>,
+        buffer: &mut Vec<u8, B>,
     ) -> Outcome {
         let page_bytes = self.geometry.page_bytes as usize;
         if image.geometry() != self.geometry

@@ -1,5 +1,4 @@
 use Rattle.std.proofs.Common.{◌∙◌, Some, ap, refl, sym}
-use Rattle.std.proofs.lemmas.List.{with_items_is}
 use Rattle.std.proofs.lemmas.Option.{get_or_from_slice_get}
 use Rattle.fa_solo.proofs.Taken.{ran_by}
 use Rattle.fa_solo.proofs.running.call_image.Goals as goal
@@ -12,7 +11,7 @@ returns-clause-ran g c = let placed = c.requires.placed in
       image_is = placed.image_is ∙ ap Some (sym same);
       ran = ran_by _ _ _ _ _ _ _ _ _ _ _ _ (ap (λ i. (g.I.Image.view i).geometry) same ∙ placed.shape)
           (c.array_id-array.ensures ∙ c.array.ensures.number)
-          (sym (with_items_is c.args.rig.now.buffer c.run_job.new.buffer (c.run_job.ensures.buffer ∙ c.as_mut_slice-2.ensures.len)))
+          refl
           c.run_job.ensures.ran;
       images_are = refl;
     }
