@@ -2,6 +2,15 @@ use Rattle.std.proofs.Common.{inl, inr, subst, ◌∙◌}
 use Rattle.fa_host.specs.Printing.{Prints}
 use Rattle.fa_server.proofs.serve.serve_mounted.Goals as goal
 
+pub returns-then-counts-ne0 : goal.returns-then-counts-ne0
+returns-then-counts-ne0 g c = inr (inr (inr c.refuse_for_memory.ensures))
+
+pub returns-in-Err : goal.returns-in-Err
+returns-in-Err g c = inr (inr (inr c.refuse_for_memory-in-Err.ensures))
+
+pub returns-in_default : goal.returns-in_default
+returns-in_default g c = inr (inr (inr c.refuse_for_memory-in_default.ensures))
+
 pub returns-in_default-ready_of : goal.returns-in_default-ready_of
 returns-in_default-ready_of g c = inr (inr (inr c.refuse_for_memory-in_default-ready_of.ensures))
 
