@@ -37,14 +37,6 @@ impl<T: Copy, A: Allocator> Listing<T, A> {
         Ok(())
     }
 
-    /// Takes the memory that this many more things need. Out of memory, the list stays as it was.
-    pub fn reserve(&mut self, more: usize) -> Result<(), AllocError>
-        ensures { self.new ≡ self.old }
-    {
-        self.things.reserve(more)?;
-        Ok(())
-    }
-
     /// The list has none any more, and keeps its memory.
     pub fn clear(&mut self)
         ensures { self.new ≡ [] }

@@ -3,8 +3,8 @@ ghost use Rattle.std.specs.Prelude.{◌≡◌, [], IfOk};
 
 use crate::layout::Seat;
 use crate::planner::Planned;
-use fa_batch::{Listing, Place, Places, Shortage};
-use fa_types::{Die, Page};
+use fa_batch::{Listing, Places, Shortage};
+use fa_types::Die;
 use std::alloc::{AllocError, Allocator, Global};
 use std::mem::replace;
 
@@ -41,41 +41,54 @@ impl<A: Allocator + Copy> Workspace<A> {
         self.seats = seats;
     }
 
-    /// A list of no dies, with room for so many. The error is out of memory.
+    /// A list of no dies, with this much room. The error is out of memory.
     pub(crate) fn take_dies(&mut self, alloc: A, room: usize) -> Result<Vec<Die, A>, AllocError>
         ensures { IfOk result (λ dies. dies.items ≡ []) }
     {
-        let mut dies = replace(&mut self.dies, Vec::new(alloc));
-        dies.clear();
-        dies.reserve(room)?;
-        Ok(dies)
+        emptied(&mut self.dies, alloc, room)
     }
 
-    /// A list of no seats, with room for so many. The error is out of memory.
+    /// A list of no seats, with this much room. The error is out of memory.
     pub(crate) fn take_seats(&mut self, alloc: A, room: usize) -> Result<Vec<Seat, A>, AllocError>
         ensures { IfOk result (λ seats. seats.items ≡ []) }
     {
-        let mut seats = replace(&mut self.seats, Vec::new(alloc));
-        seats.clear();
-        seats.reserve(room)?;
-        Ok(seats)
+        emptied(&mut self.seats, alloc, room)
     }
 
     /// A list of no places.
     pub(crate) fn take_places(&mut self, alloc: A) -> Places<A>
         ensures { result ≡ [] }
     {
-        let mut places: Listing<Place, A> = replace(&mut self.places, Listing::new(alloc));
-        places.clear();
-        places
+        cleared(&mut self.places, alloc)
     }
 
     /// A list of no pages.
     pub(crate) fn take_pages(&mut self, alloc: A) -> Shortage<A>
         ensures { result ≡ [] }
     {
-        let mut pages: Listing<Page, A> = replace(&mut self.pages, Listing::new(alloc));
-        pages.clear();
-        pages
+        cleared(&mut self.pages, alloc)
     }
+}
+
+/// The list that is kept, with nothing in it and this much room; none is kept then. The error is out of memory.
+fn emptied<T: Copy, A: Allocator + Copy>(
+    kept: &mut Vec<T, A>,
+    alloc: A,
+    room: usize,
+) -> Result<Vec<T, A>, AllocError>
+    ensures { IfOk result (λ list. list.items ≡ []) }
+{
+    let mut list = replace(kept, Vec::new(alloc));
+    list.clear();
+    list.reserve(room)?;
+    Ok(list)
+}
+
+/// The list that is kept, with nothing in it; none is kept then.
+fn cleared<T: Copy, A: Allocator + Copy>(kept: &mut Listing<T, A>, alloc: A) -> Listing<T, A>
+    ensures { result ≡ [] }
+{
+    let mut list = replace(kept, Listing::new(alloc));
+    list.clear();
+    list
 }
