@@ -9,7 +9,8 @@ use fa_types::Rounds;
 const MAX_CLOSED: u64 = 1_048_576;
 
 /// The first number of rounds in which the marked dies have open places for so many pages, given a
-/// number that is too low. It is found by bisection.
+/// number that is too low. It is found by strides from there on, each twice as long as the one before, and by bisection behind them: what
+/// is a few rounds later takes a few looks.
 pub(crate) fn first_enough<R: Rounds>(
     calendar: &R,
     dies: &[bool; 256],
@@ -24,10 +25,12 @@ pub(crate) fn first_enough<R: Rounds>(
 {
     let mut fewer = low;
     let mut enough = pages as u64 + MAX_CLOSED;
+    let mut stride = 1u64;
     'halves: while 1 < enough - fewer {
-        let middle = fewer + (enough - fewer) / 2;
+        let middle = fewer + stride.min((enough - fewer) / 2);
         if are_more(calendar, middle, dies, pages) {
             fewer = middle;
+            stride = stride.saturating_mul(2);
         } else {
             enough = middle;
         }

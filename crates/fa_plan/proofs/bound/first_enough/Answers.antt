@@ -14,6 +14,7 @@ halves-init g c =
       later = omega arith;
       between = omega (arith, at_low, low);
       limit = omega arith;
+      moves = omega arith;
       too_few = low;
       enough = omega (arith, at_limit);
     }

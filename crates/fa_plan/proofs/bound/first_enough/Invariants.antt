@@ -7,6 +7,7 @@ invariant-halves g l = record {
   later : l.fn.low ≤ l.fewer;
   between : l.fewer < l.enough;
   limit : l.enough ≤ l.pages + 1048576;
+  moves : 1 ≤ l.stride;
   too_few : places_of (g.R.Rounds.current l.calendar) (g.R.Rounds.closed l.calendar) l.dies l.fewer < l.pages;
   enough : l.pages ≤ places_of (g.R.Rounds.current l.calendar) (g.R.Rounds.closed l.calendar) l.dies l.enough;
 }
