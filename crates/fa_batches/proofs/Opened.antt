@@ -8,7 +8,7 @@ use Rattle.fa_batches.specs.declared.page.BatchList.{BatchList}
 use Rattle.fa_batches.specs.declared.page.BatchPage.{BatchPage}
 use Rattle.fa_batches.specs.declared.page.PageState.{PageState}
 use Rattle.fa_batches.specs.declared.page.PageState.TheVariants.{Answered, Booked, InFlight, Torn}
-use Rattle.fa_claims.proofs.Trees.{get_tree, same_tree, there, tree_of}
+use Rattle.fa_claims.proofs.Tables.{get_table, map_of, same_map_of, there}
 use Rattle.fa_machine.proofs.Maps.{get-insert_other, get-insert_same, get-remove_other, get-remove_same, has_some}
 use Rattle.fa_machine.specs.Maps.{is_one_of}
 use Rattle.fa_machine.specs.State.{OpenBatch}
@@ -53,20 +53,16 @@ pub some_mapped : {X Y : Type 0} (f : X → Y) (o : Option X) → is_some (optio
 some_mapped f None = refl
 some_mapped f (Some x) = refl
 
--- a table compares numbers by equality, and a finite map by their order
-pub by_number : {X : Type 0} (q : ℕ) (es : List (ℕ × X)) → lookup (is_at (nat_cmp q)) es ≡ lookup (λ k. q == k) es
-by_number q es = λ i. lookup (λ k. unsigned_tied q k i) es
-
 module _ {A : Type 0} where
   abbrev pub batches_in : Lists A → Pages A → FinMap nat_cmp OpenBatch
-  batches_in lists pages = tree_of (batch_in pages) lists
+  batches_in lists pages = map_of (batch_in pages) lists
 
   module _ (lists : Lists A) (pages : Pages A) where
     pub get_batches : (q : ℕ) → get (batches_in lists pages) q ≡ option_map (batch_in pages q) (list_at lists q)
-    get_batches q = get_tree (batch_in pages) lists q ∙ ap (option_map (batch_in pages q)) (by_number q lists)
+    get_batches = get_table (batch_in pages) lists
 
     pub open_at : (q : ℕ) → is_some (list_at lists q) ≡ contains_key (batches_in lists pages) q
-    open_at q = ap is_some (sym (by_number q lists)) ∙ there (batch_in pages) lists q
+    open_at = there (batch_in pages) lists
 
     pub has_list : (q : ℕ) → contains_key (batches_in lists pages) q ≡ true → (list : BatchList A) × (list_at lists q ≡ Some list)
     has_list q is = has_some (list_at lists q) (open_at q ∙ is)
@@ -105,7 +101,7 @@ module _ {A : Type 0} where
     pub batch_set : (list : BatchList A) → list_at lists' k ≡ Some list
         → batches_in lists' pages' ≡ insert (batches_in lists pages) k (batch_in pages' k list)
     batch_set list is =
-        same_tree (batch_in pages) _ _ (λ q. elim (cases_eq q k) [
+        same_map_of (batch_in pages) _ _ (λ q. elim (cases_eq q k) [
           | inl same ↦
               ap (get (batches_in lists' pages')) same ∙ get_batches lists' pages' k ∙ ap (option_map (batch_in pages' k)) is
               ∙ sym (get-insert_same (batches_in lists pages) k (batch_in pages' k list))
@@ -115,7 +111,7 @@ module _ {A : Type 0} where
 
     pub batch_gone : list_at lists' k ≡ None → batches_in lists' pages' ≡ remove (batches_in lists pages) k
     batch_gone is =
-        same_tree (batch_in pages) _ _ (λ q. elim (cases_eq q k) [
+        same_map_of (batch_in pages) _ _ (λ q. elim (cases_eq q k) [
           | inl same ↦
               ap (get (batches_in lists' pages')) same ∙ get_batches lists' pages' k ∙ ap (option_map (batch_in pages' k)) is
               ∙ sym (get-remove_same (batches_in lists pages) k) ∙ ap (get (remove (batches_in lists pages) k)) (sym same)
@@ -126,7 +122,7 @@ module _ {A : Type 0} where
   pub batches_same : (lists : Lists A) (pages pages' : Pages A) → ((q p : ℕ) → answer_at pages' q p ≡ answer_at pages q p)
       → batches_in lists pages' ≡ batches_in lists pages
   batches_same lists pages pages' same = λ i.
-      tree_of (λ q (list : BatchList A). record { pages = numbers_of list; answers = answers_of (λ p. same q p i) (numbers_of list) }) lists
+      map_of (λ q (list : BatchList A). record { pages = numbers_of list; answers = answers_of (λ p. same q p i) (numbers_of list) }) lists
 
   -- what is true of the tables of batches
   module _ (page_bytes next : ℕ) (lists : Lists A) (pages : Pages A) (w : IsWhole page_bytes next lists pages) where

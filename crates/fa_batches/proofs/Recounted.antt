@@ -8,7 +8,7 @@ use Rattle.fa_batches.specs.Whole.{IsList, IsWhole}
 use Rattle.fa_batches.specs.declared.page.BatchList.{BatchList}
 use Rattle.fa_batches.specs.declared.page.BatchPage.{BatchPage}
 use Rattle.fa_batches.specs.declared.page.PageState.{PageState}
-use Rattle.fa_claims.proofs.Trees.{same_tree}
+use Rattle.fa_claims.proofs.Tables.{found_is, same_map_of}
 use Rattle.fa_machine.proofs.Maps.{found_changed, nat_same}
 use Rattle.fa_machine.specs.Maps.{is_one_of}
 use Rattle.fa_machine.specs.Step.{is_distinct}
@@ -166,7 +166,7 @@ module _ {A : Type 0} where
           listed_in b (Some x) each l at = subst IsList (same_Some (f b x) l at) (listed_still b x (each x refl))
 
       pub batches_recounted : batches_in lists' pages ≡ batches_in lists pages
-      batches_recounted = same_tree (batch_in pages) _ _ (λ q. get_batches lists' pages q ∙ ap (option_map (batch_in pages q)) (put q)
+      batches_recounted = same_map_of (batch_in pages) _ _ (λ q. get_batches lists' pages q ∙ ap (option_map (batch_in pages q)) (put q)
           ∙ same q (list_at lists q) ∙ sym (get_batches lists pages q))
         where
           same : (q : ℕ) (o : Option (BatchList A)) → option_map (batch_in pages q) (option_map (f q) o) ≡ option_map (batch_in pages q) o
@@ -177,10 +177,6 @@ module _ {A : Type 0} where
           })
 
 -- a table by numbers, of which each value is written anew by its number
-found_is : {X : Type 0} (q : ℕ) (es : List (ℕ × X)) → find nat_cmp q es ≡ lookup (λ k. q == k) es
-found_is q [] = refl
-found_is q (e ∷ es) = λ i. cond (unsigned_tied q e.0 i) (Some e.1) (found_is q es i)
-
 module _ {F X : Type 0} (T : F → ℕ → X → Bool → X → F → Type 0) (g : ℕ → X → X) (f : F)
     (writes : (k : ℕ) (v : X) (b : Bool) (w : X) (f' : F) → T f k v b w f' → (b ≡ true) × (w ≡ g k v) × (f' ≡ f)) where
   all_written : (es kept : List (ℕ × X)) → RetainsPairs T f es kept → kept ≡ map (λ e. (e.0, g e.0 e.1)) es

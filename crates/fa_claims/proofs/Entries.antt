@@ -1,7 +1,7 @@
--- The claims that the entries of a tree stand for.
+-- The claims that the entries of a table stand for.
 use Rattle.fa_claims.specs.Claims.{claim_of, claims_in, reservation_of}
 use Rattle.fa_claims.specs.declared.targets.Reservation.{Reservation}
-use Rattle.fa_claims.proofs.Trees.{get_tree, same_tree, there}
+use Rattle.fa_claims.proofs.Tables.{get_table, same_map_of, there}
 use Rattle.fa_machine.proofs.Maps.{get-change, has_some, nat_same}
 use Rattle.fa_machine.proofs.Values.{any_value, some_value}
 use Rattle.fa_machine.specs.Maps.{change}
@@ -12,7 +12,6 @@ use Rattle.std.proofs.Common.{◌∙◌, ◌∷◌, ◌≡◌}
 use Rattle.std.proofs.lemmas.Bool.{cases_Bool, cases_eq, false≢true, ne_eqb}
 use Rattle.std.proofs.lemmas.Cmp.{tied_itself}
 use Rattle.std.proofs.lemmas.Option.{none-some, same_Some}
-use Rattle.std.specs.BTreeMap.{is_at}
 use Rattle.std.specs.Cmp.{nat_cmp_total, unsigned_tied}
 use Rattle.std.specs.FinMap.{FinMap, contains_key, empty_of_len, find, get, get-empty, get-from_entries, len, len-empty, get-insert}
 use Rattle.std.specs.FinMap.{get-remove, insert, nat_cmp-IsAntisymmetric}
@@ -25,15 +24,15 @@ use Rattle.std.specs.Prelude.{if◌then◌else◌, is_some, option_and_then, opt
 abbrev pub Entries : Type 0
 Entries = List (ℕ × Option Reservation)
 
--- what a tree has at a number
+-- what a table has at a number
 abbrev pub at : Entries → ℕ → Option (Option Reservation)
-at es q = lookup (is_at (nat_cmp q)) es
+at es q = lookup (λ k. q == k) es
 
 pub get_claims : (es : Entries) (q : ℕ) → get (claims_in es) q ≡ option_map (claim_of q) (at es q)
-get_claims = get_tree claim_of
+get_claims = get_table claim_of
 
 same_claims : (m n : FinMap nat_cmp OpenClaim) → ((q : ℕ) → get m q ≡ get n q) → m ≡ n
-same_claims = same_tree claim_of
+same_claims = same_map_of claim_of
 
 module _ (es : Entries) where
   pub open_at : (q : ℕ) → is_some (at es q) ≡ contains_key (claims_in es) q

@@ -1,3 +1,3 @@
 mod Entries
+pub mod Tables
 mod Three
-pub mod Trees

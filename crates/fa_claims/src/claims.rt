@@ -10,13 +10,14 @@ use crate::targets::Reservation;
 use fa_machine::ClaimId;
 use fa_types::{Die, Page, Slot};
 use std::alloc::{AllocError, Allocator, Global};
-use std::collections::BTreeMap;
+use std::collections::HashMap;
+use std::hash::{BuildHasherDefault, FoldHasher};
 
 /// The claims that are open, each with what is reserved under it. A claim's number is its page's, so a page has one claim at most.
-/// A call takes as many steps as the logarithm of their number.
+/// A claim is found with one look into a table, as a rule. The table keeps its memory when claims end.
 #[derive(Drop)]
 pub struct Claims<A: Allocator = Global> {
-    reservations: BTreeMap<u64, Option<Reservation>, A>,
+    reservations: HashMap<u64, Option<Reservation>, BuildHasherDefault<FoldHasher>, A>,
 }
 
 impl<A: Allocator + Clone> Claims<A> {
@@ -27,7 +28,7 @@ impl<A: Allocator + Clone> Claims<A> {
         ensures { claims_of result ≡ empty }
     {
         Claims {
-            reservations: BTreeMap::new(alloc),
+            reservations: HashMap::new(alloc),
         }
     }
 

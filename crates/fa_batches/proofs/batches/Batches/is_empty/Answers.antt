@@ -1,4 +1,4 @@
-use Rattle.fa_claims.proofs.Trees.{none_in, no_entries}
+use Rattle.fa_claims.proofs.Tables.{none_in, no_entries}
 use Rattle.fa_batches.specs.Pages.{batch_in}
 use Rattle.fa_batches.proofs.batches.Batches.is_empty.Goals as goal
 

@@ -1,4 +1,4 @@
-use Rattle.fa_claims.proofs.Trees.{inserted}
+use Rattle.fa_claims.proofs.Tables.{inserted}
 use Rattle.fa_claims.specs.Claims.{claim_of}
 use Rattle.std.proofs.Common.{refl, Some, None}
 use Rattle.fa_claims.proofs.claims.Claims.claim.Goals as goal

@@ -1,4 +1,4 @@
-use Rattle.fa_claims.proofs.Trees.{none_in, no_entries}
+use Rattle.fa_claims.proofs.Tables.{none_in, no_entries}
 use Rattle.fa_claims.specs.Claims.{claim_of}
 use Rattle.fa_claims.proofs.claims.Claims.is_empty.Goals as goal
 

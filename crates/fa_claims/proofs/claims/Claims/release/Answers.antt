@@ -1,4 +1,4 @@
-use Rattle.fa_claims.proofs.Trees.{removed}
+use Rattle.fa_claims.proofs.Tables.{removed}
 use Rattle.fa_claims.specs.Claims.{claim_of}
 use Rattle.std.proofs.Common.{refl, None}
 use Rattle.fa_claims.proofs.claims.Claims.release.Goals as goal
