@@ -1,8 +1,9 @@
 -- The first of a list that passes a test, as a loop over the list finds it.
 use Rattle.std.proofs.Common.{Bool, List, None, Option, Some, [], ap, arith, cond, false, refl, suc, sym, true, zero, ℕ, ◌<◌, ◌∷◌}
 use Rattle.std.proofs.Common.{◌≡◌}
+use Rattle.std.proofs.lemmas.Bool.{ne_eqb}
 use Rattle.std.proofs.lemmas.Option.{none-some}
-use Rattle.std.specs.Prelude.{filter, find, length, map, option_map, slice_index_or, take, ◌&&◌}
+use Rattle.std.specs.Prelude.{filter, find, is_none, length, map, option_map, slice_index_or, take, ◌&&◌, ◌==◌}
 
 module _ {X : Type 0} (p : X → Bool) where
   behind : (x : X) (xs ys : List X) → cond (p x) (Some x) (find p xs) ≡ None → (find p xs ≡ None → find p ys ≡ None)
@@ -47,6 +48,16 @@ find_mapped f p (x ∷ xs) = go (p (f x)) (find_mapped f p xs)
     go : (b : Bool) → option_map f (find (λ x. p (f x)) xs) ≡ find p (map f xs)
         → option_map f (cond b (Some x) (find (λ x. p (f x)) xs)) ≡ cond b (Some (f x)) (find p (map f xs))
     go true rest = refl
+    go false rest = rest
+
+-- none passes just where none is found
+pub none_filtered : {X : Type 0} (p : X → Bool) (xs : List X) → (length (filter p xs) == 0) ≡ is_none (find p xs)
+none_filtered p [] = refl
+none_filtered p (x ∷ xs) = go (p x) (none_filtered p xs)
+  where
+    go : (b : Bool) → (length (filter p xs) == 0) ≡ is_none (find p xs)
+        → (length (cond b (x ∷ filter p xs) (filter p xs)) == 0) ≡ is_none (cond b (Some x) (find p xs))
+    go true rest = ne_eqb (suc (length (filter p xs))) 0 (λ e. omega (arith, e))
     go false rest = rest
 
 -- the first of those that pass one test that passes another is the first that passes both

@@ -11,7 +11,7 @@ pub fn is_lost<M: Map>(page_map: &M, page: Page) -> bool
     requires { page.0 < (M.view page_map.now).geometry.pages }
     ensures { result ≡ rule_lost (M.view page_map.now) page.0 }
 {
-    page_map.version(page).is_some() && page_map.copies_of(page) == 0
+    page_map.version(page).is_some() && page_map.first_copy(page).is_none()
 }
 
 /// The first of these pages that is lost.
