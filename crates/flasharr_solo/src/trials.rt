@@ -125,6 +125,9 @@ const READ_PAGES: u64 = 8;
 
 const LYING: u64 = 1;
 
+/// How many copies its pages have.
+const COPIES: u32 = 2;
+
 /// Eight pages are written and read, and the first read of die 1 gives wrong bytes: the answer is right, and die 1 alone is out.
 fn read_wrong(heap: &Heap, desk: &mut Desk) {
     let Some((parts, copies)) = written(heap, desk) else {
@@ -139,12 +142,15 @@ fn read_wrong(heap: &Heap, desk: &mut Desk) {
     }
 }
 
-/// How many requests of memory a store makes for a read of one page, the answer's own among them, where it has served one like it.
+/// How many requests of memory a store makes for a read of one page, the answer's own among them, where each of the page's dies was read
+/// from before. A die's first read makes what is kept from then on.
 pub(crate) fn requests_of_a_read(heap: &Heap, desk: &mut Desk) -> u64 {
     let Some((parts, copies)) = written(heap, desk) else {
         return 0;
     };
-    desk.put_first(Call::of(Kind::Read, 0, PAGE_BYTES));
+    for _ in 0..COPIES {
+        desk.put_first(Call::of(Kind::Read, 0, PAGE_BYTES));
+    }
     let parts = turn_of(heap, parts, desk, copies, Kind::Read, 1);
     drop(parts);
     desk.requests
@@ -158,7 +164,7 @@ fn written<'a>(heap: &'a Heap, desk: &mut Desk) -> Option<(HeldParts<'a>, Copies
         desk.differ("no larger array", 0, 0);
         return None;
     };
-    let Ok(copies) = Copies::new(2, geometry) else {
+    let Ok(copies) = Copies::new(COPIES, geometry) else {
         desk.differ("no copies of the larger array", 0, 0);
         return None;
     };
