@@ -1,7 +1,7 @@
 //! How long each call of an array takes, and how many bytes an array has.
 ghost use Rattle.fa_core.specs.Array.{IsWhole};
 
-use crate::making::{PAGE_BYTES, array_of, die_of, geometry_of};
+use crate::making::{PAGE_BYTES, array_of, die_of, dies_of, geometry_of};
 use crate::random::Random;
 use crate::reads::{MANY, ONE, SOME, flush, fold_from, next_thin, read, time_clock};
 use crate::spares::replace;
@@ -29,20 +29,41 @@ const FOLDED: usize = 4096;
 /// The bytes of the heap on which an array is counted.
 const HEAP_BYTES: usize = 256 * 1024 * 1024;
 
-/// Times the calls of an array of so many pages, all of which were written and some again, while random ones are written again and
-/// again, some are read, and the collector works. Then a die goes out, and the spare comes in. Prints lines that are each a name and a
-/// number: the pages, the slots, and the bytes that the array has as it is new and as all its pages were written. Behind them a line
-/// for each call: its name, how often it was timed, and the median and the 99th percentile of its nanoseconds.
-pub fn measure(rt: &(impl Clock + Print + AllocGlobal), pages: &str) -> io::Result<()> {
-    let Ok(pages) = pages.parse::<u64>() else {
-        return Err(ErrorKind::InvalidInput.into());
-    };
-    let geometry = geometry_of(pages)?;
+/// Times the calls of the array that the word names: its pages, and behind a colon how many dies are in use, where that is given. All pages
+/// were written and some again. Random ones are written again and again, some are read, and the collector works. Then a die goes out, and
+/// the spare comes in. Prints lines that are each a name and a number: the pages, the dies in use, the slots, and the bytes that the array
+/// has as it is new and as all its pages were written. Behind them a line for each call: its name, how often it was timed, and the median
+/// and the 99th percentile of its nanoseconds. The error is that no array is so named, or out of memory.
+pub fn measure(rt: &(impl Clock + Print + AllocGlobal), word: &str) -> io::Result<()> {
+    let geometry = geometry_named(word)?;
+    let dies = geometry.dies.saturating_sub(geometry.spares);
     let slots = u64::from(geometry.dies) * u64::from(geometry.blocks * geometry.slots);
-    println!(rt; "pages {pages}")?;
+    println!(rt; "pages {}", geometry.pages)?;
+    println!(rt; "dies {dies}")?;
     println!(rt; "slots {slots}")?;
     tell_bytes(rt, geometry)?;
     tell_times(rt, geometry)
+}
+
+/// The geometry of the array that a word names. The error is that there is none.
+fn geometry_named(word: &str) -> io::Result<Geometry> {
+    let (pages, dies) = match word.split_once(':') {
+        Some((pages, dies)) => (number_in(pages)?, Some(number_in(dies)?)),
+        None => (number_in(word)?, None),
+    };
+    let dies = dies.unwrap_or(u64::from(dies_of(pages)));
+    match u32::try_from(dies) {
+        Ok(dies) => geometry_of(pages, dies),
+        Err(_) => Err(ErrorKind::InvalidInput.into()),
+    }
+}
+
+/// The number that a word is. The error is that it is none.
+fn number_in(word: &str) -> io::Result<u64> {
+    match word.parse::<u64>() {
+        Ok(number) => Ok(number),
+        Err(_) => Err(ErrorKind::InvalidInput.into()),
+    }
 }
 
 /// Prints the bytes that an array has: as it is new, and as all its pages were written.

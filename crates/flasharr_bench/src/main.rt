@@ -89,6 +89,6 @@ fn run_task_on(
 
 fn tell_usage(rt: &impl Print) -> io::Result<()> {
     println!(rt;
-        "usage: flasharr_bench core PAGES | digests | jobs FOLDER | mount | plan | session | slots | solo FOLDER"
+        "usage: flasharr_bench core PAGES[:DIES] | digests | jobs FOLDER | mount | plan | session | slots | solo FOLDER"
     )
 }

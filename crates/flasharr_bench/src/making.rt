@@ -25,6 +25,9 @@ pub(crate) const PAGE_BYTES: u32 = 4096;
 /// The most pages of an array.
 const MAX_PAGES: u64 = 1_048_576;
 
+/// The most dies that an array has in use.
+const MAX_DIES: u32 = 63;
+
 /// One block in so many is more than the pages fill, and some more are.
 const SLACK: u64 = 16;
 
@@ -33,12 +36,12 @@ const MORE_BLOCKS: u64 = 3;
 /// How many slots a block has: as many in each array, so that each erase is of as many.
 const BLOCK_SLOTS: u32 = 32;
 
-/// The geometry of an array of so many pages, which fill nearly all of its dies. The error is that no array has so many.
-pub(crate) fn geometry_of(pages: u64) -> io::Result<Geometry> {
-    if pages > MAX_PAGES {
+/// The geometry of an array of these pages, which fill nearly all of its dies: so many are in use, and one is a spare. The error is that no
+/// array has so many of either.
+pub(crate) fn geometry_of(pages: u64, dies: u32) -> io::Result<Geometry> {
+    if pages > MAX_PAGES || dies < 2 || dies > MAX_DIES {
         return Err(ErrorKind::InvalidInput.into());
     }
-    let dies = dies_of(pages);
     let full = u64::from(COPIES) * pages / u64::from(dies) / u64::from(BLOCK_SLOTS);
     let blocks = full
         .saturating_add(full / SLACK)
@@ -57,14 +60,12 @@ pub(crate) fn geometry_of(pages: u64) -> io::Result<Geometry> {
     }
 }
 
-/// How many dies an array of so many pages has in use.
-fn dies_of(pages: u64) -> u32
-    ensures { (4 ≤ result) × (result ≤ 63) }
-{
+/// How many dies an array of so many pages has in use, where that is not given.
+pub(crate) fn dies_of(pages: u64) -> u32 {
     match pages {
         0..20_000 => 4,
         20_000..200_000 => 16,
-        _ => 63,
+        _ => MAX_DIES,
     }
 }
 
