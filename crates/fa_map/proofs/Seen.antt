@@ -227,6 +227,17 @@ module _ (versions : List (Option Version)) (page : Page) (version : Version) (k
           either true e = refl
           either false e = refl
 
+-- the same shown, told otherwise
+pub shown_told : {m m' : MapState} {g : Geometry} {on on' : List Bool} {count count' : ℕ} {versions versions' : List (Option Version)} {entries entries' : List Entry}
+    → m' ≡ m → on' ≡ on → count' ≡ count → versions' ≡ versions → entries' ≡ entries
+    → IsShown m g on count versions entries → IsShown m' g on' count' versions' entries'
+shown_told {m} {m'} {g} {on} {on'} {count} {count'} {versions} {versions'} {entries} {entries'} a b c d e shown =
+    subst (λ k. IsShown k g on' count' versions' entries') (sym a)
+    (subst (λ k. IsShown m g k count' versions' entries') (sym b)
+    (subst (λ k. IsShown m g on k versions' entries') (sym c)
+    (subst (λ k. IsShown m g on count k entries') (sym d)
+    (subst (λ k. IsShown m g on count versions k) (sym e) shown))))
+
 pub shown_new : (g : Geometry) (entries : List Entry) → length entries ≡ g.dies * die_slots g → ((k : ℕ) → entry_at entries k ≡ Erased)
     → IsShown (new_map g) g (replicate g.dies false) 0 (replicate g.pages None) entries
 shown_new g entries long erased = record {

@@ -8,5 +8,6 @@ pub mod PageView
 pub mod Shown
 pub mod Slots
 pub mod Plain
+pub mod Rows
 pub mod Found
 pub mod Sets

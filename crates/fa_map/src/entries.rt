@@ -25,5 +25,5 @@ pub struct Link {
     pub slot: u32,
 }
 
-// A slot takes 16 bytes.
-const _: () = prove!(size_of::<Entry>() + size_of::<Link>() <= 16);
+/// The link that leads to no copy.
+pub const NO_LINK: Link = Link { die: None, slot: 0 };

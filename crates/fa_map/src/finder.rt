@@ -1,6 +1,5 @@
 //! Sets by which slots and blocks are found without a look at the others.
-ghost use Rattle.std.specs.Prelude.{◌≡◌, ℕ, ◌+◌, ◌*◌, ◌-◌, ◌<◌, ◌≤◌, find, false, true, IfOk};
-ghost use Rattle.fa_map.specs.Few.{with_member};
+ghost use Rattle.std.specs.Prelude.{◌≡◌, ℕ, ◌+◌, ◌*◌, ◌-◌, ◌<◌, ◌≤◌, ◌==◌, find, false, true, if◌then◌else◌, IfOk};
 ghost use Rattle.fa_map.specs.Found.{has_rank, is_clean as rule_clean, rank_index as rule_index};
 ghost use Rattle.fa_map.specs.Plain.{die_slots};
 ghost use Rattle.fa_set.specs.Members.{bound_of, is_in};
@@ -102,15 +101,18 @@ impl<A: Allocator> Finder<A> {
         self.clean.lowest_from(index)
     }
 
-    /// The slot at this index is erased from now on, or it is not.
-    pub fn put_slot(&mut self, index: usize, erased: bool)
-        requires { index < self.old.slots_bound }
+    /// The slot at this index was erased or not, and is erased or not from now on. No set is touched where that stays.
+    pub fn put_slot(&mut self, index: usize, from: bool, to: bool)
+        requires bound { index < self.old.slots_bound }
+        requires was { contains_key self.old.slots index ≡ from }
         ensures bound { self.new.slots_bound ≡ self.old.slots_bound }
-        ensures slots { self.new.slots ≡ with_member index erased self.old.slots }
+        ensures slots { (k : ℕ) → contains_key self.new.slots k ≡ (if k == index then to else contains_key self.old.slots k) }
         ensures blocks { self.new.blocks ≡ self.old.blocks }
         ensures blocks_bound { self.new.blocks_bound ≡ self.old.blocks_bound }
     {
-        set_member(&mut self.erased, index, erased);
+        if from != to {
+            set_member(&mut self.erased, index, to);
+        }
     }
 
     /// The counts of a block were these, and are others now.

@@ -8,6 +8,7 @@ mod few_copies;
 mod finder;
 mod map;
 mod page_map;
+mod rows;
 mod slots;
 mod tables;
 mod tallies;

@@ -25,18 +25,13 @@ pub struct PageMap<A: Allocator = Global> {
     /// Which dies are live, by their numbers.
     live: Vec<bool, A>,
     live_dies: u32,
-    /// The last write of each page.
-    versions: Vec<Option<Version>, A>,
     tables: Tables<A>,
     last_looks: u32,
     history: History<MapShown>,
-    ghost sound: { IsShown history.shown geometry live.items live_dies versions.items tables.entries.items },
+    ghost sound: { IsShown history.shown geometry live.items live_dies tables.pages.versions tables.slots.entries },
     ghost same: { tables.geometry ≡ geometry },
     ghost few: { last_looks ≤ geometry.blocks + geometry.slots + 1 },
 }
-
-// A page takes 32 bytes.
-const _: () = prove!(size_of::<Option<Version>>() + size_of::<Link>() <= 32);
 
 impl<A: Allocator + Copy> PageMap<A> {
     ghost use Rattle.fa_map.specs.Changes.{new_map};
@@ -49,13 +44,11 @@ impl<A: Allocator + Copy> PageMap<A> {
         ensures looks { IfOk result (λ map. looks_of map ≡ 0) }
     {
         let live = vec![in alloc; false; geometry.dies as usize]?;
-        let versions = vec![in alloc; None; geometry.pages as usize]?;
         let tables = Tables::new(alloc, geometry)?;
         Ok(PageMap {
             geometry,
             live,
             live_dies: 0,
-            versions,
             tables,
             last_looks: 0,
             history: History::begin(&geometry),
@@ -132,7 +125,7 @@ impl<A: Allocator> PageMap<A> {
         requires { page.0 < (page_view self.now).geometry.pages }
         ensures { result ≡ is_number version (get (page_view self.now).versions page.0) }
     {
-        match self.versions[page.0 as usize] {
+        match self.tables.version(page.0 as u32) {
             Some(last) => last.seq.0 == version.seq.0,
             None => false,
         }
@@ -180,11 +173,11 @@ impl<A: Allocator> Map for PageMap<A> {
     }
 
     fn version(&self, page: Page) -> Option<Version> {
-        self.versions[page.0 as usize]
+        self.tables.version(page.0 as u32)
     }
 
     fn seq(&self, page: Page) -> Option<Seq> {
-        match self.versions[page.0 as usize] {
+        match self.tables.version(page.0 as u32) {
             Some(version) => Some(version.seq),
             None => None,
         }
@@ -222,7 +215,7 @@ impl<A: Allocator> Map for PageMap<A> {
 
     fn copy_in(&self, die: Die, slot: Slot) -> Option<(Page, Version)> {
         match self.tables.entry(die, slot) {
-            Entry::Current { page } => match self.versions[page as usize] {
+            Entry::Current { page } => match self.tables.version(page) {
                 Some(version) => Some((Page(page as u64), version)),
                 None => None,
             },
@@ -277,7 +270,7 @@ impl<A: Allocator> Map for PageMap<A> {
         let is_last = self.is_last(page, version);
         self.tables.renew(number, is_last);
         self.tables.add_copy(number, die, slot);
-        self.versions[page.0 as usize] = Some(version);
+        self.tables.set_version(number, version);
         note(
             &mut self.history,
             Change::MakeCurrent {
@@ -290,8 +283,9 @@ impl<A: Allocator> Map for PageMap<A> {
     }
 
     fn renew(&mut self, page: Page, version: Version) {
-        self.tables.retire(page.0 as u32);
-        self.versions[page.0 as usize] = Some(version);
+        let number = page.0 as u32;
+        self.tables.retire(number);
+        self.tables.set_version(number, version);
         note(&mut self.history, Change::Renew { page, version });
     }
 

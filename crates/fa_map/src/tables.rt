@@ -1,31 +1,32 @@
 //! The tables of a page map: the entry of each slot, the counts of each block, and the chains of copies.
-ghost use Rattle.std.specs.Prelude.{◌≡◌, ℕ, ◌+◌, ◌*◌, ◌/◌, ◌-◌, ◌^◌, ◌<◌, ◌≤◌, ◌==◌, ◌&&◌, true, false, not, nat_le, nat_lt, if◌then◌else◌, length, slice_index_or, slice_set, find, is_some, min, option_map, IfOk, None, Some};
-ghost use Rattle.fa_map.specs.Chains.{IsSeam, IsNext, behind, entry_at, entry_of, link_at, link_from, target};
-ghost use Rattle.fa_map.specs.Entries.{AreTables, AreTallied, copies_in, count_of, erased_entry, is_current_entry, is_erased_entry, is_left_out, may_take, no_counts, one_if, retired, with_head, with_link};
+ghost use Rattle.std.specs.Prelude.{◌≡◌, ℕ, ◌+◌, ◌*◌, ◌/◌, ◌-◌, ◌^◌, ◌<◌, ◌≤◌, ◌==◌, ◌&&◌, true, false, nat_lt, if◌then◌else◌, length, slice_set, replicate, find, min, IfOk, None, Some};
+ghost use Rattle.fa_map.specs.Chains.{IsSeam, IsNext, entry_at, entry_of, link_from, target};
+ghost use Rattle.fa_map.specs.Entries.{AreTables, AreTallied, copies_in, count_of, erased_entry, is_current_entry, is_erased_entry, may_take, one_if, retired, with_head, with_link};
 ghost use Rattle.fa_map.specs.Few.{IsCounted, IsCounted-prop};
 ghost use Rattle.fa_map.specs.Found.{IsFound, IsFound-prop, IsGreatest};
 ghost use Rattle.fa_map.specs.Plain.{die_slots};
+ghost use Rattle.fa_map.specs.Shown.{version_at};
 ghost use Rattle.std.specs.List.{range_with_len};
 ghost use Rattle.fa_machine.specs.Maps.{below};
 
-use crate::entries::{Entry, Link};
+use crate::entries::{Entry, Link, NO_LINK};
 use crate::few_copies::FewCopies;
 use crate::finder::Finder;
+use crate::rows::{PageRows, SlotRows};
 use crate::slots::BlockCounts;
 use crate::tallies::{is_erased, moved, state_of};
+use fa_machine::Version;
 use fa_types::{Die, Geometry, Slot};
 use std::alloc::{AllocError, Allocator, Global};
 
-/// The entries of all slots with their counts, and for each page the chain of its copies by rising die.
+/// The entries of all slots with their counts, and for each page its last write and the chain of its copies by rising die.
 #[derive(Drop)]
 pub struct Tables<A: Allocator = Global> {
     geometry: Geometry,
-    /// The entry of each slot, die by die.
-    entries: Vec<Entry, A>,
-    /// For each slot that holds a copy where the next copy of its page is.
-    links: Vec<Link, A>,
-    /// For each page where its first copy is.
-    heads: Vec<Link, A>,
+    /// The entry of each slot, die by die, and for each that holds a copy where the next copy of its page is.
+    slots: SlotRows<A>,
+    /// For each page its last write, and where its first copy is.
+    pages: PageRows<A>,
     /// The counts of each block, die by die.
     counts: Vec<BlockCounts, A>,
     /// How many slots of each die are erased.
@@ -34,9 +35,9 @@ pub struct Tables<A: Allocator = Global> {
     few: FewCopies<A>,
     /// The erased slots, and the blocks that may be emptied.
     finder: Finder<A>,
-    ghost sound: { AreTables geometry entries.items links.items heads.items counts.items erased.items },
-    ghost counted: { IsCounted geometry entries.items few } by { IsCounted-prop geometry entries.items few },
-    ghost found: { IsFound geometry entries.items counts.items finder } by { IsFound-prop geometry entries.items counts.items finder },
+    ghost sound: { AreTables geometry slots.entries slots.links pages.heads counts.items erased.items },
+    ghost counted: { IsCounted geometry slots.entries few } by { IsCounted-prop geometry slots.entries few },
+    ghost found: { IsFound geometry slots.entries counts.items finder } by { IsFound-prop geometry slots.entries counts.items finder },
 }
 
 /// Where a die's copy of a page belongs in the page's chain.
@@ -60,8 +61,6 @@ pub struct Found {
 /// One copy more or less leaves a page with more than two, where it has this many.
 const MANY: u32 = 4;
 
-const NO_LINK: Link = Link { die: None, slot: 0 };
-
 /// Where a slot stands in the list of all slots.
 fn index_of(geometry: Geometry, die: Die, slot: Slot) -> usize
     requires die { die.0 < geometry.dies }
@@ -73,22 +72,25 @@ fn index_of(geometry: Geometry, die: Die, slot: Slot) -> usize
 }
 
 /// The link behind a place of a page's chain is written; behind none it is the page's first.
-fn write_link(
-    heads: &mut [Link],
-    links: &mut [Link],
-    size: usize,
+fn write_link<A: Allocator>(
+    geometry: Geometry,
+    pages: &mut PageRows<A>,
+    slots: &mut SlotRows<A>,
     page: u32,
     last: Link,
     link: Link,
 )
-    requires page { page < length heads.old }
-    requires last { (die slot : ℕ) → target last ≡ Some (die, slot) → die * size + slot < length links.old }
-    ensures heads { heads.new ≡ with_head (target last) page link heads.old }
-    ensures links { links.new ≡ with_link (target last) size link links.old }
+    requires page { page < length pages.old.heads }
+    requires linked { length slots.old.links ≡ geometry.dies * die_slots geometry }
+    requires last { (die slot : ℕ) → target last ≡ Some (die, slot) → (die < geometry.dies) × (slot < die_slots geometry) }
+    ensures versions { pages.new.versions ≡ pages.old.versions }
+    ensures heads { pages.new.heads ≡ with_head (target last) page link pages.old.heads }
+    ensures entries { slots.new.entries ≡ slots.old.entries }
+    ensures links { slots.new.links ≡ with_link (target last) (die_slots geometry) link slots.old.links }
 {
     match last.die {
-        None => heads[page as usize] = link,
-        Some(die) => links[die as usize * size + last.slot as usize] = link,
+        None => pages.set_head(page as usize, link),
+        Some(die) => slots.set_link(index_of(geometry, Die(die), Slot(last.slot)), link),
     }
 }
 
@@ -105,7 +107,7 @@ fn shifted(count: u32, loses: bool, gains: bool) -> u32
 /// The entry of a slot is written, and the counts and the sets follow.
 fn write_entry<A: Allocator>(
     geometry: Geometry,
-    entries: &mut [Entry],
+    slots: &mut SlotRows<A>,
     counts: &mut [BlockCounts],
     erased: &mut [u32],
     finder: &mut Finder<A>,
@@ -115,24 +117,26 @@ fn write_entry<A: Allocator>(
 )
     requires die { die.0 < geometry.dies }
     requires slot { slot.0 < die_slots geometry }
-    requires tallied { AreTallied geometry entries.old counts.old erased.old }
-    requires found { IsFound geometry entries.old counts.old finder.old }
-    ensures entries { entries.new ≡ slice_set entries.old (die.0 * die_slots geometry + slot.0) entry }
-    ensures tallied { AreTallied geometry entries.new counts.new erased.new }
-    ensures found { IsFound geometry entries.new counts.new finder.new }
+    requires tallied { AreTallied geometry slots.old.entries counts.old erased.old }
+    requires found { IsFound geometry slots.old.entries counts.old finder.old }
+    ensures entries { slots.new.entries ≡ slice_set slots.old.entries (die.0 * die_slots geometry + slot.0) entry }
+    ensures links { slots.new.links ≡ slots.old.links }
+    ensures tallied { AreTallied geometry slots.new.entries counts.new erased.new }
+    ensures found { IsFound geometry slots.new.entries counts.new finder.new }
 {
     let index = index_of(geometry, die, slot);
     let number = slot.0 / geometry.slots;
     let block = die.0 as usize * geometry.blocks as usize + number as usize;
-    let from = state_of(entries[index]);
-    let to = state_of(entry);
+    let old = slots.entry(index);
     let before = counts[block];
-    let after = moved(before, from, to);
+    let after = moved(before, state_of(old), state_of(entry));
     counts[block] = after;
+    let from = is_erased(old);
+    let to = is_erased(entry);
     let at = die.0 as usize;
-    erased[at] = shifted(erased[at], is_erased(entries[index]), is_erased(entry));
-    entries[index] = entry;
-    finder.put_slot(index, is_erased(entry));
+    erased[at] = shifted(erased[at], from, to);
+    slots.set_entry(index, entry);
+    finder.put_slot(index, from, to);
     finder.put_block(geometry, die, number, before, after);
 }
 
@@ -142,15 +146,14 @@ impl<A: Allocator + Copy> Tables<A> {
     /// The tables of slots that are all erased, and of pages with no copy. The error is out of memory.
     pub fn new(alloc: A, geometry: Geometry) -> Result<Tables<A>, AllocError>
         ensures geometry { IfOk result (λ tables. tables.geometry ≡ geometry) }
-        ensures entries { IfOk result (λ tables. (k : ℕ) → entry_at tables.entries.items k ≡ Erased) }
+        ensures entries { IfOk result (λ tables. (k : ℕ) → entry_at tables.slots.entries k ≡ Erased) }
+        ensures versions { IfOk result (λ tables. tables.pages.versions ≡ replicate geometry.pages None) }
     {
         let dies = geometry.dies as usize;
         let blocks = dies * geometry.blocks as usize;
         let size = (geometry.blocks * geometry.slots) as usize;
-        let slots = dies * size;
-        let entries = vec![in alloc; Entry::Erased; slots]?;
-        let links = vec![in alloc; NO_LINK; slots]?;
-        let heads = vec![in alloc; NO_LINK; geometry.pages as usize]?;
+        let slots = SlotRows::new(alloc, dies * size)?;
+        let pages = PageRows::new(alloc, geometry.pages as usize)?;
         let counts = vec![in alloc; BlockCounts {
             erased: geometry.slots,
             reserved: 0,
@@ -162,9 +165,8 @@ impl<A: Allocator + Copy> Tables<A> {
         let finder = Finder::new(alloc, geometry)?;
         Ok(Tables {
             geometry,
-            entries,
-            links,
-            heads,
+            slots,
+            pages,
             counts,
             erased,
             few,
@@ -182,16 +184,16 @@ impl<A: Allocator> Tables<A> {
     pub fn entry(&self, die: Die, slot: Slot) -> Entry
         requires die { die.0 < self.now.geometry.dies }
         requires slot { slot.0 < die_slots self.now.geometry }
-        ensures { result ≡ entry_of self.now.entries.items (die_slots self.now.geometry) die.0 slot.0 }
+        ensures { result ≡ entry_of self.now.slots.entries (die_slots self.now.geometry) die.0 slot.0 }
     {
-        self.entries[index_of(self.geometry, die, slot)]
+        self.slots.entry(index_of(self.geometry, die, slot))
     }
 
     /// How many slots of the block are in each state.
     pub fn counts(&self, die: Die, block: u32) -> BlockCounts
         requires die { die.0 < self.now.geometry.dies }
         requires block { block < self.now.geometry.blocks }
-        ensures { (state : SlotState) → count_of state result ≡ entries_in self.now.entries.items (die_slots self.now.geometry) die.0
+        ensures { (state : SlotState) → count_of state result ≡ entries_in self.now.slots.entries (die_slots self.now.geometry) die.0
             (block * self.now.geometry.slots) self.now.geometry.slots state }
     {
         self.counts[die.0 as usize * self.geometry.blocks as usize + block as usize]
@@ -200,7 +202,7 @@ impl<A: Allocator> Tables<A> {
     /// How many slots of the die are erased.
     pub fn erased(&self, die: Die) -> u32
         requires { die.0 < self.now.geometry.dies }
-        ensures { result ≡ entries_in self.now.entries.items (die_slots self.now.geometry) die.0 0
+        ensures { result ≡ entries_in self.now.slots.entries (die_slots self.now.geometry) die.0 0
             (die_slots self.now.geometry) SlotState.Erased }
     {
         self.erased[die.0 as usize]
@@ -209,19 +211,17 @@ impl<A: Allocator> Tables<A> {
     /// Where a die's copy of the page belongs in the page's chain. It takes a step for each copy on a die below.
     pub fn seam(&self, page: u32, die: u8) -> Seam
         requires { page < self.now.geometry.pages }
-        ensures { IsSeam (entry_of self.now.entries.items (die_slots self.now.geometry)) (die_slots self.now.geometry)
+        ensures { IsSeam (entry_of self.now.slots.entries (die_slots self.now.geometry)) (die_slots self.now.geometry)
             self.now.geometry.dies page die (target result.last) (target result.next) }
     {
-        let size = (self.geometry.blocks * self.geometry.slots) as usize;
         let mut last = NO_LINK;
-        let mut next = self.heads[page as usize];
+        let mut next = self.first(page);
         while let Some(other) = next.die {
             if other >= die {
                 break;
             }
-            let index = other as usize * size + next.slot as usize;
             last = next;
-            next = self.links[index];
+            next = self.next(Die(other), Slot(last.slot));
         }
         Seam { last, next }
     }
@@ -230,9 +230,9 @@ impl<A: Allocator> Tables<A> {
     pub fn copy_on(&self, page: u32, die: u8) -> Option<u32>
         requires { page < self.now.geometry.pages }
         ensures some { (slot : ℕ) → result ≡ Some slot → (slot < die_slots self.now.geometry)
-            × (entry_of self.now.entries.items (die_slots self.now.geometry) die slot ≡ Current page) }
+            × (entry_of self.now.slots.entries (die_slots self.now.geometry) die slot ≡ Current page) }
         ensures none { result ≡ None → (slot : ℕ) → slot < die_slots self.now.geometry
-            → entry_of self.now.entries.items (die_slots self.now.geometry) die slot ≡ Current page → ⊥ }
+            → entry_of self.now.slots.entries (die_slots self.now.geometry) die slot ≡ Current page → ⊥ }
     {
         let next = self.seam(page, die).next;
         match next.die {
@@ -244,7 +244,7 @@ impl<A: Allocator> Tables<A> {
     /// How many dies hold the page. It takes a step for each of them.
     pub fn copies_of(&self, page: u32) -> u32
         requires { page < self.now.geometry.pages }
-        ensures { result ≡ copies_in self.now.entries.items self.now.geometry page }
+        ensures { result ≡ copies_in self.now.slots.entries self.now.geometry page }
     {
         self.copies_up_to(page, self.geometry.dies)
     }
@@ -252,17 +252,16 @@ impl<A: Allocator> Tables<A> {
     /// How many dies hold the page, or the limit where that is less. It takes a step for each that is counted.
     fn copies_up_to(&self, page: u32, limit: u32) -> u32
         requires { page < self.now.geometry.pages }
-        ensures { result ≡ min limit (copies_in self.now.entries.items self.now.geometry page) }
+        ensures { result ≡ min limit (copies_in self.now.slots.entries self.now.geometry page) }
     {
-        let size = (self.geometry.blocks * self.geometry.slots) as usize;
         let mut copies = 0;
-        let mut next = self.heads[page as usize];
+        let mut next = self.first(page);
         while let Some(die) = next.die {
             if copies == limit {
                 return copies;
             }
             copies += 1;
-            next = self.links[die as usize * size + next.slot as usize];
+            next = self.next(Die(die), Slot(next.slot));
         }
         copies
     }
@@ -270,45 +269,65 @@ impl<A: Allocator> Tables<A> {
     /// The first copy of the page.
     pub fn first(&self, page: u32) -> Link
         requires { page < self.now.geometry.pages }
-        ensures { IsNext (entry_of self.now.entries.items (die_slots self.now.geometry)) (die_slots self.now.geometry)
+        ensures { IsNext (entry_of self.now.slots.entries (die_slots self.now.geometry)) (die_slots self.now.geometry)
             self.now.geometry.dies page 0 (target result) }
     {
-        self.heads[page as usize]
+        self.pages.head(page as usize)
     }
 
     /// The lowest page from one on that this many dies hold, 1 or 2. It takes two looks at a set at most.
     pub fn next_with(&self, count: u32, from: usize) -> Option<usize>
         requires { (1 ≤ count) × (count ≤ 2) }
-        ensures { result ≡ find (λ page. copies_in self.now.entries.items self.now.geometry page == count)
+        ensures { result ≡ find (λ page. copies_in self.now.slots.entries self.now.geometry page == count)
             (range_with_len from (self.now.geometry.pages - from)) }
     {
         self.few.lowest_from(count, from)
     }
 
-    /// The copy that comes next in the chain of the page that the slot holds.
+    /// Where the copy is that comes next in the chain of the page that the slot holds.
     pub fn next(&self, die: Die, slot: Slot) -> Link
         requires die { die.0 < self.now.geometry.dies }
         requires slot { slot.0 < die_slots self.now.geometry }
-        ensures { (page : ℕ) → entry_of self.now.entries.items (die_slots self.now.geometry) die.0 slot.0 ≡ Current page
-            → IsNext (entry_of self.now.entries.items (die_slots self.now.geometry)) (die_slots self.now.geometry)
+        ensures link { target result ≡ link_from self.now.slots.links (die_slots self.now.geometry) die.0 slot.0 }
+        ensures next { (page : ℕ) → entry_of self.now.slots.entries (die_slots self.now.geometry) die.0 slot.0 ≡ Current page
+            → IsNext (entry_of self.now.slots.entries (die_slots self.now.geometry)) (die_slots self.now.geometry)
             self.now.geometry.dies page (die.0 + 1) (target result) }
     {
-        self.links[index_of(self.geometry, die, slot)]
+        self.slots.link(index_of(self.geometry, die, slot))
+    }
+
+    /// The last write of the page; none where it was never written.
+    pub fn version(&self, page: u32) -> Option<Version>
+        requires { page < length self.now.pages.versions }
+        ensures { result ≡ version_at self.now.pages.versions page }
+    {
+        self.pages.version(page as usize)
+    }
+
+    /// This is the page's last write.
+    pub fn set_version(&mut self, page: u32, version: Version)
+        requires { page < length self.old.pages.versions }
+        ensures geometry { self.new.geometry ≡ self.old.geometry }
+        ensures versions { self.new.pages.versions ≡ slice_set self.old.pages.versions page (Some version) }
+        ensures entries { self.new.slots.entries ≡ self.old.slots.entries }
+    {
+        self.pages.set_version(page as usize, version);
     }
 
     /// The slot that does not hold a copy, and will hold none, has this entry.
     fn set_plain(&mut self, die: Die, slot: Slot, entry: Entry)
         requires die { die.0 < self.old.geometry.dies }
         requires slot { slot.0 < die_slots self.old.geometry }
-        requires old { is_current_entry (entry_of self.old.entries.items (die_slots self.old.geometry) die.0 slot.0) ≡ false }
+        requires old { is_current_entry (entry_of self.old.slots.entries (die_slots self.old.geometry) die.0 slot.0) ≡ false }
         requires new { is_current_entry entry ≡ false }
         ensures geometry { self.new.geometry ≡ self.old.geometry }
-        ensures entries { self.new.entries.items
-            ≡ slice_set self.old.entries.items (die.0 * die_slots self.old.geometry + slot.0) entry }
+        ensures versions { self.new.pages.versions ≡ self.old.pages.versions }
+        ensures entries { self.new.slots.entries
+            ≡ slice_set self.old.slots.entries (die.0 * die_slots self.old.geometry + slot.0) entry }
     {
         write_entry(
             self.geometry,
-            &mut self.entries,
+            &mut self.slots,
             &mut self.counts,
             &mut self.erased,
             &mut self.finder,
@@ -322,20 +341,27 @@ impl<A: Allocator> Tables<A> {
     fn remove_copy(&mut self, page: u32, die: Die, slot: Slot, entry: Entry)
         requires die { die.0 < self.old.geometry.dies }
         requires slot { slot.0 < die_slots self.old.geometry }
-        requires old { entry_of self.old.entries.items (die_slots self.old.geometry) die.0 slot.0 ≡ Current page }
+        requires old { entry_of self.old.slots.entries (die_slots self.old.geometry) die.0 slot.0 ≡ Current page }
         requires new { is_current_entry entry ≡ false }
         ensures geometry { self.new.geometry ≡ self.old.geometry }
-        ensures entries { self.new.entries.items
-            ≡ slice_set self.old.entries.items (die.0 * die_slots self.old.geometry + slot.0) entry }
+        ensures versions { self.new.pages.versions ≡ self.old.pages.versions }
+        ensures entries { self.new.slots.entries
+            ≡ slice_set self.old.slots.entries (die.0 * die_slots self.old.geometry + slot.0) entry }
     {
         let copies = self.copies_up_to(page, MANY);
         let last = self.seam(page, die.0).last;
-        let next = self.links[index_of(self.geometry, die, slot)];
-        let size = (self.geometry.blocks * self.geometry.slots) as usize;
-        write_link(&mut self.heads, &mut self.links, size, page, last, next);
+        let next = self.next(die, slot);
+        write_link(
+            self.geometry,
+            &mut self.pages,
+            &mut self.slots,
+            page,
+            last,
+            next,
+        );
         write_entry(
             self.geometry,
-            &mut self.entries,
+            &mut self.slots,
             &mut self.counts,
             &mut self.erased,
             &mut self.finder,
@@ -351,33 +377,33 @@ impl<A: Allocator> Tables<A> {
         requires page { page < self.old.geometry.pages }
         requires die { die.0 < self.old.geometry.dies }
         requires slot { slot.0 < die_slots self.old.geometry }
-        requires free { is_current_entry (entry_of self.old.entries.items (die_slots self.old.geometry) die.0 slot.0) ≡ false }
+        requires free { is_current_entry (entry_of self.old.slots.entries (die_slots self.old.geometry) die.0 slot.0) ≡ false }
         requires once { (other : ℕ) → other < die_slots self.old.geometry
-            → entry_of self.old.entries.items (die_slots self.old.geometry) die.0 other ≡ Current page → ⊥ }
+            → entry_of self.old.slots.entries (die_slots self.old.geometry) die.0 other ≡ Current page → ⊥ }
         ensures geometry { self.new.geometry ≡ self.old.geometry }
-        ensures entries { self.new.entries.items
-            ≡ slice_set self.old.entries.items (die.0 * die_slots self.old.geometry + slot.0) (Current page) }
+        ensures versions { self.new.pages.versions ≡ self.old.pages.versions }
+        ensures entries { self.new.slots.entries
+            ≡ slice_set self.old.slots.entries (die.0 * die_slots self.old.geometry + slot.0) (Current page) }
     {
         let copies = self.copies_up_to(page, MANY);
         let seam = self.seam(page, die.0);
-        let size = (self.geometry.blocks * self.geometry.slots) as usize;
         let index = index_of(self.geometry, die, slot);
-        self.links[index] = seam.next;
+        self.slots.set_link(index, seam.next);
         let link = Link {
             die: Some(die.0),
             slot: slot.0,
         };
         write_link(
-            &mut self.heads,
-            &mut self.links,
-            size,
+            self.geometry,
+            &mut self.pages,
+            &mut self.slots,
             page,
             seam.last,
             link,
         );
         write_entry(
             self.geometry,
-            &mut self.entries,
+            &mut self.slots,
             &mut self.counts,
             &mut self.erased,
             &mut self.finder,
@@ -394,8 +420,9 @@ impl<A: Allocator> Tables<A> {
         requires slot { slot.0 < die_slots self.old.geometry }
         requires new { is_current_entry entry ≡ false }
         ensures geometry { self.new.geometry ≡ self.old.geometry }
-        ensures entries { self.new.entries.items
-            ≡ slice_set self.old.entries.items (die.0 * die_slots self.old.geometry + slot.0) entry }
+        ensures versions { self.new.pages.versions ≡ self.old.pages.versions }
+        ensures entries { self.new.slots.entries
+            ≡ slice_set self.old.slots.entries (die.0 * die_slots self.old.geometry + slot.0) entry }
     {
         let old = self.entry(die, slot);
         match old {
@@ -408,9 +435,10 @@ impl<A: Allocator> Tables<A> {
     pub fn retire(&mut self, page: u32)
         requires { page < self.old.geometry.pages }
         ensures geometry { self.new.geometry ≡ self.old.geometry }
+        ensures versions { self.new.pages.versions ≡ self.old.pages.versions }
         ensures entries { (die slot : ℕ) → slot < die_slots self.old.geometry
-            → entry_of self.new.entries.items (die_slots self.old.geometry) die slot
-            ≡ retired page (entry_of self.old.entries.items (die_slots self.old.geometry) die slot) }
+            → entry_of self.new.slots.entries (die_slots self.old.geometry) die slot
+            ≡ retired page (entry_of self.old.slots.entries (die_slots self.old.geometry) die slot) }
     {
         let mut next = self.first(page);
         while let Some(die) = next.die {
@@ -423,10 +451,11 @@ impl<A: Allocator> Tables<A> {
     pub fn renew(&mut self, page: u32, is_last: bool)
         requires { page < self.old.geometry.pages }
         ensures geometry { self.new.geometry ≡ self.old.geometry }
+        ensures versions { self.new.pages.versions ≡ self.old.pages.versions }
         ensures entries { (die slot : ℕ) → die < self.old.geometry.dies → slot < die_slots self.old.geometry
-            → entry_of self.new.entries.items (die_slots self.old.geometry) die slot
-            ≡ (if is_last then entry_of self.old.entries.items (die_slots self.old.geometry) die slot
-            else retired page (entry_of self.old.entries.items (die_slots self.old.geometry) die slot)) }
+            → entry_of self.new.slots.entries (die_slots self.old.geometry) die slot
+            ≡ (if is_last then entry_of self.old.slots.entries (die_slots self.old.geometry) die slot
+            else retired page (entry_of self.old.slots.entries (die_slots self.old.geometry) die slot)) }
     {
         if is_last {
             return;
@@ -438,9 +467,10 @@ impl<A: Allocator> Tables<A> {
     pub fn erase_die(&mut self, die: Die)
         requires { die.0 < self.old.geometry.dies }
         ensures geometry { self.new.geometry ≡ self.old.geometry }
+        ensures versions { self.new.pages.versions ≡ self.old.pages.versions }
         ensures entries { (d slot : ℕ) → slot < die_slots self.old.geometry
-            → entry_of self.new.entries.items (die_slots self.old.geometry) d slot
-            ≡ (if d == die.0 then Erased else entry_of self.old.entries.items (die_slots self.old.geometry) d slot) }
+            → entry_of self.new.slots.entries (die_slots self.old.geometry) d slot
+            ≡ (if d == die.0 then Erased else entry_of self.old.slots.entries (die_slots self.old.geometry) d slot) }
     {
         for slot in 0..self.geometry.blocks * self.geometry.slots {
             self.put(die, Slot(slot), Entry::Erased);
@@ -452,11 +482,12 @@ impl<A: Allocator> Tables<A> {
         requires die { die.0 < self.old.geometry.dies }
         requires block { block < self.old.geometry.blocks }
         ensures geometry { self.new.geometry ≡ self.old.geometry }
+        ensures versions { self.new.pages.versions ≡ self.old.pages.versions }
         ensures entries { (d slot : ℕ) → slot < die_slots self.old.geometry
-            → entry_of self.new.entries.items (die_slots self.old.geometry) d slot
+            → entry_of self.new.slots.entries (die_slots self.old.geometry) d slot
             ≡ (if d == die.0 && slot / self.old.geometry.slots == block
-            then erased_entry (entry_of self.old.entries.items (die_slots self.old.geometry) d slot)
-            else entry_of self.old.entries.items (die_slots self.old.geometry) d slot) }
+            then erased_entry (entry_of self.old.slots.entries (die_slots self.old.geometry) d slot)
+            else entry_of self.old.slots.entries (die_slots self.old.geometry) d slot) }
     {
         let first = block * self.geometry.slots;
         for slot in first..first + self.geometry.slots {
@@ -469,8 +500,9 @@ impl<A: Allocator> Tables<A> {
         requires die { die.0 < self.old.geometry.dies }
         requires slot { slot.0 < die_slots self.old.geometry }
         ensures geometry { self.new.geometry ≡ self.old.geometry }
-        ensures entries { self.new.entries.items ≡ slice_set self.old.entries.items (die.0 * die_slots self.old.geometry + slot.0)
-            (erased_entry (entry_of self.old.entries.items (die_slots self.old.geometry) die.0 slot.0)) }
+        ensures versions { self.new.pages.versions ≡ self.old.pages.versions }
+        ensures entries { self.new.slots.entries ≡ slice_set self.old.slots.entries (die.0 * die_slots self.old.geometry + slot.0)
+            (erased_entry (entry_of self.old.slots.entries (die_slots self.old.geometry) die.0 slot.0)) }
     {
         let old = self.entry(die, slot);
         match old {
@@ -483,7 +515,7 @@ impl<A: Allocator> Tables<A> {
     fn erased_from(&self, die: Die, from: u32) -> Option<u32>
         requires die { die.0 < self.now.geometry.dies }
         requires from { from ≤ die_slots self.now.geometry }
-        ensures { result ≡ find (λ slot. is_erased_entry (entry_of self.now.entries.items (die_slots self.now.geometry) die.0 slot))
+        ensures { result ≡ find (λ slot. is_erased_entry (entry_of self.now.slots.entries (die_slots self.now.geometry) die.0 slot))
             (range_with_len from (die_slots self.now.geometry - from)) }
     {
         let size = (self.geometry.blocks * self.geometry.slots) as usize;
@@ -498,7 +530,7 @@ impl<A: Allocator> Tables<A> {
     fn erased_outside(&self, die: Die, block: u32) -> Found
         requires { die.0 < self.now.geometry.dies }
         ensures slot { result.slot
-            ≡ find (may_take self.now.entries.items (die_slots self.now.geometry) self.now.geometry.slots die.0 (Some block))
+            ≡ find (may_take self.now.slots.entries (die_slots self.now.geometry) self.now.geometry.slots die.0 (Some block))
             (below (die_slots self.now.geometry)) }
         ensures looks { result.looks ≤ 2 }
     {
@@ -522,7 +554,7 @@ impl<A: Allocator> Tables<A> {
     pub fn lowest_erased(&self, die: Die, outside: Option<u32>) -> Found
         requires { die.0 < self.now.geometry.dies }
         ensures slot { result.slot
-            ≡ find (may_take self.now.entries.items (die_slots self.now.geometry) self.now.geometry.slots die.0 outside)
+            ≡ find (may_take self.now.slots.entries (die_slots self.now.geometry) self.now.geometry.slots die.0 outside)
             (below (die_slots self.now.geometry)) }
         ensures looks { result.looks ≤ 2 }
     {
@@ -539,11 +571,11 @@ impl<A: Allocator> Tables<A> {
     pub fn stalest(&self, die: Die) -> Option<u32>
         requires { die.0 < self.now.geometry.dies }
         ensures { IsGreatest self.now.geometry.blocks
-            (λ b. nat_lt 0 (entries_in self.now.entries.items (die_slots self.now.geometry) die.0 (b * self.now.geometry.slots)
+            (λ b. nat_lt 0 (entries_in self.now.slots.entries (die_slots self.now.geometry) die.0 (b * self.now.geometry.slots)
             self.now.geometry.slots SlotState.Stale)
-            && entries_in self.now.entries.items (die_slots self.now.geometry) die.0 (b * self.now.geometry.slots)
+            && entries_in self.now.slots.entries (die_slots self.now.geometry) die.0 (b * self.now.geometry.slots)
             self.now.geometry.slots SlotState.Reserved == 0)
-            (λ b. entries_in self.now.entries.items (die_slots self.now.geometry) die.0 (b * self.now.geometry.slots)
+            (λ b. entries_in self.now.slots.entries (die_slots self.now.geometry) die.0 (b * self.now.geometry.slots)
             self.now.geometry.slots SlotState.Stale) result }
     {
         let blocks = self.geometry.blocks as usize;

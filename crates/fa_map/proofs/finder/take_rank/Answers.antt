@@ -1,4 +1,4 @@
-use Rattle.std.proofs.Common.{ap, sym, ◌∙◌}
+use Rattle.std.proofs.Common.{ap, ◌∙◌}
 use Rattle.std.specs.FinMap.{contains_key, remove}
 use Rattle.fa_machine.specs.Maps.{Numbers}
 use Rattle.fa_set.specs.Members.{members}

@@ -13,6 +13,6 @@ pub returns-clause-slot : goal.returns-clause-slot
 returns-clause-slot g c =
     let s = c.args.self.now in
     c.lowest_erased-found.ensures.slot
-    ∙ ap (λ (k : Geometry). find (may_take s.tables.entries.items (die_slots k) k.slots c.args.die.0 None) (below (die_slots k))) s.same
-    ∙ shown_lowest s.history.shown s.geometry s.live.items s.live_dies s.versions.items s.tables.entries.items s.sound c.args.die.0
+    ∙ ap (λ (k : Geometry). find (may_take s.tables.slots.entries (die_slots k) k.slots c.args.die.0 None) (below (die_slots k))) s.same
+    ∙ shown_lowest s.history.shown s.geometry s.live.items s.live_dies s.tables.pages.versions s.tables.slots.entries s.sound c.args.die.0
     ∙ writers_lowest s.history.shown c.args.die.0 (omega arith)

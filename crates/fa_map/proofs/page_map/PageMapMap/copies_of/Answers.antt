@@ -10,5 +10,5 @@ pub returns : goal.returns
 returns g c =
     let s = c.args.self.now in
     c.copies_of.ensures
-    ∙ ap (λ (k : Geometry). count_by (die_holds s.tables.entries.items (die_slots k) c.args.page.0) (below k.dies)) s.same
-    ∙ shown_holders s.history.shown s.geometry s.live.items s.live_dies s.versions.items s.tables.entries.items s.sound c.args.page.0
+    ∙ ap (λ (k : Geometry). count_by (die_holds s.tables.slots.entries (die_slots k) c.args.page.0) (below k.dies)) s.same
+    ∙ shown_holders s.history.shown s.geometry s.live.items s.live_dies s.tables.pages.versions s.tables.slots.entries s.sound c.args.page.0

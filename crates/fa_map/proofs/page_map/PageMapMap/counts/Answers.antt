@@ -12,6 +12,6 @@ returns g c =
     let s = c.args.self.now in
     let fits = subst (λ (k : Geometry). c.args.block.0 < k.blocks) s.sound.plain.geometry c.requires.block in
     let is = λ (state : SlotState).
-    c.counts.ensures state ∙ ap (λ (k : Geometry). entries_in s.tables.entries.items (die_slots k) c.args.die.0 (c.args.block.0 * k.slots) k.slots state) s.same
-    ∙ shown_count_in s.history.shown s.geometry s.live.items s.live_dies s.versions.items s.tables.entries.items s.sound state c.args.die.0 c.args.block.0 fits in
+    c.counts.ensures state ∙ ap (λ (k : Geometry). entries_in s.tables.slots.entries (die_slots k) c.args.die.0 (c.args.block.0 * k.slots) k.slots state) s.same
+    ∙ shown_count_in s.history.shown s.geometry s.live.items s.live_dies s.tables.pages.versions s.tables.slots.entries s.sound state c.args.die.0 c.args.block.0 fits in
     (is states.Erased, is states.Reserved, is states.Current, is states.Stale)

@@ -16,16 +16,16 @@ use Rattle.fa_map.proofs.page_map.PageMapMap.stalest_block.Goals as goal
 module _ {A : Type 0} (s : PageMap A) (die : ℕ) (found : Option ℕ) where
   abbrev Told : Geometry → Type 0
   Told k = IsGreatest k.blocks
-      (λ b. nat_lt 0 (entries_in s.tables.entries.items (die_slots k) die (b * k.slots) k.slots states.Stale)
-      && entries_in s.tables.entries.items (die_slots k) die (b * k.slots) k.slots states.Reserved == 0)
-      (λ b. entries_in s.tables.entries.items (die_slots k) die (b * k.slots) k.slots states.Stale) found
+      (λ b. nat_lt 0 (entries_in s.tables.slots.entries (die_slots k) die (b * k.slots) k.slots states.Stale)
+      && entries_in s.tables.slots.entries (die_slots k) die (b * k.slots) k.slots states.Reserved == 0)
+      (λ b. entries_in s.tables.slots.entries (die_slots k) die (b * k.slots) k.slots states.Stale) found
 
   -- the tables' block is the map's
   seen : Told s.tables.geometry
       → IsGreatest s.history.shown.geometry.blocks (is_clean_block s.history.shown die) (λ b. count_in s.history.shown die b is_stale_slot) found
   seen is =
       let shown = λ (state : SlotState) (b : ℕ) (fits : b < s.geometry.blocks).
-      shown_count_in s.history.shown s.geometry s.live.items s.live_dies s.versions.items s.tables.entries.items s.sound state die b fits in
+      shown_count_in s.history.shown s.geometry s.live.items s.live_dies s.tables.pages.versions s.tables.slots.entries s.sound state die b fits in
       subst (λ n. IsGreatest n (is_clean_block s.history.shown die) (λ b. count_in s.history.shown die b is_stale_slot) found)
       (sym (ap (λ (k : Geometry). k.blocks) s.sound.plain.geometry))
       (greatest_told s.geometry.blocks _ _ _ _ found

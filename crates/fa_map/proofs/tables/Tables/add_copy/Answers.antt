@@ -13,53 +13,43 @@ use Rattle.fa_map.proofs.Written.{whole_part}
 use Rattle.fa_map.proofs.tables.Tables.add_copy.Goals as goal
 
 pub write_link-requires-clause-last : goal.write_link-requires-clause-last
-write_link-requires-clause-last g c = λ d slot e.
-    let s = c.args.self.now in
-    let old = c.seam-seam.ensures.found d slot e in
-    let fits = index_fits d slot s.geometry.dies (die_slots s.geometry) old.1 old.2 in
-    omega (arith, fits, c.deref_mut-2.ensures.len, s.sound.linked, s.links.ok.0)
+write_link-requires-clause-last g c = λ d slot e. let old = c.seam-seam.ensures.found d slot e in (old.1, old.2)
 
 pub put-requires : goal.put-requires
 put-requires g c =
     let s = c.args.self.now in
-    let bound = few_bound s.geometry s.entries.items s.few s.counted in
+    let bound = few_bound s.geometry s.slots.entries s.few s.counted in
     omega (arith, bound, c.requires.page)
 
 pub invariant_of-self : goal.invariant_of-self
 invariant_of-self g c =
     let s = c.args.self.now in
     let index = c.args.die.0 * die_slots s.geometry + c.args.slot.0 in
-    let entries : c.write_entry.new.entries ≡ set s.entries.items index (Current c.args.page) = c.write_entry.ensures.entries ∙ ap (λ l. set l index (Current c.args.page)) c.deref_mut-3.ensures.value in
+    let entries : c.write_entry.new.slots.entries ≡ set s.slots.entries index (Current c.args.page) =
+    c.write_entry.ensures.entries ∙ ap (λ l. set l index (Current c.args.page)) (c.write_link.ensures.entries ∙ c.set_link.ensures.entries) in
     let tallied = subst (λ k. AreTallied s.geometry k c.write_entry.new.counts c.write_entry.new.erased) entries c.write_entry.ensures.tallied in
-    let inside : index < length s.entries.items =
+    let inside : index < length s.slots.entries =
     subst (λ k. index < k) (sym s.sound.tallied.slots) (index_fits c.args.die.0 c.args.slot.0 s.geometry.dies (die_slots s.geometry) c.requires.die c.requires.slot) in
-    let long : length c.write_entry.new.entries ≡ s.entries.len = omega (arith, s.entries.ok.0) in
     let many : length c.write_entry.new.counts ≡ s.counts.len = omega (arith, s.counts.ok.0) in
     let few : length c.write_entry.new.erased ≡ s.erased.len = omega (arith, s.erased.ok.0) in
     let last = target c.seam-seam.result.last in
     let follow = c.seam-seam.result.next in
     let link : Link = record { die = Some c.args.die.0; slot = c.args.slot.0 } in
-    let before : List Link = set s.links.items c.index_of-index.result follow in
-    let start : before ≡ set s.links.items index follow = ap (λ k. set s.links.items k follow) c.index_of-index.ensures.index in
-    let links : c.write_link.new.links ≡ with_link last (die_slots s.geometry) link (set s.links.items index follow) =
-    c.write_link.ensures.links ∙ ap (λ l. with_link last (die_slots s.geometry) link l) (c.deref_mut-2.ensures.value ∙ start) in
-    let heads : c.write_link.new.heads ≡ with_head last c.args.page link s.heads.items = c.write_link.ensures.heads ∙ ap (λ l. with_head last c.args.page link l) c.deref_mut.ensures.value in
-    let linked : length c.write_link.new.links ≡ s.links.len = omega (arith, s.links.ok.0) in
-    let headed : length c.write_link.new.heads ≡ s.heads.len = omega (arith, s.heads.ok.0) in
+    let before : c.set_link.new.self.links ≡ set s.slots.links index follow = c.set_link.ensures.links ∙ ap (λ k. set s.slots.links k follow) c.index_of-index.ensures.index in
+    let links : c.write_entry.new.slots.links ≡ with_link last (die_slots s.geometry) link (set s.slots.links index follow) =
+    c.write_entry.ensures.links ∙ c.write_link.ensures.links ∙ ap (λ (l : List Link). with_link last (die_slots s.geometry) link l) before in
     record {
-      sound = tables_told s.geometry (set s.entries.items index (Current c.args.page)) _ (with_link last (die_slots s.geometry) link (set s.links.items index follow)) _ (with_head last c.args.page link s.heads.items) _
+      sound = tables_told s.geometry (set s.slots.entries index (Current c.args.page)) _ (with_link last (die_slots s.geometry) link (set s.slots.links index follow)) _ (with_head last c.args.page link s.pages.heads) _
           c.write_entry.new.counts _ c.write_entry.new.erased _
-          (whole_part s.entries.len c.write_entry.new.entries s.entries.items long ∙ entries)
-          (whole_part s.links.len c.write_link.new.links before linked ∙ links)
-          (whole_part s.heads.len c.write_link.new.heads s.heads.items headed ∙ heads)
+          entries links c.write_link.ensures.heads
           (whole_part s.counts.len c.write_entry.new.counts s.counts.items many) (whole_part s.erased.len c.write_entry.new.erased s.erased.items few)
-          (copy_added s.geometry s.entries.items s.links.items s.heads.items s.counts.items s.erased.items s.sound c.args.die.0 c.args.slot.0 c.requires.die c.requires.slot c.write_entry.new.counts c.write_entry.new.erased c.args.page last (target follow) follow link c.requires.page c.requires.free c.requires.once c.seam-seam.ensures refl refl tallied);
+          (copy_added s.geometry s.slots.entries s.slots.links s.pages.heads s.counts.items s.erased.items s.sound c.args.die.0 c.args.slot.0 c.requires.die c.requires.slot c.write_entry.new.counts c.write_entry.new.erased c.args.page last (target follow) follow link c.requires.page c.requires.free c.requires.once c.seam-seam.ensures refl refl tallied);
       counted =
-          subst (λ l. IsCounted s.geometry l c.put.new.self) (sym (whole_part s.entries.len c.write_entry.new.entries s.entries.items long ∙ entries))
-          (few_added s.geometry s.entries.items c.args.die.0 c.args.slot.0 c.requires.die c.requires.slot inside (Current c.args.page) s.few s.counted
+          subst (λ l. IsCounted s.geometry l c.put.new.self) (sym entries)
+          (few_added s.geometry s.slots.entries c.args.die.0 c.args.slot.0 c.requires.die c.requires.slot inside (Current c.args.page) s.few s.counted
           c.args.page c.copies_up_to-copies.result c.copies_up_to-copies.ensures c.put.new.self
           c.requires.free refl c.requires.once c.put.ensures);
-      found = found_told s.geometry c.write_entry.new.entries c.write_entry.new.counts c.write_entry.new.finder _ _
-          (whole_part s.entries.len c.write_entry.new.entries s.entries.items long) (whole_part s.counts.len c.write_entry.new.counts s.counts.items many)
+      found = found_told s.geometry c.write_entry.new.slots.entries c.write_entry.new.counts c.write_entry.new.finder _ _
+          refl (whole_part s.counts.len c.write_entry.new.counts s.counts.items many)
           c.write_entry.ensures.found;
     }

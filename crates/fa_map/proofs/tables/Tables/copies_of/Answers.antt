@@ -7,5 +7,5 @@ use Rattle.fa_map.proofs.tables.Tables.copies_of.Goals as goal
 pub returns : goal.returns
 returns g c =
     let s = c.args.self.now in
-    let most = count_le (die_holds s.entries.items (die_slots s.geometry) c.args.page) 0 s.geometry.dies in
+    let most = count_le (die_holds s.slots.entries (die_slots s.geometry) c.args.page) 0 s.geometry.dies in
     omega (arith, most, c.copies_up_to.ensures)

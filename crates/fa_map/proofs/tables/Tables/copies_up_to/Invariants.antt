@@ -12,9 +12,9 @@ abbrev pub invariant-loop-next : goal.invariant-loop-next
 invariant-loop-next g l = record {
   few : l.copies ≤ l.limit;
   found : (d s : ℕ) → target l.next ≡ some_place d s → (d < l.self.geometry.dies) × (s < die_slots l.self.geometry)
-      × (entry_of l.self.entries.items (die_slots l.self.geometry) d s ≡ Current l.page);
-  counted : l.copies + count_from (die_holds l.self.entries.items (die_slots l.self.geometry) l.page) l.self.geometry.dies (target l.next)
-      ≡ count_by (die_holds l.self.entries.items (die_slots l.self.geometry) l.page) (below l.self.geometry.dies);
+      × (entry_of l.self.slots.entries (die_slots l.self.geometry) d s ≡ Current l.page);
+  counted : l.copies + count_from (die_holds l.self.slots.entries (die_slots l.self.geometry) l.page) l.self.geometry.dies (target l.next)
+      ≡ count_by (die_holds l.self.slots.entries (die_slots l.self.geometry) l.page) (below l.self.geometry.dies);
 }
 
 abbrev pub decreases-loop-next : goal.decreases-loop-next

@@ -18,10 +18,11 @@ loop-slot-preserved g c =
     let fits = index_fits c.args.die.0 c.loop-slot.slot s.geometry.dies n c.requires.die within in
     record {
       geometry = c.erase_unreserved.ensures.geometry ∙ c.loop-slot.invariant.geometry;
-      entries = sweep_step s.entries.items c.loop-slot.self.entries.items n erased_entry c.args.die.0 (c.args.block * s.geometry.slots) c.loop-slot.slot (omega arith) within
-          (subst (λ k. c.args.die.0 * n + c.loop-slot.slot < k) (sym (c.loop-slot.self.sound.tallied.slots ∙ (λ i. dies i * same i))) fits) c.loop-slot.invariant.entries c.erase_unreserved.new.self.entries.items
+      versions = c.erase_unreserved.ensures.versions ∙ c.loop-slot.invariant.versions;
+      entries = sweep_step s.slots.entries c.loop-slot.self.slots.entries n erased_entry c.args.die.0 (c.args.block * s.geometry.slots) c.loop-slot.slot (omega arith) within
+          (subst (λ k. c.args.die.0 * n + c.loop-slot.slot < k) (sym (c.loop-slot.self.sound.tallied.slots ∙ (λ i. dies i * same i))) fits) c.loop-slot.invariant.entries c.erase_unreserved.new.self.slots.entries
           (c.erase_unreserved.ensures.entries
-          ∙ ap (λ k. set c.loop-slot.self.entries.items (c.args.die.0 * k + c.loop-slot.slot) (erased_entry (entry_of c.loop-slot.self.entries.items k c.args.die.0 c.loop-slot.slot))) same);
+          ∙ ap (λ k. set c.loop-slot.self.slots.entries (c.args.die.0 * k + c.loop-slot.slot) (erased_entry (entry_of c.loop-slot.self.slots.entries k c.args.die.0 c.loop-slot.slot))) same);
     }
 
 pub returns-clause-entries : goal.returns-clause-entries
@@ -31,5 +32,5 @@ returns-clause-entries g c = λ d slot within.
     let few = s.geometry.within.slots_fit in
     let end : c.loop-slot.slot ≡ c.args.block * s.geometry.slots + s.geometry.slots = omega arith in
     c.loop-slot.invariant.entries d slot within
-    ∙ ap (λ (b : Bool). if d == c.args.die.0 && b then erased_entry (entry_of s.entries.items n d slot) else entry_of s.entries.items n d slot)
+    ∙ ap (λ (b : Bool). if d == c.args.die.0 && b then erased_entry (entry_of s.slots.entries n d slot) else entry_of s.slots.entries n d slot)
     (ap (λ k. nat_le (c.args.block * s.geometry.slots) slot && nat_lt slot k) end ∙ in_block slot c.args.block s.geometry.slots (omega (arith, few.0)))

@@ -7,6 +7,7 @@ use Rattle.fa_map.proofs.tables.Tables.erase_block.Given as goal
 abbrev pub invariant-loop-slot : goal.invariant-loop-slot
 invariant-loop-slot g l = record {
   geometry : l.self.geometry ≡ l.fn.self.geometry;
-  entries : (d s : ℕ) → s < die_slots l.fn.self.geometry → entry_of l.self.entries.items (die_slots l.fn.self.geometry) d s
-      ≡ swept erased_entry l.die.0 l.first l.slot d s (entry_of l.fn.self.entries.items (die_slots l.fn.self.geometry) d s);
+  versions : l.self.pages.versions ≡ l.fn.self.pages.versions;
+  entries : (d s : ℕ) → s < die_slots l.fn.self.geometry → entry_of l.self.slots.entries (die_slots l.fn.self.geometry) d s
+      ≡ swept erased_entry l.die.0 l.first l.slot d s (entry_of l.fn.self.slots.entries (die_slots l.fn.self.geometry) d s);
 }

@@ -16,9 +16,10 @@ loop-slot-preserved g c =
     let fits = index_fits c.args.die.0 c.loop-slot.slot s.geometry.dies n c.requires c.loop-slot-test.true in
     record {
       geometry = c.put.ensures.geometry ∙ c.loop-slot.invariant.geometry;
-      entries = sweep_step s.entries.items c.loop-slot.self.entries.items n (λ _. Erased) c.args.die.0 0 c.loop-slot.slot (omega arith) c.loop-slot-test.true
-          (subst (λ k. c.args.die.0 * n + c.loop-slot.slot < k) (sym (c.loop-slot.self.sound.tallied.slots ∙ (λ i. dies i * same i))) fits) c.loop-slot.invariant.entries c.put.new.self.entries.items
-          (c.put.ensures.entries ∙ ap (λ k. set c.loop-slot.self.entries.items (c.args.die.0 * k + c.loop-slot.slot) Erased) same);
+      versions = c.put.ensures.versions ∙ c.loop-slot.invariant.versions;
+      entries = sweep_step s.slots.entries c.loop-slot.self.slots.entries n (λ _. Erased) c.args.die.0 0 c.loop-slot.slot (omega arith) c.loop-slot-test.true
+          (subst (λ k. c.args.die.0 * n + c.loop-slot.slot < k) (sym (c.loop-slot.self.sound.tallied.slots ∙ (λ i. dies i * same i))) fits) c.loop-slot.invariant.entries c.put.new.self.slots.entries
+          (c.put.ensures.entries ∙ ap (λ k. set c.loop-slot.self.slots.entries (c.args.die.0 * k + c.loop-slot.slot) Erased) same);
     }
 
 pub returns-clause-entries : goal.returns-clause-entries
@@ -27,4 +28,4 @@ returns-clause-entries g c = λ d slot within.
     let n = die_slots s.geometry in
     let all : (nat_le 0 slot && nat_lt slot c.loop-slot.slot) ≡ true = inside 0 c.loop-slot.slot slot (omega arith) (omega arith) in
     c.loop-slot.invariant.entries d slot within
-    ∙ ap (λ (b : Bool). if b then Erased else entry_of s.entries.items n d slot) (ap (λ (b : Bool). d == c.args.die.0 && b) all ∙ with_true (d == c.args.die.0))
+    ∙ ap (λ (b : Bool). if b then Erased else entry_of s.slots.entries n d slot) (ap (λ (b : Bool). d == c.args.die.0 && b) all ∙ with_true (d == c.args.die.0))

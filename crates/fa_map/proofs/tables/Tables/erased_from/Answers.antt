@@ -15,25 +15,25 @@ pub returns-in-Some : goal.returns-in-Some
 returns-in-Some g c =
     let s = c.args.self.now in
     let start = c.args.die.0 * die_slots s.geometry + c.args.from in
-    sym (erased_at s.geometry s.entries.items s.counts.items (contains_key s.finder.slots) (contains_key s.finder.blocks) (found_parts s.geometry s.entries.items s.counts.items s.finder s.found).2 c.args.die.0 c.requires.die
+    sym (erased_at s.geometry s.slots.entries s.counts.items (contains_key s.finder.slots) (contains_key s.finder.blocks) (found_parts s.geometry s.slots.entries s.counts.items s.finder s.found).2 c.args.die.0 c.requires.die
     c.args.from c.requires.from c.slot_from.result
-    (c.slot_from.ensures ∙ ap (λ k. find (contains_key s.finder.slots) (range_with_len start (k - start))) (found_parts s.geometry s.entries.items s.counts.items s.finder s.found).0)
+    (c.slot_from.ensures ∙ ap (λ k. find (contains_key s.finder.slots) (range_with_len start (k - start))) (found_parts s.geometry s.slots.entries s.counts.items s.finder s.found).0)
     c.in-Some.index c.in-Some.is c.if-index-first.true)
 
 pub returns-in_default : goal.returns-in_default
 returns-in_default g c =
     let s = c.args.self.now in
     let start = c.args.die.0 * die_slots s.geometry + c.args.from in
-    sym (erased_past s.geometry s.entries.items s.counts.items (contains_key s.finder.slots) (contains_key s.finder.blocks) (found_parts s.geometry s.entries.items s.counts.items s.finder s.found).2 c.args.die.0 c.requires.die
+    sym (erased_past s.geometry s.slots.entries s.counts.items (contains_key s.finder.slots) (contains_key s.finder.blocks) (found_parts s.geometry s.slots.entries s.counts.items s.finder s.found).2 c.args.die.0 c.requires.die
     c.args.from c.requires.from c.slot_from.result
-    (c.slot_from.ensures ∙ ap (λ k. find (contains_key s.finder.slots) (range_with_len start (k - start))) (found_parts s.geometry s.entries.items s.counts.items s.finder s.found).0)
+    (c.slot_from.ensures ∙ ap (λ k. find (contains_key s.finder.slots) (range_with_len start (k - start))) (found_parts s.geometry s.slots.entries s.counts.items s.finder s.found).0)
     c.in-Some.index c.in-Some.is c.if-index-first.false)
 
 pub returns-in_default-2 : goal.returns-in_default-2
 returns-in_default-2 g c =
     let s = c.args.self.now in
     let start = c.args.die.0 * die_slots s.geometry + c.args.from in
-    sym (erased_none s.geometry s.entries.items s.counts.items (contains_key s.finder.slots) (contains_key s.finder.blocks) (found_parts s.geometry s.entries.items s.counts.items s.finder s.found).2 c.args.die.0 c.requires.die
+    sym (erased_none s.geometry s.slots.entries s.counts.items (contains_key s.finder.slots) (contains_key s.finder.blocks) (found_parts s.geometry s.slots.entries s.counts.items s.finder s.found).2 c.args.die.0 c.requires.die
     c.args.from c.requires.from c.slot_from.result
-    (c.slot_from.ensures ∙ ap (λ k. find (contains_key s.finder.slots) (range_with_len start (k - start))) (found_parts s.geometry s.entries.items s.counts.items s.finder s.found).0)
+    (c.slot_from.ensures ∙ ap (λ k. find (contains_key s.finder.slots) (range_with_len start (k - start))) (found_parts s.geometry s.slots.entries s.counts.items s.finder s.found).0)
     c.in_default.is)

@@ -7,5 +7,5 @@ pub returns : goal.returns
 returns g c =
     let s = c.args.self.now in
     c.lowest_from.ensures
-    ∙ few_found s.geometry.pages (copies_in s.entries.items s.geometry) s.few (few_copies s.geometry s.entries.items s.few s.counted)
+    ∙ few_found s.geometry.pages (copies_in s.slots.entries s.geometry) s.few (few_copies s.geometry s.slots.entries s.few s.counted)
     c.args.count c.args.from c.requires.0 c.requires.1

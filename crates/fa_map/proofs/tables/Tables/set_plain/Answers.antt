@@ -1,4 +1,4 @@
-use Rattle.std.proofs.Common.{◌≡◌, ◌+◌, ◌*◌, ◌<◌, length, refl, sym, ap, subst, ◌∙◌, arith, set}
+use Rattle.std.proofs.Common.{◌≡◌, ◌+◌, ◌*◌, ◌<◌, length, refl, sym, subst, arith, set}
 use Rattle.fa_map.specs.Entries.{AreTallied}
 use Rattle.fa_map.specs.Plain.{die_slots}
 use Rattle.fa_map.specs.Few.{IsCounted}
@@ -13,22 +13,21 @@ pub invariant_of-self : goal.invariant_of-self
 invariant_of-self g c =
     let s = c.args.self.now in
     let index = c.args.die.0 * die_slots s.geometry + c.args.slot.0 in
-    let entries : c.write_entry.new.entries ≡ set s.entries.items index c.args.entry = c.write_entry.ensures.entries ∙ ap (λ l. set l index c.args.entry) c.deref_mut.ensures.value in
+    let entries = c.write_entry.ensures.entries in
     let tallied = subst (λ k. AreTallied s.geometry k c.write_entry.new.counts c.write_entry.new.erased) entries c.write_entry.ensures.tallied in
-    let fits : index < length s.entries.items =
+    let fits : index < length s.slots.entries =
     subst (λ k. index < k) (sym s.sound.tallied.slots) (index_fits c.args.die.0 c.args.slot.0 s.geometry.dies (die_slots s.geometry) c.requires.die c.requires.slot) in
-    let long : length c.write_entry.new.entries ≡ s.entries.len = omega (arith, s.entries.ok.0) in
     let many : length c.write_entry.new.counts ≡ s.counts.len = omega (arith, s.counts.ok.0) in
     let few : length c.write_entry.new.erased ≡ s.erased.len = omega (arith, s.erased.ok.0) in
     record {
-      sound = tables_told s.geometry (set s.entries.items index c.args.entry) _ s.links.items s.links.items s.heads.items s.heads.items c.write_entry.new.counts _ c.write_entry.new.erased _
-          (whole_part s.entries.len c.write_entry.new.entries s.entries.items long ∙ entries) refl refl
+      sound = tables_told s.geometry (set s.slots.entries index c.args.entry) _ s.slots.links _ s.pages.heads _ c.write_entry.new.counts _ c.write_entry.new.erased _
+          entries c.write_entry.ensures.links refl
           (whole_part s.counts.len c.write_entry.new.counts s.counts.items many) (whole_part s.erased.len c.write_entry.new.erased s.erased.items few)
-          (plain_set s.geometry s.entries.items s.links.items s.heads.items s.counts.items s.erased.items s.sound c.args.die.0 c.args.slot.0 c.requires.die c.requires.slot c.write_entry.new.counts c.write_entry.new.erased c.args.entry c.requires.old c.requires.new tallied);
+          (plain_set s.geometry s.slots.entries s.slots.links s.pages.heads s.counts.items s.erased.items s.sound c.args.die.0 c.args.slot.0 c.requires.die c.requires.slot c.write_entry.new.counts c.write_entry.new.erased c.args.entry c.requires.old c.requires.new tallied);
       counted =
-          subst (λ l. IsCounted s.geometry l s.few) (sym (whole_part s.entries.len c.write_entry.new.entries s.entries.items long ∙ entries))
-          (few_plain s.geometry s.entries.items c.args.die.0 c.args.slot.0 c.requires.die c.requires.slot fits c.args.entry s.few s.counted c.requires.old c.requires.new);
-      found = found_told s.geometry c.write_entry.new.entries c.write_entry.new.counts c.write_entry.new.finder _ _
-          (whole_part s.entries.len c.write_entry.new.entries s.entries.items long) (whole_part s.counts.len c.write_entry.new.counts s.counts.items many)
+          subst (λ l. IsCounted s.geometry l s.few) (sym entries)
+          (few_plain s.geometry s.slots.entries c.args.die.0 c.args.slot.0 c.requires.die c.requires.slot fits c.args.entry s.few s.counted c.requires.old c.requires.new);
+      found = found_told s.geometry c.write_entry.new.slots.entries c.write_entry.new.counts c.write_entry.new.finder _ _
+          refl (whole_part s.counts.len c.write_entry.new.counts s.counts.items many)
           c.write_entry.ensures.found;
     }

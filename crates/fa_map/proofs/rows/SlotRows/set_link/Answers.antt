@@ -1,0 +1,15 @@
+use Rattle.std.proofs.Common.{ap, set, ◌∙◌}
+use Rattle.std.proofs.lemmas.List.{map-set}
+use Rattle.std.proofs.Math.Seq.{map-set_same}
+use Rattle.fa_map.specs.Rows.{SlotLists}
+use Rattle.fa_map.specs.declared.rows.SlotRow.{SlotRow}
+use Rattle.fa_map.proofs.rows.SlotRows.set_link.Goals as goal
+
+pub returns-clause-links : goal.returns-clause-links
+returns-clause-links g c =
+    map-set (λ (row : SlotRow). row.link) c.self.inside.rows.items c.args.index _ ∙ ap (λ (v : SlotLists). set v.links c.args.index (c.args.link)) c.self.view_is
+
+pub returns-clause-entries : goal.returns-clause-entries
+returns-clause-entries g c =
+    map-set_same (λ (row : SlotRow). row.entry) c.self.inside.rows.items c.args.index _ c.index_mut.result.now
+    (ap (λ (row : SlotRow). row.entry) c.index_mut.ensures.value) ∙ ap (λ (v : SlotLists). v.entries) c.self.view_is

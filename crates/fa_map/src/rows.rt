@@ -1,0 +1,160 @@
+//! What is kept of each slot and of each page, in one row for each, so that one look in memory finds all of it.
+ghost use Rattle.std.specs.Prelude.{◌≡◌, ◌<◌, None, Some, length, slice_index_or, slice_set, replicate, IfOk};
+ghost use Rattle.fa_map.specs.Chains.{no_link};
+ghost use Rattle.fa_map.specs.declared.entries.Entry.TheVariants.{Erased};
+
+use crate::entries::{Entry, Link, NO_LINK};
+use fa_machine::Version;
+use std::alloc::{AllocError, Allocator, Global};
+use std::marker::Model;
+
+/// What is kept of a slot.
+#[derive(Clone, Copy)]
+struct SlotRow {
+    entry: Entry,
+    /// Where the next copy of the page is, if the slot holds a copy.
+    link: Link,
+}
+
+/// What is kept of a page.
+#[derive(Clone, Copy)]
+struct PageRow {
+    /// The page's last write.
+    version: Option<Version>,
+    /// Where its first copy is.
+    first: Link,
+}
+
+const _: () = prove!(size_of::<SlotRow>() <= 16);
+
+const _: () = prove!(size_of::<PageRow>() <= 32);
+
+/// A row for each slot, die by die.
+#[derive(Drop)]
+pub struct SlotRows<A: Allocator = Global> {
+    rows: Vec<SlotRow, A>,
+}
+
+/// A row for each page.
+#[derive(Drop)]
+pub struct PageRows<A: Allocator = Global> {
+    rows: Vec<PageRow, A>,
+}
+
+impl<A: Allocator> Model for SlotRows<A> {
+    ghost use Rattle.std.specs.Prelude.{map};
+    ghost use Rattle.fa_map.specs.Rows.{SlotLists};
+
+    ghost Value = { SlotLists };
+
+    ghost view = { λ slots. record { entries = map (λ row. row.entry) slots.rows.items; links = map (λ row. row.link) slots.rows.items } };
+}
+
+impl<A: Allocator> Model for PageRows<A> {
+    ghost use Rattle.std.specs.Prelude.{map};
+    ghost use Rattle.fa_map.specs.Rows.{PageLists};
+
+    ghost Value = { PageLists };
+
+    ghost view = { λ pages. record { versions = map (λ row. row.version) pages.rows.items; heads = map (λ row. row.first) pages.rows.items } };
+}
+
+impl<A: Allocator + Copy> SlotRows<A> {
+    /// Rows of slots that are erased and lead to no copy. The error is out of memory.
+    pub fn new(alloc: A, count: usize) -> Result<SlotRows<A>, AllocError>
+        ensures entries { IfOk result (λ slots. slots.entries ≡ replicate count Erased) }
+        ensures links { IfOk result (λ slots. slots.links ≡ replicate count no_link) }
+    {
+        let rows = vec![in alloc; SlotRow {
+            entry: Entry::Erased,
+            link: NO_LINK
+        }; count]?;
+        Ok(SlotRows { rows })
+    }
+}
+
+impl<A: Allocator> SlotRows<A> {
+    /// The entry of the slot at this index.
+    pub fn entry(&self, index: usize) -> Entry
+        requires { index < length self.now.entries }
+        ensures { result ≡ slice_index_or self.now.entries index Erased }
+    {
+        self.rows[index].entry
+    }
+
+    /// The link of the slot at this index.
+    pub fn link(&self, index: usize) -> Link
+        requires { index < length self.now.links }
+        ensures { result ≡ slice_index_or self.now.links index no_link }
+    {
+        self.rows[index].link
+    }
+
+    /// The slot at this index has this entry.
+    pub fn set_entry(&mut self, index: usize, entry: Entry)
+        requires { index < length self.old.entries }
+        ensures entries { self.new.entries ≡ slice_set self.old.entries index entry }
+        ensures links { self.new.links ≡ self.old.links }
+    {
+        self.rows[index].entry = entry;
+    }
+
+    /// The slot at this index has this link.
+    pub fn set_link(&mut self, index: usize, link: Link)
+        requires { index < length self.old.links }
+        ensures entries { self.new.entries ≡ self.old.entries }
+        ensures links { self.new.links ≡ slice_set self.old.links index link }
+    {
+        self.rows[index].link = link;
+    }
+}
+
+impl<A: Allocator + Copy> PageRows<A> {
+    /// Rows of pages that were never written and have no copy. The error is out of memory.
+    pub fn new(alloc: A, count: usize) -> Result<PageRows<A>, AllocError>
+        ensures versions { IfOk result (λ pages. pages.versions ≡ replicate count None) }
+        ensures heads { IfOk result (λ pages. pages.heads ≡ replicate count no_link) }
+    {
+        let rows = vec![in alloc; PageRow {
+            version: None,
+            first: NO_LINK
+        }; count]?;
+        Ok(PageRows { rows })
+    }
+}
+
+impl<A: Allocator> PageRows<A> {
+    /// The last write of the page.
+    pub fn version(&self, page: usize) -> Option<Version>
+        requires { page < length self.now.versions }
+        ensures { result ≡ slice_index_or self.now.versions page None }
+    {
+        self.rows[page].version
+    }
+
+    /// Where the page's first copy is.
+    pub fn head(&self, page: usize) -> Link
+        requires { page < length self.now.heads }
+        ensures { result ≡ slice_index_or self.now.heads page no_link }
+    {
+        self.rows[page].first
+    }
+
+    /// This is the page's last write.
+    pub fn set_version(&mut self, page: usize, version: Version)
+        requires { page < length self.old.versions }
+        ensures versions { self.new.versions ≡ slice_set self.old.versions page (Some version) }
+        ensures heads { self.new.heads ≡ self.old.heads }
+    {
+        self.rows[page].version = Some(version);
+    }
+
+    /// The page's first copy is there.
+    pub fn set_head(&mut self, page: usize, head: Link)
+        requires { page < length self.old.heads }
+        ensures versions { self.new.versions ≡ self.old.versions }
+        ensures heads { self.new.heads ≡ slice_set self.old.heads page head }
+    {
+        self.rows[page].first = head;
+    }
+}
