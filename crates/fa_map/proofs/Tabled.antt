@@ -4,16 +4,18 @@ use Rattle.std.proofs.lemmas.Bool.{false≢true}
 use Rattle.std.proofs.lemmas.List.{get_or-replicate, get_or-set_same, get_or-set_other, length-replicate, length-set}
 use Rattle.std.proofs.lemmas.Option.{none-some}
 use Rattle.fa_types.specs.declared.geometry.Geometry.{Geometry}
-use Rattle.fa_map.specs.Chains.{IsSeam, entry_at, entry_of, link_at, link_from, no_link, target}
+use Rattle.fa_map.specs.Chains.{AreSeconds, IsRenewed, IsSeam, entry_at, entry_of, link_at, link_from, no_link, target}
 use Rattle.fa_map.specs.Entries.{AreTables, AreTallied, count_of, is_current_entry, is_same_state, no_counts, state_of_entry, with_head, with_link}
 use Rattle.fa_map.specs.Plain.{die_slots}
 use Rattle.fa_map.specs.declared.entries.Entry.{Entry}
 use Rattle.fa_map.specs.declared.entries.Entry.TheVariants.{Erased, Current}
 use Rattle.fa_map.specs.declared.entries.Link.{Link}
+use Rattle.fa_map.specs.declared.entries.Second.{Second}
 use Rattle.fa_map.specs.declared.slots.BlockCounts.{BlockCounts}
-use Rattle.fa_map.proofs.Chained.{chained_alike, chained_with, chained_without, same_place, some_place}
+use Rattle.fa_map.proofs.Chained.{chained_alike, chained_with, chained_without, same_page, same_place, some_place}
 use Rattle.fa_map.proofs.Changed.{place_cases}
 use Rattle.fa_map.proofs.Indices.{index_apart, index_fits}
+use Rattle.fa_map.proofs.Seconds.{seconds_kept}
 use Rattle.fa_map.specs.declared.slots.SlotState.{SlotState}
 use Rattle.fa_map.specs.declared.slots.SlotState.TheVariants as states
 use Rattle.std.specs.List.{count_by, range_with_len}
@@ -211,3 +213,29 @@ module _ (g : Geometry) (entries : List Entry) (links heads : List Link) (counts
       size : (last : Option (ℕ × ℕ)) → length (with_head last page link heads) ≡ length heads
       size None = length-set heads page link
       size (Some p) = refl
+
+  -- what is kept of each page's second place, after a copy went
+  pub seconds_removed : (page : ℕ) (last next : Option (ℕ × ℕ)) (link : Link) (links' heads' : List Link) (seconds seconds' : List Second)
+      → IsSeam (entry_of entries n) n g.dies page die last next → links' ≡ with_link last n link links → heads' ≡ with_head last page link heads
+      → AreSeconds links heads seconds n g.pages → IsRenewed links' heads' seconds seconds' n page → AreSeconds links' heads' seconds' n g.pages
+  seconds_removed page last next link links' heads' seconds seconds' seam a b =
+      seconds_kept (entry_of entries n) links links' heads heads' seconds seconds' n g.dies g.pages page tables.chained
+      (λ p apart. ap (λ (l : List Link). link_at l p) b ∙ head_else last page link p (λ _. apart))
+      (λ p d s apart fits is.
+      ap (λ (l : List Link). link_from l n d s) a
+      ∙ link_else links last link (λ d s at. (seam.found d s at).2) d s fits (λ e. apart (same_page p page (sym is ∙ (seam.found d s e).3))))
+
+  -- and after one came
+  pub seconds_added : (page : ℕ) (last next : Option (ℕ × ℕ)) (follow link : Link) (links' heads' : List Link) (seconds seconds' : List Second)
+      → IsSeam (entry_of entries n) n g.dies page die last next → is_current_entry (entry_of entries n die slot) ≡ false
+      → links' ≡ with_link last n link (set links index follow) → heads' ≡ with_head last page link heads
+      → AreSeconds links heads seconds n g.pages → IsRenewed links' heads' seconds seconds' n page → AreSeconds links' heads' seconds' n g.pages
+  seconds_added page last next follow link links' heads' seconds seconds' seam bare a b =
+      seconds_kept (entry_of entries n) links links' heads heads' seconds seconds' n g.dies g.pages page tables.chained
+      (λ p apart. ap (λ (l : List Link). link_at l p) b ∙ head_else last page link p (λ _. apart))
+      (λ p d s apart fits is.
+      ap (λ (l : List Link). link_from l n d s) a
+      ∙ link_else (set links index follow) last link (λ d s at. (seam.found d s at).2) d s fits (λ e. apart (same_page p page (sym is ∙ (seam.found d s e).3)))
+      ∙ ap target (get_or-set_other links index (d * n + s) follow no_link
+      (λ k. let at = index_apart d s die slot n fits within k in
+      bare_entry (entry_of entries n die slot) p bare ((λ i. entry_of entries n (sym at.0 i) (sym at.1 i)) ∙ is))))

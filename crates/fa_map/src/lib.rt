@@ -6,6 +6,7 @@ mod change;
 mod entries;
 mod few_copies;
 mod finder;
+mod links;
 mod map;
 mod page_map;
 mod rows;

@@ -15,10 +15,12 @@ use fa_types::{Die, Geometry, Page, Seq, Slot};
 use std::alloc::{AllocError, Allocator, Global};
 
 /// The page map of an array. A slot takes 16 bytes and little more than two bits, and a page 32 bytes and little more than two
-/// bits. No call but [`PageMap::new`] takes memory. `drop_die` takes time for each slot of the die, and `block_erased` for each of
-/// the block. An erased slot is found in a look or two at a set of slots, and the stalest block in one at a set of blocks.
-/// `copies_of` and `renew` take a step for each copy of the page, `first_copy` and `next_copy` one step, and `next_with` a look or
-/// two at a set. The other calls take at most a step for each die and, of each, for each copy of the page on a die below it.
+/// bits: a row for each, where a page's says where its first two copies are and whether it has a third. So one look at its row
+/// finds all copies of a page that has two or fewer. No call but [`PageMap::new`] takes memory. `drop_die` takes time for each slot
+/// of the die, and `block_erased` for each of the block. An erased slot is found in a look or two at a set of slots, and the
+/// stalest block in one at a set of blocks. `copies_of` and `renew` take a step for each copy of the page, `first_copy` and
+/// `next_copy` one step, and `next_with` a look or two at a set. The other calls take at most a step for each die and, of each, for
+/// each copy of the page on a die below it.
 #[derive(Drop)]
 pub struct PageMap<A: Allocator = Global> {
     geometry: Geometry,
@@ -198,8 +200,8 @@ impl<A: Allocator> Map for PageMap<A> {
         copy_at(self.tables.first(page.0 as u32))
     }
 
-    fn next_copy(&self, _page: Page, die: Die, slot: Slot) -> Option<(Die, Slot)> {
-        copy_at(self.tables.next(die, slot))
+    fn next_copy(&self, page: Page, die: Die, slot: Slot) -> Option<(Die, Slot)> {
+        copy_at(self.tables.next(page.0 as u32, die, slot))
     }
 
     fn next_with(&self, count: u32, from: Page) -> Option<Page> {

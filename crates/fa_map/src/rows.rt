@@ -1,10 +1,11 @@
 //! What is kept of each slot and of each page, in one row for each, so that one look in memory finds all of it.
 ghost use Rattle.std.specs.Prelude.{◌≡◌, ◌<◌, None, Some, length, slice_index_or, slice_set, replicate, IfOk};
-ghost use Rattle.fa_map.specs.Chains.{no_link};
+ghost use Rattle.fa_map.specs.Chains.{no_link, no_second, second_at};
 ghost use Rattle.fa_map.specs.declared.entries.Entry.TheVariants.{Erased};
 
-use crate::entries::{Entry, Link, NO_LINK};
+use crate::entries::{Entry, Link, NO_LINK, NO_SECOND, Second};
 use fa_machine::Version;
+use fa_types::{Kind, Seq};
 use std::alloc::{AllocError, Allocator, Global};
 use std::marker::Model;
 
@@ -19,10 +20,14 @@ struct SlotRow {
 /// What is kept of a page.
 #[derive(Clone, Copy)]
 struct PageRow {
-    /// The page's last write.
-    version: Option<Version>,
+    /// The number of the page's last write. It means nothing where the page was never written.
+    seq: Seq,
+    /// What that write made of the page; none where the page was never written.
+    kind: Option<Kind>,
     /// Where its first copy is.
     first: Link,
+    /// Its second copy: what the links of the first two copies' slots say, kept here too.
+    second: Second,
 }
 
 const _: () = prove!(size_of::<SlotRow>() <= 16);
@@ -47,16 +52,23 @@ impl<A: Allocator> Model for SlotRows<A> {
 
     ghost Value = { SlotLists };
 
-    ghost view = { λ slots. record { entries = map (λ row. row.entry) slots.rows.items; links = map (λ row. row.link) slots.rows.items } };
+    ghost view = { λ slots. record {
+      entries = map (λ row. row.entry) slots.rows.items;
+      links = map (λ row. row.link) slots.rows.items;
+    } };
 }
 
 impl<A: Allocator> Model for PageRows<A> {
     ghost use Rattle.std.specs.Prelude.{map};
-    ghost use Rattle.fa_map.specs.Rows.{PageLists};
+    ghost use Rattle.fa_map.specs.Rows.{PageLists, last_write};
 
     ghost Value = { PageLists };
 
-    ghost view = { λ pages. record { versions = map (λ row. row.version) pages.rows.items; heads = map (λ row. row.first) pages.rows.items } };
+    ghost view = { λ pages. record {
+      versions = map (λ row. last_write row.seq row.kind) pages.rows.items;
+      heads = map (λ row. row.first) pages.rows.items;
+      seconds = map (λ row. row.second) pages.rows.items;
+    } };
 }
 
 impl<A: Allocator + Copy> SlotRows<A> {
@@ -114,10 +126,13 @@ impl<A: Allocator + Copy> PageRows<A> {
     pub fn new(alloc: A, count: usize) -> Result<PageRows<A>, AllocError>
         ensures versions { IfOk result (λ pages. pages.versions ≡ replicate count None) }
         ensures heads { IfOk result (λ pages. pages.heads ≡ replicate count no_link) }
+        ensures seconds { IfOk result (λ pages. pages.seconds ≡ replicate count no_second) }
     {
         let rows = vec![in alloc; PageRow {
-            version: None,
-            first: NO_LINK
+            seq: Seq(0),
+            kind: None,
+            first: NO_LINK,
+            second: NO_SECOND
         }; count]?;
         Ok(PageRows { rows })
     }
@@ -129,7 +144,11 @@ impl<A: Allocator> PageRows<A> {
         requires { page < length self.now.versions }
         ensures { result ≡ slice_index_or self.now.versions page None }
     {
-        self.rows[page].version
+        let row = &self.rows[page];
+        match row.kind {
+            None => None,
+            Some(kind) => Some(Version { seq: row.seq, kind }),
+        }
     }
 
     /// Where the page's first copy is.
@@ -140,13 +159,24 @@ impl<A: Allocator> PageRows<A> {
         self.rows[page].first
     }
 
+    /// What is kept of the page's second copy.
+    pub fn second(&self, page: usize) -> Second
+        requires { page < length self.now.seconds }
+        ensures { result ≡ second_at self.now.seconds page }
+    {
+        self.rows[page].second
+    }
+
     /// This is the page's last write.
     pub fn set_version(&mut self, page: usize, version: Version)
         requires { page < length self.old.versions }
         ensures versions { self.new.versions ≡ slice_set self.old.versions page (Some version) }
         ensures heads { self.new.heads ≡ self.old.heads }
+        ensures seconds { self.new.seconds ≡ self.old.seconds }
     {
-        self.rows[page].version = Some(version);
+        let row = &mut self.rows[page];
+        row.seq = version.seq;
+        row.kind = Some(version.kind);
     }
 
     /// The page's first copy is there.
@@ -154,7 +184,18 @@ impl<A: Allocator> PageRows<A> {
         requires { page < length self.old.heads }
         ensures versions { self.new.versions ≡ self.old.versions }
         ensures heads { self.new.heads ≡ slice_set self.old.heads page head }
+        ensures seconds { self.new.seconds ≡ self.old.seconds }
     {
         self.rows[page].first = head;
+    }
+
+    /// This is kept of the page's second copy.
+    pub fn set_second(&mut self, page: usize, second: Second)
+        requires { page < length self.old.seconds }
+        ensures versions { self.new.versions ≡ self.old.versions }
+        ensures heads { self.new.heads ≡ self.old.heads }
+        ensures seconds { self.new.seconds ≡ slice_set self.old.seconds page second }
+    {
+        self.rows[page].second = second;
     }
 }

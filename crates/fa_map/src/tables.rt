@@ -1,7 +1,7 @@
 //! The tables of a page map: the entry of each slot, the counts of each block, and the chains of copies.
 ghost use Rattle.std.specs.Prelude.{◌≡◌, ℕ, ◌+◌, ◌*◌, ◌/◌, ◌-◌, ◌^◌, ◌<◌, ◌≤◌, ◌==◌, ◌&&◌, true, false, nat_lt, if◌then◌else◌, length, slice_set, replicate, find, min, IfOk, None, Some};
-ghost use Rattle.fa_map.specs.Chains.{IsSeam, IsNext, entry_at, entry_of, link_from, target};
-ghost use Rattle.fa_map.specs.Entries.{AreTables, AreTallied, copies_in, count_of, erased_entry, is_current_entry, is_erased_entry, may_take, one_if, retired, with_head, with_link};
+ghost use Rattle.fa_map.specs.Chains.{AreInside, AreSeconds, IsNext, IsSeam, entry_at, entry_of, link_from, target};
+ghost use Rattle.fa_map.specs.Entries.{AreTables, AreTallied, copies_in, count_of, erased_entry, is_current_entry, is_erased_entry, may_take, one_if, retired};
 ghost use Rattle.fa_map.specs.Few.{IsCounted, IsCounted-prop};
 ghost use Rattle.fa_map.specs.Found.{IsFound, IsFound-prop, IsGreatest};
 ghost use Rattle.fa_map.specs.Plain.{die_slots};
@@ -12,6 +12,7 @@ ghost use Rattle.fa_machine.specs.Maps.{below};
 use crate::entries::{Entry, Link, NO_LINK};
 use crate::few_copies::FewCopies;
 use crate::finder::Finder;
+use crate::links::{index_of, leads_to, relink};
 use crate::rows::{PageRows, SlotRows};
 use crate::slots::BlockCounts;
 use crate::tallies::{is_erased, moved, state_of};
@@ -25,7 +26,7 @@ pub struct Tables<A: Allocator = Global> {
     geometry: Geometry,
     /// The entry of each slot, die by die, and for each that holds a copy where the next copy of its page is.
     slots: SlotRows<A>,
-    /// For each page its last write, and where its first copy is.
+    /// For each page its last write, where its first two copies are, and whether it has a third.
     pages: PageRows<A>,
     /// The counts of each block, die by die.
     counts: Vec<BlockCounts, A>,
@@ -36,6 +37,8 @@ pub struct Tables<A: Allocator = Global> {
     /// The erased slots, and the blocks that may be emptied.
     finder: Finder<A>,
     ghost sound: { AreTables geometry slots.entries slots.links pages.heads counts.items erased.items },
+    ghost inside: { AreInside geometry.dies (die_slots geometry) slots.links },
+    ghost seconds: { AreSeconds slots.links pages.heads pages.seconds (die_slots geometry) geometry.pages },
     ghost counted: { IsCounted geometry slots.entries few } by { IsCounted-prop geometry slots.entries few },
     ghost found: { IsFound geometry slots.entries counts.items finder } by { IsFound-prop geometry slots.entries counts.items finder },
 }
@@ -60,39 +63,6 @@ pub struct Found {
 
 /// One copy more or less leaves a page with more than two, where it has this many.
 const MANY: u32 = 4;
-
-/// Where a slot stands in the list of all slots.
-fn index_of(geometry: Geometry, die: Die, slot: Slot) -> usize
-    requires die { die.0 < geometry.dies }
-    requires slot { slot.0 < die_slots geometry }
-    ensures index { result ≡ die.0 * die_slots geometry + slot.0 }
-    ensures fits { result < geometry.dies * die_slots geometry }
-{
-    die.0 as usize * (geometry.blocks * geometry.slots) as usize + slot.0 as usize
-}
-
-/// The link behind a place of a page's chain is written; behind none it is the page's first.
-fn write_link<A: Allocator>(
-    geometry: Geometry,
-    pages: &mut PageRows<A>,
-    slots: &mut SlotRows<A>,
-    page: u32,
-    last: Link,
-    link: Link,
-)
-    requires page { page < length pages.old.heads }
-    requires linked { length slots.old.links ≡ geometry.dies * die_slots geometry }
-    requires last { (die slot : ℕ) → target last ≡ Some (die, slot) → (die < geometry.dies) × (slot < die_slots geometry) }
-    ensures versions { pages.new.versions ≡ pages.old.versions }
-    ensures heads { pages.new.heads ≡ with_head (target last) page link pages.old.heads }
-    ensures entries { slots.new.entries ≡ slots.old.entries }
-    ensures links { slots.new.links ≡ with_link (target last) (die_slots geometry) link slots.old.links }
-{
-    match last.die {
-        None => pages.set_head(page as usize, link),
-        Some(die) => slots.set_link(index_of(geometry, Die(die), Slot(last.slot)), link),
-    }
-}
 
 /// A count after it lost one, gained one, or both.
 fn shifted(count: u32, loses: bool, gains: bool) -> u32
@@ -221,7 +191,7 @@ impl<A: Allocator> Tables<A> {
                 break;
             }
             last = next;
-            next = self.next(Die(other), Slot(last.slot));
+            next = self.next(page, Die(other), Slot(last.slot));
         }
         Seam { last, next }
     }
@@ -261,7 +231,7 @@ impl<A: Allocator> Tables<A> {
                 return copies;
             }
             copies += 1;
-            next = self.next(Die(die), Slot(next.slot));
+            next = self.next(page, Die(die), Slot(next.slot));
         }
         copies
     }
@@ -284,15 +254,24 @@ impl<A: Allocator> Tables<A> {
         self.few.lowest_from(count, from)
     }
 
-    /// Where the copy is that comes next in the chain of the page that the slot holds.
-    pub fn next(&self, die: Die, slot: Slot) -> Link
+    /// Where the copy is that comes next in the page's chain behind the slot, which holds the page. What stands behind the first
+    /// is kept with the page, and that nothing stands behind the second: of a page with two copies no slot is looked at.
+    pub fn next(&self, page: u32, die: Die, slot: Slot) -> Link
+        requires page { page < self.now.geometry.pages }
         requires die { die.0 < self.now.geometry.dies }
         requires slot { slot.0 < die_slots self.now.geometry }
         ensures link { target result ≡ link_from self.now.slots.links (die_slots self.now.geometry) die.0 slot.0 }
-        ensures next { (page : ℕ) → entry_of self.now.slots.entries (die_slots self.now.geometry) die.0 slot.0 ≡ Current page
+        ensures next { entry_of self.now.slots.entries (die_slots self.now.geometry) die.0 slot.0 ≡ Current page
             → IsNext (entry_of self.now.slots.entries (die_slots self.now.geometry)) (die_slots self.now.geometry)
             self.now.geometry.dies page (die.0 + 1) (target result) }
     {
+        let second = self.pages.second(page as usize);
+        if leads_to(self.pages.head(page as usize), die, slot) {
+            return second.place;
+        }
+        if !second.more && leads_to(second.place, die, slot) {
+            return NO_LINK;
+        }
         self.slots.link(index_of(self.geometry, die, slot))
     }
 
@@ -350,8 +329,8 @@ impl<A: Allocator> Tables<A> {
     {
         let copies = self.copies_up_to(page, MANY);
         let last = self.seam(page, die.0).last;
-        let next = self.next(die, slot);
-        write_link(
+        let next = self.next(page, die, slot);
+        relink(
             self.geometry,
             &mut self.pages,
             &mut self.slots,
@@ -393,7 +372,7 @@ impl<A: Allocator> Tables<A> {
             die: Some(die.0),
             slot: slot.0,
         };
-        write_link(
+        relink(
             self.geometry,
             &mut self.pages,
             &mut self.slots,

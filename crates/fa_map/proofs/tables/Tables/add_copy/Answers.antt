@@ -1,19 +1,40 @@
 use Rattle.std.proofs.Common.{◌≡◌, ◌+◌, ◌*◌, ◌<◌, Some, List, length, refl, sym, ap, subst, ◌∙◌, arith, set}
-use Rattle.fa_map.specs.Chains.{target}
+use Rattle.fa_map.specs.Chains.{AreInside, AreSeconds, target}
 use Rattle.fa_map.specs.Entries.{AreTallied, with_head, with_link}
 use Rattle.fa_map.specs.Plain.{die_slots}
 use Rattle.fa_map.specs.declared.entries.Entry.TheVariants.{Current}
 use Rattle.fa_map.specs.declared.entries.Link.{Link}
 use Rattle.fa_map.specs.Few.{IsCounted}
+use Rattle.fa_map.proofs.Chained.{same_place}
 use Rattle.fa_map.proofs.Few.{few_added, few_bound}
 use Rattle.fa_map.proofs.Found.{found_told}
 use Rattle.fa_map.proofs.Indices.{index_fits}
-use Rattle.fa_map.proofs.Tabled.{copy_added, tables_told}
+use Rattle.fa_map.proofs.Seconds.{inside_set}
+use Rattle.fa_map.proofs.Tabled.{copy_added, seconds_added, tables_told}
 use Rattle.fa_map.proofs.Written.{whole_part}
 use Rattle.fa_map.proofs.tables.Tables.add_copy.Goals as goal
 
-pub write_link-requires-clause-last : goal.write_link-requires-clause-last
-write_link-requires-clause-last g c = λ d slot e. let old = c.seam-seam.ensures.found d slot e in (old.1, old.2)
+pub relink-requires-clause-first : goal.relink-requires-clause-first
+relink-requires-clause-first g c = λ d slot e. let old = (c.args.self.now.sound.chained.heads c.args.page c.requires.page).found d slot e in (old.1, old.2)
+
+pub relink-requires-clause-link : goal.relink-requires-clause-link
+relink-requires-clause-link g c = λ d slot e.
+    let s = c.args.self.now in
+    let at = same_place c.args.die.0 c.args.slot.0 d slot e in
+    (subst (λ k. k < s.geometry.dies) at.0 c.requires.die, subst (λ k. k < die_slots s.geometry) at.1 c.requires.slot)
+
+pub relink-requires-clause-last : goal.relink-requires-clause-last
+relink-requires-clause-last g c = λ d slot e. let old = c.seam-seam.ensures.found d slot e in (old.1, old.2)
+
+pub relink-requires-clause-inside : goal.relink-requires-clause-inside
+relink-requires-clause-inside g c =
+    let s = c.args.self.now in
+    let n = die_slots s.geometry in
+    let follow = c.seam-seam.result.next in
+    let fits = index_fits c.args.die.0 c.args.slot.0 s.geometry.dies n c.requires.die c.requires.slot in
+    subst (AreInside s.geometry.dies n) (sym (c.set_link.ensures.links ∙ ap (λ k. set s.slots.links k follow) c.index_of-index.ensures.index))
+    (inside_set s.geometry.dies n s.slots.links (c.args.die.0 * n + c.args.slot.0) follow (subst (λ k. c.args.die.0 * n + c.args.slot.0 < k) (sym s.sound.linked) fits)
+    s.inside (λ d slot e. let old = c.seam-seam.ensures.follows.found d slot e in (old.1, old.2)))
 
 pub put-requires : goal.put-requires
 put-requires g c =
@@ -26,7 +47,7 @@ invariant_of-self g c =
     let s = c.args.self.now in
     let index = c.args.die.0 * die_slots s.geometry + c.args.slot.0 in
     let entries : c.write_entry.new.slots.entries ≡ set s.slots.entries index (Current c.args.page) =
-    c.write_entry.ensures.entries ∙ ap (λ l. set l index (Current c.args.page)) (c.write_link.ensures.entries ∙ c.set_link.ensures.entries) in
+    c.write_entry.ensures.entries ∙ ap (λ l. set l index (Current c.args.page)) (c.relink.ensures.entries ∙ c.set_link.ensures.entries) in
     let tallied = subst (λ k. AreTallied s.geometry k c.write_entry.new.counts c.write_entry.new.erased) entries c.write_entry.ensures.tallied in
     let inside : index < length s.slots.entries =
     subst (λ k. index < k) (sym s.sound.tallied.slots) (index_fits c.args.die.0 c.args.slot.0 s.geometry.dies (die_slots s.geometry) c.requires.die c.requires.slot) in
@@ -37,13 +58,19 @@ invariant_of-self g c =
     let link : Link = record { die = Some c.args.die.0; slot = c.args.slot.0 } in
     let before : c.set_link.new.self.links ≡ set s.slots.links index follow = c.set_link.ensures.links ∙ ap (λ k. set s.slots.links k follow) c.index_of-index.ensures.index in
     let links : c.write_entry.new.slots.links ≡ with_link last (die_slots s.geometry) link (set s.slots.links index follow) =
-    c.write_entry.ensures.links ∙ c.write_link.ensures.links ∙ ap (λ (l : List Link). with_link last (die_slots s.geometry) link l) before in
+    c.write_entry.ensures.links ∙ c.relink.ensures.links ∙ ap (λ (l : List Link). with_link last (die_slots s.geometry) link l) before in
     record {
       sound = tables_told s.geometry (set s.slots.entries index (Current c.args.page)) _ (with_link last (die_slots s.geometry) link (set s.slots.links index follow)) _ (with_head last c.args.page link s.pages.heads) _
           c.write_entry.new.counts _ c.write_entry.new.erased _
-          entries links c.write_link.ensures.heads
+          entries links c.relink.ensures.heads
           (whole_part s.counts.len c.write_entry.new.counts s.counts.items many) (whole_part s.erased.len c.write_entry.new.erased s.erased.items few)
           (copy_added s.geometry s.slots.entries s.slots.links s.pages.heads s.counts.items s.erased.items s.sound c.args.die.0 c.args.slot.0 c.requires.die c.requires.slot c.write_entry.new.counts c.write_entry.new.erased c.args.page last (target follow) follow link c.requires.page c.requires.free c.requires.once c.seam-seam.ensures refl refl tallied);
+      inside = subst (AreInside s.geometry.dies (die_slots s.geometry)) (sym c.write_entry.ensures.links) c.relink.ensures.inside;
+      seconds =
+          subst (λ l. AreSeconds l c.relink.new.pages.heads c.relink.new.pages.seconds (die_slots s.geometry) s.geometry.pages) (sym c.write_entry.ensures.links)
+          (seconds_added s.geometry s.slots.entries s.slots.links s.pages.heads s.counts.items s.erased.items s.sound c.args.die.0 c.args.slot.0 c.requires.die c.requires.slot c.write_entry.new.counts c.write_entry.new.erased
+          c.args.page last (target follow) follow link c.relink.new.slots.links c.relink.new.pages.heads s.pages.seconds c.relink.new.pages.seconds
+          c.seam-seam.ensures c.requires.free (c.relink.ensures.links ∙ ap (λ (l : List Link). with_link last (die_slots s.geometry) link l) before) c.relink.ensures.heads s.seconds c.relink.ensures.seconds);
       counted =
           subst (λ l. IsCounted s.geometry l c.put.new.self) (sym entries)
           (few_added s.geometry s.slots.entries c.args.die.0 c.args.slot.0 c.requires.die c.requires.slot inside (Current c.args.page) s.few s.counted

@@ -49,7 +49,7 @@ loop-next-smaller g c =
     let old = c.loop-next.invariant.found c.in-Some.die c.loop-next.next.slot is in
     let now = ap (dies_from s.geometry.dies) is in
     let less = fewer (entry_of s.slots.entries n) n s.geometry.dies c.args.page c.in-Some.die (target c.next-next.result)
-    (c.next-next.ensures.next c.args.page old.2) old.0 in
+    (c.next-next.ensures.next old.2) old.0 in
     omega (arith, now, less)
 
 pub loop-next-preserved : goal.loop-next-preserved
@@ -58,7 +58,7 @@ loop-next-preserved g c =
     let n = die_slots s.geometry in
     let is = there c.loop-next.next c.in-Some.die c.in-Some.is in
     let old = c.loop-next.invariant.found c.in-Some.die c.loop-next.next.slot is in
-    let rest = c.next-next.ensures.next c.args.page old.2 in
+    let rest = c.next-next.ensures.next old.2 in
     let now = ap (count_from (die_holds s.slots.entries n c.args.page) s.geometry.dies) is in
     let one = counted_here s.slots.entries n c.args.page s.geometry.dies c.in-Some.die c.loop-next.next.slot old.0 old.1 old.2
     (target c.next-next.result) rest in

@@ -47,5 +47,5 @@ loop-next-preserved g c =
           );
       follows =
           subst (λ k. IsNext (entry_of s.slots.entries n) n s.geometry.dies c.args.page k (target c.next-next.result)) (sym (ap behind is))
-          (c.next-next.ensures.next c.args.page old.3);
+          (c.next-next.ensures.next old.3);
     }

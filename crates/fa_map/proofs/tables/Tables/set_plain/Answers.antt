@@ -1,4 +1,5 @@
 use Rattle.std.proofs.Common.{◌≡◌, ◌+◌, ◌*◌, ◌<◌, length, refl, sym, subst, arith, set}
+use Rattle.fa_map.specs.Chains.{AreInside, AreSeconds}
 use Rattle.fa_map.specs.Entries.{AreTallied}
 use Rattle.fa_map.specs.Plain.{die_slots}
 use Rattle.fa_map.specs.Few.{IsCounted}
@@ -24,6 +25,8 @@ invariant_of-self g c =
           entries c.write_entry.ensures.links refl
           (whole_part s.counts.len c.write_entry.new.counts s.counts.items many) (whole_part s.erased.len c.write_entry.new.erased s.erased.items few)
           (plain_set s.geometry s.slots.entries s.slots.links s.pages.heads s.counts.items s.erased.items s.sound c.args.die.0 c.args.slot.0 c.requires.die c.requires.slot c.write_entry.new.counts c.write_entry.new.erased c.args.entry c.requires.old c.requires.new tallied);
+      inside = subst (AreInside s.geometry.dies (die_slots s.geometry)) (sym c.write_entry.ensures.links) s.inside;
+      seconds = subst (λ l. AreSeconds l s.pages.heads s.pages.seconds (die_slots s.geometry) s.geometry.pages) (sym c.write_entry.ensures.links) s.seconds;
       counted =
           subst (λ l. IsCounted s.geometry l s.few) (sym entries)
           (few_plain s.geometry s.slots.entries c.args.die.0 c.args.slot.0 c.requires.die c.requires.slot fits c.args.entry s.few s.counted c.requires.old c.requires.new);
