@@ -1,5 +1,5 @@
 -- The sets of a page map follow an entry that is written, and what is found by them.
-use Rattle.std.proofs.Common.{◌≡◌, ℕ, ◌+◌, ◌*◌, ◌/◌, ◌<◌, ◌≤◌, ◌==◌, ◌&&◌, if◌then◌else◌, Bool, true, false, List, Option, length, set, get_or, ap, cond, inl, inr, sym, subst, ◌∙◌, arith}
+use Rattle.std.proofs.Common.{◌≡◌, ℕ, ◌+◌, ◌*◌, ◌/◌, ◌<◌, ◌≤◌, ◌==◌, ◌&&◌, if◌then◌else◌, Bool, true, false, List, Option, length, set, get_or, ap, cond, inl, inr, refl, sym, subst, ◌∙◌, arith}
 use Rattle.std.proofs.Common.{None, Some, not, ◌%◌, ◌-◌}
 use Rattle.std.proofs.lemmas.Bool.{and_from, and_left, and_parts, and_right, cases_eq, cases_lt, eq-eqb, eqb-true, false_from_ne_true, false≢true, ne_eqb}
 use Rattle.std.proofs.lemmas.Option.{none-some, same_Some}
@@ -16,13 +16,20 @@ use Rattle.fa_map.specs.Found.{AreFound, IsFound, IsGreatest, has_rank, is_clean
 use Rattle.fa_map.specs.Plain.{die_slots}
 use Rattle.fa_map.specs.Sets.{Sets}
 use Rattle.fa_map.specs.declared.entries.Entry.{Entry}
-use Rattle.fa_map.specs.declared.entries.Entry.TheVariants.{Erased}
+use Rattle.fa_map.specs.declared.entries.Entry.TheVariants.{Current, Erased, Reserved, Stale}
 use Rattle.fa_map.specs.declared.slots.BlockCounts.{BlockCounts}
 use Rattle.fa_map.proofs.Changed.{place_cases}
 use Rattle.fa_map.proofs.Few.{member_put}
 use Rattle.fa_map.proofs.Indices.{die_fits, index_apart, index_fits, later}
 use Rattle.fa_map.proofs.Ranges.{find_is, find_none, find_some, none_is}
 use Rattle.fa_map.proofs.Tallied.{block_of_slot, entry_same, entry_other}
+
+-- the one entry of an erased slot
+pub erased_entry_is : (e : Entry) → is_erased_entry e ≡ true → e ≡ Erased
+erased_entry_is Erased is = refl
+erased_entry_is Reserved is = absurd (false≢true is)
+erased_entry_is (Current page) is = absurd (false≢true is)
+erased_entry_is Stale is = absurd (false≢true is)
 
 -- the parts of what is true of a finder's sets
 module _ (g : Geometry) (entries : List Entry) (counts : List BlockCounts) (sets : Sets) where

@@ -11,6 +11,7 @@ pub mod MayHold
 pub mod Nexts
 pub mod Plain
 pub mod Ranges
+pub mod Renewed
 pub mod Seconds
 pub mod Seen
 pub mod Swept

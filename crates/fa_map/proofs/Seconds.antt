@@ -6,7 +6,7 @@ use Rattle.std.proofs.lemmas.List.{get_or-set_same, get_or-set_other, length-rep
 use Rattle.std.proofs.lemmas.Option.{none-some}
 use Rattle.fa_map.specs.Chains.{AreInside, AreSeconds, IsChained, IsInside, IsRenewed, IsSecond}
 use Rattle.fa_map.specs.Chains.{follower, link_at, link_from, no_link, no_second, second_at, target}
-use Rattle.fa_map.specs.Entries.{with_head, with_link}
+use Rattle.fa_map.specs.Entries.{with_link}
 use Rattle.fa_map.specs.declared.entries.Entry.{Entry}
 use Rattle.fa_map.specs.declared.entries.Entry.TheVariants.{Current}
 use Rattle.fa_map.specs.declared.entries.Link.{Link}
@@ -72,12 +72,6 @@ module _ (st : ℕ → ℕ → Entry) (links links' heads heads' : List Link) (s
         more = was.more ∙ ap is_some (alike p (target (second_at seconds p).place) apart
             (subst (Holds p) (sym was.place) (next p (link_at heads p) (first p fits))));
       }
-
--- where a page's first place is after a link was written
-pub first_fits : (dies n : ℕ) (last : Option (ℕ × ℕ)) (page : ℕ) (link : Link) (heads : List Link) → page < length heads
-    → IsInside dies n (link_at heads page) → IsInside dies n (target link) → IsInside dies n (link_at (with_head last page link heads) page)
-first_fits dies n None page link heads inside old new d s e = new d s (sym (ap target (get_or-set_same heads page link no_link inside)) ∙ e)
-first_fits dies n (Some place) page link heads inside old new d s e = old d s e
 
 -- where the links lead after one was written
 pub inside_set : (dies n : ℕ) (links : List Link) (k : ℕ) (link : Link) → k < length links

@@ -94,6 +94,13 @@ impl<A: Allocator> Finder<A> {
         self.erased.lowest_from(index)
     }
 
+    /// Whether the slot at this index is erased.
+    pub fn has_slot(&self, index: usize) -> bool
+        ensures { result ≡ contains_key self.now.slots index }
+    {
+        self.erased.contains(index)
+    }
+
     /// The least index of a block from one on.
     pub fn block_from(&self, index: usize) -> Option<usize>
         ensures { result ≡ find (contains_key self.now.blocks) (range_with_len index (self.now.blocks_bound - index)) }

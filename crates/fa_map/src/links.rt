@@ -1,10 +1,10 @@
 //! Where slots stand in the list of all slots, and the links by which the copies of a page are found.
-ghost use Rattle.std.specs.Prelude.{◌≡◌, ◌+◌, ◌*◌, ◌<◌, Some, true, length};
-ghost use Rattle.fa_map.specs.Chains.{AreInside, IsInside, IsRenewed, IsSecond, follower, link_at, target};
+ghost use Rattle.std.specs.Prelude.{◌≡◌, ℕ, ◌+◌, ◌*◌, ◌<◌, None, Some, true, false, is_some, length};
+ghost use Rattle.fa_map.specs.Chains.{AreInside, IsInside, IsRenewed, IsSecond, follower, link_at, second_at, target};
 ghost use Rattle.fa_map.specs.Entries.{with_head, with_link};
 ghost use Rattle.fa_map.specs.Plain.{die_slots};
 
-use crate::entries::{Link, NO_LINK, Second};
+use crate::entries::{Link, Second};
 use crate::rows::{PageRows, SlotRows};
 use fa_types::{Die, Geometry, Slot};
 use std::alloc::Allocator;
@@ -21,7 +21,8 @@ pub fn index_of(geometry: Geometry, die: Die, slot: Slot) -> usize
 
 /// Whether a link leads to this slot of the die.
 pub fn leads_to(link: Link, die: Die, slot: Slot) -> bool
-    ensures { result ≡ true → target link ≡ Some (die.0, slot.0) }
+    ensures there { result ≡ true → target link ≡ Some (die.0, slot.0) }
+    ensures elsewhere { result ≡ false → target link ≡ Some (die.0, slot.0) → ⊥ }
 {
     match link.die {
         None => false,
@@ -29,7 +30,8 @@ pub fn leads_to(link: Link, die: Die, slot: Slot) -> bool
     }
 }
 
-/// The link behind a place of a page's chain is written, and what is kept of the page's first two copies follows.
+/// The link behind a place of a page's chain is written, and what is kept of the page's first two copies follows. The caller
+/// says which copy then follows the one at `link`, and whether that one is followed by another: no slot's row is read.
 pub fn relink<A: Allocator>(
     geometry: Geometry,
     pages: &mut PageRows<A>,
@@ -37,6 +39,8 @@ pub fn relink<A: Allocator>(
     page: u32,
     last: Link,
     link: Link,
+    following: Link,
+    is_followed: bool,
 )
     requires head { page < length pages.old.heads }
     requires second { page < length pages.old.seconds }
@@ -45,6 +49,11 @@ pub fn relink<A: Allocator>(
     requires last { IsInside geometry.dies (die_slots geometry) (target last) }
     requires link { IsInside geometry.dies (die_slots geometry) (target link) }
     requires inside { AreInside geometry.dies (die_slots geometry) slots.old.links }
+    requires kept { IsSecond slots.old.links (die_slots geometry) (link_at pages.old.heads page) (second_at pages.old.seconds page) }
+    requires following { target following
+        ≡ follower (with_link (target last) (die_slots geometry) link slots.old.links) (die_slots geometry) (target link) }
+    requires followed { is_followed ≡ is_some
+        (follower (with_link (target last) (die_slots geometry) link slots.old.links) (die_slots geometry) (target following)) }
     ensures versions { pages.new.versions ≡ pages.old.versions }
     ensures heads { pages.new.heads ≡ with_head (target last) page link pages.old.heads }
     ensures seconds { IsRenewed slots.new.links pages.new.heads pages.old.seconds pages.new.seconds (die_slots geometry) page }
@@ -52,8 +61,54 @@ pub fn relink<A: Allocator>(
     ensures links { slots.new.links ≡ with_link (target last) (die_slots geometry) link slots.old.links }
     ensures inside { AreInside geometry.dies (die_slots geometry) slots.new.links }
 {
+    let second = second_after(pages, page, last, link, following, is_followed);
     write_link(geometry, pages, slots, page, last, link);
-    renew_second(geometry, pages, slots, page);
+    pages.set_second(page as usize, second);
+}
+
+/// What is to be kept of a page's second copy once the link behind a place of its chain is written. It follows from what was
+/// kept of the page's first two copies: the link makes a first copy, or a second, or stands behind the second, or further on.
+fn second_after<A: Allocator>(
+    pages: &PageRows<A>,
+    page: u32,
+    last: Link,
+    link: Link,
+    following: Link,
+    is_followed: bool,
+) -> Second
+    requires head { page < length pages.now.heads }
+    requires second { page < length pages.now.seconds }
+    ensures first { target last ≡ None → result ≡ record { place = following; more = is_followed } }
+    ensures second { (place : ℕ × ℕ) → target last ≡ Some place → link_at pages.now.heads page ≡ Some place
+        → result ≡ record { place = link; more = is_some (target following) } }
+    ensures third { (place : ℕ × ℕ) → target last ≡ Some place → (link_at pages.now.heads page ≡ Some place → ⊥)
+        → target (second_at pages.now.seconds page).place ≡ Some place
+        → result ≡ record { place = (second_at pages.now.seconds page).place; more = is_some (target link) } }
+    ensures further { (place : ℕ × ℕ) → target last ≡ Some place → (link_at pages.now.heads page ≡ Some place → ⊥)
+        → (target (second_at pages.now.seconds page).place ≡ Some place → ⊥) → result ≡ second_at pages.now.seconds page }
+{
+    match last.die {
+        None => Second {
+            place: following,
+            more: is_followed,
+        },
+        Some(die) => {
+            let second = pages.second(page as usize);
+            if leads_to(pages.head(page as usize), Die(die), Slot(last.slot)) {
+                return Second {
+                    place: link,
+                    more: following.die.is_some(),
+                };
+            }
+            if leads_to(second.place, Die(die), Slot(last.slot)) {
+                return Second {
+                    place: second.place,
+                    more: link.die.is_some(),
+                };
+            }
+            second
+        }
+    }
 }
 
 /// The link behind a place of a page's chain is written; behind none it is the page's first.
@@ -77,52 +132,5 @@ fn write_link<A: Allocator>(
     match last.die {
         None => pages.set_head(page as usize, link),
         Some(die) => slots.set_link(index_of(geometry, Die(die), Slot(last.slot)), link),
-    }
-}
-
-/// Keeps with the page where its second copy is and whether it has a third, once its chain has changed.
-fn renew_second<A: Allocator>(
-    geometry: Geometry,
-    pages: &mut PageRows<A>,
-    slots: &SlotRows<A>,
-    page: u32,
-)
-    requires head { page < length pages.old.heads }
-    requires second { page < length pages.old.seconds }
-    requires linked { length slots.now.links ≡ geometry.dies * die_slots geometry }
-    requires first { IsInside geometry.dies (die_slots geometry) (link_at pages.old.heads page) }
-    requires inside { AreInside geometry.dies (die_slots geometry) slots.now.links }
-    ensures versions { pages.new.versions ≡ pages.old.versions }
-    ensures heads { pages.new.heads ≡ pages.old.heads }
-    ensures seconds { IsRenewed slots.now.links pages.old.heads pages.old.seconds pages.new.seconds (die_slots geometry) page }
-{
-    let second = second_behind(geometry, slots, pages.head(page as usize));
-    pages.set_second(page as usize, second);
-}
-
-/// The second copy of a page whose first is there.
-fn second_behind<A: Allocator>(geometry: Geometry, slots: &SlotRows<A>, first: Link) -> Second
-    requires linked { length slots.now.links ≡ geometry.dies * die_slots geometry }
-    requires first { IsInside geometry.dies (die_slots geometry) (target first) }
-    requires inside { AreInside geometry.dies (die_slots geometry) slots.now.links }
-    ensures { IsSecond slots.now.links (die_slots geometry) (target first) result }
-{
-    let place = link_behind(geometry, slots, first);
-    let third = link_behind(geometry, slots, place);
-    Second {
-        place,
-        more: third.die.is_some(),
-    }
-}
-
-/// Where the copy behind a place of a page's chain is; none behind none.
-fn link_behind<A: Allocator>(geometry: Geometry, slots: &SlotRows<A>, place: Link) -> Link
-    requires linked { length slots.now.links ≡ geometry.dies * die_slots geometry }
-    requires place { IsInside geometry.dies (die_slots geometry) (target place) }
-    ensures { target result ≡ follower slots.now.links (die_slots geometry) (target place) }
-{
-    match place.die {
-        None => NO_LINK,
-        Some(die) => slots.link(index_of(geometry, Die(die), Slot(place.slot))),
     }
 }

@@ -1,6 +1,6 @@
 //! The tables of a page map: the entry of each slot, the counts of each block, and the chains of copies.
 ghost use Rattle.std.specs.Prelude.{◌≡◌, ℕ, ◌+◌, ◌*◌, ◌/◌, ◌-◌, ◌^◌, ◌<◌, ◌≤◌, ◌==◌, ◌&&◌, true, false, nat_lt, if◌then◌else◌, length, slice_set, replicate, find, min, IfOk, None, Some};
-ghost use Rattle.fa_map.specs.Chains.{AreInside, AreSeconds, IsNext, IsSeam, entry_at, entry_of, link_from, target};
+ghost use Rattle.fa_map.specs.Chains.{AreInside, AreSeconds, IsInside, IsNext, IsSeam, entry_at, entry_of, follower, link_from, target};
 ghost use Rattle.fa_map.specs.Entries.{AreTables, AreTallied, copies_in, count_of, erased_entry, is_current_entry, is_erased_entry, may_take, one_if, retired};
 ghost use Rattle.fa_map.specs.Few.{IsCounted, IsCounted-prop};
 ghost use Rattle.fa_map.specs.Found.{IsFound, IsFound-prop, IsGreatest};
@@ -74,7 +74,7 @@ fn shifted(count: u32, loses: bool, gains: bool) -> u32
     if gains { kept + 1 } else { kept }
 }
 
-/// The entry of a slot is written, and the counts and the sets follow.
+/// The entry of a slot is written, and the counts and the sets follow. The caller knows the old entry: no row is read.
 fn write_entry<A: Allocator>(
     geometry: Geometry,
     slots: &mut SlotRows<A>,
@@ -83,10 +83,12 @@ fn write_entry<A: Allocator>(
     finder: &mut Finder<A>,
     die: Die,
     slot: Slot,
+    old: Entry,
     entry: Entry,
 )
     requires die { die.0 < geometry.dies }
     requires slot { slot.0 < die_slots geometry }
+    requires old { old ≡ entry_of slots.old.entries (die_slots geometry) die.0 slot.0 }
     requires tallied { AreTallied geometry slots.old.entries counts.old erased.old }
     requires found { IsFound geometry slots.old.entries counts.old finder.old }
     ensures entries { slots.new.entries ≡ slice_set slots.old.entries (die.0 * die_slots geometry + slot.0) entry }
@@ -97,7 +99,6 @@ fn write_entry<A: Allocator>(
     let index = index_of(geometry, die, slot);
     let number = slot.0 / geometry.slots;
     let block = die.0 as usize * geometry.blocks as usize + number as usize;
-    let old = slots.entry(index);
     let before = counts[block];
     let after = moved(before, state_of(old), state_of(entry));
     counts[block] = after;
@@ -275,6 +276,18 @@ impl<A: Allocator> Tables<A> {
         self.slots.link(index_of(self.geometry, die, slot))
     }
 
+    /// Where the copy behind a place of the page's chain is; none behind none. It is found as `next` finds it.
+    fn next_of(&self, page: u32, place: Link) -> Link
+        requires page { page < self.now.geometry.pages }
+        requires place { IsInside self.now.geometry.dies (die_slots self.now.geometry) (target place) }
+        ensures { target result ≡ follower self.now.slots.links (die_slots self.now.geometry) (target place) }
+    {
+        match place.die {
+            None => NO_LINK,
+            Some(die) => self.next(page, Die(die), Slot(place.slot)),
+        }
+    }
+
     /// The last write of the page; none where it was never written.
     pub fn version(&self, page: u32) -> Option<Version>
         requires { page < length self.now.pages.versions }
@@ -293,10 +306,11 @@ impl<A: Allocator> Tables<A> {
         self.pages.set_version(page as usize, version);
     }
 
-    /// The slot that does not hold a copy, and will hold none, has this entry.
-    fn set_plain(&mut self, die: Die, slot: Slot, entry: Entry)
+    /// The slot that does not hold a copy, and will hold none, has this entry in place of the old one.
+    fn set_plain(&mut self, die: Die, slot: Slot, old: Entry, entry: Entry)
         requires die { die.0 < self.old.geometry.dies }
         requires slot { slot.0 < die_slots self.old.geometry }
+        requires known { old ≡ entry_of self.old.slots.entries (die_slots self.old.geometry) die.0 slot.0 }
         requires old { is_current_entry (entry_of self.old.slots.entries (die_slots self.old.geometry) die.0 slot.0) ≡ false }
         requires new { is_current_entry entry ≡ false }
         ensures geometry { self.new.geometry ≡ self.old.geometry }
@@ -312,11 +326,13 @@ impl<A: Allocator> Tables<A> {
             &mut self.finder,
             die,
             slot,
+            old,
             entry,
         );
     }
 
-    /// The slot that holds a copy of the page has this entry, which holds none.
+    /// The slot that holds a copy of the page has this entry, which holds none. Of a page with at most two copies no slot's row
+    /// is read: what stands behind them is kept with the page.
     fn remove_copy(&mut self, page: u32, die: Die, slot: Slot, entry: Entry)
         requires die { die.0 < self.old.geometry.dies }
         requires slot { slot.0 < die_slots self.old.geometry }
@@ -330,6 +346,8 @@ impl<A: Allocator> Tables<A> {
         let copies = self.copies_up_to(page, MANY);
         let last = self.seam(page, die.0).last;
         let next = self.next(page, die, slot);
+        let following = self.next_of(page, next);
+        let is_followed = self.next_of(page, following).die.is_some();
         relink(
             self.geometry,
             &mut self.pages,
@@ -337,6 +355,8 @@ impl<A: Allocator> Tables<A> {
             page,
             last,
             next,
+            following,
+            is_followed,
         );
         write_entry(
             self.geometry,
@@ -346,12 +366,14 @@ impl<A: Allocator> Tables<A> {
             &mut self.finder,
             die,
             slot,
+            Entry::Current { page },
             entry,
         );
         self.few.put(page, copies - 1);
     }
 
-    /// The slot, which holds no copy, holds one of the page. No other slot of the die holds the page.
+    /// The slot, which holds no copy, holds one of the page. No other slot of the die holds the page. Where the page had at most
+    /// two copies, no other slot's row is read.
     pub fn add_copy(&mut self, page: u32, die: Die, slot: Slot)
         requires page { page < self.old.geometry.pages }
         requires die { die.0 < self.old.geometry.dies }
@@ -366,6 +388,8 @@ impl<A: Allocator> Tables<A> {
     {
         let copies = self.copies_up_to(page, MANY);
         let seam = self.seam(page, die.0);
+        let is_followed = self.next_of(page, seam.next).die.is_some();
+        let old = self.entry(die, slot);
         let index = index_of(self.geometry, die, slot);
         self.slots.set_link(index, seam.next);
         let link = Link {
@@ -379,6 +403,8 @@ impl<A: Allocator> Tables<A> {
             page,
             seam.last,
             link,
+            seam.next,
+            is_followed,
         );
         write_entry(
             self.geometry,
@@ -388,9 +414,23 @@ impl<A: Allocator> Tables<A> {
             &mut self.finder,
             die,
             slot,
+            old,
             Entry::Current { page },
         );
         self.few.put(page, copies + 1);
+    }
+
+    /// The entry of a slot, whose row is not looked at where the set of erased slots has it.
+    fn known_entry(&self, die: Die, slot: Slot) -> Entry
+        requires die { die.0 < self.now.geometry.dies }
+        requires slot { slot.0 < die_slots self.now.geometry }
+        ensures { result ≡ entry_of self.now.slots.entries (die_slots self.now.geometry) die.0 slot.0 }
+    {
+        let index = index_of(self.geometry, die, slot);
+        if self.finder.has_slot(index) {
+            return Entry::Erased;
+        }
+        self.slots.entry(index)
     }
 
     /// The slot has this entry, which holds no copy.
@@ -403,10 +443,10 @@ impl<A: Allocator> Tables<A> {
         ensures entries { self.new.slots.entries
             ≡ slice_set self.old.slots.entries (die.0 * die_slots self.old.geometry + slot.0) entry }
     {
-        let old = self.entry(die, slot);
+        let old = self.known_entry(die, slot);
         match old {
             Entry::Current { page } => self.remove_copy(page, die, slot, entry),
-            _ => self.set_plain(die, slot, entry),
+            _ => self.set_plain(die, slot, old, entry),
         }
     }
 

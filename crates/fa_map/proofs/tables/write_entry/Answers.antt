@@ -1,8 +1,7 @@
-use Rattle.std.proofs.Common.{ℕ, ◌+◌, ◌*◌, ◌/◌, ◌≡◌, ◌<◌, Bool, List, get_or, sym, ap, subst, ◌∙◌, arith, set}
+use Rattle.std.proofs.Common.{ℕ, ◌+◌, ◌*◌, ◌/◌, ◌<◌, Bool, List, get_or, sym, ap, subst, ◌∙◌, arith, set}
 use Rattle.std.proofs.Math.Nat.{mul-le-mul}
 use Rattle.fa_map.specs.Entries.{AreTallied, count_of, is_erased_entry, is_same_state, no_counts, one_if, state_of_entry}
 use Rattle.fa_map.specs.declared.entries.Entry.{Entry}
-use Rattle.fa_map.specs.declared.entries.Entry.TheVariants.{Erased}
 use Rattle.fa_map.specs.declared.slots.SlotState.{SlotState}
 use Rattle.fa_map.specs.declared.slots.SlotState.TheVariants as states
 use Rattle.fa_map.proofs.Tallied.{free_few, free_some, its_block, set_few, tallied_set, tally_few, tally_some}
@@ -19,8 +18,7 @@ pub moved-after-requires-clause-from : goal.moved-after-requires-clause-from
 moved-after-requires-clause-from g c =
     let k = c.args.geometry in
     let s = c.args.slots.now.entries in
-    let old : c.entry-old.result ≡ get_or s (c.args.die.0 * die_slots k + c.args.slot.0) Erased =
-    c.entry-old.ensures ∙ ap (λ (j : ℕ). get_or s j Erased) c.index_of-index.ensures.index in
+    let old = c.requires.old in
     subst (λ (x : SlotState). 0 < count_of x (get_or c.args.counts.now (c.args.die.0 * k.blocks + c.args.slot.0 / k.slots) no_counts))
     (sym (c.state_of.ensures ∙ ap state_of_entry old)) (tally_some k s c.args.counts.now c.args.erased.now c.requires.tallied c.args.die.0 c.args.slot.0 c.requires.die c.requires.slot)
 
@@ -36,8 +34,7 @@ pub shifted-requires-clause-some : goal.shifted-requires-clause-some
 shifted-requires-clause-some g c = λ is.
     let k = c.args.geometry in
     let s = c.args.slots.now.entries in
-    let old : c.entry-old.result ≡ get_or s (c.args.die.0 * die_slots k + c.args.slot.0) Erased =
-    c.entry-old.ensures ∙ ap (λ (j : ℕ). get_or s j Erased) c.index_of-index.ensures.index in
+    let old = c.requires.old in
     free_some k s c.args.counts.now c.args.erased.now c.requires.tallied c.args.die.0 c.args.slot.0 c.requires.die c.requires.slot
     (sym (c.is_erased-from.ensures ∙ ap is_erased_entry old) ∙ is)
 
@@ -60,8 +57,7 @@ pub put_slot-requires-clause-was : goal.put_slot-requires-clause-was
 put_slot-requires-clause-was g c =
     let k = c.args.geometry in
     let s = c.args.slots.now.entries in
-    let old : c.entry-old.result ≡ get_or s (c.args.die.0 * die_slots k + c.args.slot.0) Erased =
-    c.entry-old.ensures ∙ ap (λ (j : ℕ). get_or s j Erased) c.index_of-index.ensures.index in
+    let old = c.requires.old in
     ap (contains_key c.args.finder.now.slots) c.index_of-index.ensures.index
     ∙ (found_parts k s c.args.counts.now c.args.finder.now c.requires.found).2.slots c.args.die.0 c.args.slot.0 c.requires.die c.requires.slot
     ∙ sym (c.is_erased-from.ensures ∙ ap is_erased_entry old)
@@ -80,8 +76,7 @@ pub put_block-requires-clause-few_now : goal.put_block-requires-clause-few_now
 put_block-requires-clause-few_now g c =
     let k = c.args.geometry in
     let s = c.args.slots.now.entries in
-    let old : c.entry-old.result ≡ get_or s (c.args.die.0 * die_slots k + c.args.slot.0) Erased =
-    c.entry-old.ensures ∙ ap (λ (j : ℕ). get_or s j Erased) c.index_of-index.ensures.index in
+    let old = c.requires.old in
     let counts = get_or c.args.counts.now (c.args.die.0 * k.blocks + c.args.slot.0 / k.slots) no_counts in
     set_few k s c.args.counts.now c.args.erased.now c.requires.tallied c.args.die.0 c.args.slot.0 c.requires.die c.requires.slot c.args.entry c.moved-after.result c.shifted.result
     (tallied_set k s c.args.counts.now c.args.erased.now c.requires.tallied c.args.die.0 c.args.slot.0 c.requires.die c.requires.slot c.args.entry c.moved-after.result c.shifted.result
@@ -104,8 +99,7 @@ pub returns-clause-tallied : goal.returns-clause-tallied
 returns-clause-tallied g c =
     let k = c.args.geometry in
     let s = c.args.slots.now.entries in
-    let old : c.entry-old.result ≡ get_or s (c.args.die.0 * die_slots k + c.args.slot.0) Erased =
-    c.entry-old.ensures ∙ ap (λ (j : ℕ). get_or s j Erased) c.index_of-index.ensures.index in
+    let old = c.requires.old in
     let counts = get_or c.args.counts.now (c.args.die.0 * k.blocks + c.args.slot.0 / k.slots) no_counts in
     subst (λ (l : List Entry). AreTallied k l (set c.args.counts.now (c.args.die.0 * k.blocks + c.args.slot.0 / k.slots) c.moved-after.result)
     (set c.args.erased.now c.args.die.0 c.shifted.result))

@@ -1,5 +1,6 @@
 use Rattle.std.proofs.Common.{◌≡◌, ◌+◌, ◌*◌, ◌<◌, Some, List, length, refl, sym, ap, subst, ◌∙◌, arith, set}
-use Rattle.fa_map.specs.Chains.{AreInside, AreSeconds, target}
+use Rattle.std.specs.Prelude.{is_some}
+use Rattle.fa_map.specs.Chains.{AreInside, AreSeconds, IsSecond, behind, entry_of, follower, link_at, second_at, target}
 use Rattle.fa_map.specs.Entries.{AreTallied, with_head, with_link}
 use Rattle.fa_map.specs.Plain.{die_slots}
 use Rattle.fa_map.specs.declared.entries.Entry.TheVariants.{Current}
@@ -9,6 +10,7 @@ use Rattle.fa_map.proofs.Chained.{same_place}
 use Rattle.fa_map.proofs.Few.{few_added, few_bound}
 use Rattle.fa_map.proofs.Found.{found_told}
 use Rattle.fa_map.proofs.Indices.{index_fits}
+use Rattle.fa_map.proofs.Renewed.{IsHolder, follower_above, follower_free, follower_written, leads, second_free}
 use Rattle.fa_map.proofs.Seconds.{inside_set}
 use Rattle.fa_map.proofs.Tabled.{copy_added, seconds_added, tables_told}
 use Rattle.fa_map.proofs.Written.{whole_part}
@@ -35,6 +37,61 @@ relink-requires-clause-inside g c =
     subst (AreInside s.geometry.dies n) (sym (c.set_link.ensures.links ∙ ap (λ k. set s.slots.links k follow) c.index_of-index.ensures.index))
     (inside_set s.geometry.dies n s.slots.links (c.args.die.0 * n + c.args.slot.0) follow (subst (λ k. c.args.die.0 * n + c.args.slot.0 < k) (sym s.sound.linked) fits)
     s.inside (λ d slot e. let old = c.seam-seam.ensures.follows.found d slot e in (old.1, old.2)))
+
+pub next_of-requires-clause-place : goal.next_of-requires-clause-place
+next_of-requires-clause-place g c = λ d slot e. let old = c.seam-seam.ensures.follows.found d slot e in (old.1, old.2)
+
+pub relink-requires-clause-kept : goal.relink-requires-clause-kept
+relink-requires-clause-kept g c =
+    let s = c.args.self.now in
+    let n = die_slots s.geometry in
+    let page = c.args.page in
+    let follow = c.seam-seam.result.next in
+    subst (λ (l : List Link). IsSecond l n (link_at s.pages.heads page) (second_at s.pages.seconds page))
+    (sym (c.set_link.ensures.links ∙ ap (λ k. set s.slots.links k follow) c.index_of-index.ensures.index))
+    (second_free (entry_of s.slots.entries n) n s.geometry.dies s.geometry.pages page c.args.die.0 c.args.slot.0 follow s.slots.links s.pages.heads
+    (second_at s.pages.seconds page) s.sound.chained c.requires.page c.requires.slot (c.requires.once c.args.slot.0 c.requires.slot)
+    (s.seconds.behind page c.requires.page))
+
+pub relink-requires-clause-following : goal.relink-requires-clause-following
+relink-requires-clause-following g c =
+    let s = c.args.self.now in
+    let n = die_slots s.geometry in
+    let die = c.args.die.0 in
+    let slot = c.args.slot.0 in
+    let last = target c.seam-seam.result.last in
+    let follow = c.seam-seam.result.next in
+    let link : Link = record { die = Some die; slot = slot } in
+    let own : List Link = set s.slots.links (die * n + slot) follow in
+    let new : target follow ≡ follower (with_link last n link own) n (target link) =
+    sym (follower_above (entry_of s.slots.entries n) n s.geometry.dies c.args.page die last (target link) link own c.seam-seam.ensures.found
+    (λ d k e. let at = same_place die slot d k e in (omega (arith, at.0), subst (λ m. m < n) at.1 c.requires.slot))
+    ∙ follower_written s.geometry.dies n die slot follow s.slots.links s.sound.linked c.requires.die c.requires.slot) in
+    subst (λ (l : List Link). target follow ≡ follower (with_link last n link l) n (target link))
+    (sym (c.set_link.ensures.links ∙ ap (λ k. set s.slots.links k follow) c.index_of-index.ensures.index)) new
+
+pub relink-requires-clause-followed : goal.relink-requires-clause-followed
+relink-requires-clause-followed g c =
+    let s = c.args.self.now in
+    let n = die_slots s.geometry in
+    let die = c.args.die.0 in
+    let slot = c.args.slot.0 in
+    let page = c.args.page in
+    let last = target c.seam-seam.result.last in
+    let follow = c.seam-seam.result.next in
+    let link : Link = record { die = Some die; slot = slot } in
+    let own : List Link = set s.slots.links (die * n + slot) follow in
+    let st = entry_of s.slots.entries n in
+    let holds : IsHolder st n s.geometry.dies page (behind last) (target follow) = c.seam-seam.ensures.follows.found in
+    let new : c.is_some-is_followed.result ≡ is_some (follower (with_link last n link own) n (target follow)) =
+    c.is_some-is_followed.ensures ∙ leads c.next_of.result.die c.next_of.result.slot
+    ∙ ap is_some (c.next_of.ensures
+    ∙ sym (follower_above st n s.geometry.dies page die last (target follow) link own c.seam-seam.ensures.found
+    (λ d k e. (c.seam-seam.ensures.late d k e, (holds d k e).2))
+    ∙ follower_free st n s.geometry.dies page (behind last) die slot (target follow) follow s.slots.links c.requires.slot
+    (c.requires.once slot c.requires.slot) holds)) in
+    subst (λ (l : List Link). c.is_some-is_followed.result ≡ is_some (follower (with_link last n link l) n (target follow)))
+    (sym (c.set_link.ensures.links ∙ ap (λ k. set s.slots.links k follow) c.index_of-index.ensures.index)) new
 
 pub put-requires : goal.put-requires
 put-requires g c =

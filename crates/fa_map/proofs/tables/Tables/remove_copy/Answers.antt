@@ -1,11 +1,13 @@
 use Rattle.std.proofs.Common.{◌≡◌, ◌+◌, ◌*◌, ◌<◌, length, refl, sym, ap, subst, ◌∙◌, arith, set}
-use Rattle.fa_map.specs.Chains.{AreInside, AreSeconds, target}
+use Rattle.std.specs.Prelude.{is_some}
+use Rattle.fa_map.specs.Chains.{AreInside, AreSeconds, entry_of, link_at, target}
 use Rattle.fa_map.specs.Entries.{AreTallied, with_head, with_link}
 use Rattle.fa_map.specs.Plain.{die_slots}
 use Rattle.fa_map.specs.Few.{IsCounted}
 use Rattle.fa_map.proofs.Few.{few_bound, few_removed, some_copies}
 use Rattle.fa_map.proofs.Found.{found_told}
 use Rattle.fa_map.proofs.Indices.{index_fits}
+use Rattle.fa_map.proofs.Renewed.{IsHolder, follower_above, leads, next_holder}
 use Rattle.fa_map.proofs.Tabled.{copy_removed, seconds_removed, tables_told}
 use Rattle.fa_map.proofs.Written.{whole_part}
 use Rattle.fa_map.proofs.tables.Tables.remove_copy.Goals as goal
@@ -22,6 +24,35 @@ relink-requires-clause-last g c = λ d slot e. let old = c.seam.ensures.found d 
 
 pub relink-requires-clause-link : goal.relink-requires-clause-link
 relink-requires-clause-link g c = λ d slot e. let old = (c.next-next.ensures.next c.requires.old).found d slot e in (old.1, old.2)
+
+pub next_of-following-requires-clause-place : goal.next_of-following-requires-clause-place
+next_of-following-requires-clause-place g c = λ d slot e. let old = (c.next-next.ensures.next c.requires.old).found d slot e in (old.1, old.2)
+
+pub relink-requires-clause-following : goal.relink-requires-clause-following
+relink-requires-clause-following g c =
+    let s = c.args.self.now in
+    let n = die_slots s.geometry in
+    let next = c.next-next.result in
+    c.next_of-following.ensures
+    ∙ sym (follower_above (entry_of s.slots.entries n) n s.geometry.dies c.args.page c.args.die.0 (target c.seam.result.last) (target next) next s.slots.links
+    c.seam.ensures.found (λ d slot e. let old = (c.next-next.ensures.next c.requires.old).found d slot e in (omega (arith, old.0), old.2)))
+
+pub relink-requires-clause-followed : goal.relink-requires-clause-followed
+relink-requires-clause-followed g c =
+    let s = c.args.self.now in
+    let n = die_slots s.geometry in
+    let die = c.args.die.0 in
+    let next = c.next-next.result in
+    let following = c.next_of-following.result in
+    let st = entry_of s.slots.entries n in
+    let above : IsHolder st n s.geometry.dies c.args.page (die + 1) (target following) =
+    subst (IsHolder st n s.geometry.dies c.args.page (die + 1)) (sym c.next_of-following.ensures)
+    (next_holder st n s.geometry.dies s.geometry.pages c.args.page (die + 1) (link_at s.pages.heads) s.slots.links (target next) s.sound.chained
+    (c.next-next.ensures.next c.requires.old).found) in
+    c.is_some-is_followed.ensures ∙ leads c.next_of.result.die c.next_of.result.slot
+    ∙ ap is_some (c.next_of.ensures
+    ∙ sym (follower_above st n s.geometry.dies c.args.page die (target c.seam.result.last) (target following) next s.slots.links
+    c.seam.ensures.found (λ d slot e. let old = above d slot e in (omega (arith, old.0), old.2))))
 
 pub overflow_sub-copies : goal.overflow_sub-copies
 overflow_sub-copies g c =
