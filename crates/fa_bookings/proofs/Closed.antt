@@ -22,12 +22,12 @@ late calendar die round booked =
     ]
 
 -- what is left of the bookings where a round has passed, on the first dies, which have them all
-pub remains : {A : Type 0} (b : Bookings A) (dies round : ℕ) (new : Entries) → round ≡ b.calendar.current
+pub remains : {A : Type 0} (b : Bookings A) (dies : ℕ) (new : Entries)
     → ((die r : ℕ) → contains_key (calendar_of b).bookings (die, r) ≡ true → die < dies)
-    → ((d r : ℕ) → booking_at new d r ≡ (if r == round && nat_lt d dies then None else booking_at b.booked.entries d r))
+    → ((d r : ℕ) → booking_at new d r ≡ (if r == b.calendar.current && nat_lt d dies then None else booking_at b.booked.entries d r))
     → (d r : ℕ) → booking_at new d r ≡ (if nat_lt b.calendar.current r then booking_at b.booked.entries d r else None)
-remains b dies round new now few forgotten d r =
+remains b dies new few forgotten d r =
     let old = b.booked.entries in
-    forgotten d r ∙ ap (λ n. if r == n && nat_lt d dies then None else booking_at old d r) now
+    forgotten d r
     ∙ advanced b.calendar.current dies d r (booking_at old d r) (λ some. late b.calendar d r (b.agree d r ∙ some))
     (λ some. few d r (ap is_some (get_booked old d r) ∙ some))

@@ -14,7 +14,7 @@ ghost use Rattle.fa_types.specs.Open.{FewClosed, IsOpen};
 ghost use Rattle.fa_types.specs.Windows.{IsFirstWindow, IsFull};
 
 use crate::places::{book_all, take_out_all};
-use crate::table::{BookedRounds, forget_die, forget_round, put, take_out};
+use crate::table::{BookedRounds, forget_current, forget_die, put, take_out};
 use fa_batch::{Closed, Place};
 use fa_calendar::{Calendar, CalendarRefused};
 use fa_machine::{BatchId, Booking};
@@ -191,8 +191,9 @@ impl<A: Allocator + Clone> Bookings<A> {
         forget_die(&mut self.booked, die.0);
     }
 
-    /// The next round is the current one. The bookings of the one that has passed go, and the windows that ended in it. It takes
-    /// a look at each of these dies, which are all that have bookings.
+    /// The next round is the current one. The bookings of the one that has passed go, and the windows that ended in it. It asks
+    /// the calendar whether the round is booked on each of these dies, which are all that have bookings, and looks into the table
+    /// for those where it is. The calendar's own steps are those of `Calendar::advance`.
     pub fn advance(&mut self, dies: u32)
         requires few { (die round : ℕ) → contains_key (calendar_of self.old).bookings (die, round) ≡ true → die < dies }
         requires some { dies ≤ 256 }
@@ -203,9 +204,8 @@ impl<A: Allocator + Clone> Bookings<A> {
           windows = keep (λ die window. nat_lt (calendar_of self.old).round window.last.0) (calendar_of self.old).windows;
         } }
     {
-        let now = self.calendar.now().0;
+        forget_current(&self.calendar, &mut self.booked, dies);
         self.calendar.advance();
-        forget_round(&mut self.booked, now, dies);
     }
 }
 

@@ -1,9 +1,12 @@
 //! What each booked round is for, in a table.
 ghost use Rattle.std.specs.Prelude.{◌≡◌, ℕ, ◌+◌, ◌<◌, ◌≤◌, ◌==◌, ◌&&◌, not, nat_lt, if◌then◌else◌, false, is_some, None, Some};
 ghost use Rattle.std.specs.HashMap.{spare};
-ghost use Rattle.fa_bookings.specs.Booked.{booking_at};
+ghost use Rattle.fa_bookings.specs.Booked.{booking_at, AreBooked};
+ghost use Rattle.fa_calendar.specs.Calendar.{current_of, is_booked};
 
+use fa_calendar::Calendar;
 use fa_machine::Booking;
+use fa_types::{Die, Rounds};
 use std::alloc::Allocator;
 use std::collections::HashMap;
 use std::hash::{BuildHasherDefault, FoldHasher};
@@ -50,13 +53,22 @@ pub fn forget_die<A: Allocator + Clone>(booked: &mut BookedRounds<A>, die: u8)
     );
 }
 
-/// The bookings of a round go, which are of these dies.
-pub fn forget_round<A: Allocator + Clone>(booked: &mut BookedRounds<A>, round: u64, dies: u32)
-    requires { dies ≤ 256 }
+/// The bookings of a calendar's current round go, which are of these dies. It asks the calendar for each of them, and looks
+/// into the table only for those where the round is booked.
+pub fn forget_current<A: Allocator + Clone>(
+    calendar: &Calendar<A>,
+    booked: &mut BookedRounds<A>,
+    dies: u32,
+)
+    requires few { dies ≤ 256 }
+    requires agree { AreBooked (is_booked calendar.now) booked.old.entries }
     ensures { (d r : ℕ) → booking_at booked.new.entries d r
-        ≡ (if r == round && nat_lt d dies then None else booking_at booked.old.entries d r) }
+        ≡ (if r == current_of calendar.now && nat_lt d dies then None else booking_at booked.old.entries d r) }
 {
+    let now = calendar.now();
     for die in 0..dies {
-        take_out(booked, die as u8, round);
+        if calendar.is_booked(Die(die as u8), now) {
+            take_out(booked, die as u8, now.0);
+        }
     }
 }

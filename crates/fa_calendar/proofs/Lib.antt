@@ -6,3 +6,4 @@ pub mod Places
 pub mod Refusals
 pub mod Sound
 pub mod Totals
+pub mod Unused

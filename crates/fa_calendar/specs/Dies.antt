@@ -54,6 +54,11 @@ pub record KeepsDies (old new : List DieState) : Type 0 where
   pub rooms : (die : ℕ) → room_by old die ≤ room_by new die
   pub roomy : AllHaveRoom new
 
+-- Nothing is closed on the dies from this number on, and they have no window.
+pub record AreUnused (from : ℕ) (dies : List DieState) : Type 0 where
+  pub closed : (die round : ℕ) → from ≤ die → closed_by dies die round ≡ false
+  pub windows : (die : ℕ) → from ≤ die → window_by dies die ≡ None
+
 -- What holds of the dies of each calendar: nothing is closed before the current round, and from it on the windows are.
 pub record IsCalendar (current : ℕ) (dies : List DieState) : Type 0 where
   pub long : length dies ≡ 256

@@ -3,12 +3,14 @@ ghost use Rattle.std.specs.Prelude.{◌≡◌, ℕ, ◌+◌, ◌-◌, ◌^◌, �
 ghost use Rattle.std.specs.List.{AllByRecursion};
 ghost use Rattle.fa_types.specs.Open.{rounds_that, max_closed, FewClosed, IsOpen};
 ghost use Rattle.fa_batch.specs.Plan.{AreApart};
-ghost use Rattle.fa_calendar.specs.Dies.{IsCalendar, is_at};
+ghost use Rattle.fa_calendar.specs.Dies.{AreUnused, IsCalendar, is_at};
 ghost use Rattle.fa_types.specs.Windows.{AreEntries, IsFirstWindow, IsFull};
 ghost use Rattle.fa_calendar.specs.Windows.{left_window};
 
 use crate::die::DieCalendar;
-use crate::dies::{book_all, open_all, open_dies, open_one, pass_all, restore_all, spans_without};
+use crate::dies::{
+    book_all, end_of, open_all, open_dies, open_one, pass_all, restore_all, spans_without,
+};
 use crate::refused::CalendarRefused;
 use fa_batch::{Closed, Place};
 use fa_types::{Die, Round, Rounds, Window};
@@ -21,7 +23,11 @@ pub struct Calendar<A: Allocator = Global> {
     current: u64,
     // The calendar of each die, by its number.
     dies: Vec<DieCalendar<A>, A>,
+    // No die from this number on has a closed round or a window.
+    used: usize,
     ghost sound: { IsCalendar current dies.items },
+    ghost most: { used ≤ 256 },
+    ghost unused: { AreUnused used dies.items },
 }
 
 impl<A: Allocator + Copy> Calendar<A> {
@@ -37,6 +43,7 @@ impl<A: Allocator + Copy> Calendar<A> {
         Ok(Calendar {
             current: round.0,
             dies,
+            used: 0,
         })
     }
 }
@@ -58,6 +65,7 @@ impl<A: Allocator> Calendar<A> {
             → (die : ℕ) × IsFull (current_of self.old) (is_closed_with self.old old.now new.now die) 0 }
         ensures err { OnErr result (IsUnchanged self.old self.new) }
     {
+        self.used = self.used.max(end_of(new));
         open_all(&mut self.dies, old);
         if let Err(refused) = book_all(&mut self.dies, new) {
             restore_all(&mut self.dies, old);
@@ -114,6 +122,7 @@ impl<A: Allocator> Calendar<A> {
             → (n : ℕ) → rounds_that (is_closed self.old die.0) (current_of self.old) n + rounds ≤ max_closed }
         ensures err { OnErr result (IsUnchanged self.old self.new) }
     {
+        self.used = self.used.max(die.0 as usize + 1);
         match self.dies[die.0 as usize].reserve_window(self.current, rounds) {
             Ok(first) => Ok(Round(first)),
             Err(refused) => Err(refused),
@@ -145,14 +154,15 @@ impl<A: Allocator> Calendar<A> {
     }
 
     /// Goes on to the next round. What was booked in the round that has passed is forgotten, and each
-    /// window that ended in it. It takes no memory, and the same few steps for each die.
+    /// window that ended in it. It takes no memory, and the same few steps for each die up to the last one
+    /// for which a booking or a window was asked at some time.
     pub fn advance(&mut self)
         requires { current_of self.old + 1 < 2 ^ 64 }
         ensures current { current_of self.new ≡ current_of self.old + 1 }
         ensures booked { (d r : ℕ) → is_booked self.new d r ≡ (nat_lt (current_of self.old) r && is_booked self.old d r) }
         ensures windows { (d : ℕ) → window_of self.new d ≡ left_window (current_of self.old) (window_of self.old d) }
     {
-        pass_all(&mut self.dies, self.current);
+        pass_all(&mut self.dies, self.current, self.used);
         self.current += 1;
     }
 }

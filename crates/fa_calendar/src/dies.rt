@@ -4,7 +4,7 @@ ghost use Rattle.std.specs.List.{AllByRecursion};
 ghost use Rattle.fa_types.specs.Open.{rounds_that, max_closed};
 ghost use Rattle.fa_batch.specs.Plan.{AreApart};
 ghost use Rattle.fa_batch.specs.Runs.{closed_by as spans_close};
-ghost use Rattle.fa_calendar.specs.Dies.{closed_by, room_by, window_by, is_at, is_one, AllHaveRoom, HasRoomFor, KeepsDies};
+ghost use Rattle.fa_calendar.specs.Dies.{closed_by, room_by, window_by, is_at, is_one, AllHaveRoom, AreUnused, HasRoomFor, KeepsDies};
 ghost use Rattle.fa_calendar.specs.Windows.{left_window};
 
 use crate::die::DieCalendar;
@@ -118,18 +118,32 @@ pub fn book_all<A: Allocator>(
     Ok(())
 }
 
+/// The least number above those of the dies of these places.
+pub fn end_of(places: &[Place]) -> usize
+    ensures most { result ≤ 256 }
+    ensures above { (die round : ℕ) → result ≤ die → is_at places.now die round ≡ false }
+{
+    let mut end = 0;
+    for place in places {
+        end = end.max(place.die.0 as usize + 1);
+    }
+    end
+}
+
 /// Forgets a round of each die, before which none is closed, and each window that ended in it. It takes
-/// the same few steps for each die.
-pub fn pass_all<A: Allocator>(dies: &mut Vec<DieCalendar<A>, A>, round: u64)
+/// the same few steps for each die below a bound, from which on nothing is closed and there is no window.
+pub fn pass_all<A: Allocator>(dies: &mut Vec<DieCalendar<A>, A>, round: u64, bound: usize)
     requires long { length dies.old.items ≡ 256 }
     requires roomy { AllHaveRoom dies.old.items }
     requires past { (die r : ℕ) → r < round → closed_by dies.old.items die r ≡ false }
+    requires within { bound ≤ 256 }
+    requires unused { AreUnused bound dies.old.items }
     ensures long { length dies.new.items ≡ 256 }
     ensures roomy { AllHaveRoom dies.new.items }
     ensures opened { (die r : ℕ) → closed_by dies.new.items die r ≡ (closed_by dies.old.items die r && not (r == round)) }
     ensures windows { (die : ℕ) → window_by dies.new.items die ≡ left_window round (window_by dies.old.items die) }
 {
-    for index in 0..dies.len() {
+    for index in 0..bound {
         dies[index].pass(round);
     }
 }

@@ -15,7 +15,7 @@ loop-index-preserved g c =
     let s : DieState = c.index_mut.result.now in
     let size = c.loop-index.dies.ok in
     let long = c.loop-index.invariant.long in
-    let within : i < length c.loop-index.dies.items = omega (arith, size.0, long, c.loop-index-test.true, c.len-index-end.ensures, c.args.dies.now.ok.0, c.requires.long) in
+    let within : i < length c.loop-index.dies.items = omega (arith, size.0, long, c.loop-index-test.true, c.requires.within) in
     let was : state_of c.args.dies.now.items i ≡ s =
     sym (c.loop-index.invariant.same i (omega arith)) ∙ get_or_default c.loop-index.dies.items i no_rounds s within ∙ sym c.index_mut.ensures.value in
     let new : state_of (set c.loop-index.dies.items i v) i ≡ v = get_or-set_same c.loop-index.dies.items i v no_rounds within in

@@ -2,6 +2,7 @@ use Rattle.std.proofs.Common.{ℕ, ◌≡◌, ◌&&◌, ◌||◌, not, refl, ap,
 use Rattle.fa_calendar.specs.Dies.{closed_by, is_at, KeepsDies}
 use Rattle.fa_calendar.proofs.Places.{keeps_trans}
 use Rattle.fa_calendar.proofs.Sound.{exchanged_sound, exchanged_booked, exchanged_full, free_once, full_then, restored_closed, restored_room, same_sound, same_booked}
+use Rattle.fa_calendar.proofs.Unused.{unused_exchanged, unused_same}
 use Rattle.fa_calendar.proofs.calendar.Calendar.exchange.Given.{Over}
 use Rattle.fa_calendar.proofs.calendar.Calendar.exchange.Goals as goal
 use Rattle.fa_calendar.proofs.calendar.Calendar.exchange.Goals.{After-restore_all, In_default, In-Err}
@@ -35,7 +36,13 @@ restore_all-requires-clause-room g c =
 pub invariant_of-self : goal.invariant_of-self
 invariant_of-self g c =
     let at = (goal.at.invariant_of-self g c).After-restore_all in
-    record { sound = same_sound c.args.self.now.current c.args.self.now.dies.items c.restore_all.new.dies.items c.args.self.now.sound (keeps_back g at) (back g at) }
+    record {
+      sound = same_sound c.args.self.now.current c.args.self.now.dies.items c.restore_all.new.dies.items c.args.self.now.sound
+          (keeps_back g at) (back g at);
+      most = omega (arith, c.max-self.ensures, c.end_of.ensures.most, c.args.self.now.most);
+      unused = unused_same c.args.self.now.used c.max-self.result c.args.self.now.dies.items c.restore_all.new.dies.items
+          c.args.self.now.unused (omega (arith, c.max-self.ensures)) (keeps_back g at) (back g at);
+    }
 
 pub returns-in-Err-clause-full : goal.returns-in-Err-clause-full
 returns-in-Err-clause-full g c = λ is.
@@ -57,7 +64,14 @@ exchanged g c die round = c.in_default.ensures.ok die round ∙ ap (λ b. b || i
 pub invariant_of-self-in_default : goal.invariant_of-self-in_default
 invariant_of-self-in_default g c =
     let at = (goal.at.invariant_of-self-in_default g c).In_default in
-    record { sound = exchanged_sound c.args.self.now.current c.args.self.now.dies.items c.args.self.now.sound c.args.old.now c.args.new.now c.requires.booked c.requires.opens c.book_all.new.dies.items (keeps_on g at) (exchanged g at) }
+    record {
+      sound = exchanged_sound c.args.self.now.current c.args.self.now.dies.items c.args.self.now.sound c.args.old.now c.args.new.now
+          c.requires.booked c.requires.opens c.book_all.new.dies.items (keeps_on g at) (exchanged g at);
+      most = omega (arith, c.max-self.ensures, c.end_of.ensures.most, c.args.self.now.most);
+      unused = unused_exchanged c.args.self.now.used c.max-self.result c.args.self.now.dies.items c.book_all.new.dies.items
+          c.args.old.now c.args.new.now c.args.self.now.unused (omega (arith, c.max-self.ensures)) (keeps_on g at) (exchanged g at)
+          (λ die round high. c.end_of.ensures.above die round (omega (arith, c.max-self.ensures, high)));
+    }
 
 pub returns-clause-ok : goal.returns-clause-ok
 returns-clause-ok g c =

@@ -1,4 +1,4 @@
-use Rattle.std.proofs.Common.{ℕ, ◌≡◌, ◌≤◌, true, ap}
+use Rattle.std.proofs.Common.{ℕ, ◌≡◌, ◌≤◌, true, ap, arith}
 use Rattle.fa_calendar.specs.Dies.{closed_by, window_by}
 use Rattle.fa_types.specs.Windows.{is_in_window}
 use Rattle.fa_calendar.proofs.Sound.{few_taken}
@@ -15,5 +15,10 @@ invariant_of-result g c =
         past = λ die round early. c.in_ok-dies.ensures.closed die round;
         held = held;
         few = few_taken c.args.round.0 c.in_ok-dies.dies.items c.in_ok-dies.ensures.roomy held;
+      };
+      most = omega arith;
+      unused = record {
+        closed = λ die round high. c.in_ok-dies.ensures.closed die round;
+        windows = λ die high. c.in_ok-dies.ensures.windows die;
       };
     }

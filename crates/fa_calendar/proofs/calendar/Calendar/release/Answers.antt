@@ -1,8 +1,9 @@
-use Rattle.std.proofs.Common.{ℕ, ◌≡◌, ◌&&◌, ◌||◌, not, nat_eq, [], ◌∷◌, sym, ◌∙◌}
+use Rattle.std.proofs.Common.{ℕ, ◌≡◌, ◌&&◌, ◌||◌, not, nat_eq, [], ◌∷◌, refl, sym, ◌∙◌, arith}
 use Rattle.fa_batch.specs.declared.plan.Place.{Place}
 use Rattle.fa_calendar.specs.Dies.{booked_by, closed_by, is_at}
 use Rattle.fa_calendar.proofs.Cases.{one_is}
 use Rattle.fa_calendar.proofs.Sound.{exchanged_sound, exchanged_booked}
+use Rattle.fa_calendar.proofs.Unused.{unused_exchanged}
 use Rattle.fa_calendar.proofs.calendar.Calendar.release.Given.{Over}
 use Rattle.fa_calendar.proofs.calendar.Calendar.release.Goals as goal
 use Rattle.fa_calendar.proofs.calendar.Calendar.release.Goals.{After-open_one}
@@ -19,7 +20,13 @@ pub invariant_of-self : goal.invariant_of-self
 unfolding place
 invariant_of-self g c =
     let at = (goal.at.invariant_of-self g c).After-open_one in
-    record { sound = exchanged_sound c.args.self.now.current c.args.self.now.dies.items c.args.self.now.sound (place g at ∷ []) [] (c.requires, tt) tt c.open_one.new.dies.items c.open_one.ensures.kept (same g at) }
+    record {
+      sound = exchanged_sound c.args.self.now.current c.args.self.now.dies.items c.args.self.now.sound (place g at ∷ []) []
+          (c.requires, tt) tt c.open_one.new.dies.items c.open_one.ensures.kept (same g at);
+      most = c.args.self.now.most;
+      unused = unused_exchanged c.args.self.now.used c.args.self.now.used c.args.self.now.dies.items c.open_one.new.dies.items
+          (place g at ∷ []) [] c.args.self.now.unused (omega arith) c.open_one.ensures.kept (same g at) (λ die round high. refl);
+    }
 
 pub returns-clause-booked : goal.returns-clause-booked
 unfolding place

@@ -1,7 +1,8 @@
-use Rattle.std.proofs.Common.{ℕ, ◌≡◌, ◌&&◌, ◌||◌, not, [], sym, ◌∙◌}
+use Rattle.std.proofs.Common.{ℕ, ◌≡◌, ◌&&◌, ◌||◌, not, [], refl, sym, ◌∙◌, arith}
 use Rattle.fa_calendar.specs.Dies.{booked_by, closed_by, is_at}
 use Rattle.fa_calendar.proofs.Cases.{or_none}
 use Rattle.fa_calendar.proofs.Sound.{exchanged_sound, exchanged_booked}
+use Rattle.fa_calendar.proofs.Unused.{unused_exchanged}
 use Rattle.fa_calendar.proofs.calendar.Calendar.release_all.Given.{Over}
 use Rattle.fa_calendar.proofs.calendar.Calendar.release_all.Goals as goal
 use Rattle.fa_calendar.proofs.calendar.Calendar.release_all.Goals.{After-open_all}
@@ -13,7 +14,13 @@ same g c d r = c.open_all.ensures.opened d r ∙ or_none (closed_by c.args.self.
 pub invariant_of-self : goal.invariant_of-self
 invariant_of-self g c =
     let at = (goal.at.invariant_of-self g c).After-open_all in
-    record { sound = exchanged_sound c.args.self.now.current c.args.self.now.dies.items c.args.self.now.sound c.args.places.now [] c.requires tt c.open_all.new.dies.items c.open_all.ensures.kept (same g at) }
+    record {
+      sound = exchanged_sound c.args.self.now.current c.args.self.now.dies.items c.args.self.now.sound c.args.places.now []
+          c.requires tt c.open_all.new.dies.items c.open_all.ensures.kept (same g at);
+      most = c.args.self.now.most;
+      unused = unused_exchanged c.args.self.now.used c.args.self.now.used c.args.self.now.dies.items c.open_all.new.dies.items
+          c.args.places.now [] c.args.self.now.unused (omega arith) c.open_all.ensures.kept (same g at) (λ die round high. refl);
+    }
 
 pub returns-clause-booked : goal.returns-clause-booked
 returns-clause-booked g c =
