@@ -4,9 +4,9 @@ use Rattle.fa_machine.specs.Maps.{below, insert_all}
 use Rattle.fa_machine.specs.State.{MapState, is_live}
 use Rattle.fa_map.specs.Slots.{IsPageMap}
 use Rattle.std.proofs.Common.{◌≡◌, ℕ, ◌+◌, ◌<◌, ◌≤◌, Bool, true, false, List, [], ◌∷◌, Option, Some, ap, cond}
-use Rattle.std.proofs.Common.{inl, inr, length, refl, sym, map, get_or, ◌∙◌, arith, below_more}
+use Rattle.std.proofs.Common.{inl, inr, length, length-set, refl, sym, map, get_or, set, ◌∙◌, arith, below_more}
 use Rattle.std.proofs.lemmas.Bool.{cases_Bool, cases_lt}
-use Rattle.std.proofs.lemmas.List.{ext_get_or}
+use Rattle.std.proofs.lemmas.List.{ext_get_or, get_or-set_other, get_or-set_same}
 use Rattle.std.proofs.lemmas.List.FromFn.{get_or-map-range_with_len}
 use Rattle.std.proofs.lemmas.List.FromFn.{length-map-range_with_len}
 use Rattle.std.specs.Cmp.{nat_cmp_total}
@@ -41,7 +41,7 @@ module _ (live : ℕ → Bool) (before after : FinMap nat_cmp ℕ) (x n : ℕ) w
   abbrev Kept : FinMap nat_cmp ℕ → ℕ → Type 0
   Kept found end = (die : ℕ) → end ≤ die → get found die ≡ get before die
 
-  pub inserted_more : live n ≡ true → Inserted after n → Kept after n → (found : FinMap nat_cmp ℕ) → found ≡ insert after n x
+  inserted_more : live n ≡ true → Inserted after n → Kept after n → (found : FinMap nat_cmp ℕ) → found ≡ insert after n x
       → Inserted found (n + 1) × Kept found (n + 1)
   inserted_more live_now inserted kept found is =
       let at = λ (die : ℕ). ap (λ (m : FinMap nat_cmp ℕ). get m die) is in (
@@ -50,7 +50,7 @@ module _ (live : ℕ → Bool) (before after : FinMap nat_cmp ℕ) (x n : ℕ) w
         λ die past. at die ∙ get-insert_other after n x die (λ same. omega (arith, past, same)) ∙ kept die (omega (arith, past)),
       )
 
-  pub kept_more : live n ≡ false → Inserted after n → Kept after n → (found : FinMap nat_cmp ℕ) → found ≡ after
+  kept_more : live n ≡ false → Inserted after n → Kept after n → (found : FinMap nat_cmp ℕ) → found ≡ after
       → Inserted found (n + 1) × Kept found (n + 1)
   kept_more out inserted kept found is =
       let at = λ (die : ℕ). ap (λ (m : FinMap nat_cmp ℕ). get m die) is in (
@@ -58,6 +58,11 @@ module _ (live : ℕ → Bool) (before after : FinMap nat_cmp ℕ) (x n : ℕ) w
             (at n ∙ kept n (omega arith) ∙ sym (ap (λ b. cond b (Some x) (get before n)) out)),
         λ die past. at die ∙ kept die (omega (arith, past)),
       )
+
+  pub asked_more : (asks : Bool) → asks ≡ live n → Inserted after n → Kept after n → (found : FinMap nat_cmp ℕ)
+      → found ≡ cond asks (insert after n x) after → Inserted found (n + 1) × Kept found (n + 1)
+  asked_more true is inserted kept found found_is = inserted_more (sym is) inserted kept found found_is
+  asked_more false is inserted kept found found_is = kept_more (sym is) inserted kept found found_is
 
 module _ (m : MapState) (whole : IsPageMap m) where
   not_live : (die : ℕ) → m.geometry.dies ≤ die → is_live m die ≡ false
@@ -93,3 +98,17 @@ module _ (m : MapState) (whole : IsPageMap m) where
         | inl less ↦ inserted die less ∙ there
         | inr past ↦ kept die past ∙ sym (ap value (not_live die past)) ∙ there
       ])
+
+-- one die more has its mark
+pub marked_more : (live : ℕ → Bool) (marks : List Bool) (n : ℕ) (mark : Bool) → length marks ≡ 64 → n < 64 → mark ≡ live n
+    → ((die : ℕ) → die < n → get_or marks die false ≡ live die) → ((die : ℕ) → n ≤ die → get_or marks die false ≡ false)
+    → (length (set marks n mark) ≡ 64) × (((die : ℕ) → die < n + 1 → get_or (set marks n mark) die false ≡ live die)
+    × ((die : ℕ) → n + 1 ≤ die → get_or (set marks n mark) die false ≡ false))
+marked_more live marks n mark long low is marked unmarked = (
+  length-set marks n mark ∙ long,
+  (
+    below_more _ _ (λ die less. get_or-set_other marks n die mark false (λ same. omega (arith, less, same)) ∙ marked die less)
+        (get_or-set_same marks n mark false (omega (arith, low, long)) ∙ is),
+    λ die past. get_or-set_other marks n die mark false (λ same. omega (arith, past, same)) ∙ unmarked die (omega (arith, past)),
+  ),
+)

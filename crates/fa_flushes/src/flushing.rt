@@ -1,6 +1,6 @@
 //! How a flush begins.
-ghost use Rattle.std.specs.Prelude.{◌≡◌, ◌≤◌, ◌^◌, map};
-ghost use Rattle.std.specs.FinMap.{keys};
+ghost use Rattle.std.specs.Prelude.{◌≡◌, ◌<◌, ◌≤◌, ◌^◌, if◌then◌else◌, map};
+ghost use Rattle.std.specs.FinMap.{insert, keys};
 ghost use Rattle.fa_machine.specs.Flushing.{BeginsFlush};
 ghost use Rattle.fa_machine.specs.Maps.{below, insert_all};
 ghost use Rattle.fa_machine.specs.State.{is_live};
@@ -30,33 +30,44 @@ pub fn flush_begin<M: Map, A: Allocator + Clone>(
         return Err(FlushRefused::Spent);
     }
     let number = state.flushes + 1;
-    ask_live_dies(&state.page_map, &mut state.asked, number);
+    let live = ask_live_dies(&state.page_map, &mut state.asked, number);
     state.flushes = number;
-    let live = live_dies(&state.page_map);
     Ok(Flush { number, live })
 }
 
-/// Which dies are live.
-fn live_dies<M: Map>(page_map: &M) -> [bool; 64]
-    ensures { result ≡ map (is_live (M.view page_map.now)) (below 64) }
+/// This flush is the last that asked each live die for a sync. Which dies these are.
+fn ask_live_dies<M: Map, A: Allocator>(
+    page_map: &M,
+    asked: &mut ByDie<u64, A>,
+    number: u64,
+) -> [bool; 64]
+    requires { bound_of asked.old ≡ (M.view page_map.now).geometry.dies }
+    ensures bound { bound_of asked.new ≡ bound_of asked.old }
+    ensures asked { by_die asked.new ≡ insert_all (keys (M.view page_map.now).live) number (by_die asked.old) }
+    ensures live { result ≡ map (is_live (M.view page_map.now)) (below 64) }
 {
     let mut live = [false; 64];
     for die in 0..page_map.geometry().dies {
-        live[die as usize] = page_map.is_live(Die(die as u8));
+        live[die as usize] = ask_if_live(page_map, asked, Die(die as u8), number);
     }
     live
 }
 
-/// This flush is the last that asked each live die for a sync.
-fn ask_live_dies<M: Map, A: Allocator>(page_map: &M, asked: &mut ByDie<u64, A>, number: u64)
-    requires { bound_of asked.old ≡ (M.view page_map.now).geometry.dies }
+/// This flush is the last that asked the die for a sync, if it is live. Whether it is.
+fn ask_if_live<M: Map, A: Allocator>(
+    page_map: &M,
+    asked: &mut ByDie<u64, A>,
+    die: Die,
+    number: u64,
+) -> bool
+    requires { die.0 < bound_of asked.old }
+    ensures live { result ≡ is_live (M.view page_map.now) die.0 }
     ensures bound { bound_of asked.new ≡ bound_of asked.old }
-    ensures asked { by_die asked.new ≡ insert_all (keys (M.view page_map.now).live) number (by_die asked.old) }
+    ensures asked { by_die asked.new ≡ (if result then insert (by_die asked.old) die.0 number else by_die asked.old) }
 {
-    for die in 0..page_map.geometry().dies {
-        let die = Die(die as u8);
-        if page_map.is_live(die) {
-            asked.insert(die, number);
-        }
+    let is_live = page_map.is_live(die);
+    if is_live {
+        asked.insert(die, number);
     }
+    is_live
 }

@@ -54,7 +54,7 @@ fn has_synced<M: Map, A: Allocator + Clone>(state: &State<M, A>, flush: &Flush, 
     requires { die.0 < 64 }
     ensures { result ≡ rule_synced (core_of M.view state.now) flush.now die.0 }
 {
-    !flush.live[die.0 as usize]
+    flush.number <= state.synced.get(die).unwrap_or(0)
+        || !flush.live[die.0 as usize]
         || !state.page_map.is_live(die)
-        || flush.number <= state.synced.get(die).unwrap_or(0)
 }
