@@ -16,8 +16,8 @@ use fa_workers::bring_in_spare;
 use std::alloc::Allocator;
 use std::sync::ledger::Ledger;
 
-/// Makes a job of each die that has one. Where no die had a job the round passes, if a later one is awaited, for the batch or for a step of a
-/// collector, and if it may. Whether anything was done.
+/// Makes a job of each die that has one, and behind these the round passes, if the batch awaits a later one and if it may. Where no die had a
+/// job it passes too if one is awaited for a step of a collector. Whether anything was done.
 pub(crate) fn work<L: Ledger, M: Map + Drop, I: Image, A: Allocator + Copy>(
     rig: &mut Rig<L, M, I, A>,
     batch: Option<BatchId>,
@@ -25,12 +25,44 @@ pub(crate) fn work<L: Ledger, M: Map + Drop, I: Image, A: Allocator + Copy>(
     ensures { Does I.made IsForDies rig.old rig.new }
 {
     if make_jobs(rig) {
+        pass_for(rig, batch);
         return true;
     }
     if !is_awaited(rig.locked.array(), batch) {
         return false;
     }
     pass_round(rig)
+}
+
+/// The same until the batch, if one is awaited, has all of its answers, or there is nothing to be done. Whether anything was done.
+pub(crate) fn work_for<L: Ledger, M: Map + Drop, I: Image, A: Allocator + Copy>(
+    rig: &mut Rig<L, M, I, A>,
+    batch: Option<BatchId>,
+) -> bool
+    ensures { Does I.made IsForDies rig.old rig.new }
+{
+    if !work(rig, batch) {
+        return false;
+    }
+    for _ in 0..u64::MAX {
+        if !work_again(rig, batch) {
+            return true;
+        }
+    }
+    true
+}
+
+/// The same once, if the batch has not all of its answers.
+fn work_again<L: Ledger, M: Map + Drop, I: Image, A: Allocator + Copy>(
+    rig: &mut Rig<L, M, I, A>,
+    batch: Option<BatchId>,
+) -> bool
+    ensures { Does I.made IsForDies rig.old rig.new }
+{
+    if !is_read(rig.locked.array(), batch) {
+        return false;
+    }
+    work(rig, batch)
 }
 
 /// Whether a later round is awaited: the batch has not all of its answers, or a die that has a window has a block to collect.
@@ -122,6 +154,19 @@ pub(crate) fn bring_in<L: Ledger, M: Map + Drop, I: Image, A: Allocator + Copy>(
     ensures { Does I.made IsForRequests rig.old rig.new }
 {
     bring_in_spare(rig.alloc, &mut rig.locked, &mut rig.seat);
+}
+
+/// Lets the round pass, if the batch has not all of its answers and if it may.
+fn pass_for<L: Ledger, M: Map + Drop, I: Image, A: Allocator + Copy>(
+    rig: &mut Rig<L, M, I, A>,
+    batch: Option<BatchId>,
+)
+    ensures { Does I.made IsForDies rig.old rig.new }
+{
+    if !is_read(rig.locked.array(), batch) {
+        return;
+    }
+    pass_round(rig);
 }
 
 /// Lets the round pass, if it may. Whether it passed.

@@ -16,7 +16,7 @@ ghost use Rattle.fa_types.specs.Store.{Gave, Refused};
 ghost use Rattle.fa_types.specs.declared.blocks.BlockFault.TheVariants.{Lost, NoMemory, NoRoom, Spent};
 
 use crate::collecting::{Windows, give_windows};
-use crate::jobs::{bring_in, work};
+use crate::jobs::{bring_in, work, work_for};
 use crate::rig::Rig;
 use fa_core::Array;
 use fa_image::Image;
@@ -196,7 +196,7 @@ fn work_at_once<L: Ledger, M: Map + Drop, I: Image, A: Allocator + Copy>(
 ) -> bool
     ensures { Does I.made (IsMeanwhile false) rig.old rig.new }
 {
-    let worked = work(rig, batch);
+    let worked = work_for(rig, batch);
     bring_in(rig);
     worked
 }

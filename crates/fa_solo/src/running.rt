@@ -29,7 +29,7 @@ pub(crate) fn run_next<L: Ledger, M: Map + Drop, I: Image, A: Allocator + Copy>(
 ) -> bool
     ensures { Does I.made IsForDies rig.old rig.new }
 {
-    if !is_ready(rig, die) {
+    if !is_of_array(rig, die) {
         return false;
     }
     if !has_memory(rig) {
@@ -39,22 +39,17 @@ pub(crate) fn run_next<L: Ledger, M: Map + Drop, I: Image, A: Allocator + Copy>(
         return false;
     };
     fold_full(rig);
-    run_here(rig, die, place);
-    true
+    run_here(rig, die, place)
 }
 
-/// Whether the die is one of the array and has a job.
-fn is_ready<L: Ledger, M: Map + Drop, I: Image, A: Allocator + Copy>(
+/// Whether the die is one of the array.
+fn is_of_array<L: Ledger, M: Map + Drop, I: Image, A: Allocator + Copy>(
     rig: &Rig<L, M, I, A>,
     die: Die,
 ) -> bool
     ensures { result ≡ true → is_die rig.now.locked.core die.0 ≡ true }
 {
-    let array = rig.locked.array();
-    if !array.is_die(die) {
-        return false;
-    }
-    array.has_job(die)
+    rig.locked.array().is_die(die)
 }
 
 /// Whether there is memory of the right sizes for a job's calls.
@@ -84,12 +79,12 @@ fn fold_full<L: Ledger, M: Map + Drop, I: Image, A: Allocator + Copy>(rig: &mut 
     make_room(rig.alloc, &mut rig.locked, &mut rig.seat);
 }
 
-/// Takes the next job of a die and makes it on the image at this place. The history has room for it.
+/// Takes the next job of a die, if it has one, and makes it on the image at this place. The history has room for it. Whether the die had one.
 fn run_here<L: Ledger, M: Map + Drop, I: Image, A: Allocator + Copy>(
     rig: &mut Rig<L, M, I, A>,
     die: Die,
     place: usize,
-)
+) -> bool
     requires die { is_die rig.old.locked.core die.0 ≡ true }
     requires room { history_full rig.old.locked.core ≡ false }
     requires placed { IsPlaced I.view rig.old die.0 place }
@@ -98,8 +93,11 @@ fn run_here<L: Ledger, M: Map + Drop, I: Image, A: Allocator + Copy>(
 {
     the_geometry_is_kept();
     match take(rig.alloc, &mut rig.locked, &mut rig.seat, die) {
-        Some(job) => run_taken(rig, die, place, &job),
-        None => {}
+        Some(job) => {
+            run_taken(rig, die, place, &job);
+            true
+        }
+        None => false,
     }
 }
 

@@ -3,4 +3,4 @@ use Rattle.fa_solo.specs.Deeds.{IsForDies, IsForRequests}
 use Rattle.fa_solo.proofs.requests.work_at_once.Goals as goal
 
 pub returns : goal.returns
-returns g c = does_more _ IsForRequests _ _ _ (does_wider _ IsForDies IsForRequests for_requests _ _ c.work-worked.ensures) c.bring_in.ensures
+returns g c = does_more _ IsForRequests _ _ _ (does_wider _ IsForDies IsForRequests for_requests _ _ c.work_for-worked.ensures) c.bring_in.ensures

@@ -2,8 +2,8 @@ use Rattle.fa_solo.proofs.Chains.{does_more, does_none}
 use Rattle.fa_solo.specs.Deeds.{IsForDies}
 use Rattle.fa_solo.proofs.running.run_next.Goals as goal
 
-pub returns-then-not-is_ready : goal.returns-then-not-is_ready
-returns-then-not-is_ready g c = does_none _ IsForDies _
+pub returns-then-not-is_of_array : goal.returns-then-not-is_of_array
+returns-then-not-is_of_array g c = does_none _ IsForDies _
 
 pub returns-then-not-has_memory : goal.returns-then-not-has_memory
 returns-then-not-has_memory g c = does_none _ IsForDies _
