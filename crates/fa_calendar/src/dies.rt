@@ -118,7 +118,7 @@ pub fn book_all<A: Allocator>(
     Ok(())
 }
 
-/// The least number above those of the dies of these places.
+/// A number above those of the dies of these places.
 pub fn end_of(places: &[Place]) -> usize
     ensures most { result ≤ 256 }
     ensures above { (die round : ℕ) → result ≤ die → is_at places.now die round ≡ false }
