@@ -1,6 +1,5 @@
 //! Arrays, one after the other, each formatted, and then mounted, used and closed some times.
 ghost use Rattle.fa_core.specs.Array.{IsWhole};
-ghost use Rattle.fa_map.specs.PageView.{page_view};
 
 use crate::calls::{Call, Kind};
 use crate::desk::Desk;
@@ -14,6 +13,7 @@ use crate::shape::{Shape, draw_shape, redraw_copies};
 use crate::store::Way;
 use crate::turn::{look_at_all, turn};
 use crate::view::{HeldParts, die_of};
+use fa_map::Map;
 use fa_solo::Parts;
 use fa_types::{Copies, Geometry};
 
@@ -100,13 +100,28 @@ fn live_on<'a>(heap: &'a Heap, images: Images<'a>, desk: &mut Desk, life: Life) 
         let Some(mounted) = mount_again(heap, &mut images, life.copies, desk) else {
             return;
         };
-        let parts = Parts { mounted, images };
-        let mut parts = live(heap, parts, desk, life);
-        if !close(&mut parts, desk) {
+        let Some(left) = live_and_close(heap, Parts { mounted, images }, desk, life) else {
             return;
-        }
-        images = parts.images;
+        };
+        images = left;
         life = next_life(desk, life);
+    }
+}
+
+/// A life of an array that is closed behind it, and the images then. None where it is not closed.
+fn live_and_close<'a, M: Map + Drop>(
+    heap: &'a Heap,
+    parts: HeldParts<'a, M>,
+    desk: &mut Desk,
+    life: Life,
+) -> Option<Images<'a>>
+    requires { IsWhole M.view parts.mounted.array }
+{
+    let mut parts = live(heap, parts, desk, life);
+    if close(&mut parts, desk) {
+        Some(parts.images)
+    } else {
+        None
     }
 }
 
@@ -120,9 +135,14 @@ fn next_life(desk: &mut Desk, life: Life) -> Life {
 }
 
 /// A life of an array, from where it was mounted to where all pages were looked at. No image is armed then.
-fn live<'a>(heap: &'a Heap, parts: HeldParts<'a>, desk: &mut Desk, life: Life) -> HeldParts<'a>
-    requires { IsWhole page_view parts.mounted.array }
-    ensures { IsWhole page_view result.mounted.array }
+fn live<'a, M: Map + Drop>(
+    heap: &'a Heap,
+    parts: HeldParts<'a, M>,
+    desk: &mut Desk,
+    life: Life,
+) -> HeldParts<'a, M>
+    requires { IsWhole M.view parts.mounted.array }
+    ensures { IsWhole M.view result.mounted.array }
 {
     let turns = desk.random.below(MOST_TURNS);
     let parts = look_at_all(heap, parts, desk);
@@ -134,15 +154,15 @@ fn live<'a>(heap: &'a Heap, parts: HeldParts<'a>, desk: &mut Desk, life: Life) -
 }
 
 /// Some turns.
-fn make_turns<'a>(
+fn make_turns<'a, M: Map + Drop>(
     heap: &'a Heap,
-    parts: HeldParts<'a>,
+    parts: HeldParts<'a, M>,
     desk: &mut Desk,
     life: Life,
     turns: u64,
-) -> HeldParts<'a>
-    requires { IsWhole page_view parts.mounted.array }
-    ensures { IsWhole page_view result.mounted.array }
+) -> HeldParts<'a, M>
+    requires { IsWhole M.view parts.mounted.array }
+    ensures { IsWhole M.view result.mounted.array }
 {
     let mut parts = parts;
     'turns: for _ in 0..turns {
@@ -171,9 +191,9 @@ fn disarm(images: &mut Images<'_>) {
 }
 
 /// Arms an image now and then.
-fn arm_one(parts: &mut HeldParts<'_>, desk: &mut Desk, life: Life)
-    requires { IsWhole page_view parts.old.mounted.array }
-    ensures { IsWhole page_view parts.new.mounted.array }
+fn arm_one<M: Map + Drop>(parts: &mut HeldParts<'_, M>, desk: &mut Desk, life: Life)
+    requires { IsWhole M.view parts.old.mounted.array }
+    ensures { IsWhole M.view parts.new.mounted.array }
 {
     if !desk.random.one_in(life.armed_every) {
         return;

@@ -10,12 +10,13 @@ use crate::seen::Seen;
 use crate::view::{HeldOver, HeldParts, View, lost_outside};
 use fa_headers::MountFault;
 use fa_image::Image;
+use fa_map::{Map, PageMap};
 use fa_mount::{CloseFault, close_clean, mount};
 use fa_types::Copies;
 
 /// Closes an array, and judges the answer. Whether it was closed.
-pub(crate) fn close(parts: &mut HeldParts<'_>, desk: &mut Desk) -> bool
-    requires { IsWhole page_view parts.old.mounted.array }
+pub(crate) fn close<M: Map + Drop>(parts: &mut HeldParts<'_, M>, desk: &mut Desk) -> bool
+    requires { IsWhole M.view parts.old.mounted.array }
 {
     let before = View::of(parts);
     let closed = close_over(&parts.mounted, parts.images.as_mut_slice());
@@ -57,8 +58,11 @@ fn judge_close(desk: &mut Desk, closed: Result<u64, CloseFault>, left: u64, lost
 }
 
 /// Closes an array over its images.
-fn close_over(mounted: &HeldOver<'_>, images: &mut [DieImage]) -> Result<u64, CloseFault>
-    requires { IsWhole page_view mounted.now.array }
+fn close_over<M: Map + Drop>(
+    mounted: &HeldOver<'_, M>,
+    images: &mut [DieImage],
+) -> Result<u64, CloseFault>
+    requires { IsWhole M.view mounted.now.array }
 {
     if mounted.has_images(images.len()) {
         close_clean(mounted, images)
@@ -74,7 +78,7 @@ pub(crate) fn mount_again<'a>(
     images: &mut Images<'a>,
     copies: Copies,
     desk: &mut Desk,
-) -> Option<HeldOver<'a>>
+) -> Option<HeldOver<'a, PageMap<&'a Heap>>>
     ensures { IfSome result (λ mounted. IsWhole page_view mounted.array) }
 {
     let before = all_faults(images.as_slice());

@@ -15,6 +15,7 @@ use crate::judge::PAGE_BYTES;
 use crate::store::Way;
 use crate::turn::{look_at_all, turn};
 use crate::view::{HeldOver, HeldParts, View, bit, bits, count_thin, lost_mask, room_of, slot_on};
+use fa_map::{Map, PageMap};
 use fa_solo::Parts;
 use fa_types::{Copies, Die, Geometry, Page};
 
@@ -146,10 +147,7 @@ fn play_on<'a>(
     let Some(mounted) = mount_at(heap, &mut images, desk, trial, copies, FIRST_MOUNT) else {
         return false;
     };
-    let parts = Parts { mounted, images };
-    let mut parts = use_all(heap, parts, desk, trial, copies);
-    let is_closed = close(&mut parts, desk);
-    let images = images_of(parts);
+    let (images, is_closed) = use_and_close(heap, Parts { mounted, images }, desk, trial, copies);
     let images = if is_closed {
         mount_last(heap, images, desk, trial, copies)
     } else {
@@ -159,10 +157,20 @@ fn play_on<'a>(
     went_wrong(images.as_slice(), trial)
 }
 
-/// The images alone. The heap has the array's memory again.
-fn images_of<'a>(parts: HeldParts<'a>) -> Images<'a> {
+/// The calls of the script, and the images once the array is closed, or is not. The heap has the array's memory again then.
+fn use_and_close<'a, M: Map + Drop>(
+    heap: &'a Heap,
+    parts: HeldParts<'a, M>,
+    desk: &mut Desk,
+    trial: Trial,
+    copies: Copies,
+) -> (Images<'a>, bool)
+    requires { IsWhole M.view parts.mounted.array }
+{
+    let mut parts = use_all(heap, parts, desk, trial, copies);
+    let is_closed = close(&mut parts, desk);
     let Parts { images, .. } = parts;
-    images
+    (images, is_closed)
 }
 
 /// No slot is programmed that was not erased.
@@ -187,7 +195,7 @@ fn mount_at<'a>(
     trial: Trial,
     copies: Copies,
     step: usize,
-) -> Option<HeldOver<'a>>
+) -> Option<HeldOver<'a, PageMap<&'a Heap>>>
     ensures { IfSome result (λ mounted. IsWhole page_view mounted.array) }
 {
     if let Some(mounted) = mount_again(heap, images, copies, desk) {
@@ -204,9 +212,9 @@ fn mount_at<'a>(
 }
 
 /// The second fuse of the die that is lost is set, before the step at which it is.
-fn armed_for<'a>(parts: HeldParts<'a>, step: usize) -> HeldParts<'a>
-    requires { IsWhole page_view parts.mounted.array }
-    ensures { IsWhole page_view result.mounted.array }
+fn armed_for<'a, M: Map + Drop>(parts: HeldParts<'a, M>, step: usize) -> HeldParts<'a, M>
+    requires { IsWhole M.view parts.mounted.array }
+    ensures { IsWhole M.view result.mounted.array }
 {
     if step != CALLS_BEFORE + 1 {
         return parts;
@@ -220,15 +228,15 @@ fn armed_for<'a>(parts: HeldParts<'a>, step: usize) -> HeldParts<'a>
 }
 
 /// The calls of the script, and the loss of a die between them.
-fn use_all<'a>(
+fn use_all<'a, M: Map + Drop>(
     heap: &'a Heap,
-    parts: HeldParts<'a>,
+    parts: HeldParts<'a, M>,
     desk: &mut Desk,
     trial: Trial,
     copies: Copies,
-) -> HeldParts<'a>
-    requires { IsWhole page_view parts.mounted.array }
-    ensures { IsWhole page_view result.mounted.array }
+) -> HeldParts<'a, M>
+    requires { IsWhole M.view parts.mounted.array }
+    ensures { IsWhole M.view result.mounted.array }
 {
     let mut parts = parts;
     for step in 1..CALLS + 1 {
@@ -242,16 +250,16 @@ fn use_all<'a>(
 }
 
 /// The call of a step, which is made again where memory was refused.
-fn use_once<'a>(
+fn use_once<'a, M: Map + Drop>(
     heap: &'a Heap,
-    parts: HeldParts<'a>,
+    parts: HeldParts<'a, M>,
     desk: &mut Desk,
     trial: Trial,
     copies: Copies,
     step: usize,
-) -> HeldParts<'a>
-    requires { IsWhole page_view parts.mounted.array }
-    ensures { IsWhole page_view result.mounted.array }
+) -> HeldParts<'a, M>
+    requires { IsWhole M.view parts.mounted.array }
+    ensures { IsWhole M.view result.mounted.array }
 {
     desk.agenda.clear();
     desk.put_first(call_of(step));
@@ -268,7 +276,12 @@ fn use_once<'a>(
 }
 
 /// Where nothing fails: what the collector did, and that nothing is lost or thin once a die is out.
-fn judge_step(parts: &HeldParts<'_>, desk: &mut Desk, copies: Copies, step: usize) {
+fn judge_step<M: Map + Drop>(
+    parts: &HeldParts<'_, M>,
+    desk: &mut Desk,
+    copies: Copies,
+    step: usize,
+) {
     let view = View::of(parts);
     let array = &parts.mounted.array;
     let live = if step > CALLS_BEFORE {
@@ -311,13 +324,31 @@ fn mount_last<'a>(
     let Some(mounted) = mount_at(heap, &mut images, desk, trial, copies, SECOND_MOUNT) else {
         return images;
     };
-    judge_last(&mounted, desk, trial, copies);
-    let parts = look_at_all(heap, Parts { mounted, images }, desk);
+    look_last(heap, Parts { mounted, images }, desk, trial, copies)
+}
+
+/// Looks at the array at the end, and at all pages, and gives the images back.
+fn look_last<'a, M: Map + Drop>(
+    heap: &'a Heap,
+    parts: HeldParts<'a, M>,
+    desk: &mut Desk,
+    trial: Trial,
+    copies: Copies,
+) -> Images<'a>
+    requires { IsWhole M.view parts.mounted.array }
+{
+    judge_last(&parts.mounted, desk, trial, copies);
+    let parts = look_at_all(heap, parts, desk);
     parts.images
 }
 
 /// Which pages are lost in the end; where no image fails none is, and where nothing goes wrong none is thin.
-fn judge_last(mounted: &HeldOver<'_>, desk: &mut Desk, trial: Trial, copies: Copies) {
+fn judge_last<M: Map + Drop>(
+    mounted: &HeldOver<'_, M>,
+    desk: &mut Desk,
+    trial: Trial,
+    copies: Copies,
+) {
     desk.lost = lost_mask(&mounted.array);
     if trial.is_none() && count_thin(&mounted.array, copies) != 0 {
         desk.differ("a page is thin in the end", 0, desk.lost);

@@ -1,7 +1,6 @@
 //! Calls that are made of a store of one thread.
 ghost use Rattle.std.specs.Prelude.{◌≡◌};
 ghost use Rattle.fa_core.specs.Array.{IsWhole};
-ghost use Rattle.fa_map.specs.PageView.{page_view};
 
 use crate::ballast::{Ballast, starve};
 use crate::calls::{Call, Kind, make, read};
@@ -10,14 +9,12 @@ use crate::heap::Heap;
 use crate::images::DieImage;
 use crate::judge::{PAGE_BYTES, Prefix, accept, compare, pages_met};
 use crate::seen::Seen;
-use crate::view::{HeldParts, bit};
-use fa_map::PageMap;
-use fa_solo::Solo;
+use crate::view::bit;
+use fa_map::Map;
+use fa_solo::{Parts, Solo};
 use fa_types::{BlockFault, Blocks};
+use std::alloc::Allocator;
 use std::sync::ledger::{Blank, Ledger};
-
-/// The store of one thread over an array here.
-pub(crate) type Store<'a, L> = Solo<L, PageMap<&'a Heap>, DieImage, &'a Heap>;
 
 /// What is done with a store.
 #[derive(Clone, Copy, Debug, PartialEq, Eq)]
@@ -55,24 +52,25 @@ impl Way {
     }
 }
 
-/// Makes a store of an array and its images, does something with it, and takes both back.
-pub(crate) fn on_store<'a, L: Ledger>(
+/// Makes a store of an array and its images, over the heap by this word, does something with it, and takes both back.
+pub(crate) fn on_store<'a, L: Ledger, M: Map + Drop, A: Allocator + Copy>(
     heap: &'a Heap,
+    alloc: A,
     blank: Blank,
-    parts: HeldParts<'a>,
+    parts: Parts<M, DieImage, A>,
     desk: &mut Desk,
     way: Way,
     job: Job,
-) -> HeldParts<'a>
+) -> Parts<M, DieImage, A>
     requires name { blank.name ≡ L.name }
     requires parts { (blank.parts ≡ L.parts) × (blank.parts ≡ 257) }
-    requires whole { IsWhole page_view parts.mounted.array }
-    ensures { IsWhole page_view result.mounted.array }
+    requires whole { IsWhole M.view parts.mounted.array }
+    ensures { IsWhole M.view result.mounted.array }
 {
     let mut ballast = Ballast::new(desk.alloc);
     begin(&mut ballast, heap, desk, way);
     let before = heap.has_refused();
-    match Solo::<L, PageMap<&'a Heap>, DieImage, &'a Heap>::new(heap, blank, parts, way.rounds) {
+    match Solo::<L, M, DieImage, A>::new(alloc, blank, parts, way.rounds) {
         Ok(solo) => {
             let mut solo = solo;
             fill(&mut ballast, heap, desk, way);
@@ -111,34 +109,28 @@ fn note_refused(desk: &mut Desk, starved: bool) {
 }
 
 /// Does something with a store.
-fn work<L: Ledger>(solo: &mut Store<'_, L>, heap: &Heap, desk: &mut Desk, way: Way, job: Job) {
+fn work<B: Blocks>(store: &mut B, heap: &Heap, desk: &mut Desk, way: Way, job: Job) {
     match job {
-        Job::Calls => make_calls(solo, heap, desk, way),
-        Job::Settle => settle(solo, heap, desk),
-        Job::LookAtAll => look_at_all(solo, heap, desk),
+        Job::Calls => make_calls(store, heap, desk, way),
+        Job::Settle => settle(store, heap, desk),
+        Job::LookAtAll => look_at_all(store, heap, desk),
     }
 }
 
 /// Makes the calls of the agenda, up to one that is refused.
-fn make_calls<L: Ledger>(solo: &mut Store<'_, L>, heap: &Heap, desk: &mut Desk, way: Way) {
+fn make_calls<B: Blocks>(store: &mut B, heap: &Heap, desk: &mut Desk, way: Way) {
     for _ in 0..u32::MAX {
         let Some(call) = desk.agenda.pop() else {
             return;
         };
-        if !make_one(solo, heap, desk, way, call) {
+        if !make_one(store, heap, desk, way, call) {
             return;
         }
     }
 }
 
 /// Makes a call. False where it is refused.
-fn make_one<L: Ledger>(
-    solo: &mut Store<'_, L>,
-    heap: &Heap,
-    desk: &mut Desk,
-    way: Way,
-    call: Call,
-) -> bool {
+fn make_one<B: Blocks>(store: &mut B, heap: &Heap, desk: &mut Desk, way: Way, call: Call) -> bool {
     let Ok(data) = call.data(desk.alloc) else {
         desk.differ("no memory for the bytes of a write", call.len, 0);
         return false;
@@ -146,7 +138,7 @@ fn make_one<L: Ledger>(
     note_call(desk, call);
     let before = heap.has_refused();
     let made = heap.made();
-    let answer = make_with(solo, heap, way, call, data.as_slice());
+    let answer = make_with(store, heap, way, call, data.as_slice());
     desk.requests = heap.made().wrapping_sub(made);
     match answer {
         Ok(answer) => {
@@ -166,15 +158,15 @@ fn make_one<L: Ledger>(
 }
 
 /// Makes a call, and where it was refused memory at once again, if the way is so.
-fn make_with<'a, L: Ledger>(
-    solo: &mut Store<'_, L>,
+fn make_with<'a, B: Blocks>(
+    store: &mut B,
     heap: &'a Heap,
     way: Way,
     call: Call,
     data: &[u8],
 ) -> Result<Vec<u8, &'a Heap>, BlockFault> {
-    match make(solo, heap, call, data) {
-        Err(BlockFault::NoMemory) if way.at_once => make(solo, heap, call, data),
+    match make(store, heap, call, data) {
+        Err(BlockFault::NoMemory) if way.at_once => make(store, heap, call, data),
         answer => answer,
     }
 }
@@ -206,7 +198,7 @@ fn refuse(desk: &mut Desk, call: Call, fault: BlockFault, starved: bool) {
 }
 
 /// Looks at each page that the refused call meets.
-fn settle<L: Ledger>(solo: &mut Store<'_, L>, heap: &Heap, desk: &mut Desk) {
+fn settle<B: Blocks>(store: &mut B, heap: &Heap, desk: &mut Desk) {
     let Some(refused) = desk.refused else {
         return;
     };
@@ -218,36 +210,36 @@ fn settle<L: Ledger>(solo: &mut Store<'_, L>, heap: &Heap, desk: &mut Desk) {
     let met = pages_met(refused.call);
     for page in 0..64 {
         if met & bit(page) != 0 {
-            settle_page(solo, heap, desk, &mut prefix, page);
+            settle_page(store, heap, desk, &mut prefix, page);
         }
     }
     prefix.finish(desk, refused);
 }
 
 /// Looks at a page that the refused call meets.
-fn settle_page<L: Ledger>(
-    solo: &mut Store<'_, L>,
+fn settle_page<B: Blocks>(
+    store: &mut B,
     heap: &Heap,
     desk: &mut Desk,
     prefix: &mut Prefix,
     page: u64,
 ) {
-    match look(solo, heap, desk, page) {
+    match look(store, heap, desk, page) {
         Some(bytes) => prefix.look(desk, page, bytes.as_slice()),
         None => prefix.pass(),
     }
 }
 
 /// Reads a page. None where it is lost.
-fn look<'a, L: Ledger>(
-    solo: &mut Store<'_, L>,
+fn look<'a, B: Blocks>(
+    store: &mut B,
     heap: &'a Heap,
     desk: &mut Desk,
     page: u64,
 ) -> Option<Vec<u8, &'a Heap>> {
     let offset = page.saturating_mul(PAGE_BYTES);
     let is_lost = desk.lost & bit(page) != 0;
-    match read_again(solo, heap, offset) {
+    match read_again(store, heap, offset) {
         Ok(bytes) => {
             if is_lost {
                 desk.differ("a lost page is read", page, 0);
@@ -265,31 +257,31 @@ fn look<'a, L: Ledger>(
 }
 
 /// Reads a page, and again where a request of memory was refused by that.
-fn read_again<'a, L: Ledger>(
-    solo: &mut Store<'_, L>,
+fn read_again<'a, B: Blocks>(
+    store: &mut B,
     heap: &'a Heap,
     offset: u64,
 ) -> Result<Vec<u8, &'a Heap>, BlockFault> {
     let before = heap.has_refused();
-    match read(solo, heap, offset, PAGE_BYTES) {
+    match read(store, heap, offset, PAGE_BYTES) {
         Err(BlockFault::NoMemory) if !before && heap.has_refused() => {
-            read(solo, heap, offset, PAGE_BYTES)
+            read(store, heap, offset, PAGE_BYTES)
         }
         answer => answer,
     }
 }
 
 /// Compares each page.
-fn look_at_all<L: Ledger>(solo: &mut Store<'_, L>, heap: &Heap, desk: &mut Desk) {
-    let pages = solo.size() / PAGE_BYTES;
+fn look_at_all<B: Blocks>(store: &mut B, heap: &Heap, desk: &mut Desk) {
+    let pages = store.size() / PAGE_BYTES;
     for page in 0..pages {
-        look_at(solo, heap, desk, page);
+        look_at(store, heap, desk, page);
     }
 }
 
 /// Compares a page, unless it is lost.
-fn look_at<L: Ledger>(solo: &mut Store<'_, L>, heap: &Heap, desk: &mut Desk, page: u64) {
-    if let Some(bytes) = look(solo, heap, desk, page) {
+fn look_at<B: Blocks>(store: &mut B, heap: &Heap, desk: &mut Desk, page: u64) {
+    if let Some(bytes) = look(store, heap, desk, page) {
         compare(
             desk,
             page.saturating_mul(PAGE_BYTES),

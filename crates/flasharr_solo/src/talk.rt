@@ -6,13 +6,14 @@ ghost use Rattle.fa_map.specs.PageView.{page_view};
 use crate::heap::Heap;
 use crate::images::{DieImage, arm_second, new_images};
 use crate::lines::Line;
-use crate::view::{Held, HeldParts, die_of, is_live, slot_on};
-use fa_map::PageMap;
+use crate::view::{HeldParts, die_of, is_live, slot_on};
+use fa_core::Array;
+use fa_map::{Map, PageMap};
 use fa_mount::mount;
 use fa_session::serve_stream;
 use fa_solo::{Parts, Solo};
 use fa_types::{Blocks, Copies, Geometry, Page};
-use std::alloc::{AllocError, Global};
+use std::alloc::{AllocError, Allocator, Global};
 use std::marker::Brand;
 use std::sync::ledger::{Blank, Ledger};
 
@@ -81,7 +82,7 @@ impl Talk {
     }
 
     /// Prints a page's last write, and its copies.
-    fn tell_page(&mut self, array: &Held<'_>, page: u64) {
+    fn tell_page<M: Map, A: Allocator + Copy>(&mut self, array: &Array<M, A>, page: u64) {
         let number = seq_of(array, Page(page));
         let _ = write!(self.told, "page {page} seq {number} at");
         for die in 0..DIES {
@@ -93,7 +94,7 @@ impl Talk {
     }
 
     /// Prints which dies are live.
-    fn tell_live(&mut self, array: &Held<'_>) {
+    fn tell_live<M: Map, A: Allocator + Copy>(&mut self, array: &Array<M, A>) {
         self.put("live");
         for die in 0..DIES {
             if is_live(array, die_of(die)) {
@@ -134,7 +135,11 @@ pub(crate) fn serve_clients(alloc: Global, heap: &Heap, copies: u32, text: &str)
 }
 
 /// An array of four dies with so many copies of a page.
-fn new_parts<'a>(alloc: Global, heap: &'a Heap, copies: u32) -> Option<HeldParts<'a>>
+fn new_parts<'a>(
+    alloc: Global,
+    heap: &'a Heap,
+    copies: u32,
+) -> Option<HeldParts<'a, PageMap<&'a Heap>>>
     ensures { IfSome result (λ parts. IsWhole page_view parts.mounted.array) }
 {
     let geometry = Geometry::new(DIES as u32, 0, 16, 8, 512, 64).ok()?;
@@ -148,8 +153,13 @@ fn new_parts<'a>(alloc: Global, heap: &'a Heap, copies: u32) -> Option<HeldParts
 }
 
 /// The lines of a text.
-fn talk_over<'a>(heap: &'a Heap, parts: HeldParts<'a>, talk: &mut Talk, text: &str)
-    requires { IsWhole page_view parts.mounted.array }
+fn talk_over<'a, M: Map + Drop>(
+    heap: &'a Heap,
+    parts: HeldParts<'a, M>,
+    talk: &mut Talk,
+    text: &str,
+)
+    requires { IsWhole M.view parts.mounted.array }
 {
     let mut parts = parts;
     for line in text.lines() {
@@ -159,9 +169,14 @@ fn talk_over<'a>(heap: &'a Heap, parts: HeldParts<'a>, talk: &mut Talk, text: &s
 }
 
 /// A line. Behind one that is none of a text's nothing more is done.
-fn take_line<'a>(heap: &'a Heap, parts: HeldParts<'a>, talk: &mut Talk, line: &str) -> HeldParts<'a>
-    requires { IsWhole page_view parts.mounted.array }
-    ensures { IsWhole page_view result.mounted.array }
+fn take_line<'a, M: Map + Drop>(
+    heap: &'a Heap,
+    parts: HeldParts<'a, M>,
+    talk: &mut Talk,
+    line: &str,
+) -> HeldParts<'a, M>
+    requires { IsWhole M.view parts.mounted.array }
+    ensures { IsWhole M.view result.mounted.array }
 {
     if !talk.is_right {
         return parts;
@@ -191,9 +206,9 @@ fn take_line<'a>(heap: &'a Heap, parts: HeldParts<'a>, talk: &mut Talk, line: &s
 }
 
 /// The `count`-th call of the image of a die from now on fails.
-fn armed<'a>(parts: HeldParts<'a>, die: u64, count: u64) -> HeldParts<'a>
-    requires { IsWhole page_view parts.mounted.array }
-    ensures { IsWhole page_view result.mounted.array }
+fn armed<'a, M: Map + Drop>(parts: HeldParts<'a, M>, die: u64, count: u64) -> HeldParts<'a, M>
+    requires { IsWhole M.view parts.mounted.array }
+    ensures { IsWhole M.view result.mounted.array }
 {
     let Parts {
         mounted,
@@ -206,29 +221,33 @@ fn armed<'a>(parts: HeldParts<'a>, die: u64, count: u64) -> HeldParts<'a>
 }
 
 /// Serves the client who said something, if there is one.
-fn serve_said<'a>(heap: &'a Heap, parts: HeldParts<'a>, talk: &mut Talk) -> HeldParts<'a>
-    requires { IsWhole page_view parts.mounted.array }
-    ensures { IsWhole page_view result.mounted.array }
+fn serve_said<'a, M: Map + Drop>(
+    heap: &'a Heap,
+    parts: HeldParts<'a, M>,
+    talk: &mut Talk,
+) -> HeldParts<'a, M>
+    requires { IsWhole M.view parts.mounted.array }
+    ensures { IsWhole M.view result.mounted.array }
 {
     if !talk.is_open {
         return parts;
     }
-    serve_over::<Brand>(heap, Blank::new(257), parts, talk)
+    serve_over::<Brand, M, &'a Heap>(heap, Blank::new(257), parts, talk)
 }
 
 /// Serves a client over a store of one thread.
-fn serve_over<'a, L: Ledger>(
-    heap: &'a Heap,
+fn serve_over<L: Ledger, M: Map + Drop, A: Allocator + Copy>(
+    alloc: A,
     blank: Blank,
-    parts: HeldParts<'a>,
+    parts: Parts<M, DieImage, A>,
     talk: &mut Talk,
-) -> HeldParts<'a>
+) -> Parts<M, DieImage, A>
     requires name { blank.name ≡ L.name }
     requires parts { (blank.parts ≡ L.parts) × (blank.parts ≡ 257) }
-    requires whole { IsWhole page_view parts.mounted.array }
-    ensures { IsWhole page_view result.mounted.array }
+    requires whole { IsWhole M.view parts.mounted.array }
+    ensures { IsWhole M.view result.mounted.array }
 {
-    match Solo::<L, PageMap<&'a Heap>, DieImage, &'a Heap>::new(heap, blank, parts, ROUNDS) {
+    match Solo::<L, M, DieImage, A>::new(alloc, blank, parts, ROUNDS) {
         Ok(solo) => {
             let mut solo = solo;
             let answer = serve(talk.alloc, talk.said.as_slice(), &mut solo);
@@ -254,7 +273,7 @@ fn serve<B: Blocks>(alloc: Global, said: &[u8], store: &mut B) -> Result<String,
 }
 
 /// The number of a page's last write, and 0 of one that was never written.
-fn seq_of(array: &Held<'_>, page: Page) -> u64 {
+fn seq_of<M: Map, A: Allocator + Copy>(array: &Array<M, A>, page: Page) -> u64 {
     if !array.is_page(page) {
         return 0;
     }

@@ -7,12 +7,13 @@ use crate::calls::{Call, Kind};
 use crate::desk::Desk;
 use crate::ending::mount_again;
 use crate::heap::Heap;
-use crate::images::{Images, arm, new_images};
+use crate::images::{arm, new_images};
 use crate::judge::PAGE_BYTES;
 use crate::script::{DIES, Trial, play};
 use crate::store::Way;
 use crate::turn::turn;
 use crate::view::{HeldParts, View, bits};
+use fa_map::{Map, PageMap};
 use fa_solo::Parts;
 use fa_types::{Copies, Geometry};
 
@@ -130,10 +131,21 @@ const COPIES: u32 = 2;
 
 /// Eight pages are written and read, and the first read of die 1 gives wrong bytes: the answer is right, and die 1 alone is out.
 fn read_wrong(heap: &Heap, desk: &mut Desk) {
-    let Some((parts, copies)) = written(heap, desk) else {
-        return;
-    };
-    let mut parts = parts;
+    if let Some((parts, copies)) = larger(heap, desk) {
+        read_wrong_of(heap, parts, desk, copies);
+    }
+}
+
+/// The same of this array.
+fn read_wrong_of<'a, M: Map + Drop>(
+    heap: &'a Heap,
+    parts: HeldParts<'a, M>,
+    desk: &mut Desk,
+    copies: Copies,
+)
+    requires { IsWhole M.view parts.mounted.array }
+{
+    let mut parts = turn_of(heap, parts, desk, copies, Kind::Write, READ_PAGES);
     arm(&mut parts.images, LYING as usize, 0, 1);
     let parts = turn_of(heap, parts, desk, copies, Kind::Read, READ_PAGES);
     let live = View::of(&parts).live;
@@ -145,19 +157,31 @@ fn read_wrong(heap: &Heap, desk: &mut Desk) {
 /// How many requests of memory a store makes for a read of one page, the answer's own among them, where each of the page's dies was read
 /// from before. A die's first read makes what is kept from then on.
 pub(crate) fn requests_of_a_read(heap: &Heap, desk: &mut Desk) -> u64 {
-    let Some((parts, copies)) = written(heap, desk) else {
+    let Some((parts, copies)) = larger(heap, desk) else {
         return 0;
     };
-    for _ in 0..COPIES {
-        desk.put_first(Call::of(Kind::Read, 0, PAGE_BYTES));
-    }
-    let parts = turn_of(heap, parts, desk, copies, Kind::Read, 1);
-    drop(parts);
+    read_often(heap, parts, desk, copies);
     desk.requests
 }
 
-/// The larger array, of which eight pages are written.
-fn written<'a>(heap: &'a Heap, desk: &mut Desk) -> Option<(HeldParts<'a>, Copies)>
+/// Eight pages of this array are written, and one is read often enough.
+fn read_often<'a, M: Map + Drop>(
+    heap: &'a Heap,
+    parts: HeldParts<'a, M>,
+    desk: &mut Desk,
+    copies: Copies,
+)
+    requires { IsWhole M.view parts.mounted.array }
+{
+    let parts = turn_of(heap, parts, desk, copies, Kind::Write, READ_PAGES);
+    for _ in 0..COPIES {
+        desk.put_first(Call::of(Kind::Read, 0, PAGE_BYTES));
+    }
+    turn_of(heap, parts, desk, copies, Kind::Read, 1);
+}
+
+/// The larger array.
+fn larger<'a>(heap: &'a Heap, desk: &mut Desk) -> Option<(HeldParts<'a, PageMap<&'a Heap>>, Copies)>
     ensures { IfSome result (λ made. IsWhole page_view made.0.mounted.array) }
 {
     let Ok(geometry) = Geometry::new(DIES as u32, 0, 16, 8, PAGE_BYTES as u32, LARGE_PAGES) else {
@@ -173,38 +197,22 @@ fn written<'a>(heap: &'a Heap, desk: &mut Desk) -> Option<(HeldParts<'a>, Copies
         return None;
     };
     desk.begin(LARGE_PAGES * PAGE_BYTES);
-    let parts = mounted(heap, images, desk, copies)?;
-    Some((
-        turn_of(heap, parts, desk, copies, Kind::Write, READ_PAGES),
-        copies,
-    ))
-}
-
-/// The array of these images.
-fn mounted<'a>(
-    heap: &'a Heap,
-    images: Images<'a>,
-    desk: &mut Desk,
-    copies: Copies,
-) -> Option<HeldParts<'a>>
-    ensures { IfSome result (λ parts. IsWhole page_view parts.mounted.array) }
-{
     let mut images = images;
     let mounted = mount_again(heap, &mut images, copies, desk)?;
-    Some(Parts { mounted, images })
+    Some((Parts { mounted, images }, copies))
 }
 
 /// A turn of the calls that are due, before them one of the first pages.
-fn turn_of<'a>(
+fn turn_of<'a, M: Map + Drop>(
     heap: &'a Heap,
-    parts: HeldParts<'a>,
+    parts: HeldParts<'a, M>,
     desk: &mut Desk,
     copies: Copies,
     kind: Kind,
     pages: u64,
-) -> HeldParts<'a>
-    requires { IsWhole page_view parts.mounted.array }
-    ensures { IsWhole page_view result.mounted.array }
+) -> HeldParts<'a, M>
+    requires { IsWhole M.view parts.mounted.array }
+    ensures { IsWhole M.view result.mounted.array }
 {
     desk.put_first(Call::of(kind, 0, pages.saturating_mul(PAGE_BYTES)));
     turn(heap, parts, desk, Way::of(1), copies)

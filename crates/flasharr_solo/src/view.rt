@@ -2,20 +2,17 @@
 use crate::heap::Heap;
 use crate::images::{DieImage, faults_of, has_lied};
 use fa_core::Array;
-use fa_map::{Map, PageMap};
+use fa_map::Map;
 use fa_mount::MountedArray;
 use fa_solo::Parts;
 use fa_types::{Copies, Die, Page};
 use std::alloc::Allocator;
 
-/// The array over a heap.
-pub(crate) type Held<'a> = Array<PageMap<&'a Heap>, &'a Heap>;
-
-/// The same with the places of its images.
-pub(crate) type HeldOver<'a> = MountedArray<PageMap<&'a Heap>, &'a Heap>;
+/// An array over a heap, with the places of its images.
+pub(crate) type HeldOver<'a, M> = MountedArray<M, &'a Heap>;
 
 /// The same with its images.
-pub(crate) type HeldParts<'a> = Parts<PageMap<&'a Heap>, DieImage, &'a Heap>;
+pub(crate) type HeldParts<'a, M> = Parts<M, DieImage, &'a Heap>;
 
 /// The most dies of an array here.
 pub(crate) const MOST_DIES: usize = 8;
@@ -37,7 +34,7 @@ pub(crate) struct View {
 
 impl View {
     /// The view of an array with its images.
-    pub(crate) fn of(parts: &HeldParts<'_>) -> View {
+    pub(crate) fn of<M: Map + Drop>(parts: &HeldParts<'_, M>) -> View {
         let array = &parts.mounted.array;
         let mut view = View {
             live: live_mask(array),

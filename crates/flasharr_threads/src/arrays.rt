@@ -8,7 +8,7 @@ ghost use Rattle.fa_map.specs.PageView.{page_view};
 
 use fa_headers::format;
 use fa_image::{Image, MemImage, WrongImage};
-use fa_map::PageMap;
+use fa_map::{Map, PageMap};
 use fa_mount::{CloseFault, MountedArray, close_clean, mount};
 use fa_scan::{Report, scan};
 use fa_types::{Copies, Geometry};
@@ -118,11 +118,11 @@ fn copies_of(images: &[DieImage]) -> Option<Copies> {
 }
 
 /// Closes an array, or tells why not. One of which a live die has no image is refused as busy.
-pub(crate) fn close_array(
-    mounted: &MountedArray<PageMap>,
+pub(crate) fn close_array<M: Map + Drop>(
+    mounted: &MountedArray<M>,
     images: &mut [DieImage],
 ) -> Option<CloseFault>
-    requires { IsWhole page_view mounted.now.array }
+    requires { IsWhole M.view mounted.now.array }
 {
     if mounted.has_images(images.len()) {
         close_clean(mounted, images).err()

@@ -12,7 +12,7 @@ use crate::users::User;
 use fa_blocks::ArrayBlocks;
 use fa_headers::Standing;
 use fa_image::Image;
-use fa_map::PageMap;
+use fa_map::{Map, PageMap};
 use fa_mount::{CloseFault, MountedArray};
 use fa_shared::{Fault, Hands, NoHands, Seat, Shared};
 use fa_types::Die;
@@ -124,8 +124,11 @@ struct Worked<U: Drop> {
 }
 
 /// Closes the array that was worked for.
-fn close<U: Drop>(mounted: &MountedArray<PageMap>, worked: Option<Worked<U>>) -> Option<Left<U>>
-    requires { IsWhole page_view mounted.now.array }
+fn close<M: Map + Drop, U: Drop>(
+    mounted: &MountedArray<M>,
+    worked: Option<Worked<U>>,
+) -> Option<Left<U>>
+    requires { IsWhole M.view mounted.now.array }
 {
     let Worked {
         users,
@@ -238,9 +241,9 @@ fn lifted<R: Machine>(
 }
 
 /// A task for each live die.
-fn tasks_of<L: Ledger + Send, R: Machine>(
+fn tasks_of<L: Ledger + Send, R: Machine, M: Map + Drop>(
     rt: &R,
-    shared: &Shared<L, PageMap>,
+    shared: &Shared<L, M>,
     dies: &[Standing],
     page_bytes: u32,
 ) -> Option<Vec<Task<L>>> {
@@ -303,9 +306,9 @@ impl<T: Drop> Work<T> {
 }
 
 /// A seat and memory for each user.
-fn sessions_of<L: Ledger + Send, R: Machine, U: User>(
+fn sessions_of<L: Ledger + Send, R: Machine, M: Map + Drop, U: User>(
     rt: &R,
-    shared: &Shared<L, PageMap>,
+    shared: &Shared<L, M>,
     users: Vec<U>,
     meanwhile: Meanwhile,
     page_bytes: u32,
@@ -423,9 +426,9 @@ fn use_all<L: Ledger + Send, R: Machine, G: Gate + Sync, U: User + Send>(
 }
 
 /// Has a user do what it does, over a store of its own.
-fn use_store<L: Ledger + Send, R: Machine, I: Image + Drop, G: Gate, U: User>(
+fn use_store<L: Ledger + Send, R: Machine, M: Map + Drop, I: Image + Drop, G: Gate, U: User>(
     rt: &R,
-    shared: &Shared<L, PageMap>,
+    shared: &Shared<L, M>,
     bench: &Bench<I>,
     gate: &G,
     session: Session<L, U>,
@@ -444,9 +447,9 @@ fn use_store<L: Ledger + Send, R: Machine, I: Image + Drop, G: Gate, U: User>(
 }
 
 /// The same where the session makes jobs of dies while a request waits.
-fn help<L: Ledger + Send, R: Machine, I: Image + Drop, G: Gate, U: User>(
+fn help<L: Ledger + Send, R: Machine, M: Map + Drop, I: Image + Drop, G: Gate, U: User>(
     rt: &R,
-    shared: &Shared<L, PageMap>,
+    shared: &Shared<L, M>,
     bench: &Bench<I>,
     gate: &G,
     seat: Seat<L>,
@@ -459,9 +462,9 @@ fn help<L: Ledger + Send, R: Machine, I: Image + Drop, G: Gate, U: User>(
 
 /// The same over the store of a seat, with somebody who makes jobs of dies while a request waits. It is a function of its own, so that no
 /// type is written that has the helper's inside of the store's.
-fn act_with<L: Ledger + Send, R: Machine, H: Hands<L, PageMap, Global> + Drop, U: User>(
+fn act_with<L: Ledger + Send, R: Machine, M: Map + Drop, H: Hands<L, M, Global> + Drop, U: User>(
     rt: &R,
-    shared: &Shared<L, PageMap>,
+    shared: &Shared<L, M>,
     seat: Seat<L>,
     hands: H,
     user: &mut U,
@@ -472,9 +475,9 @@ fn act_with<L: Ledger + Send, R: Machine, H: Hands<L, PageMap, Global> + Drop, U
 }
 
 /// Works for a die until the array is to end.
-fn work_die<L: Ledger + Send, R: Machine, I: Image + Drop, G: Gate>(
+fn work_die<L: Ledger + Send, R: Machine, M: Map + Drop, I: Image + Drop, G: Gate>(
     rt: &R,
-    shared: &Shared<L, PageMap>,
+    shared: &Shared<L, M>,
     bench: &Bench<I>,
     gate: &G,
     task: Task<L>,
@@ -489,9 +492,9 @@ fn work_die<L: Ledger + Send, R: Machine, I: Image + Drop, G: Gate>(
 }
 
 /// Collects until the array is to end.
-fn collect<L: Ledger + Send, R: Machine>(
+fn collect<L: Ledger + Send, R: Machine, M: Map + Drop>(
     rt: &R,
-    shared: &Shared<L, PageMap>,
+    shared: &Shared<L, M>,
     mut seat: Seat<L>,
 ) -> Seat<L> {
     collector_worker(rt, rt.alloc(), shared, &mut seat, WINDOW_ROUNDS);
@@ -499,9 +502,9 @@ fn collect<L: Ledger + Send, R: Machine>(
 }
 
 /// Rebuilds until the array is to end.
-fn rebuild<L: Ledger + Send, R: Machine>(
+fn rebuild<L: Ledger + Send, R: Machine, M: Map + Drop>(
     rt: &R,
-    shared: &Shared<L, PageMap>,
+    shared: &Shared<L, M>,
     mut seat: Seat<L>,
 ) -> Seat<L> {
     rebuild_worker(rt, rt.alloc(), shared, &mut seat);
