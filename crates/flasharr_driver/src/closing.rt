@@ -165,7 +165,7 @@ fn refuse_call<M: Map + Drop, A: Allocator + Copy>(
     life.images.arm(die, call);
     let closed = close_as(mounted, life, desk, refusing);
     match mount(heap, life.images.all(), way.copies, false) {
-        Ok(again) => compare(&mounted.array, &again.array, desk),
+        Ok(again) => compare(&mounted.array, again, desk),
         Err(refused) => {
             if closed {
                 let number = u64::from(refused.fault.number());

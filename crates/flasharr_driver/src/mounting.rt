@@ -89,11 +89,12 @@ fn holds<M: Map, A: Allocator + Copy>(array: &Array<M, A>, page: Page, die: Die)
 }
 
 /// Compares an array that was mounted with the one that was closed: each page has the same last write, and none is lost.
-pub(crate) fn compare<M: Map, N: Map, A: Allocator + Copy>(
+pub(crate) fn compare<M: Map, N: Map + Drop, A: Allocator + Copy>(
     closed: &Array<M, A>,
-    mounted: &Array<N, A>,
+    mounted: MountedArray<N, A>,
     desk: &mut Desk,
 ) {
+    let mounted = &mounted.array;
     if let Some(page) = lowest_lost(mounted) {
         desk.differ("a page is lost once the array is mounted:", page.0, 0);
     }
@@ -247,15 +248,20 @@ fn is_mounted_in<A: Allocator>(
     room: usize,
 ) -> Result<bool, AllocError> {
     let small = LocalHeap::new(global, room)?;
-    match mount(&small, life.images.all(), way.copies, way.unclean) {
-        Ok(_) => return Ok(true),
-        Err(refused) if refused.fault == MountFault::NoMemory => {
-            desk.count(Seen::MountNoMemory);
-        }
-        Err(refused) => {
-            let number = u64::from(refused.fault.number());
-            desk.differ("too little memory is told otherwise:", number, room as u64);
-        }
+    let refused = mount(&small, life.images.all(), way.copies, way.unclean).err();
+    Ok(is_enough(desk, refused, room))
+}
+
+/// Whether so much memory was enough for a mounting that ended so.
+fn is_enough(desk: &mut Desk, refused: Option<MountRefused>, room: usize) -> bool {
+    let Some(refused) = refused else {
+        return true;
+    };
+    if refused.fault == MountFault::NoMemory {
+        desk.count(Seen::MountNoMemory);
+    } else {
+        let number = u64::from(refused.fault.number());
+        desk.differ("too little memory is told otherwise:", number, room as u64);
     }
-    Ok(false)
+    false
 }

@@ -130,6 +130,21 @@ fn live_once<M: Map + Drop, A: Allocator + Copy>(
     requires { IsWhole M.view mounted.array }
 {
     let mut mounted = mounted;
+    live_in(&mut mounted, heap, life, desk, way, is_last, events)
+}
+
+/// The same of an array that is lent. It stands apart from whoever owns the array, so that no exit of it drops one.
+fn live_in<M: Map + Drop, A: Allocator + Copy>(
+    mounted: &mut MountedArray<M, A>,
+    heap: A,
+    life: &mut Life<A>,
+    desk: &mut Desk,
+    way: Way,
+    is_last: bool,
+    events: u64,
+) -> Result<Ended, AllocError>
+    requires { IsWhole M.view mounted.old.array }
+{
     life.flushes.clear();
     if let Some(page) = lowest_lost(&mounted.array) {
         desk.differ("a page is lost once the array is mounted:", page.0, 0);
@@ -141,9 +156,9 @@ fn live_once<M: Map + Drop, A: Allocator + Copy>(
     live(&mut mounted.array, heap, life, desk, events)?;
     settle(&mut mounted.array, heap, life, desk)?;
     look_at_all(&mut mounted.array, heap, life, desk)?;
-    close_busy(&mounted, life, desk);
+    close_busy(mounted, life, desk);
     rest(&mut mounted.array, heap, life, desk)?;
-    end_life(&mounted, heap, life, desk, way)
+    end_life(mounted, heap, life, desk, way)
 }
 
 /// How the array is mounted next. Its images change their places, and reads of them and growths are refused now and then. The error is

@@ -1,5 +1,5 @@
 //! An array over images is mounted, and closed.
-ghost use Rattle.std.specs.Prelude.{IfSome};
+ghost use Rattle.std.specs.Prelude.{◌≡◌, IfSome};
 ghost use Rattle.fa_core.specs.Array.{IsWhole};
 ghost use Rattle.fa_map.specs.PageView.{page_view};
 
@@ -25,11 +25,19 @@ pub(crate) fn mount_again<A: Allocator + Copy>(
 )
     ensures { IfSome mounted.new (λ mounted. IsWhole page_view mounted.array) }
 {
-    *mounted = None;
+    put(mounted, None);
     bank.forget();
     desk.begin_anew();
-    *mounted = mount_images(heap, copies, unclean, bank, &mut desk.told);
+    let again = mount_images(heap, copies, unclean, bank, &mut desk.told);
+    put(mounted, again);
     desk.told.end();
+}
+
+/// Puts a value, or none, in place of another.
+fn put<T: Drop>(place: &mut Option<T>, value: Option<T>)
+    ensures { place.new ≡ value }
+{
+    *place = value;
 }
 
 /// Mounts the images. None where they are refused.
