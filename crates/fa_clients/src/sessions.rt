@@ -7,7 +7,7 @@ use crate::socket::prepare;
 use fa_blocks::ArrayBlocks;
 use fa_host::tell;
 use fa_image::Image;
-use fa_map::PageMap;
+use fa_map::Map;
 use fa_session::{SessionEnd, serve_stream};
 use fa_shared::{Hands, Seat, Shared};
 use fa_types::Blocks;
@@ -61,10 +61,10 @@ pub struct Service<'a> {
 
 /// Serves an array to one client after another until the lobby is closed, and hands the session's seat back. It blocks its thread: while its
 /// clients' requests wait it makes jobs of the dies whose images are at this bench.
-pub fn serve_clients<R: Networked, L: Ledger + Send, I: Image + Send + Drop>(
+pub fn serve_clients<R: Networked, L: Ledger + Send, M: Map + Drop, I: Image + Send + Drop>(
     rt: &R,
     lobby: &Lobby,
-    shared: &Shared<L, PageMap>,
+    shared: &Shared<L, M>,
     bench: &Bench<I>,
     session: Session<'_, L>,
 ) -> Seat<L> {
@@ -80,10 +80,10 @@ pub fn serve_clients<R: Networked, L: Ledger + Send, I: Image + Send + Drop>(
 
 /// The same over the shared array, with somebody who makes jobs of its dies while a request waits. It is a function of its own, so that no
 /// type is written that has the helper's inside of the store's.
-fn serve_with<R: Networked, L: Ledger + Send, H: Hands<L, PageMap, Global> + Drop>(
+fn serve_with<R: Networked, L: Ledger + Send, M: Map + Drop, H: Hands<L, M, Global> + Drop>(
     rt: &R,
     lobby: &Lobby,
-    shared: &Shared<L, PageMap>,
+    shared: &Shared<L, M>,
     service: Service<'_>,
     connection: ConnectionRoom,
     seat: Seat<L>,

@@ -43,7 +43,7 @@ module _ (st : ℕ → ℕ → Entry) (n dies : ℕ) where
       ]
 
   -- what follows a place that holds the page, or none, when a holder comes later
-  next_low : (page from : ℕ) (next : Option (ℕ × ℕ)) → IsNext st n dies page from next → (d s : ℕ) → from ≤ d → s < n → st d s ≡ Current page
+  pub next_low : (page from : ℕ) (next : Option (ℕ × ℕ)) → IsNext st n dies page from next → (d s : ℕ) → from ≤ d → s < n → st d s ≡ Current page
       → (d' : ℕ) × (s' : ℕ) × (next ≡ Some (d', s')) × (d' ≤ d)
   next_low page from next follows d s low within is =
       elim (place_or_none next) [

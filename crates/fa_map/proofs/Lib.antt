@@ -12,6 +12,7 @@ pub mod Nexts
 pub mod Plain
 pub mod Ranges
 pub mod Renewed
+pub mod Rewritten
 pub mod Seconds
 pub mod Seen
 pub mod Swept

@@ -90,7 +90,7 @@ pub record IsChosen (last head : Option (ℕ × ℕ)) (was : Second) (link follo
   pub further : (place : ℕ × ℕ) → last ≡ Some place → (head ≡ Some place → ⊥) → (target was.place ≡ Some place → ⊥) → new ≡ was
 
 -- whether an option of places is this one
-is_place : (o : Option (ℕ × ℕ)) (d s : ℕ) → (o ≡ some_place d s) ⊎ (o ≡ some_place d s → ⊥)
+pub is_place : (o : Option (ℕ × ℕ)) (d s : ℕ) → (o ≡ some_place d s) ⊎ (o ≡ some_place d s → ⊥)
 is_place None d s = inr (none-some (d, s))
 is_place (Some (d', s')) d s =
     elim (place_cases d' s' d s) [

@@ -96,3 +96,9 @@ pub record IsRenewed (links heads : List Link) (seconds seconds' : List Second) 
   pub long : length seconds' ≡ length seconds
   pub here : IsSecond links n (link_at heads page) (second_at seconds' page)
   pub others : (p : ℕ) → (p ≡ page → ⊥) → second_at seconds' p ≡ second_at seconds p
+
+-- The links of each page with more than two copies are written in the rows of the slots that hold it.
+pub record AreWritten (entries : List Entry) (links written : List Link) (seconds : List Second) (n : ℕ) : Type 0 where
+  pub long : length written ≡ length links
+  pub same : (page die slot : ℕ) → slot < n → entry_of entries n die slot ≡ Current page → (second_at seconds page).more ≡ true
+      → link_from written n die slot ≡ link_from links n die slot

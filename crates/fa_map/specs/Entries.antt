@@ -3,11 +3,12 @@ use Rattle.std.specs.Prelude.{◌≡◌, ℕ, ◌+◌, ◌*◌, ◌/◌, ◌<◌
 use Rattle.std.specs.List.{range_with_len}
 use Rattle.fa_types.specs.declared.geometry.Geometry.{Geometry}
 use Rattle.fa_machine.specs.Maps.{below}
-use Rattle.fa_map.specs.Chains.{IsChained, entry_of, link_at, link_from}
+use Rattle.fa_map.specs.Chains.{IsChained, entry_of, link_at, link_from, no_link, target}
 use Rattle.fa_map.specs.Plain.{die_slots}
 use Rattle.fa_map.specs.declared.entries.Entry.{Entry}
 use Rattle.fa_map.specs.declared.entries.Entry.TheVariants.{Erased, Reserved, Current, Stale}
 use Rattle.fa_map.specs.declared.entries.Link.{Link}
+use Rattle.fa_map.specs.declared.entries.Second.{Second}
 use Rattle.fa_map.specs.declared.slots.BlockCounts.{BlockCounts}
 use Rattle.fa_map.specs.declared.slots.SlotState.{SlotState}
 use Rattle.fa_map.specs.declared.slots.SlotState.TheVariants as states
@@ -87,6 +88,16 @@ with_head (Some place) page link heads = heads
 abbrev pub with_link : Option (ℕ × ℕ) → ℕ → Link → List Link → List Link
 with_link None n link links = links
 with_link (Some place) n link links = slice_set links (place.0 * n + place.1) link
+
+-- The written links, with those of a page's first two copies. Those of a page with a third copy are there already.
+abbrev pub with_first_two : Option (ℕ × ℕ) → ℕ → Second → List Link → List Link
+with_first_two first n second written =
+    if second.more then written else with_link (target second.place) n no_link (with_link first n second.place written)
+
+-- The written links after the link behind a place of a page's chain became another one. They change only if the page has more
+-- than two copies then.
+abbrev pub rewritten : Option (ℕ × ℕ) → Option (ℕ × ℕ) → ℕ → Link → Second → Bool → List Link → List Link
+rewritten first last n link second more written = if more then with_link last n link (with_first_two first n second written) else written
 
 abbrev pub is_erased_entry : Entry → Bool
 is_erased_entry entry = is_same_state (state_of_entry entry) states.Erased

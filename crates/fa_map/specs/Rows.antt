@@ -12,10 +12,12 @@ abbrev pub last_write : Seq → Option Kind → Option Version
 last_write seq None = None
 last_write seq (Some kind) = Some (record { seq = seq; kind = kind })
 
--- the entry of each slot, and for each that holds a copy where the next copy of its page is
+-- The entry of each slot, and for each that holds a copy where the next copy of its page is. What is written of that in the
+-- slot's row may be something else.
 pub record SlotLists : Type 0 where
   pub entries : List Entry
   pub links : List Link
+  pub written : List Link
 
 -- the last write of each page, where its first copy is, and what is kept of its second
 pub record PageLists : Type 0 where

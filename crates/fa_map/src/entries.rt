@@ -31,7 +31,7 @@ pub const NO_LINK: Link = Link { die: None, slot: 0 };
 /// Where a page's second copy is, and whether the page has a third.
 #[derive(Clone, Copy)]
 pub struct Second {
-    /// The link of the first copy's slot; none where the page has no second copy.
+    /// The link from its first copy; none where the page has no second copy.
     pub place: Link,
     /// Whether a copy stands behind the second one.
     pub more: bool,

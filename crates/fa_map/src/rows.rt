@@ -4,6 +4,7 @@ ghost use Rattle.fa_map.specs.Chains.{no_link, no_second, second_at};
 ghost use Rattle.fa_map.specs.declared.entries.Entry.TheVariants.{Erased};
 
 use crate::entries::{Entry, Link, NO_LINK, NO_SECOND, Second};
+use fa_ghost::History;
 use fa_machine::Version;
 use fa_types::{Kind, Seq};
 use std::alloc::{AllocError, Allocator, Global};
@@ -13,7 +14,7 @@ use std::marker::Model;
 #[derive(Clone, Copy)]
 struct SlotRow {
     entry: Entry,
-    /// Where the next copy of the page is, if the slot holds a copy.
+    /// Where the next copy of the page is, if the slot holds a copy of a page with more than two. It means nothing elsewhere.
     link: Link,
 }
 
@@ -26,7 +27,7 @@ struct PageRow {
     kind: Option<Kind>,
     /// Where its first copy is.
     first: Link,
-    /// Its second copy: what the links of the first two copies' slots say, kept here too.
+    /// Where its second copy is, and whether it has a third.
     second: Second,
 }
 
@@ -34,10 +35,12 @@ const _: () = prove!(size_of::<SlotRow>() <= 16);
 
 const _: () = prove!(size_of::<PageRow>() <= 32);
 
-/// A row for each slot, die by die.
+/// A row for each slot, die by die. Clauses see a link of each slot, which takes no memory. The link that is written in the
+/// slot's row may be another one: the caller says which links are written.
 #[derive(Drop)]
 pub struct SlotRows<A: Allocator = Global> {
     rows: Vec<SlotRow, A>,
+    told: History<LinkList>,
 }
 
 /// A row for each page.
@@ -46,16 +49,38 @@ pub struct PageRows<A: Allocator = Global> {
     rows: Vec<PageRow, A>,
 }
 
+/// That the slot at an index has a link.
+#[derive(Clone, Copy)]
+struct LinkSet {
+    index: usize,
+    link: Link,
+}
+
+/// Links, for a history that shows them. No value of it is made.
+struct LinkList {}
+
+impl Model for LinkList {
+    ghost use Rattle.std.specs.Prelude.{List, []};
+    ghost use Rattle.fa_map.specs.declared.entries.Link.{Link};
+
+    ghost Value = { List Link };
+
+    ghost view = { λ _. [] };
+}
+
 impl<A: Allocator> Model for SlotRows<A> {
-    ghost use Rattle.std.specs.Prelude.{map};
+    ghost use Rattle.std.specs.Prelude.{◌≡◌, length, map};
     ghost use Rattle.fa_map.specs.Rows.{SlotLists};
 
     ghost Value = { SlotLists };
 
     ghost view = { λ slots. record {
       entries = map (λ row. row.entry) slots.rows.items;
-      links = map (λ row. row.link) slots.rows.items;
+      links = slots.told.shown;
+      written = map (λ row. row.link) slots.rows.items;
     } };
+
+    ghost invariant = { λ slots. length slots.told.shown ≡ length slots.rows.items };
 }
 
 impl<A: Allocator> Model for PageRows<A> {
@@ -76,12 +101,14 @@ impl<A: Allocator + Copy> SlotRows<A> {
     pub fn new(alloc: A, count: usize) -> Result<SlotRows<A>, AllocError>
         ensures entries { IfOk result (λ slots. slots.entries ≡ replicate count Erased) }
         ensures links { IfOk result (λ slots. slots.links ≡ replicate count no_link) }
+        ensures written { IfOk result (λ slots. slots.written ≡ replicate count no_link) }
     {
         let rows = vec![in alloc; SlotRow {
             entry: Entry::Erased,
             link: NO_LINK
         }; count]?;
-        Ok(SlotRows { rows })
+        let told = History::begin(&count);
+        Ok(SlotRows { rows, told })
     }
 }
 
@@ -94,10 +121,10 @@ impl<A: Allocator> SlotRows<A> {
         self.rows[index].entry
     }
 
-    /// The link of the slot at this index.
+    /// The link that is written in the row of the slot at this index.
     pub fn link(&self, index: usize) -> Link
         requires { index < length self.now.links }
-        ensures { result ≡ slice_index_or self.now.links index no_link }
+        ensures { result ≡ slice_index_or self.now.written index no_link }
     {
         self.rows[index].link
     }
@@ -107,15 +134,38 @@ impl<A: Allocator> SlotRows<A> {
         requires { index < length self.old.entries }
         ensures entries { self.new.entries ≡ slice_set self.old.entries index entry }
         ensures links { self.new.links ≡ self.old.links }
+        ensures written { self.new.written ≡ self.old.written }
     {
         self.rows[index].entry = entry;
     }
 
-    /// The slot at this index has this link.
+    /// The slot at this index has this link, which is written in its row.
     pub fn set_link(&mut self, index: usize, link: Link)
         requires { index < length self.old.links }
         ensures entries { self.new.entries ≡ self.old.entries }
         ensures links { self.new.links ≡ slice_set self.old.links index link }
+        ensures written { self.new.written ≡ slice_set self.old.written index link }
+    {
+        self.tell_link(index, link);
+        self.write_link(index, link);
+    }
+
+    /// The slot at this index has this link. Only clauses see it: nothing happens at run time.
+    pub fn tell_link(&mut self, index: usize, link: Link)
+        requires { index < length self.old.links }
+        ensures entries { self.new.entries ≡ self.old.entries }
+        ensures links { self.new.links ≡ slice_set self.old.links index link }
+        ensures written { self.new.written ≡ self.old.written }
+    {
+        self.told.note(&LinkSet { index, link });
+    }
+
+    /// This link is written in the row of the slot at this index. The slot's link is what it was.
+    pub fn write_link(&mut self, index: usize, link: Link)
+        requires { index < length self.old.links }
+        ensures entries { self.new.entries ≡ self.old.entries }
+        ensures links { self.new.links ≡ self.old.links }
+        ensures written { self.new.written ≡ slice_set self.old.written index link }
     {
         self.rows[index].link = link;
     }

@@ -1,6 +1,6 @@
 //! The tables of a page map: the entry of each slot, the counts of each block, and the chains of copies.
 ghost use Rattle.std.specs.Prelude.{◌≡◌, ℕ, ◌+◌, ◌*◌, ◌/◌, ◌-◌, ◌^◌, ◌<◌, ◌≤◌, ◌==◌, ◌&&◌, true, false, nat_lt, if◌then◌else◌, length, slice_set, replicate, find, min, IfOk, None, Some};
-ghost use Rattle.fa_map.specs.Chains.{AreInside, AreSeconds, IsInside, IsNext, IsSeam, entry_at, entry_of, follower, link_from, target};
+ghost use Rattle.fa_map.specs.Chains.{AreInside, AreSeconds, AreWritten, IsInside, IsNext, IsSeam, entry_at, entry_of, follower, link_from, target};
 ghost use Rattle.fa_map.specs.Entries.{AreTables, AreTallied, copies_in, count_of, erased_entry, is_current_entry, is_erased_entry, may_take, one_if, retired};
 ghost use Rattle.fa_map.specs.Few.{IsCounted, IsCounted-prop};
 ghost use Rattle.fa_map.specs.Found.{IsFound, IsFound-prop, IsGreatest};
@@ -24,7 +24,7 @@ use std::alloc::{AllocError, Allocator, Global};
 #[derive(Drop)]
 pub struct Tables<A: Allocator = Global> {
     geometry: Geometry,
-    /// The entry of each slot, die by die, and for each that holds a copy where the next copy of its page is.
+    /// The entry of each slot, die by die, and where the next copy of its page is, if it holds a copy of a page with more than two.
     slots: SlotRows<A>,
     /// For each page its last write, where its first two copies are, and whether it has a third.
     pages: PageRows<A>,
@@ -39,6 +39,7 @@ pub struct Tables<A: Allocator = Global> {
     ghost sound: { AreTables geometry slots.entries slots.links pages.heads counts.items erased.items },
     ghost inside: { AreInside geometry.dies (die_slots geometry) slots.links },
     ghost seconds: { AreSeconds slots.links pages.heads pages.seconds (die_slots geometry) geometry.pages },
+    ghost written: { AreWritten slots.entries slots.links slots.written pages.seconds (die_slots geometry) },
     ghost counted: { IsCounted geometry slots.entries few } by { IsCounted-prop geometry slots.entries few },
     ghost found: { IsFound geometry slots.entries counts.items finder } by { IsFound-prop geometry slots.entries counts.items finder },
 }
@@ -93,6 +94,7 @@ fn write_entry<A: Allocator>(
     requires found { IsFound geometry slots.old.entries counts.old finder.old }
     ensures entries { slots.new.entries ≡ slice_set slots.old.entries (die.0 * die_slots geometry + slot.0) entry }
     ensures links { slots.new.links ≡ slots.old.links }
+    ensures written { slots.new.written ≡ slots.old.written }
     ensures tallied { AreTallied geometry slots.new.entries counts.new erased.new }
     ensures found { IsFound geometry slots.new.entries counts.new finder.new }
 {
@@ -255,12 +257,13 @@ impl<A: Allocator> Tables<A> {
         self.few.lowest_from(count, from)
     }
 
-    /// Where the copy is that comes next in the page's chain behind the slot, which holds the page. What stands behind the first
-    /// is kept with the page, and that nothing stands behind the second: of a page with two copies no slot is looked at.
+    /// Where the copy is that comes next in the page's chain behind the slot, which holds the page. The page's own row says it
+    /// where the page has at most two copies, and the slot's row where it has more.
     pub fn next(&self, page: u32, die: Die, slot: Slot) -> Link
         requires page { page < self.now.geometry.pages }
         requires die { die.0 < self.now.geometry.dies }
         requires slot { slot.0 < die_slots self.now.geometry }
+        requires holds { entry_of self.now.slots.entries (die_slots self.now.geometry) die.0 slot.0 ≡ Current page }
         ensures link { target result ≡ link_from self.now.slots.links (die_slots self.now.geometry) die.0 slot.0 }
         ensures next { entry_of self.now.slots.entries (die_slots self.now.geometry) die.0 slot.0 ≡ Current page
             → IsNext (entry_of self.now.slots.entries (die_slots self.now.geometry)) (die_slots self.now.geometry)
@@ -270,16 +273,18 @@ impl<A: Allocator> Tables<A> {
         if leads_to(self.pages.head(page as usize), die, slot) {
             return second.place;
         }
-        if !second.more && leads_to(second.place, die, slot) {
-            return NO_LINK;
+        if second.more {
+            return self.slots.link(index_of(self.geometry, die, slot));
         }
-        self.slots.link(index_of(self.geometry, die, slot))
+        NO_LINK
     }
 
     /// Where the copy behind a place of the page's chain is; none behind none. It is found as `next` finds it.
     fn next_of(&self, page: u32, place: Link) -> Link
         requires page { page < self.now.geometry.pages }
         requires place { IsInside self.now.geometry.dies (die_slots self.now.geometry) (target place) }
+        requires holds { (die slot : ℕ) → target place ≡ Some (die, slot)
+            → entry_of self.now.slots.entries (die_slots self.now.geometry) die slot ≡ Current page }
         ensures { target result ≡ follower self.now.slots.links (die_slots self.now.geometry) (target place) }
     {
         match place.die {
@@ -331,8 +336,8 @@ impl<A: Allocator> Tables<A> {
         );
     }
 
-    /// The slot that holds a copy of the page has this entry, which holds none. Of a page with at most two copies no slot's row
-    /// is read: what stands behind them is kept with the page.
+    /// The slot that holds a copy of the page has this entry, which holds none. Where the page has at most two copies, no other
+    /// slot's row is read or written.
     fn remove_copy(&mut self, page: u32, die: Die, slot: Slot, entry: Entry)
         requires die { die.0 < self.old.geometry.dies }
         requires slot { slot.0 < die_slots self.old.geometry }
@@ -373,7 +378,7 @@ impl<A: Allocator> Tables<A> {
     }
 
     /// The slot, which holds no copy, holds one of the page. No other slot of the die holds the page. Where the page had at most
-    /// two copies, no other slot's row is read.
+    /// two copies, no other slot's row is read. Those of its first two are written where this is its third.
     pub fn add_copy(&mut self, page: u32, die: Die, slot: Slot)
         requires page { page < self.old.geometry.pages }
         requires die { die.0 < self.old.geometry.dies }

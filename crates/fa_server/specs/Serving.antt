@@ -40,12 +40,14 @@ TellsEnd old new status =
     × Prints (fault_lines faults ++ closed_line closed) (closed_status closed) old new status)
     ⊎ TellsNoMemory old new status
 
+-- Where clients can connect is printed.
+abbrev pub Listens : Option (List ℕ) → Option (List ℕ) → Type 0
+Listens old new = (address : List ℕ) × (status : ℕ) × Prints (address_line address) 0 old new status
+
 -- Clients were served: first the address is printed, and at the end what there is to tell then, with its status.
 pub record Serves (old new : Option (List ℕ)) (status : ℕ) : Type 0 where
-  pub address : List ℕ
   pub between : Option (List ℕ)
-  pub first : ℕ
-  pub listens : Prints (address_line address) 0 old between first
+  pub listens : Listens old between
   pub ends : TellsEnd between new status
 
 -- What is printed of an array whose settings were read: that nobody can connect; or the line of the fault for which its images are not

@@ -1,10 +1,10 @@
 //! The command `serve`.
-ghost use Rattle.std.specs.Prelude.{◌≡◌, IfOk};
+ghost use Rattle.std.specs.Prelude.{◌≡◌, IfOk, IfSome, None};
 ghost use Rattle.fa_core.specs.Array.{IsWhole};
 ghost use Rattle.fa_map.specs.PageView.{page_view};
 ghost use Rattle.fa_admin.specs.Array.{mount_line as line_of};
 ghost use Rattle.fa_host.specs.Printing.{Prints};
-ghost use Rattle.fa_server.specs.Serving.{TellsEnd, TellsOn, TellsServe};
+ghost use Rattle.fa_server.specs.Serving.{Listens, TellsEnd, TellsOn, TellsServe};
 
 use crate::closing::{close, print_end};
 use crate::host::ServerHost;
@@ -12,15 +12,16 @@ use crate::ready::{listening_text, ready_of};
 use crate::serving::{Ended, serve_ready};
 use fa_admin::{explain, mount_line};
 use fa_clients::Networked;
-use fa_headers::{MountFault, MountRefused, expect, read_headers};
+use fa_core::Array;
+use fa_headers::{MountFault, MountRefused, Standing, expect, read_headers};
 use fa_host::printing::{DONE, REFUSED, print, refuse_for_memory};
 use fa_host::{NotOpened, OpenImages, open_images, refuse_settings, settings_at, tell};
 use fa_image::Image;
-use fa_map::PageMap;
+use fa_map::{Map, PageMap};
 use fa_mount::{MountedArray, mount_found_side_by_side};
 use fa_settings::Settings;
 use fa_shared::{Fault, Shared};
-use std::alloc::{AllocError, Allocator};
+use std::alloc::{AllocError, Allocator, Global};
 use std::io::{Read, Write};
 use std::marker::Brand;
 use std::net::TcpListener;
@@ -161,6 +162,9 @@ fn mount<R: ServerHost, I: Image + Send, A: Allocator>(
     mount_found_side_by_side(rt, rt.alloc(), images, founds, settings.copies, unclean)
 }
 
+/// How the threads of an array ended, and the faults that took its dies out.
+type Served<I> = (Result<Ended<I>, AllocError>, Result<Vec<Fault>, AllocError>);
+
 /// Serves an array that was mounted, over a ledger of 257 parts that nothing else names.
 fn serve_mounted<
     L: Ledger + Send,
@@ -187,44 +191,135 @@ fn serve_mounted<
     ensures { TellsOn (W.contents output.old) (W.contents output.new) result }
 {
     let MountedArray { array, dies } = mounted;
+    match share::<L, PageMap>(rt.alloc(), blank, array) {
+        Some(shared) => serve_over(
+            rt, shared, dies, listener, images, places, settings, serve, input, output,
+        ),
+        None => refuse_for_memory(output),
+    }
+}
+
+/// An array that was just mounted, to be shared over a ledger of 257 parts that nothing else names. None where memory is refused.
+fn share<L: Ledger, M: Map + Drop>(
+    alloc: Global,
+    blank: Blank,
+    array: Array<M>,
+) -> Option<Shared<L, M>>
+    requires name { blank.name ≡ L.name }
+    requires parts { (blank.parts ≡ L.parts) × (blank.parts ≡ 257) }
+    requires whole { IsWhole M.view array }
+{
     // No event was made of an array that was just mounted.
     if array.counts().0 != 0 {
-        return refuse_for_memory(output);
+        return None;
     }
-    let shared = match Shared::<L, PageMap>::new(rt.alloc(), blank, array) {
-        Ok(shared) => shared,
-        Err(_array) => return refuse_for_memory(output),
-    };
-    let Ok(line) = listening_text(rt.alloc(), listener, settings.listen) else {
-        return refuse_for_memory(output);
-    };
-    let Ok(ready) = ready_of(
+    Shared::<L, M>::new(alloc, blank, array).ok()
+}
+
+/// Serves a shared array, and closes it.
+fn serve_over<
+    L: Ledger + Send,
+    R: ServerHost,
+    I: Image + Send + Drop,
+    N: Read,
+    W: Write,
+    A: Allocator,
+>(
+    rt: &R,
+    shared: Shared<L, PageMap>,
+    dies: Vec<Standing>,
+    listener: &TcpListener,
+    images: Vec<I>,
+    places: &[usize],
+    settings: &Settings<A>,
+    serve: Serve,
+    input: &mut N,
+    output: &mut W,
+) -> u8
+    requires { L.parts ≡ 257 }
+    ensures { TellsOn (W.contents output.old) (W.contents output.new) result }
+{
+    let served = serve_lent(
         rt,
         &shared,
         dies.as_slice(),
+        listener,
         images,
         places,
         settings,
         serve,
-    ) else {
-        return refuse_for_memory(output);
+        input,
+        output,
+    );
+    match served {
+        Some((ended, faults)) => end(rt, shared, dies, ended, faults, output),
+        None => refuse_for_memory(output),
+    }
+}
+
+/// Serves a shared array until the input says so. How its threads ended, and the faults that took dies out; none where memory is refused
+/// before anybody can connect. It stands apart from whoever owns the array, so that no exit of it drops one.
+fn serve_lent<
+    L: Ledger + Send,
+    R: ServerHost,
+    I: Image + Send + Drop,
+    N: Read,
+    W: Write,
+    A: Allocator,
+>(
+    rt: &R,
+    shared: &Shared<L, PageMap>,
+    dies: &[Standing],
+    listener: &TcpListener,
+    images: Vec<I>,
+    places: &[usize],
+    settings: &Settings<A>,
+    serve: Serve,
+    input: &mut N,
+    output: &mut W,
+) -> Option<Served<I>>
+    requires { L.parts ≡ 257 }
+    ensures listens { IfSome result (λ _. Listens (W.contents output.old) (W.contents output.new)) }
+    ensures refused { result ≡ None → W.contents output.new ≡ W.contents output.old }
+{
+    let Ok(line) = listening_text(rt.alloc(), listener, settings.listen) else {
+        return None;
+    };
+    let Ok(ready) = ready_of(rt, shared, dies, images, places, settings, serve) else {
+        return None;
     };
     let _ = print(output, DONE, line.as_bytes());
-    let ended = serve_ready(rt, &shared, listener, ready, input);
-    let faults = shared.faults(rt, rt.alloc());
-    let array = shared.into_array();
-    end(rt, &MountedArray { array, dies }, ended, faults, output)
+    let ended = serve_ready(rt, shared, listener, ready, input);
+    Some((ended, shared.faults(rt, rt.alloc())))
 }
 
 /// Closes an array that was served, and tells how.
-fn end<R: Networked, I: Image + Drop, W: Write>(
+fn end<R: Networked, L: Ledger, M: Map + Drop, I: Image + Drop, W: Write>(
     rt: &R,
-    mounted: &MountedArray<PageMap>,
+    shared: Shared<L, M>,
+    dies: Vec<Standing>,
     ended: Result<Ended<I>, AllocError>,
     faults: Result<Vec<Fault>, AllocError>,
     output: &mut W,
 ) -> u8
-    requires { IsWhole page_view mounted.now.array }
+    ensures { TellsEnd (W.contents output.old) (W.contents output.new) result }
+{
+    let mounted = MountedArray {
+        array: shared.into_array(),
+        dies,
+    };
+    end_lent(rt, &mounted, ended, faults, output)
+}
+
+/// The same of an array that is lent.
+fn end_lent<R: Networked, M: Map + Drop, I: Image + Drop, W: Write>(
+    rt: &R,
+    mounted: &MountedArray<M>,
+    ended: Result<Ended<I>, AllocError>,
+    faults: Result<Vec<Fault>, AllocError>,
+    output: &mut W,
+) -> u8
+    requires { IsWhole M.view mounted.now.array }
     ensures { TellsEnd (W.contents output.old) (W.contents output.new) result }
 {
     let Ok(Ended { images, is_served }) = ended else {

@@ -12,7 +12,8 @@ use Rattle.fa_map.proofs.links.relink.Goals as goal
 pub returns-clause-inside : goal.returns-clause-inside
 returns-clause-inside g c =
     inside_with c.args.geometry.dies (die_slots c.args.geometry) (target c.args.last) c.args.link c.args.slots.now.links _
-    c.write_link.ensures.links c.requires.linked c.requires.last c.requires.inside c.requires.link
+    (c.link_behind.ensures.links ∙ ap (with_link (target c.args.last) (die_slots c.args.geometry) c.args.link) c.write_links.ensures.links)
+    c.requires.linked c.requires.last c.requires.inside c.requires.link
 
 pub returns-clause-seconds : goal.returns-clause-seconds
 returns-clause-seconds g c =
@@ -24,14 +25,14 @@ returns-clause-seconds g c =
     let last = target c.args.last in
     let second = c.second_after-second.result in
     let put : c.set_second.new.self.seconds ≡ set old page second =
-    c.set_second.ensures.seconds ∙ ap (λ (l : List Second). set l page second) c.write_link.ensures.seconds in
+    c.set_second.ensures.seconds ∙ ap (λ (l : List Second). set l page second) c.link_behind.ensures.seconds in
     record {
       long = ap (λ (l : List Second). length l) put ∙ length-set old page second;
       here =
-          subst (λ (l : List Link). IsSecond c.write_link.new.slots.links n (link_at l page) (second_at c.set_second.new.self.seconds page))
-          (sym (c.set_second.ensures.heads ∙ c.write_link.ensures.heads))
+          subst (λ (l : List Link). IsSecond c.link_behind.new.slots.links n (link_at l page) (second_at c.set_second.new.self.seconds page))
+          (sym (c.set_second.ensures.heads ∙ c.link_behind.ensures.heads))
           (subst (λ (l : List Link). IsSecond l n (link_at (with_head last page c.args.link heads) page) (second_at c.set_second.new.self.seconds page))
-          (sym c.write_link.ensures.links)
+          (sym (c.link_behind.ensures.links ∙ ap (with_link last n c.args.link) c.write_links.ensures.links))
           (subst (IsSecond (with_link last n c.args.link links) n (link_at (with_head last page c.args.link heads) page))
           (sym (ap (λ (l : List Second). second_at l page) put ∙ get_or-set_same old page second no_second c.requires.second))
           (second_chosen c.args.geometry.dies n page links heads c.args.link c.args.following c.args.is_followed (second_at old page) second

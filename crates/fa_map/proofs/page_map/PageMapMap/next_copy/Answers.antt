@@ -19,6 +19,12 @@ next-requires-clause-slot g c =
     subst (λ (k : Geometry). c.args.slot.0 < die_slots k) (sym s.same)
     (shown_held s.history.shown s.geometry s.live.items s.live_dies s.tables.pages.versions s.tables.slots.entries s.sound c.args.page.0 c.args.die.0 c.args.slot.0 c.requires.copy).1
 
+pub next-requires-clause-holds : goal.next-requires-clause-holds
+next-requires-clause-holds g c =
+    let s = c.args.self.now in
+    subst (λ (k : Geometry). entry_of s.tables.slots.entries (die_slots k) c.args.die.0 c.args.slot.0 ≡ Current c.args.page.0) (sym s.same)
+    (shown_held s.history.shown s.geometry s.live.items s.live_dies s.tables.pages.versions s.tables.slots.entries s.sound c.args.page.0 c.args.die.0 c.args.slot.0 c.requires.copy).2
+
 pub returns-clause-die : goal.returns-clause-die
 returns-clause-die g c =
     let s = c.args.self.now in

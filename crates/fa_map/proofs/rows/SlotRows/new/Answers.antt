@@ -9,7 +9,7 @@ returns-clause-entries g c =
     ap (λ (l : List SlotRow). map (λ (row : SlotRow). row.entry) l) (c.in_ok-rows.ensures.items_if_clones_equal (λ y same. same))
     ∙ map-replicate (λ (row : SlotRow). row.entry) c.args.count _
 
-pub returns-clause-links : goal.returns-clause-links
-returns-clause-links g c =
+pub returns-clause-written : goal.returns-clause-written
+returns-clause-written g c =
     ap (λ (l : List SlotRow). map (λ (row : SlotRow). row.link) l) (c.in_ok-rows.ensures.items_if_clones_equal (λ y same. same))
     ∙ map-replicate (λ (row : SlotRow). row.link) c.args.count _

@@ -9,7 +9,7 @@ pub returns-clause-entries : goal.returns-clause-entries
 returns-clause-entries g c =
     map-set (λ (row : SlotRow). row.entry) c.self.inside.rows.items c.args.index _ ∙ ap (λ (v : SlotLists). set v.entries c.args.index (c.args.entry)) c.self.view_is
 
-pub returns-clause-links : goal.returns-clause-links
-returns-clause-links g c =
+pub returns-clause-written : goal.returns-clause-written
+returns-clause-written g c =
     map-set_same (λ (row : SlotRow). row.link) c.self.inside.rows.items c.args.index _ c.index_mut.result.now
-    (ap (λ (row : SlotRow). row.link) c.index_mut.ensures.value) ∙ ap (λ (v : SlotLists). v.links) c.self.view_is
+    (ap (λ (row : SlotRow). row.link) c.index_mut.ensures.value) ∙ ap (λ (v : SlotLists). v.written) c.self.view_is

@@ -1,7 +1,8 @@
 use Rattle.std.proofs.Common.{◌≡◌, ◌+◌, ◌*◌, ◌<◌, Some, List, length, refl, sym, ap, subst, ◌∙◌, arith, set}
 use Rattle.std.specs.Prelude.{is_some}
-use Rattle.fa_map.specs.Chains.{AreInside, AreSeconds, IsSecond, behind, entry_of, follower, link_at, second_at, target}
-use Rattle.fa_map.specs.Entries.{AreTallied, with_head, with_link}
+use Rattle.std.proofs.lemmas.List.{length-set}
+use Rattle.fa_map.specs.Chains.{AreInside, AreSeconds, AreWritten, IsSecond, behind, entry_of, follower, link_at, second_at, target}
+use Rattle.fa_map.specs.Entries.{AreTallied, rewritten, with_head, with_link}
 use Rattle.fa_map.specs.Plain.{die_slots}
 use Rattle.fa_map.specs.declared.entries.Entry.TheVariants.{Current}
 use Rattle.fa_map.specs.declared.entries.Link.{Link}
@@ -11,8 +12,9 @@ use Rattle.fa_map.proofs.Few.{few_added, few_bound}
 use Rattle.fa_map.proofs.Found.{found_told}
 use Rattle.fa_map.proofs.Indices.{index_fits}
 use Rattle.fa_map.proofs.Renewed.{IsHolder, follower_above, follower_free, follower_written, leads, second_free}
+use Rattle.fa_map.proofs.Rewritten.{written_added, written_free}
 use Rattle.fa_map.proofs.Seconds.{inside_set}
-use Rattle.fa_map.proofs.Tabled.{copy_added, seconds_added, tables_told}
+use Rattle.fa_map.proofs.Tabled.{bare_entry, copy_added, seconds_added, tables_told}
 use Rattle.fa_map.proofs.Written.{whole_part}
 use Rattle.fa_map.proofs.tables.Tables.add_copy.Goals as goal
 
@@ -116,6 +118,14 @@ invariant_of-self g c =
     let before : c.set_link.new.self.links ≡ set s.slots.links index follow = c.set_link.ensures.links ∙ ap (λ k. set s.slots.links k follow) c.index_of-index.ensures.index in
     let links : c.write_entry.new.slots.links ≡ with_link last (die_slots s.geometry) link (set s.slots.links index follow) =
     c.write_entry.ensures.links ∙ c.relink.ensures.links ∙ ap (λ (l : List Link). with_link last (die_slots s.geometry) link l) before in
+    let n = die_slots s.geometry in
+    let page = c.args.page in
+    let own : List Link = set s.slots.links index follow in
+    let written : c.write_entry.new.slots.written ≡ rewritten (link_at s.pages.heads page) last n link (second_at s.pages.seconds page)
+    (second_at c.relink.new.pages.seconds page).more (set s.slots.written index follow) =
+    c.write_entry.ensures.written ∙ c.relink.ensures.written
+    ∙ ap (λ (l : List Link). rewritten (link_at s.pages.heads page) last n link (second_at s.pages.seconds page) (second_at c.relink.new.pages.seconds page).more l)
+    (c.set_link.ensures.written ∙ ap (λ k. set s.slots.written k follow) c.index_of-index.ensures.index) in
     record {
       sound = tables_told s.geometry (set s.slots.entries index (Current c.args.page)) _ (with_link last (die_slots s.geometry) link (set s.slots.links index follow)) _ (with_head last c.args.page link s.pages.heads) _
           c.write_entry.new.counts _ c.write_entry.new.erased _
@@ -128,6 +138,22 @@ invariant_of-self g c =
           (seconds_added s.geometry s.slots.entries s.slots.links s.pages.heads s.counts.items s.erased.items s.sound c.args.die.0 c.args.slot.0 c.requires.die c.requires.slot c.write_entry.new.counts c.write_entry.new.erased
           c.args.page last (target follow) follow link c.relink.new.slots.links c.relink.new.pages.heads s.pages.seconds c.relink.new.pages.seconds
           c.seam-seam.ensures c.requires.free (c.relink.ensures.links ∙ ap (λ (l : List Link). with_link last (die_slots s.geometry) link l) before) c.relink.ensures.heads s.seconds c.relink.ensures.seconds);
+      written =
+          subst (λ l. AreWritten l c.write_entry.new.slots.links c.write_entry.new.slots.written c.relink.new.pages.seconds n) (sym entries)
+          (subst (λ l. AreWritten (set s.slots.entries index (Current page)) l c.write_entry.new.slots.written c.relink.new.pages.seconds n) (sym links)
+          (subst (λ l. AreWritten (set s.slots.entries index (Current page)) (with_link last n link own) l c.relink.new.pages.seconds n) (sym written)
+          (written_added s.slots.entries n s.geometry.dies s.geometry.pages page s.slots.links own s.pages.heads
+          s.pages.seconds c.relink.new.pages.seconds s.sound.chained c.requires.page s.seconds
+          (second_free (entry_of s.slots.entries n) n s.geometry.dies s.geometry.pages page c.args.die.0 c.args.slot.0 follow s.slots.links s.pages.heads
+          (second_at s.pages.seconds page) s.sound.chained c.requires.page c.requires.slot (c.requires.once c.args.slot.0 c.requires.slot)
+          (s.seconds.behind page c.requires.page))
+          (length-set s.slots.links index follow ∙ s.sound.linked) last link
+          (λ d k at. let old = c.seam-seam.ensures.found d k at in (old.1, old.2, old.3)) c.relink.ensures.seconds.others (set s.slots.written index follow)
+          (written_free s.slots.entries s.slots.links s.slots.written s.pages.seconds n c.args.die.0 c.args.slot.0 follow c.requires.slot
+          (λ p. bare_entry (entry_of s.slots.entries n c.args.die.0 c.args.slot.0) p c.requires.free) s.written)
+          c.args.die.0 c.args.slot.0 c.requires.die c.requires.slot inside
+          (follower_written s.geometry.dies n c.args.die.0 c.args.slot.0 follow s.slots.written (s.written.long ∙ s.sound.linked) c.requires.die c.requires.slot
+          ∙ sym (follower_written s.geometry.dies n c.args.die.0 c.args.slot.0 follow s.slots.links s.sound.linked c.requires.die c.requires.slot)))));
       counted =
           subst (λ l. IsCounted s.geometry l c.put.new.self) (sym entries)
           (few_added s.geometry s.slots.entries c.args.die.0 c.args.slot.0 c.requires.die c.requires.slot inside (Current c.args.page) s.few s.counted

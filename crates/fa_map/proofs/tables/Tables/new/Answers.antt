@@ -8,6 +8,7 @@ use Rattle.fa_map.specs.declared.entries.Entry.TheVariants.{Erased}
 use Rattle.fa_map.specs.declared.slots.BlockCounts.{BlockCounts}
 use Rattle.fa_map.proofs.Few.{few_new}
 use Rattle.fa_map.proofs.Found.{found_whole, new_found, none_stale}
+use Rattle.fa_map.proofs.Rewritten.{new_written}
 use Rattle.fa_map.proofs.Seconds.{new_inside, new_seconds}
 use Rattle.fa_map.proofs.Tabled.{fresh, new_tables, tables_told}
 use Rattle.fa_map.proofs.Written.{repeated}
@@ -24,6 +25,7 @@ invariant_of-result g c =
       sound = tables_told c.args.geometry _ _ _ _ _ _ _ _ _ _ c.in_ok-slots.ensures.entries c.in_ok-slots.ensures.links c.in_ok-pages.ensures.heads counts erased (new_tables c.args.geometry);
       inside = new_inside slots.links c.args.geometry.dies (die_slots c.args.geometry) _ c.in_ok-slots.ensures.links;
       seconds = new_seconds slots.links pages.heads pages.seconds (die_slots c.args.geometry) c.args.geometry.pages c.in_ok-pages.ensures.heads c.in_ok-pages.ensures.seconds;
+      written = new_written slots.entries slots.links slots.written pages.seconds (die_slots c.args.geometry) _ c.in_ok-slots.ensures.links c.in_ok-slots.ensures.written;
       counted = few_new c.args.geometry slots.entries c.in_ok-few.few each c.in_ok-few.ensures;
       found = found_whole c.args.geometry slots.entries c.in_ok-counts.counts.items c.in_ok-finder.finder c.in_ok-finder.ensures.slots c.in_ok-finder.ensures.blocks
           (new_found c.args.geometry slots.entries c.in_ok-counts.counts.items (contains_key c.in_ok-finder.finder.slots) (contains_key c.in_ok-finder.finder.blocks)

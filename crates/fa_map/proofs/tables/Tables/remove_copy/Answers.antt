@@ -8,6 +8,7 @@ use Rattle.fa_map.proofs.Few.{few_bound, few_removed, some_copies}
 use Rattle.fa_map.proofs.Found.{found_told}
 use Rattle.fa_map.proofs.Indices.{index_fits}
 use Rattle.fa_map.proofs.Renewed.{IsHolder, follower_above, leads, next_holder}
+use Rattle.fa_map.proofs.Rewritten.{stood, written_alike, written_kept}
 use Rattle.fa_map.proofs.Tabled.{copy_removed, seconds_removed, tables_told}
 use Rattle.fa_map.proofs.Written.{whole_part}
 use Rattle.fa_map.proofs.tables.Tables.remove_copy.Goals as goal
@@ -27,6 +28,13 @@ relink-requires-clause-link g c = λ d slot e. let old = (c.next-next.ensures.ne
 
 pub next_of-following-requires-clause-place : goal.next_of-following-requires-clause-place
 next_of-following-requires-clause-place g c = λ d slot e. let old = (c.next-next.ensures.next c.requires.old).found d slot e in (old.1, old.2)
+
+pub next_of-requires-clause-holds : goal.next_of-requires-clause-holds
+next_of-requires-clause-holds g c = λ d slot e.
+    let s = c.args.self.now in
+    let n = die_slots s.geometry in
+    (next_holder (entry_of s.slots.entries n) n s.geometry.dies s.geometry.pages c.args.page (c.args.die.0 + 1) (link_at s.pages.heads) s.slots.links
+    (target c.next-next.result) s.sound.chained (c.next-next.ensures.next c.requires.old).found d slot (sym c.next_of-following.ensures ∙ e)).3
 
 pub relink-requires-clause-following : goal.relink-requires-clause-following
 relink-requires-clause-following g c =
@@ -77,6 +85,7 @@ invariant_of-self g c =
     let few : length c.write_entry.new.erased ≡ s.erased.len = omega (arith, s.erased.ok.0) in
     let last = target c.seam.result.last in
     let link = c.next-next.result in
+    let known = (s.sound.chained.fits c.args.die.0 c.args.slot.0 c.args.page c.requires.slot c.requires.old).1 in
     let fits = index_fits c.args.die.0 c.args.slot.0 s.geometry.dies (die_slots s.geometry) c.requires.die c.requires.slot in
     let inside : index < length s.slots.entries = subst (λ k. index < k) (sym s.sound.tallied.slots) fits in
     record {
@@ -91,6 +100,15 @@ invariant_of-self g c =
           (seconds_removed s.geometry s.slots.entries s.slots.links s.pages.heads s.counts.items s.erased.items s.sound c.args.die.0 c.args.slot.0 c.requires.die c.requires.slot c.write_entry.new.counts c.write_entry.new.erased
           c.args.page last (target c.seam.result.next) link c.relink.new.slots.links c.relink.new.pages.heads s.pages.seconds c.relink.new.pages.seconds
           c.seam.ensures c.relink.ensures.links c.relink.ensures.heads s.seconds c.relink.ensures.seconds);
+      written =
+          written_alike s.slots.entries c.write_entry.new.slots.entries _ _ _ _ c.relink.new.pages.seconds (die_slots s.geometry)
+          (λ page d k within is.
+          stood s.slots.entries (die_slots s.geometry) c.args.die.0 c.args.slot.0 c.args.entry inside c.requires.slot c.requires.new page d k within
+          (sym (ap (λ l. entry_of l (die_slots s.geometry) d k) entries) ∙ is))
+          (c.write_entry.ensures.links ∙ c.relink.ensures.links) (c.write_entry.ensures.written ∙ c.relink.ensures.written)
+          (written_kept s.slots.entries (die_slots s.geometry) s.geometry.dies s.geometry.pages c.args.page s.slots.links s.slots.links s.pages.heads
+          s.pages.seconds c.relink.new.pages.seconds s.sound.chained known s.seconds (s.seconds.behind c.args.page known) s.sound.linked last link
+          (λ d k at. let old = c.seam.ensures.found d k at in (old.1, old.2, old.3)) c.relink.ensures.seconds.others s.slots.written s.written);
       counted =
           subst (λ l. IsCounted s.geometry l c.put.new.self) (sym entries)
           (few_removed s.geometry s.slots.entries c.args.die.0 c.args.slot.0 c.requires.die c.requires.slot inside c.args.entry s.few s.counted

@@ -1,6 +1,6 @@
 use Rattle.std.proofs.Common.{ℕ, Option, ap}
 use Rattle.fa_map.specs.Chains.{place_of}
-use Rattle.fa_map.proofs.links.write_link.Goals as goal
+use Rattle.fa_map.proofs.links.link_behind.Goals as goal
 
 pub index_of-requires-clause-die : goal.index_of-requires-clause-die
 index_of-requires-clause-die g c = (c.requires.last c.in-Some.die c.args.last.slot (ap (λ (o : Option ℕ). place_of o c.args.last.slot) c.in-Some.is)).0

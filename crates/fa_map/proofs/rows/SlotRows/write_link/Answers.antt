@@ -3,11 +3,11 @@ use Rattle.std.proofs.lemmas.List.{map-set}
 use Rattle.std.proofs.Math.Seq.{map-set_same}
 use Rattle.fa_map.specs.Rows.{SlotLists}
 use Rattle.fa_map.specs.declared.rows.SlotRow.{SlotRow}
-use Rattle.fa_map.proofs.rows.SlotRows.set_link.Goals as goal
+use Rattle.fa_map.proofs.rows.SlotRows.write_link.Goals as goal
 
-pub returns-clause-links : goal.returns-clause-links
-returns-clause-links g c =
-    map-set (λ (row : SlotRow). row.link) c.self.inside.rows.items c.args.index _ ∙ ap (λ (v : SlotLists). set v.links c.args.index (c.args.link)) c.self.view_is
+pub returns-clause-written : goal.returns-clause-written
+returns-clause-written g c =
+    map-set (λ (row : SlotRow). row.link) c.self.inside.rows.items c.args.index _ ∙ ap (λ (v : SlotLists). set v.written c.args.index (c.args.link)) c.self.view_is
 
 pub returns-clause-entries : goal.returns-clause-entries
 returns-clause-entries g c =
