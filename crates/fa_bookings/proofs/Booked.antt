@@ -10,7 +10,7 @@ use Rattle.std.proofs.lemmas.Bool.{and_from, and_parts, cases_Bool, cases_eq, fa
 use Rattle.std.specs.FinMap.{FinMap, contains_key, empty_of_len, from_entries, get, get-empty, get-insert}
 use Rattle.std.specs.FinMap.{get-remove, insert, len, len-empty, remove, same_map}
 use Rattle.std.specs.Ordering.{eq_by_cmp}
-use Rattle.std.specs.Prelude.{filter, if◌then◌else◌, is_some, nat_lt, not, ◌&&◌, ◌==◌, ◌<◌, ◌≤◌}
+use Rattle.std.specs.Prelude.{filter, if◌then◌else◌, is_some, nat_lt, not, ◌&&◌, ◌==◌, ◌≤◌}
 
 pub same_bookings : (m n : FinMap place_cmp Booking) → ((die round : ℕ) → get m (die, round) ≡ get n (die, round)) → m ≡ n
 same_bookings m n alike = same_map place_cmp_total place_same m n (λ q. alike q.0 q.1)
@@ -155,20 +155,18 @@ pub some_left : (b : Bool) (o : Option Booking) → is_some (if b then o else No
 some_left true o = refl
 some_left false o = refl
 
--- what is left where a round has passed, of bookings that are not before it and on the first dies
-pub advanced : (current dies d r : ℕ) (o : Option Booking) → (is_some o ≡ true → current ≤ r) → (is_some o ≡ true → d < dies)
-    → (if r == current && nat_lt d dies then None else o) ≡ (if nat_lt current r then o else None)
-advanced current dies d r None late low =
-    nothing_else (r == current && nat_lt d dies) None refl ∙ sym (nothing_here (nat_lt current r) None refl)
-advanced current dies d r (Some b) late low =
+-- what is left where a round has passed, of bookings that are not before it
+pub advanced : (current r : ℕ) (o : Option Booking) → (is_some o ≡ true → current ≤ r)
+    → (if r == current then None else o) ≡ (if nat_lt current r then o else None)
+advanced current r None late = nothing_else (r == current) None refl ∙ sym (nothing_here (nat_lt current r) None refl)
+advanced current r (Some b) late =
     let from = late refl in
-    ap (λ x. if r == current && x then None else Some b) (lt-ltb d dies (low refl))
-    ∙ elim (cases_eq r current) [
+    elim (cases_eq r current) [
       | inl same ↦
-          ap (λ x. if x && true then None else Some b) (eq-eqb r current same)
+          ap (λ x. if x then None else Some b) (eq-eqb r current same)
           ∙ sym (ap (λ x. if x then Some b else None)
           (false_from_ne_true _ (λ above. let less = ltb-true current r above in omega (arith, same, less))))
       | inr apart ↦
-          ap (λ x. if x && true then None else Some b) (ne_eqb r current apart)
+          ap (λ x. if x then None else Some b) (ne_eqb r current apart)
           ∙ sym (ap (λ x. if x then Some b else None) (lt-ltb current r (omega (arith, apart, from))))
     ]

@@ -1,5 +1,6 @@
 mod Booked
 pub mod Closed
 mod Exchanged
+mod Forgotten
 pub mod Placed
 mod Windows

@@ -191,20 +191,28 @@ impl<A: Allocator + Clone> Bookings<A> {
         forget_die(&mut self.booked, die.0);
     }
 
-    /// The next round is the current one. The bookings of the one that has passed go, and the windows that ended in it. It asks
-    /// the calendar whether the round is booked on each of these dies, which are all that have bookings, and looks into the table
-    /// for those where it is. The calendar's own steps are those of `Calendar::advance`.
-    pub fn advance(&mut self, dies: u32)
-        requires few { (die round : ℕ) → contains_key (calendar_of self.old).bookings (die, round) ≡ true → die < dies }
-        requires some { dies ≤ 256 }
-        requires early { (calendar_of self.old).round < 2 ^ 56 }
+    /// The number of the first die from one on that may have bookings or a window; 256 where there is none.
+    pub fn busy_from(&self, from: usize) -> usize
+        requires { from ≤ 256 }
+        ensures behind { from ≤ result }
+        ensures most { result ≤ 256 }
+        ensures bookings { (die round : ℕ) → from ≤ die → die < result → get (calendar_of self.now).bookings (die, round) ≡ None }
+        ensures windows { (die : ℕ) → from ≤ die → die < result → get (calendar_of self.now).windows die ≡ None }
+    {
+        self.calendar.busy_from(from)
+    }
+
+    /// The next round is the current one. The bookings of the one that has passed go, and the windows that ended in it. It takes a few
+    /// steps for each die that may have bookings or a window, and a look into the table for each that the round is booked at.
+    pub fn advance(&mut self)
+        requires { (calendar_of self.old).round < 2 ^ 56 }
         ensures { calendar_of self.new ≡ record {
           round = (calendar_of self.old).round + 1;
           bookings = keep (λ place b. nat_lt (calendar_of self.old).round place.1) (calendar_of self.old).bookings;
           windows = keep (λ die window. nat_lt (calendar_of self.old).round window.last.0) (calendar_of self.old).windows;
         } }
     {
-        forget_current(&self.calendar, &mut self.booked, dies);
+        forget_current(&self.calendar, &mut self.booked);
         self.calendar.advance();
     }
 }

@@ -1,5 +1,5 @@
 //! What each booked round is for, in a table.
-ghost use Rattle.std.specs.Prelude.{◌≡◌, ℕ, ◌+◌, ◌<◌, ◌≤◌, ◌==◌, ◌&&◌, not, nat_lt, if◌then◌else◌, false, is_some, None, Some};
+ghost use Rattle.std.specs.Prelude.{◌≡◌, ℕ, ◌+◌, ◌<◌, ◌≤◌, ◌==◌, ◌&&◌, not, if◌then◌else◌, false, is_some, None, Some};
 ghost use Rattle.std.specs.HashMap.{spare};
 ghost use Rattle.fa_bookings.specs.Booked.{booking_at, AreBooked};
 ghost use Rattle.fa_calendar.specs.Calendar.{current_of, is_booked};
@@ -53,22 +53,28 @@ pub fn forget_die<A: Allocator + Clone>(booked: &mut BookedRounds<A>, die: u8)
     );
 }
 
-/// The bookings of a calendar's current round go, which are of these dies. It asks the calendar for each of them, and looks
-/// into the table only for those where the round is booked.
-pub fn forget_current<A: Allocator + Clone>(
-    calendar: &Calendar<A>,
-    booked: &mut BookedRounds<A>,
-    dies: u32,
-)
-    requires few { dies ≤ 256 }
-    requires agree { AreBooked (is_booked calendar.now) booked.old.entries }
+/// The booking of a calendar's current round at a die goes, if there is one. The table is looked into only where the calendar says so.
+fn forget_one<A: Allocator + Clone>(calendar: &Calendar<A>, booked: &mut BookedRounds<A>, die: u8)
+    requires { is_booked calendar.now die (current_of calendar.now) ≡ is_some (booking_at booked.old.entries die (current_of calendar.now)) }
     ensures { (d r : ℕ) → booking_at booked.new.entries d r
-        ≡ (if r == current_of calendar.now && nat_lt d dies then None else booking_at booked.old.entries d r) }
+        ≡ (if die == d && current_of calendar.now == r then None else booking_at booked.old.entries d r) }
 {
     let now = calendar.now();
-    for die in 0..dies {
-        if calendar.is_booked(Die(die as u8), now) {
-            take_out(booked, die as u8, now.0);
-        }
+    if calendar.is_booked(Die(die), now) {
+        take_out(booked, die, now.0);
+    }
+}
+
+/// The bookings of a calendar's current round go. It asks the calendar for each die that may have bookings, and looks into the table
+/// only for those where the round is booked.
+pub fn forget_current<A: Allocator + Clone>(calendar: &Calendar<A>, booked: &mut BookedRounds<A>)
+    requires { AreBooked (is_booked calendar.now) booked.old.entries }
+    ensures { (d r : ℕ) → booking_at booked.new.entries d r
+        ≡ (if r == current_of calendar.now then None else booking_at booked.old.entries d r) }
+{
+    let mut die = calendar.busy_from(0);
+    while die < 256 {
+        forget_one(calendar, booked, die as u8);
+        die = calendar.busy_from(die + 1);
     }
 }

@@ -1,9 +1,11 @@
 pub mod Cases
 pub mod Gaps
+pub mod Idle
+pub mod Least
 pub mod Merged
+pub mod Passing
 pub mod Pieces
 pub mod Places
 pub mod Refusals
 pub mod Sound
 pub mod Totals
-pub mod Unused

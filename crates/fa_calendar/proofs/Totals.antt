@@ -1,7 +1,7 @@
 -- How many rounds lie in merged spans.
-use Rattle.std.proofs.Common.{◌≡◌, ℕ, ◌+◌, ◌-◌, ◌≤◌, Bool, true, false, cond, ◌||◌, nat_le, max, List, [], ◌∷◌, sym, subst, ap, ◌∙◌, arith}
+use Rattle.std.proofs.Common.{◌≡◌, ℕ, ◌+◌, ◌-◌, ◌≤◌, Bool, true, false, inl, inr, cond, ◌||◌, nat_le, max, List, [], ◌∷◌, sym, subst, ap, ◌∙◌, arith}
 use Rattle.std.specs.List.{sum_by}
-use Rattle.std.proofs.lemmas.Bool.{and_parts, leb-true}
+use Rattle.std.proofs.lemmas.Bool.{and_parts, cases_Bool, leb-true}
 use Rattle.std.proofs.lemmas.List.Sums.{sum_by-cons}
 use Rattle.fa_types.specs.Open.{rounds_that}
 use Rattle.fa_batch.specs.declared.spans.Span.{Span}
@@ -26,6 +26,17 @@ total_bounds spans merged from n =
     let sum = covered_sum from n spans (merged_rising spans merged) in
     let fits = overlaps_fit from n spans in
     omega (arith, sum, fits)
+
+-- where none lie in the spans, none is covered
+pub none_covered : (spans : List Span) → AreMerged spans → total_rounds spans ≡ 0 → (round : ℕ) → is_covered spans round ≡ false
+none_covered spans merged none round =
+    elim (cases_Bool (is_covered spans round)) [
+      | inl is ↦
+          let one = ap (λ (b : Bool). cond {A = ℕ} b 1 0) is in
+          let bound = total_bounds spans merged round 1 in
+          absurd (omega (arith, one, bound, none))
+      | inr off ↦ off
+    ]
 
 -- a round behind all spans
 end_of : List Span → ℕ

@@ -1,11 +1,13 @@
 -- The calendars of all dies, by their numbers.
 use Rattle.std.specs.Prelude.{◌≡◌, ℕ, ◌<◌, ◌≤◌, Bool, true, false, not, ◌&&◌, ◌||◌, ◌==◌, List, [], length, slice_index_or, Option, None}
+use Rattle.std.specs.FinMap.{contains_key}
 use Rattle.std.specs.List.{list_any}
 use Rattle.fa_types.specs.Open.{rounds_that, max_closed, FewClosed}
 use Rattle.fa_types.specs.Windows.{is_in_window}
 use Rattle.fa_types.specs.declared.window.Window.{Window}
 use Rattle.fa_batch.specs.declared.plan.Place.{Place}
 use Rattle.fa_batch.specs.Runs.{is_covered}
+use Rattle.fa_set.specs.Members.{Numbers}
 use Rattle.fa_calendar.specs.DieState.{DieState, HasRoom}
 
 abbrev pub no_rounds : DieState
@@ -54,10 +56,10 @@ pub record KeepsDies (old new : List DieState) : Type 0 where
   pub rooms : (die : ℕ) → room_by old die ≤ room_by new die
   pub roomy : AllHaveRoom new
 
--- Nothing is closed on the dies from this number on, and they have no window.
-pub record AreUnused (from : ℕ) (dies : List DieState) : Type 0 where
-  pub closed : (die round : ℕ) → from ≤ die → closed_by dies die round ≡ false
-  pub windows : (die : ℕ) → from ≤ die → window_by dies die ≡ None
+-- Nothing is closed on the dies that are not among these, and they have no window.
+pub record AreIdle (busy : Numbers) (dies : List DieState) : Type 0 where
+  pub closed : (die round : ℕ) → contains_key busy die ≡ false → closed_by dies die round ≡ false
+  pub windows : (die : ℕ) → contains_key busy die ≡ false → window_by dies die ≡ None
 
 -- What holds of the dies of each calendar: nothing is closed before the current round, and from it on the windows are.
 pub record IsCalendar (current : ℕ) (dies : List DieState) : Type 0 where

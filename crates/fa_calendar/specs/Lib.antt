@@ -1,5 +1,6 @@
+pub mod Busy
 pub mod Calendar
-pub mod Dies
 pub mod DieState
+pub mod Dies
 pub mod Merging
 pub mod Windows

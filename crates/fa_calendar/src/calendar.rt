@@ -3,13 +3,14 @@ ghost use Rattle.std.specs.Prelude.{◌≡◌, ℕ, ◌+◌, ◌-◌, ◌^◌, �
 ghost use Rattle.std.specs.List.{AllByRecursion};
 ghost use Rattle.fa_types.specs.Open.{rounds_that, max_closed, FewClosed, IsOpen};
 ghost use Rattle.fa_batch.specs.Plan.{AreApart};
-ghost use Rattle.fa_calendar.specs.Dies.{AreUnused, IsCalendar, is_at};
+ghost use Rattle.fa_calendar.specs.Dies.{AreIdle, IsCalendar, is_at};
 ghost use Rattle.fa_types.specs.Windows.{AreEntries, IsFirstWindow, IsFull};
 ghost use Rattle.fa_calendar.specs.Windows.{left_window};
 
+use crate::busy::BusyDies;
 use crate::die::DieCalendar;
 use crate::dies::{
-    book_all, end_of, open_all, open_dies, open_one, pass_all, restore_all, spans_without,
+    book_all, enter_all, open_all, open_dies, open_one, pass_all, restore_all, spans_without,
 };
 use crate::refused::CalendarRefused;
 use fa_batch::{Closed, Place};
@@ -18,16 +19,15 @@ use std::alloc::{AllocError, Allocator, Global};
 
 /// A current round, the rounds of each die that are booked for reads, and the window of each die that has
 /// one which has not passed. The closed rounds of a die are kept as spans, no two of which touch.
-#[derive(Debug, Drop)]
+#[derive(Drop)]
 pub struct Calendar<A: Allocator = Global> {
     current: u64,
     // The calendar of each die, by its number.
     dies: Vec<DieCalendar<A>, A>,
-    // No die from this number on has a closed round or a window.
-    used: usize,
+    // Each die that has a closed round or a window, and it may be others.
+    busy: BusyDies<A>,
     ghost sound: { IsCalendar current dies.items },
-    ghost most: { used ≤ 256 },
-    ghost unused: { AreUnused used dies.items },
+    ghost idle: { AreIdle busy dies.items },
 }
 
 impl<A: Allocator + Copy> Calendar<A> {
@@ -40,10 +40,11 @@ impl<A: Allocator + Copy> Calendar<A> {
         ensures windows { IfOk result (λ calendar. (die : ℕ) → window_of calendar die ≡ None) }
     {
         let dies = open_dies(alloc)?;
+        let busy = BusyDies::new(alloc)?;
         Ok(Calendar {
             current: round.0,
             dies,
-            used: 0,
+            busy,
         })
     }
 }
@@ -65,7 +66,7 @@ impl<A: Allocator> Calendar<A> {
             → (die : ℕ) × IsFull (current_of self.old) (is_closed_with self.old old.now new.now die) 0 }
         ensures err { OnErr result (IsUnchanged self.old self.new) }
     {
-        self.used = self.used.max(end_of(new));
+        enter_all(&mut self.busy, new);
         open_all(&mut self.dies, old);
         if let Err(refused) = book_all(&mut self.dies, new) {
             restore_all(&mut self.dies, old);
@@ -122,7 +123,7 @@ impl<A: Allocator> Calendar<A> {
             → (n : ℕ) → rounds_that (is_closed self.old die.0) (current_of self.old) n + rounds ≤ max_closed }
         ensures err { OnErr result (IsUnchanged self.old self.new) }
     {
-        self.used = self.used.max(die.0 as usize + 1);
+        self.busy.enter(die);
         match self.dies[die.0 as usize].reserve_window(self.current, rounds) {
             Ok(first) => Ok(Round(first)),
             Err(refused) => Err(refused),
@@ -134,6 +135,18 @@ impl<A: Allocator> Calendar<A> {
         ensures { result ≡ window_of self.now die.0 }
     {
         self.dies[die.0 as usize].window()
+    }
+
+    /// The least die from a number on that may have a booking or a window that has not passed; 256 where there is none. No die that
+    /// has neither is answered, save one that lost them since the last round passed.
+    pub fn busy_from(&self, from: usize) -> usize
+        requires { from ≤ 256 }
+        ensures behind { from ≤ result }
+        ensures most { result ≤ 256 }
+        ensures booked { (die round : ℕ) → from ≤ die → die < result → is_booked self.now die round ≡ false }
+        ensures windows { (die : ℕ) → from ≤ die → die < result → window_of self.now die ≡ None }
+    {
+        self.busy.next_from(from)
     }
 
     /// How many entries a die has: its booked rounds, and the rounds of its window that have not passed. It
@@ -154,15 +167,15 @@ impl<A: Allocator> Calendar<A> {
     }
 
     /// Goes on to the next round. What was booked in the round that has passed is forgotten, and each
-    /// window that ended in it. It takes no memory, and the same few steps for each die up to the last one
-    /// for which a booking or a window was asked at some time.
+    /// window that ended in it. It takes no memory, and a few steps for each die that has a booking or a window,
+    /// or for which one was asked since the last round.
     pub fn advance(&mut self)
         requires { current_of self.old + 1 < 2 ^ 64 }
         ensures current { current_of self.new ≡ current_of self.old + 1 }
         ensures booked { (d r : ℕ) → is_booked self.new d r ≡ (nat_lt (current_of self.old) r && is_booked self.old d r) }
         ensures windows { (d : ℕ) → window_of self.new d ≡ left_window (current_of self.old) (window_of self.old d) }
     {
-        pass_all(&mut self.dies, self.current, self.used);
+        pass_all(&mut self.dies, &mut self.busy, self.current);
         self.current += 1;
     }
 }

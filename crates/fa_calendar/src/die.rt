@@ -1,5 +1,5 @@
 //! The calendar of one die.
-ghost use Rattle.std.specs.Prelude.{◌≡◌, ℕ, ◌+◌, ◌-◌, ◌^◌, ◌<◌, ◌≤◌, ◌==◌, ◌&&◌, ◌||◌, Bool, true, false, not, [], OnOk, OnErr, IfOk, IsOk, IsErrOf, Some, None};
+ghost use Rattle.std.specs.Prelude.{◌≡◌, ℕ, ◌+◌, ◌-◌, ◌^◌, ◌<◌, ◌≤◌, ◌==◌, ◌&&◌, ◌||◌, Bool, true, false, not, [], OnOk, OnErr, IfOk, IsOk, IsErrOf, IsTrue, Some, None};
 ghost use Rattle.std.specs.VecDeque.{deque_len, deque_capacity};
 ghost use Rattle.fa_types.specs.Open.{rounds_that, max_closed};
 ghost use Rattle.fa_batch.specs.Runs.{is_covered, is_from, IsNthFree};
@@ -98,6 +98,14 @@ impl<A: Allocator> DieCalendar<A> {
         ensures { IsNthFree self.now.spans from n result }
     {
         nth_uncovered(&self.spans, from, n)
+    }
+
+    /// Whether no round is closed, and there is no window. It reads a counter.
+    pub fn is_idle(&self) -> bool
+        ensures closed { IsTrue result → (round : ℕ) → is_covered self.now.spans round ≡ false }
+        ensures window { IsTrue result → self.now.window ≡ None }
+    {
+        self.entries == 0 && self.window.is_none()
     }
 
     /// How many rounds are closed. It reads a counter.

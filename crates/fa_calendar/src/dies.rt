@@ -1,12 +1,14 @@
 //! The calendars of all dies, place by place.
 ghost use Rattle.std.specs.Prelude.{◌≡◌, ℕ, ◌≤◌, ◌<◌, ◌≢◌, ◌==◌, ◌&&◌, ◌||◌, Bool, true, false, not, length, IfOk, OnOk, OnErr, IsErrOf, None};
+ghost use Rattle.std.specs.FinMap.{contains_key};
 ghost use Rattle.std.specs.List.{AllByRecursion};
 ghost use Rattle.fa_types.specs.Open.{rounds_that, max_closed};
 ghost use Rattle.fa_batch.specs.Plan.{AreApart};
 ghost use Rattle.fa_batch.specs.Runs.{closed_by as spans_close};
-ghost use Rattle.fa_calendar.specs.Dies.{closed_by, room_by, window_by, is_at, is_one, AllHaveRoom, AreUnused, HasRoomFor, KeepsDies};
+ghost use Rattle.fa_calendar.specs.Dies.{closed_by, room_by, state_of, window_by, is_at, is_one, AllHaveRoom, AreIdle, HasRoomFor, KeepsDies};
 ghost use Rattle.fa_calendar.specs.Windows.{left_window};
 
+use crate::busy::BusyDies;
 use crate::die::DieCalendar;
 use crate::refused::CalendarRefused;
 use fa_batch::{Place, Spans};
@@ -118,33 +120,61 @@ pub fn book_all<A: Allocator>(
     Ok(())
 }
 
-/// A number above those of the dies of these places.
-pub fn end_of(places: &[Place]) -> usize
-    ensures most { result ≤ 256 }
-    ensures above { (die round : ℕ) → result ≤ die → is_at places.now die round ≡ false }
+/// The dies of these places are among the busy ones from now on.
+pub fn enter_all<A: Allocator>(busy: &mut BusyDies<A>, places: &[Place])
+    ensures kept { (die : ℕ) → contains_key busy.new die ≡ false → contains_key busy.old die ≡ false }
+    ensures entered { (die round : ℕ) → contains_key busy.new die ≡ false → is_at places.now die round ≡ false }
 {
-    let mut end = 0;
     for place in places {
-        end = end.max(place.die.0 as usize + 1);
+        busy.enter(place.die);
     }
-    end
 }
 
-/// Forgets a round of each die, before which none is closed, and each window that ended in it. It takes
-/// the same few steps for each die below a bound, from which on nothing is closed and there is no window.
-pub fn pass_all<A: Allocator>(dies: &mut Vec<DieCalendar<A>, A>, round: u64, bound: usize)
+/// Forgets a round of a die, before which none is closed there, and the window that ended in it.
+fn pass_one<A: Allocator>(dies: &mut Vec<DieCalendar<A>, A>, die: usize, round: u64)
+    requires long { length dies.old.items ≡ 256 }
+    requires roomy { AllHaveRoom dies.old.items }
+    requires past { (r : ℕ) → r < round → closed_by dies.old.items die r ≡ false }
+    requires within { die < 256 }
+    ensures long { length dies.new.items ≡ 256 }
+    ensures roomy { AllHaveRoom dies.new.items }
+    ensures others { (d : ℕ) → d ≢ die → state_of dies.new.items d ≡ state_of dies.old.items d }
+    ensures opened { (r : ℕ) → closed_by dies.new.items die r ≡ (closed_by dies.old.items die r && not (r == round)) }
+    ensures window { window_by dies.new.items die ≡ left_window round (window_by dies.old.items die) }
+{
+    dies[die].pass(round);
+}
+
+/// A die is busy no more where nothing is closed there, and it has no window.
+fn leave<A: Allocator>(busy: &mut BusyDies<A>, dies: &Vec<DieCalendar<A>, A>, die: usize)
+    requires long { length dies.now.items ≡ 256 }
+    requires within { die < 256 }
+    requires idle { AreIdle busy.old dies.now.items }
+    ensures { AreIdle busy.new dies.now.items }
+{
+    if dies[die].is_idle() {
+        busy.leave(die);
+    }
+}
+
+/// Forgets a round of each die, before which none is closed, and each window that ended in it. It takes a few steps for each busy
+/// die; they have all closed rounds and all windows.
+pub fn pass_all<A: Allocator>(dies: &mut Vec<DieCalendar<A>, A>, busy: &mut BusyDies<A>, round: u64)
     requires long { length dies.old.items ≡ 256 }
     requires roomy { AllHaveRoom dies.old.items }
     requires past { (die r : ℕ) → r < round → closed_by dies.old.items die r ≡ false }
-    requires within { bound ≤ 256 }
-    requires unused { AreUnused bound dies.old.items }
+    requires idle { AreIdle busy.old dies.old.items }
     ensures long { length dies.new.items ≡ 256 }
     ensures roomy { AllHaveRoom dies.new.items }
     ensures opened { (die r : ℕ) → closed_by dies.new.items die r ≡ (closed_by dies.old.items die r && not (r == round)) }
     ensures windows { (die : ℕ) → window_by dies.new.items die ≡ left_window round (window_by dies.old.items die) }
+    ensures idle { AreIdle busy.new dies.new.items }
 {
-    for index in 0..bound {
-        dies[index].pass(round);
+    let mut die = busy.next_from(0);
+    while die < 256 {
+        pass_one(dies, die, round);
+        leave(busy, dies, die);
+        die = busy.next_from(die + 1);
     }
 }
 

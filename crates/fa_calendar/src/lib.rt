@@ -2,6 +2,7 @@
 //! which are open.
 #![tactic(auto)]
 
+mod busy;
 mod calendar;
 mod die;
 mod dies;

@@ -11,7 +11,8 @@ use Rattle.fa_headers.specs.Rules.{is_in}
 use Rattle.fa_machine.specs.Maps.{Numbers}
 use Rattle.fa_map.proofs.Ranges.{bit, count_agree, count_more}
 use Rattle.fa_mount.specs.Closing.{how_many}
-use Rattle.fa_state.proofs.Numbers.{len_less, removed_other}
+use Rattle.fa_set.proofs.Changed.{removed_other}
+use Rattle.fa_state.proofs.Numbers.{len_less}
 
 pub with_die : (n k : ℕ) → k < 64 → (other : ℕ) → is_in (bit_or n (1 * 2 ^ k % 2 ^ 64)) other ≡ (other == k || is_in n other)
 with_die n k within other =

@@ -10,7 +10,7 @@ use Rattle.fa_headers.specs.declared.judging.Standing.{Standing}
 use Rattle.fa_headers.specs.declared.judging.Standing.TheVariants.{Missing, Live, Spare, Out}
 use Rattle.fa_machine.specs.Maps.{Numbers}
 use Rattle.fa_mount.specs.Begins.{AreSpares}
-use Rattle.fa_state.proofs.Numbers.{inserted_here, inserted_other}
+use Rattle.fa_set.proofs.Changed.{inserted_here, inserted_other}
 use Rattle.fa_machine.specs.State.{MapState, is_live}
 use Rattle.fa_types.specs.declared.geometry.Geometry.{Geometry}
 use Rattle.fa_scan.specs.Content.{Contents, IsMountedContent}

@@ -1,4 +1,5 @@
 pub mod Bits
+pub mod Changed
 pub mod Empty
 pub mod Leveled
 pub mod Lowest

@@ -1,5 +1,5 @@
 -- Sets of numbers, and those that are looked at one after the other.
-use Rattle.fa_machine.proofs.Maps.{get-insert_other, get-insert_same, get-remove_other, get-remove_same}
+use Rattle.fa_set.proofs.Changed.{inserted_here, inserted_other, removed_here, removed_other}
 use Rattle.fa_set.proofs.Membership.{in_below}
 use Rattle.fa_set.specs.Members.{Numbers, numbers_below}
 use Rattle.fa_set.specs.Words.{has}
@@ -32,18 +32,6 @@ same_below bound words n same inside = same_numbers (numbers_below bound words) 
       in_below bound words k ∙ ap (λ b. b && has words k) (le-ltb k bound high)
       ∙ sym (false_from_ne_true (contains_key n k) (λ is. let low = inside k is in omega (arith, high, low)))
 ])
-
-pub inserted_here : (m : Numbers) (n : ℕ) → contains_key (insert m n tt) n ≡ true
-inserted_here m n = ap is_some (get-insert_same m n tt)
-
-pub inserted_other : (m : Numbers) (n k : ℕ) → (k ≡ n → ⊥) → contains_key (insert m n tt) k ≡ contains_key m k
-inserted_other m n k apart = ap is_some (get-insert_other m n tt k apart)
-
-pub removed_here : (m : Numbers) (n : ℕ) → contains_key (remove m n) n ≡ false
-removed_here m n = ap is_some (get-remove_same m n)
-
-pub removed_other : (m : Numbers) (n k : ℕ) → (k ≡ n → ⊥) → contains_key (remove m n) k ≡ contains_key m k
-removed_other m n k apart = ap is_some (get-remove_other m n k apart)
 
 -- one more number is as it is to be
 pub one_more : (old new live : Numbers) (die : ℕ) → ((k : ℕ) → k < die → contains_key old k ≡ contains_key live k)

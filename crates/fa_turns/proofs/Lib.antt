@@ -1,4 +1,5 @@
 mod Copied
 mod Passed
 mod Placed
+mod Settled
 mod Windowed

@@ -42,20 +42,18 @@ fn pass<M: Map, A: Allocator + Clone>(state: &mut State<M, A>) -> Round
     ensures advances { Advances (core_of M.view state.old) (Ok result) (core_of M.view state.new) }
     ensures fitted { IsFitted M.view state.new }
 {
-    let dies = state.page_map.geometry().dies;
-    state.bookings.advance(dies);
-    clear(&mut state.stepped, dies);
+    state.bookings.advance();
+    clear(&mut state.stepped);
     state.bookings.now()
 }
 
-/// The set has no members from now on.
-fn clear<A: Allocator>(set: &mut NumberSet<A>, bound: u32)
-    requires { bound_of set.old ≡ bound }
+/// The set has no members from now on. It takes a few steps for each that it had.
+fn clear<A: Allocator>(set: &mut NumberSet<A>)
     ensures bound { bound_of set.new ≡ bound_of set.old }
     ensures empty { members set.new ≡ empty }
 {
-    for number in 0..bound {
-        set.remove(number as usize);
+    while let Some(number) = set.lowest_from(0) {
+        set.remove(number);
     }
 }
 
@@ -75,14 +73,17 @@ fn refusal<M: Map, A: Allocator + Clone>(state: &State<M, A>) -> Option<AdvanceR
     None
 }
 
-/// Whether a read or a collector's step of this round has not ended.
+/// Whether a read or a collector's step of this round has not ended. It looks at each die that may have a booking or a window.
 fn is_pending<M: Map, A: Allocator + Clone>(state: &State<M, A>) -> bool
     ensures { result ≡ list_any (rule_round (core_of M.view state.now)) (dies_of (M.view state.now.page_map)) }
 {
-    for die in 0..state.page_map.geometry().dies {
+    let dies = state.page_map.geometry().dies as usize;
+    let mut die = state.bookings.busy_from(0);
+    while die < dies {
         if is_round_pending(state, Die(die as u8)) {
             return true;
         }
+        die = state.bookings.busy_from(die + 1);
     }
     false
 }
@@ -161,10 +162,12 @@ fn is_idle<A: Allocator + Clone>(bookings: &Bookings<A>) -> bool
 fn has_window<A: Allocator + Clone>(bookings: &Bookings<A>) -> bool
     ensures { result ≡ not (len (calendar_of bookings.now).windows == 0) }
 {
-    for die in 0..256u32 {
+    let mut die = bookings.busy_from(0);
+    while die < 256 {
         if bookings.window(Die(die as u8)).is_some() {
             return true;
         }
+        die = bookings.busy_from(die + 1);
     }
     false
 }

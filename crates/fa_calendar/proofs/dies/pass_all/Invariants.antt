@@ -1,14 +1,16 @@
-use Rattle.std.proofs.Common.{◌≡◌, ℕ, ◌<◌, ◌≤◌, ◌&&◌, not, nat_eq, length}
-use Rattle.fa_calendar.specs.DieState.{HasRoom}
-use Rattle.fa_calendar.specs.Dies.{closed_by, state_of, window_by}
-use Rattle.fa_calendar.specs.Windows.{left_window}
+use Rattle.std.proofs.Common.{◌≡◌, ◌≤◌, ◌-◌, length}
+use Rattle.fa_calendar.specs.Dies.{AllHaveRoom, AreIdle}
+use Rattle.fa_calendar.proofs.Passing.{HasPassed}
 use Rattle.fa_calendar.proofs.dies.pass_all.Given as goal
 
-abbrev pub invariant-loop-index : goal.invariant-loop-index
-invariant-loop-index g l = record {
+abbrev pub invariant-loop-die : goal.invariant-loop-die
+invariant-loop-die g l = record {
   long : length l.dies.items ≡ 256;
-  roomy : (die : ℕ) → HasRoom (state_of l.dies.items die);
-  opened : (die r : ℕ) → die < l.index → closed_by l.dies.items die r ≡ (closed_by l.fn.dies.items die r && not (nat_eq r l.round));
-  windows : (die : ℕ) → die < l.index → window_by l.dies.items die ≡ left_window l.round (window_by l.fn.dies.items die);
-  same : (die : ℕ) → l.index ≤ die → state_of l.dies.items die ≡ state_of l.fn.dies.items die;
+  roomy : AllHaveRoom l.dies.items;
+  most : l.die ≤ 256;
+  passed : HasPassed l.round l.die l.initial.dies.items l.dies.items;
+  idle : AreIdle l.busy l.dies.items;
 }
+
+abbrev pub decreases-loop-die : goal.decreases-loop-die
+decreases-loop-die g l = 256 - l.die

@@ -1,5 +1,5 @@
 use Rattle.fa_set.specs.Members.{Numbers, members}
-use Rattle.fa_state.proofs.Numbers.{inserted_here, inserted_other, removed_here, removed_other}
+use Rattle.fa_set.proofs.Changed.{inserted_here, inserted_other, removed_here, removed_other}
 use Rattle.std.proofs.Common.{ap, sym, ◌∙◌}
 use Rattle.std.specs.FinMap.{contains_key}
 use Rattle.fa_state.proofs.live.mark.Goals as goal

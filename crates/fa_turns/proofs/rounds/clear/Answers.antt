@@ -1,24 +1,27 @@
-use Rattle.fa_set.specs.Members.{Numbers, members}
-use Rattle.fa_state.proofs.Numbers.{empty_below, removed_here, removed_other}
-use Rattle.std.proofs.Common.{ap, arith, inl, inr, ◌∙◌}
-use Rattle.std.proofs.lemmas.Bool.{cases_eq}
-use Rattle.std.specs.FinMap.{contains_key}
+use Rattle.fa_map.proofs.Ranges.{find_is, none_is}
+use Rattle.fa_set.specs.Members.{is_in, members}
+use Rattle.fa_state.proofs.Numbers.{empty_below, len_less}
+use Rattle.std.proofs.Common.{ap, arith, sym, ◌-◌, ◌∙◌}
+use Rattle.std.specs.FinMap.{len}
 use Rattle.fa_turns.proofs.rounds.clear.Goals as goal
 
-pub loop-number-preserved : goal.loop-number-preserved
-loop-number-preserved g c =
-    let m = members c.loop-number.set in
-    let n = c.loop-number.number in (
-      c.remove.ensures.bound ∙ c.loop-number.invariant.0,
-      λ k low. ap (λ (s : Numbers). contains_key s k) c.remove.ensures.members ∙ elim (cases_eq k n) [
-        | inl same ↦ ap (contains_key _) same ∙ removed_here m n
-        | inr apart ↦ removed_other m n k apart ∙ c.loop-number.invariant.1 k (omega (arith, low, apart))
-      ],
-    )
+pub remove-requires : goal.remove-requires
+remove-requires g c =
+    let set = c.loop-number.set in
+    let found = find_is (is_in set) 0 (set.bound - 0) c.in-Some.number (sym c.lowest_from.ensures ∙ c.in-Some.is) in
+    let low = found.1 in
+    omega (arith, low)
+
+pub loop-number-smaller : goal.loop-number-smaller
+loop-number-smaller g c =
+    let set = c.loop-number.set in
+    let found = find_is (is_in set) 0 (set.bound - 0) c.in-Some.number (sym c.lowest_from.ensures ∙ c.in-Some.is) in
+    let less = len_less (members set) c.in-Some.number found.2 in
+    let is = ap len c.remove.ensures.members in
+    omega (arith, less, is)
 
 pub returns-clause-empty : goal.returns-clause-empty
 returns-clause-empty g c =
-    let bound = c.loop-number.invariant.0 in
-    let all = c.loop-number-test.false in
-    empty_below c.loop-number.set.bound c.loop-number.set.low.items
-    (λ k low. c.loop-number.invariant.1 k (omega (arith, low, bound, all)))
+    let set = c.loop-number.set in
+    empty_below set.bound set.low.items
+    (λ k low. none_is (is_in set) 0 (set.bound - 0) k (sym c.lowest_from.ensures ∙ c.in_default.is) (omega arith) (omega (arith, low)))

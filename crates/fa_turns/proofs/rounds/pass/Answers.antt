@@ -5,21 +5,13 @@ use Rattle.fa_parts.specs.Dies.{bound_of, by_die}
 use Rattle.fa_state.specs.Core.{core_of}
 use Rattle.fa_state.specs.Tracked.{AreTracked}
 use Rattle.fa_turns.proofs.Passed.{below_end, inside_left, may_pass, tracked_left}
-use Rattle.fa_types.specs.declared.geometry.Geometry.{Geometry}
 use Rattle.std.proofs.Common.{ap, arith, subst, sym, true, ℕ, ◌<◌, ◌∙◌, ◌≡◌}
 use Rattle.std.specs.FinMap.{FinMap, contains_key}
 use Rattle.std.specs.Prelude.{◌^◌}
 use Rattle.fa_turns.proofs.rounds.pass.Goals as goal
 
-pub advance-requires-clause-few : goal.advance-requires-clause-few
-advance-requires-clause-few g c die round is =
-    let low = c.requires.fitted.inside die round is in
-    let jobs = c.requires.fitted.jobs in
-    let dies = ap (λ (k : Geometry). k.dies) c.geometry-dies.ensures in
-    omega (arith, low, jobs, dies)
-
-pub advance-requires-clause-early : goal.advance-requires-clause-early
-advance-requires-clause-early g c =
+pub advance-requires : goal.advance-requires
+advance-requires g c =
     let core = core_of g.M.Map.view c.args.state.now in
     below_end core.calendar.round (2 ^ 56) c.requires.fitted.round (may_pass core c.requires.ready).1
 

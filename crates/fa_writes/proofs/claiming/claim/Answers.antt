@@ -1,4 +1,4 @@
-use Rattle.std.proofs.Common.{ap, sym, ◌∙◌, None}
+use Rattle.std.proofs.Common.{ap, refl, sym, ◌∙◌, None}
 use Rattle.fa_claims.specs.Claims.{claims_of}
 use Rattle.fa_state.specs.Core.{core_of}
 use Rattle.std.specs.FinMap.{contains_key, insert}
@@ -6,6 +6,9 @@ use Rattle.fa_writes.proofs.claiming.claim.Goals as goal
 
 pub claim-requires : goal.claim-requires
 claim-requires g c = sym c.is_claimed.ensures.number ∙ c.if-is_claimed.false
+
+pub returns-then-is_claimed-clause-claims : goal.returns-then-is_claimed-clause-claims
+returns-then-is_claimed-clause-claims g c = (sym c.is_claimed.ensures.claimed ∙ c.if-is_claimed.true, refl)
 
 pub returns-in-Ok-clause-claims : goal.returns-in-Ok-clause-claims
 returns-in-Ok-clause-claims g c =

@@ -11,8 +11,7 @@ pub invariant_of-self : goal.invariant_of-self
 invariant_of-self g c = record {
   agree = λ d r. c.advance.ensures.booked d r ∙ ap (λ b. nat_lt c.args.self.now.calendar.current r && b) (c.args.self.now.agree d r)
       ∙ sym (some_left (nat_lt c.args.self.now.calendar.current r) (booking_at c.args.self.now.booked.entries d r))
-      ∙ sym (ap is_some (remains c.args.self.now c.args.dies c.forget_current.new.booked.entries c.requires.few
-      c.forget_current.ensures d r));
+      ∙ sym (ap is_some (remains c.args.self.now c.forget_current.new.booked.entries c.forget_current.ensures d r));
 }
 
 pub returns : goal.returns
@@ -20,7 +19,7 @@ returns g c = λ i. record {
   round = c.advance.ensures.current i;
   bookings = left c.args.self.now.booked.entries c.forget_current.new.booked.entries
       (λ place. nat_lt c.args.self.now.calendar.current place.1)
-      (remains c.args.self.now c.args.dies c.forget_current.new.booked.entries c.requires.few c.forget_current.ensures) i;
+      (remains c.args.self.now c.forget_current.new.booked.entries c.forget_current.ensures) i;
   windows = windows_pass _ _ (past c.args.self.now.calendar) (past c.advance.new.self) c.args.self.now.calendar.current
       c.advance.ensures.windows i;
 }

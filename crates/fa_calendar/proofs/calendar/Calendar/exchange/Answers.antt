@@ -2,7 +2,7 @@ use Rattle.std.proofs.Common.{ℕ, ◌≡◌, ◌&&◌, ◌||◌, not, refl, ap,
 use Rattle.fa_calendar.specs.Dies.{closed_by, is_at, KeepsDies}
 use Rattle.fa_calendar.proofs.Places.{keeps_trans}
 use Rattle.fa_calendar.proofs.Sound.{exchanged_sound, exchanged_booked, exchanged_full, free_once, full_then, restored_closed, restored_room, same_sound, same_booked}
-use Rattle.fa_calendar.proofs.Unused.{unused_exchanged, unused_same}
+use Rattle.fa_calendar.proofs.Idle.{idle_exchanged, idle_same}
 use Rattle.fa_calendar.proofs.calendar.Calendar.exchange.Given.{Over}
 use Rattle.fa_calendar.proofs.calendar.Calendar.exchange.Goals as goal
 use Rattle.fa_calendar.proofs.calendar.Calendar.exchange.Goals.{After-restore_all, In_default, In-Err}
@@ -39,9 +39,8 @@ invariant_of-self g c =
     record {
       sound = same_sound c.args.self.now.current c.args.self.now.dies.items c.restore_all.new.dies.items c.args.self.now.sound
           (keeps_back g at) (back g at);
-      most = omega (arith, c.max-self.ensures, c.end_of.ensures.most, c.args.self.now.most);
-      unused = unused_same c.args.self.now.used c.max-self.result c.args.self.now.dies.items c.restore_all.new.dies.items
-          c.args.self.now.unused (omega (arith, c.max-self.ensures)) (keeps_back g at) (back g at);
+      idle = idle_same c.args.self.now.busy c.enter_all.new.busy c.args.self.now.dies.items
+          c.restore_all.new.dies.items c.args.self.now.idle c.enter_all.ensures.kept (keeps_back g at) (back g at);
     }
 
 pub returns-in-Err-clause-full : goal.returns-in-Err-clause-full
@@ -67,10 +66,9 @@ invariant_of-self-in_default g c =
     record {
       sound = exchanged_sound c.args.self.now.current c.args.self.now.dies.items c.args.self.now.sound c.args.old.now c.args.new.now
           c.requires.booked c.requires.opens c.book_all.new.dies.items (keeps_on g at) (exchanged g at);
-      most = omega (arith, c.max-self.ensures, c.end_of.ensures.most, c.args.self.now.most);
-      unused = unused_exchanged c.args.self.now.used c.max-self.result c.args.self.now.dies.items c.book_all.new.dies.items
-          c.args.old.now c.args.new.now c.args.self.now.unused (omega (arith, c.max-self.ensures)) (keeps_on g at) (exchanged g at)
-          (λ die round high. c.end_of.ensures.above die round (omega (arith, c.max-self.ensures, high)));
+      idle = idle_exchanged c.args.self.now.busy c.enter_all.new.busy c.args.self.now.dies.items
+          c.book_all.new.dies.items c.args.old.now c.args.new.now c.args.self.now.idle c.enter_all.ensures.kept (keeps_on g at)
+          (exchanged g at) c.enter_all.ensures.entered;
     }
 
 pub returns-clause-ok : goal.returns-clause-ok

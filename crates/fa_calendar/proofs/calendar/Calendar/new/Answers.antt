@@ -1,4 +1,5 @@
-use Rattle.std.proofs.Common.{ℕ, ◌≡◌, ◌≤◌, true, ap, arith}
+use Rattle.std.proofs.Common.{ℕ, ◌≡◌, ◌≤◌, true, ap, not}
+use Rattle.std.proofs.lemmas.Bool.{and_left}
 use Rattle.fa_calendar.specs.Dies.{closed_by, window_by}
 use Rattle.fa_types.specs.Windows.{is_in_window}
 use Rattle.fa_calendar.proofs.Sound.{few_taken}
@@ -16,9 +17,13 @@ invariant_of-result g c =
         held = held;
         few = few_taken c.args.round.0 c.in_ok-dies.dies.items c.in_ok-dies.ensures.roomy held;
       };
-      most = omega arith;
-      unused = record {
-        closed = λ die round high. c.in_ok-dies.ensures.closed die round;
-        windows = λ die high. c.in_ok-dies.ensures.windows die;
+      idle = record {
+        closed = λ die round off. c.in_ok-dies.ensures.closed die round;
+        windows = λ die off. c.in_ok-dies.ensures.windows die;
       };
     }
+
+pub returns-clause-booked : goal.returns-clause-booked
+returns-clause-booked g c die r =
+    and_left (closed_by c.in_ok-dies.dies.items die r) (not (is_in_window (window_by c.in_ok-dies.dies.items die) r))
+    (c.in_ok-dies.ensures.closed die r)

@@ -1,9 +1,9 @@
-use Rattle.std.proofs.Common.{ℕ, ◌≡◌, ◌&&◌, ◌||◌, not, nat_eq, [], ◌∷◌, refl, sym, ◌∙◌, arith}
+use Rattle.std.proofs.Common.{ℕ, ◌≡◌, ◌&&◌, ◌||◌, not, nat_eq, [], ◌∷◌, refl, sym, ◌∙◌}
 use Rattle.fa_batch.specs.declared.plan.Place.{Place}
 use Rattle.fa_calendar.specs.Dies.{booked_by, closed_by, is_at}
 use Rattle.fa_calendar.proofs.Cases.{one_is}
 use Rattle.fa_calendar.proofs.Sound.{exchanged_sound, exchanged_booked}
-use Rattle.fa_calendar.proofs.Unused.{unused_exchanged}
+use Rattle.fa_calendar.proofs.Idle.{idle_exchanged}
 use Rattle.fa_calendar.proofs.calendar.Calendar.release.Given.{Over}
 use Rattle.fa_calendar.proofs.calendar.Calendar.release.Goals as goal
 use Rattle.fa_calendar.proofs.calendar.Calendar.release.Goals.{After-open_one}
@@ -23,9 +23,9 @@ invariant_of-self g c =
     record {
       sound = exchanged_sound c.args.self.now.current c.args.self.now.dies.items c.args.self.now.sound (place g at ∷ []) []
           (c.requires, tt) tt c.open_one.new.dies.items c.open_one.ensures.kept (same g at);
-      most = c.args.self.now.most;
-      unused = unused_exchanged c.args.self.now.used c.args.self.now.used c.args.self.now.dies.items c.open_one.new.dies.items
-          (place g at ∷ []) [] c.args.self.now.unused (omega arith) c.open_one.ensures.kept (same g at) (λ die round high. refl);
+      idle = idle_exchanged c.args.self.now.busy c.args.self.now.busy c.args.self.now.dies.items
+          c.open_one.new.dies.items (place g at ∷ []) [] c.args.self.now.idle (λ die off. off) c.open_one.ensures.kept (same g at)
+          (λ die round off. refl);
     }
 
 pub returns-clause-booked : goal.returns-clause-booked

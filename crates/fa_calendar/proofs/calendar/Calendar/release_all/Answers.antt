@@ -1,8 +1,8 @@
-use Rattle.std.proofs.Common.{ℕ, ◌≡◌, ◌&&◌, ◌||◌, not, [], refl, sym, ◌∙◌, arith}
+use Rattle.std.proofs.Common.{ℕ, ◌≡◌, ◌&&◌, ◌||◌, not, [], refl, sym, ◌∙◌}
 use Rattle.fa_calendar.specs.Dies.{booked_by, closed_by, is_at}
 use Rattle.fa_calendar.proofs.Cases.{or_none}
 use Rattle.fa_calendar.proofs.Sound.{exchanged_sound, exchanged_booked}
-use Rattle.fa_calendar.proofs.Unused.{unused_exchanged}
+use Rattle.fa_calendar.proofs.Idle.{idle_exchanged}
 use Rattle.fa_calendar.proofs.calendar.Calendar.release_all.Given.{Over}
 use Rattle.fa_calendar.proofs.calendar.Calendar.release_all.Goals as goal
 use Rattle.fa_calendar.proofs.calendar.Calendar.release_all.Goals.{After-open_all}
@@ -17,9 +17,9 @@ invariant_of-self g c =
     record {
       sound = exchanged_sound c.args.self.now.current c.args.self.now.dies.items c.args.self.now.sound c.args.places.now []
           c.requires tt c.open_all.new.dies.items c.open_all.ensures.kept (same g at);
-      most = c.args.self.now.most;
-      unused = unused_exchanged c.args.self.now.used c.args.self.now.used c.args.self.now.dies.items c.open_all.new.dies.items
-          c.args.places.now [] c.args.self.now.unused (omega arith) c.open_all.ensures.kept (same g at) (λ die round high. refl);
+      idle = idle_exchanged c.args.self.now.busy c.args.self.now.busy c.args.self.now.dies.items
+          c.open_all.new.dies.items c.args.places.now [] c.args.self.now.idle (λ die off. off) c.open_all.ensures.kept (same g at)
+          (λ die round off. refl);
     }
 
 pub returns-clause-booked : goal.returns-clause-booked

@@ -6,7 +6,7 @@ use Rattle.fa_calendar.specs.Dies.{closed_by}
 use Rattle.fa_calendar.specs.declared.refused.CalendarRefused.TheVariants.{Full, NoMemory}
 use Rattle.fa_calendar.proofs.Refusals.{err_as}
 use Rattle.fa_calendar.proofs.Sound.{counted_from, state_here, taken_same, window_booked, window_sound}
-use Rattle.fa_calendar.proofs.Unused.{unused_set}
+use Rattle.fa_calendar.proofs.Idle.{idle_entered}
 use Rattle.fa_calendar.proofs.calendar.Calendar.reserve_window.Goals as goal
 
 pub invariant_of-self : goal.invariant_of-self
@@ -14,9 +14,8 @@ invariant_of-self g c = record {
   sound =
       window_sound c.args.self.now.current c.args.self.now.dies.items c.args.self.now.sound c.args.die.0 c.index_mut.result.now c.reserve_window.new.self (omega arith) c.index_mut.ensures.value
       c.args.rounds c.reserve_window.result c.requires.some c.reserve_window.ensures.roomy c.reserve_window.ensures.first c.reserve_window.ensures.window c.reserve_window.ensures.closed c.reserve_window.ensures.err;
-  unused = unused_set c.args.self.now.used c.max-self.result c.args.self.now.dies.items c.args.self.now.unused
-      (omega (arith, c.max-self.ensures)) c.args.die.0 c.reserve_window.new.self (omega (arith, c.max-self.ensures));
-  most = omega (arith, c.max-self.ensures, c.args.self.now.most);
+  idle = idle_entered c.args.self.now.busy c.enter.new.self c.args.self.now.dies.items c.args.die.0
+      c.reserve_window.new.self c.args.self.now.idle c.enter.ensures;
 }
 
 pub returns-in-Ok-clause-booked : goal.returns-in-Ok-clause-booked
