@@ -87,33 +87,48 @@ fn bytes_on(
 ) -> io::Result<(usize, usize)> {
     let mut bench = bench_of(heap, rt.alloc())?;
     let before = heap.used();
-    let mut array = array_of(heap, geometry)?;
+    let array = array_of(heap, geometry)?;
+    Ok(bytes_over(rt, array, heap, &mut bench, before))
+}
+
+/// The same of a new array, before which so many bytes of the heap were in use.
+fn bytes_over<'a, M: Map + Drop>(
+    rt: &impl Clock,
+    array: Array<M, &'a LocalHeap>,
+    heap: &'a LocalHeap,
+    bench: &mut Bench<&'a LocalHeap>,
+    before: usize,
+) -> (usize, usize)
+    requires { IsWhole M.view array }
+{
+    let mut array = array;
     let new = heap.used().saturating_sub(before);
-    fill(rt, &mut array, heap, &mut bench);
+    fill(rt, &mut array, heap, bench);
     let full = heap.used().saturating_sub(before);
-    Ok((new, full))
+    (new, full)
 }
 
 /// Times the calls of an array, and prints a line for each.
 fn tell_times(rt: &(impl Clock + Print + AllocGlobal), geometry: Geometry) -> io::Result<()> {
     let mut bench = bench_of(rt.alloc(), rt.alloc())?;
-    let mut array = array_of(rt.alloc(), geometry)?;
-    time_all(rt, &mut array, rt.alloc(), rt.alloc(), &mut bench)
+    let array = array_of(rt.alloc(), geometry)?;
+    time_all(rt, array, rt.alloc(), rt.alloc(), &mut bench)
 }
 
 /// Times the calls of a new array.
-fn time_all<M: Map, A: Allocator + Copy>(
+fn time_all<M: Map + Drop, A: Allocator + Copy>(
     rt: &(impl Clock + Print),
-    array: &mut Array<M, A>,
+    array: Array<M, A>,
     heap: A,
     alloc: Global,
     bench: &mut Bench<A>,
 ) -> io::Result<()>
-    requires { IsWhole M.view array.old }
+    requires { IsWhole M.view array }
 {
+    let mut array = array;
     time_clock(rt, bench, TURNS as u32);
-    fill(rt, array, heap, bench);
-    run(rt, array, heap, alloc, bench)?;
+    fill(rt, &mut array, heap, bench);
+    run(rt, &mut array, heap, alloc, bench)?;
     bench.timings.tell(rt)
 }
 

@@ -12,7 +12,7 @@ use crate::random::Random;
 use crate::slots::{PAGE_BYTES, SLOT_BYTES};
 use fa_headers::format;
 use fa_image::{FileImage, Image, MemImage};
-use fa_map::PageMap;
+use fa_map::{Map, PageMap};
 use fa_mount::mount;
 use fa_solo::{Parts, Solo};
 use fa_types::{Blocks, Copies, Geometry, Slot};
@@ -225,13 +225,13 @@ fn measure_over<R: Clock + Print + AllocGlobal, I: Image>(
     requires dies { geometry.dies ≡ length images.items }
     requires shape { AllByRecursion (λ image. (I.view image).geometry ≡ geometry) images.items }
 {
-    let parts = parts_of(rt.alloc(), geometry, images)?;
     let bare = Bare {
         image: bare,
         scratch: vec![in rt.alloc(); 0x5au8; SLOT_BYTES]?,
         next: 0,
     };
-    measure_parts::<Brand, R, I>(rt, place, Blank::new(257), parts, bare)
+    let parts = parts_of(rt.alloc(), geometry, images)?;
+    measure_parts::<Brand, R, PageMap<Global>, I>(rt, place, Blank::new(257), parts, bare)
 }
 
 /// The array that these images are.
@@ -270,19 +270,19 @@ fn mounted<I: Image>(
 }
 
 /// Makes the loads of a store over an array.
-fn measure_parts<L: Ledger, R: Clock + Print + AllocGlobal, I: Image>(
+fn measure_parts<L: Ledger, R: Clock + Print + AllocGlobal, M: Map + Drop, I: Image>(
     rt: &R,
     place: Place,
     blank: Blank,
-    parts: Parts<PageMap<Global>, I, Global>,
+    parts: Parts<M, I, Global>,
     bare: Bare<I>,
 ) -> io::Result<()>
     requires name { blank.name ≡ L.name }
     requires parts { (blank.parts ≡ L.parts) × (blank.parts ≡ 257) }
-    requires whole { IsWhole page_view parts.mounted.array }
+    requires whole { IsWhole M.view parts.mounted.array }
 {
     let mut bare = bare;
-    match Solo::<L, PageMap<Global>, I, Global>::new(rt.alloc(), blank, parts, 64) {
+    match Solo::<L, M, I, Global>::new(rt.alloc(), blank, parts, 64) {
         Ok(store) => {
             let mut store = store;
             measure_store(rt, place, &mut store, &mut bare)

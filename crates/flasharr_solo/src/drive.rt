@@ -3,7 +3,7 @@ ghost use Rattle.fa_core.specs.Array.{IsWhole};
 
 use crate::calls::{Call, Kind};
 use crate::desk::Desk;
-use crate::ending::{close, mount_again};
+use crate::ending::{close, let_go, mount_again};
 use crate::heap::Heap;
 use crate::images::{Images, arm, new_images, overwrites};
 use crate::judge::PAGE_BYTES;
@@ -118,11 +118,9 @@ fn live_and_close<'a, M: Map + Drop>(
     requires { IsWhole M.view parts.mounted.array }
 {
     let mut parts = live(heap, parts, desk, life);
-    if close(&mut parts, desk) {
-        Some(parts.images)
-    } else {
-        None
-    }
+    let is_closed = close(&mut parts, desk);
+    let images = let_go(parts);
+    if is_closed { Some(images) } else { None }
 }
 
 /// How an array lives next.

@@ -1,4 +1,4 @@
-//! An array that is closed, and mounted again.
+//! An array that is closed, mounted again, or let go.
 ghost use Rattle.std.specs.Prelude.{IfSome};
 ghost use Rattle.fa_core.specs.Array.{IsWhole};
 ghost use Rattle.fa_map.specs.PageView.{page_view};
@@ -55,6 +55,11 @@ fn judge_close(desk: &mut Desk, closed: Result<u64, CloseFault>, left: u64, lost
             false
         }
     }
+}
+
+/// Lets an array go as it is. Its images are left. Who is done with an array calls it, so that none is dropped elsewhere.
+pub(crate) fn let_go<'a, M: Map + Drop>(parts: HeldParts<'a, M>) -> Images<'a> {
+    parts.images
 }
 
 /// Closes an array over its images.

@@ -6,7 +6,7 @@ ghost use Rattle.fa_map.specs.PageView.{page_view};
 
 use crate::calls::{Call, Kind};
 use crate::desk::Desk;
-use crate::ending::{close, mount_again};
+use crate::ending::{close, let_go, mount_again};
 use crate::heap::Heap;
 use crate::images::{
     DieImage, Images, arm, arm_second, first_faults, has_lied, new_images, overwrites,
@@ -338,8 +338,7 @@ fn look_last<'a, M: Map + Drop>(
     requires { IsWhole M.view parts.mounted.array }
 {
     judge_last(&parts.mounted, desk, trial, copies);
-    let parts = look_at_all(heap, parts, desk);
-    parts.images
+    let_go(look_at_all(heap, parts, desk))
 }
 
 /// Which pages are lost in the end; where no image fails none is, and where nothing goes wrong none is thin.

@@ -3,6 +3,7 @@ ghost use Rattle.std.specs.Prelude.{◌≡◌, IfSome};
 ghost use Rattle.fa_core.specs.Array.{IsWhole};
 ghost use Rattle.fa_map.specs.PageView.{page_view};
 
+use crate::ending::let_go;
 use crate::heap::Heap;
 use crate::images::{DieImage, arm_second, new_images};
 use crate::lines::Line;
@@ -165,7 +166,7 @@ fn talk_over<'a, M: Map + Drop>(
     for line in text.lines() {
         parts = take_line(heap, parts, talk, line);
     }
-    serve_said(heap, parts, talk);
+    let_go(serve_said(heap, parts, talk));
 }
 
 /// A line. Behind one that is none of a text's nothing more is done.

@@ -5,7 +5,7 @@ ghost use Rattle.fa_map.specs.PageView.{page_view};
 
 use crate::calls::{Call, Kind};
 use crate::desk::Desk;
-use crate::ending::mount_again;
+use crate::ending::{let_go, mount_again};
 use crate::heap::Heap;
 use crate::images::{arm, new_images};
 use crate::judge::PAGE_BYTES;
@@ -152,6 +152,7 @@ fn read_wrong_of<'a, M: Map + Drop>(
     if live != bits(0, DIES) & !bits(LYING, LYING + 1) {
         desk.differ("wrong bytes do not take the die out", live, 0);
     }
+    let_go(parts);
 }
 
 /// How many requests of memory a store makes for a read of one page, the answer's own among them, where each of the page's dies was read
@@ -177,7 +178,7 @@ fn read_often<'a, M: Map + Drop>(
     for _ in 0..COPIES {
         desk.put_first(Call::of(Kind::Read, 0, PAGE_BYTES));
     }
-    turn_of(heap, parts, desk, copies, Kind::Read, 1);
+    let_go(turn_of(heap, parts, desk, copies, Kind::Read, 1));
 }
 
 /// The larger array.

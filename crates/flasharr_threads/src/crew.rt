@@ -2,14 +2,14 @@
 //! and worked for stands in this file alone.
 ghost use Rattle.std.specs.Prelude.{◌≡◌};
 ghost use Rattle.std.specs.Thread.{IsSend, IsSync};
-ghost use Rattle.fa_core.specs.Array.{IsWhole, state_of};
-ghost use Rattle.fa_machine.specs.Looks.{counts as rule_counts};
+ghost use Rattle.fa_core.specs.Array.{IsWhole};
 ghost use Rattle.fa_map.specs.PageView.{page_view};
 
 use crate::arrays::{DieImage, Start, close_array, mounted};
 use crate::host::Machine;
 use crate::users::User;
 use fa_blocks::ArrayBlocks;
+use fa_core::Array;
 use fa_headers::Standing;
 use fa_image::Image;
 use fa_map::{Map, PageMap};
@@ -67,10 +67,6 @@ pub(crate) fn run<R: Machine, G: Gate + Sync, U: User + Send>(
         wrong,
     } = start;
     let mounted = mounted(rt.alloc(), images.as_mut_slice(), unclean)?;
-    // No event was made of an array that was just mounted.
-    if mounted.array.counts().0 != 0 {
-        return None;
-    }
     if let Some(image) = wrong.and_then(|index| images.get_mut(index)) {
         image.arm(1);
     }
@@ -90,13 +86,10 @@ fn run_over<L: Ledger + Send, R: Machine, G: Gate + Sync, U: User + Send>(
     requires name { blank.name ≡ L.name }
     requires parts { (blank.parts ≡ L.parts) × (blank.parts ≡ 257) }
     requires whole { IsWhole page_view mounted.array }
-    requires fresh { (rule_counts (state_of page_view mounted.array)).0 ≡ 0 }
 {
     let MountedArray { array, dies } = mounted;
     let page_bytes = array.geometry().page_bytes;
-    let Ok(shared) = Shared::<L, PageMap>::new(rt.alloc(), blank, array) else {
-        return None;
-    };
+    let shared = share::<L, PageMap>(rt.alloc(), blank, array)?;
     let worked = work_for(
         rt,
         &shared,
@@ -107,6 +100,32 @@ fn run_over<L: Ledger + Send, R: Machine, G: Gate + Sync, U: User + Send>(
         meanwhile,
         users,
     );
+    close_shared(shared, dies, worked)
+}
+
+/// An array that was just mounted, to be shared over a ledger of 257 parts that nothing else names. None where memory is refused.
+fn share<L: Ledger, M: Map + Drop>(
+    alloc: Global,
+    blank: Blank,
+    array: Array<M>,
+) -> Option<Shared<L, M>>
+    requires name { blank.name ≡ L.name }
+    requires parts { (blank.parts ≡ L.parts) × (blank.parts ≡ 257) }
+    requires whole { IsWhole M.view array }
+{
+    // No event was made of an array that was just mounted.
+    if array.counts().0 != 0 {
+        return None;
+    }
+    Shared::<L, M>::new(alloc, blank, array).ok()
+}
+
+/// Takes back the array that was worked for, and closes it.
+fn close_shared<L: Ledger, M: Map + Drop, U: Drop>(
+    shared: Shared<L, M>,
+    dies: Vec<Standing>,
+    worked: Option<Worked<U>>,
+) -> Option<Left<U>> {
     let mounted = MountedArray {
         array: shared.into_array(),
         dies,
