@@ -91,7 +91,7 @@ fn bytes_on(
     Ok(bytes_over(rt, array, heap, &mut bench, before))
 }
 
-/// The same of a new array, before which so many bytes of the heap were in use.
+/// The same of a new array. Before it was made, `before` bytes of the heap were in use.
 fn bytes_over<'a, M: Map + Drop>(
     rt: &impl Clock,
     array: Array<M, &'a LocalHeap>,
