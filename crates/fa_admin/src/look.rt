@@ -257,24 +257,48 @@ fn document_of<R: Host>(
     }
 }
 
-/// Tells on standard error which image or die is at fault.
+/// Tells on standard error which image or die is at fault, and what to do next.
 pub fn explain<R: Eprint, A: Allocator>(
     rt: &R,
     settings: &Settings<A>,
     places: &[usize],
     refused: &MountRefused,
 ) {
-    let fault = refused.fault;
+    let words = words_of(refused.fault);
     match (
         path_of(&settings.images, places, refused.image),
         refused.die,
     ) {
-        (Some(path), _) => complain(rt, path, &fault),
+        (Some(path), _) => complain(rt, path, &words),
         (None, Some(die)) => {
             let die = die.0;
-            tell(rt, format_args!("die {die}: {fault}"));
+            tell(rt, format_args!("die {die}: {words}"));
         }
-        (None, None) => tell(rt, fault),
+        (None, None) => tell(rt, words),
+    }
+}
+
+/// Why images are not mounted, and what to do next.
+fn words_of(fault: MountFault) -> &'static str {
+    match fault {
+        MountFault::HeaderBad => {
+            "header bad: this is no image: correct its path, or take it out until its die is replaced"
+        }
+        MountFault::ArraysDiffer => {
+            "arrays differ: correct the number of the array in the settings, or take out the images of others"
+        }
+        MountFault::GeometryDiffers => {
+            "geometry differs: correct the sizes in the settings, or take out the images of other arrays"
+        }
+        MountFault::DieTwice => "die twice: take out the older of the two images of this die",
+        MountFault::Unclean => {
+            "the array was not closed, or lacks this die: look with check --unclean, then serve --unclean"
+        }
+        MountFault::NoDieLive => "no die live: bring back the images of dies that were in use",
+        MountFault::ImageFault => {
+            "image fault: look at the disk, and take the path out until its die is replaced"
+        }
+        MountFault::NoMemory => "no memory: give the program more, and start it again",
     }
 }
 

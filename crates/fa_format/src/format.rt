@@ -8,8 +8,8 @@ ghost use Rattle.fa_host.specs.Printing.{TellsNoMemory};
 
 use fa_headers::FormatFault;
 use fa_host::printing::{DONE, FAULTY, REFUSED, print, refuse_for_memory};
-use fa_host::{Host, complain, refuse_settings, settings_at, tell, tell_refused};
-use fa_image::{FileImage, Image};
+use fa_host::{Host, refuse_settings, settings_at, tell, tell_refused};
+use fa_image::{FileImage, Image, ImageFault};
 use fa_settings::Settings;
 use fa_tag::open_header;
 use fa_types::{Die, HEADER_BYTES};
@@ -101,7 +101,7 @@ fn made<R: Host, A: Allocator>(rt: &R, settings: &Settings<A>, die: Option<Die>)
     if images != dies as usize {
         tell(
             rt,
-            format_args!("there are {images} images, and {dies} dies"),
+            format_args!("there are {images} images, and {dies} dies: name one for each die"),
         );
         return Formatted::Images;
     }
@@ -147,9 +147,17 @@ fn failed_image<R: Host, A: Allocator>(
     ensures { result ≡ Formatted.Image failed.image }
 {
     if let Some(path) = settings.images.get(failed.image) {
-        complain(rt, path.as_str(), &failed.fault);
+        tell_failed(rt, path.as_str(), failed.fault);
     }
     Formatted::Image(failed.image)
+}
+
+/// Tells which call the image at a path refused, and what to do next.
+fn tell_failed<R: Host>(rt: &R, path: &str, fault: ImageFault) {
+    tell(
+        rt,
+        format_args!("{path}: {fault}: look at its disk, and format it again"),
+    );
 }
 
 /// Opens or makes the file of each image.
@@ -224,7 +232,7 @@ fn spare_made<R: Host, A: Allocator>(
     match fa_headers::format_spare(&mut image, settings.geometry, settings.array, die) {
         Ok(()) => Ok(()),
         Err(fault) => {
-            complain(rt, settings.images[place].as_str(), &fault);
+            tell_failed(rt, settings.images[place].as_str(), fault);
             Err(Formatted::Image(place))
         }
     }

@@ -13,12 +13,15 @@ pub fn complain<R: Eprint, T: Display>(rt: &R, path: &str, what: &T) {
     tell(rt, format_args!("{path}: {what}"));
 }
 
-/// Tells why the system refused a call on the file of a path, in its words and without its number. Where there is no
-/// memory for the words they are told with the number.
-pub(crate) fn complain_of_call<R: Host>(rt: &R, path: &str, refused: &io::Error) {
+/// Tells why the system refused a call on the file of a path, in its words and without its number, and what to do next.
+/// Where there is no memory for the words they are told with the number.
+pub(crate) fn complain_of_call<R: Host>(rt: &R, path: &str, refused: &io::Error, advice: &str) {
     match refused.to_string(rt.alloc()) {
-        Ok(text) => complain(rt, path, &words_of(&text)),
-        Err(_) => complain(rt, path, refused),
+        Ok(text) => {
+            let words = words_of(&text);
+            tell(rt, format_args!("{path}: {words}: {advice}"));
+        }
+        Err(_) => tell(rt, format_args!("{path}: {refused}: {advice}")),
     }
 }
 

@@ -110,13 +110,21 @@ pub fn tell_refused<R: Host, A: Allocator>(
     let path = settings.images[place].as_str();
     match refused.kind() {
         ErrorKind::WouldBlock if stands_before(settings, place) => {
-            complain(rt, path, &"this path stands twice among the images");
+            complain(
+                rt,
+                path,
+                &"this path stands twice among the images: give each die a path of its own",
+            );
         }
         ErrorKind::WouldBlock => {
-            let held = "another process has this image, or another of the paths leads to it";
+            let held =
+                "another process has this image, or another of the paths leads to it: end that process, or correct the paths";
             complain(rt, path, &held);
         }
-        _ => complain_of_call(rt, path, refused),
+        _ => {
+            let advice = "bring its disk back, or correct images in the settings";
+            complain_of_call(rt, path, refused, advice);
+        }
     }
 }
 

@@ -35,7 +35,7 @@ pub fn settings_at<R: Host, A: Allocator + Copy>(
     match fs::read(rt, path) {
         Ok(text) => settings_in(rt, alloc, path, &text),
         Err(refused) => {
-            complain_of_call(rt, path, &refused);
+            complain_of_call(rt, path, &refused, "give the path of a settings file");
             Err(unread(refused.kind()))
         }
     }
@@ -89,7 +89,11 @@ fn faulty<R: Host, A: Allocator>(
 /// Tells on standard error which key is at fault, what was found there and what was wanted.
 fn explain<R: Host, A: Allocator>(rt: &R, path: &str, text: &[u8], fault: &SettingsFault<A>) {
     match fault {
-        SettingsFault::NotToml => complain(rt, path, &"the text is no TOML"),
+        SettingsFault::NotToml => complain(
+            rt,
+            path,
+            &"the text is no TOML: write each line as KEY = VALUE",
+        ),
         SettingsFault::Missing(key) => {
             let wanted = key.wanted();
             tell(rt, format_args!("{path}: {key} is missing: {wanted}"));
@@ -97,7 +101,10 @@ fn explain<R: Host, A: Allocator>(rt: &R, path: &str, text: &[u8], fault: &Setti
         SettingsFault::WrongType(key) | SettingsFault::OutsideLimits(key) => {
             explain_value(rt, path, text, *key);
         }
-        SettingsFault::Unknown(name) => tell(rt, format_args!("{path}: there is no key {name}")),
+        SettingsFault::Unknown(name) => tell(
+            rt,
+            format_args!("{path}: there is no key {name}: remove it"),
+        ),
         SettingsFault::Geometry(fault) => complain(rt, path, fault),
         SettingsFault::NoMemory => complain(rt, path, &"no memory"),
     }

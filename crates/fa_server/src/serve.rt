@@ -71,7 +71,12 @@ fn listen<R: ServerHost, N: Read, W: Write, A: Allocator>(
         Ok(listener) => open(rt, &listener, settings, serve, input, output),
         Err(refused) => {
             let address = settings.listen;
-            tell(rt, format_args!("{address}: {refused}"));
+            tell(
+                rt,
+                format_args!(
+                    "{address}: {refused}: choose another address for listen, or end who has this one"
+                ),
+            );
             print(output, REFUSED, b"listen: failed\n")
         }
     }
