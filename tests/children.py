@@ -31,13 +31,22 @@ class Children:
         self.processes = []
         self.folder = None
 
-    def start(self, words, **how):
+    def start(self, words, *, in_group=False, **how):
+        """A process, in a group of its own if that is asked for: then what it starts is ended with it."""
         with self.lock:
             if self.is_ending:
                 raise Ending("the script ends")
-            process = subprocess.Popen(words, **how)
+            process = subprocess.Popen(words, start_new_session=in_group, **how)
+            process.in_group = in_group
             self.processes = [it for it in self.processes if it.returncode is None] + [process]
         return process
+
+    @staticmethod
+    def kill(process):
+        if process.in_group:
+            with contextlib.suppress(ProcessLookupError):
+                os.killpg(process.pid, signal.SIGKILL)
+        process.kill()
 
     def run(self, words, seconds, **how):
         """The status and the output of a process that is to end by itself before so many seconds have passed."""
@@ -55,7 +64,7 @@ class Children:
         with self.lock:
             self.is_ending = True
         for process in self.processes:
-            process.kill()
+            self.kill(process)
         for process in self.processes:
             with contextlib.suppress(subprocess.TimeoutExpired):
                 process.wait(5)

@@ -1,6 +1,7 @@
 """Arrays in folders of their own, the program that serves one, and what its images hold by docs/FORMATS.md alone."""
 import os
 import re
+import shutil
 import struct
 import subprocess
 import tempfile
@@ -15,6 +16,8 @@ from nbd_client import Client
 
 ARRAY = bytes.fromhex("00112233445566778899aabbccddeeff")
 SETTINGS = "array.toml"
+# What an installed program is started by.
+LAUNCHER = os.path.join(os.path.dirname(os.path.dirname(os.path.abspath(__file__))), "flasharr")
 LISTENING = re.compile(r"listening (127\.0\.0\.1):(\d{1,5})")
 FAULT = re.compile(r"fault die (\d+) cause ([1-7]) round (\d+)")
 PLACES = re.compile(r"page (\d+) seq (\d+)( hole)? at ((?:\d+:\d+ ?)+)")
@@ -203,16 +206,31 @@ class Array:
         wait_until(lambda: self.standing() == (live, 0), HEAL)
 
     def serve(self, *words):
-        server = Server(self, words)
+        server = Server(self, self.program, words)
         self.servers.append(server)
         return server.started()
+
+    def serve_below_launcher(self, stdin=subprocess.PIPE):
+        return self.start_below_launcher(stdin).started()
+
+    def start_below_launcher(self, stdin=subprocess.PIPE):
+        """The server as an installed `flasharr` starts it, in a group of its own."""
+        command = self.path("installed/bin/flasharr")
+        if not os.path.exists(command):
+            os.makedirs(os.path.dirname(command))
+            os.mkdir(self.path("installed/libexec"))
+            shutil.copy(LAUNCHER, command)
+            os.symlink(self.program, self.path("installed/libexec/flasharr"))
+        server = Server(self, command, (), stdin=stdin, in_group=True)
+        self.servers.append(server)
+        return server
 
 
 class Server:
     """The program while it serves an array. What it prints is collected as it comes."""
 
-    def __init__(self, array, words):
-        self.process = CHILDREN.start([array.program, "serve", SETTINGS, *words], cwd=array.folder, stdin=subprocess.PIPE,
+    def __init__(self, array, command, words, *, stdin=subprocess.PIPE, in_group=False):
+        self.process = CHILDREN.start([command, "serve", SETTINGS, *words], cwd=array.folder, in_group=in_group, stdin=stdin,
                                       stdout=subprocess.PIPE, stderr=subprocess.PIPE, bufsize=0)
         self.output, self.errors = [], []
         self.address = None
@@ -261,10 +279,14 @@ class Server:
     def end(self, seconds=END):
         """Ends the input, waits for the program's end, and gives its status and the lines behind the first."""
         self.process.stdin.close()
+        return self.ended(seconds)
+
+    def ended(self, seconds=END):
+        """Waits for the program's end, and gives its status and the lines behind the first."""
         try:
             status = self.process.wait(seconds)
         except subprocess.TimeoutExpired:
-            raise Wrong(f"had not ended {seconds} seconds after its input; printed: {self.output[-5:]}") from None
+            raise Wrong(f"had not ended after {seconds} seconds; printed: {self.output[-5:]}") from None
         for reader in self.readers:
             reader.join(END)
         odd = [line for line in self.errors if not line.startswith("flasharr: ")]
@@ -282,10 +304,10 @@ class Server:
 
     def kill(self):
         """Ends the program as a loss of power does, where it has not ended."""
-        if self.process.poll() is None:
-            self.process.kill()
+        if self.process.poll() is None or self.process.in_group:
+            CHILDREN.kill(self.process)
         self.process.wait()
-        if not self.process.stdin.closed:
+        if self.process.stdin and not self.process.stdin.closed:
             try:
                 self.process.stdin.close()
             except OSError:

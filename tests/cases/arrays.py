@@ -3,6 +3,7 @@ import fcntl
 import hashlib
 import os
 
+import advice
 from cases import Case, Run, document
 from images import header_bytes, image_bytes, settings_text, slot_bytes
 
@@ -51,11 +52,11 @@ def files(geometry=SMALL, headers=None, slots=None, names=None, **settings):
 
 
 def check(told, *flags, status=0, errors=()):
-    return Run(("check", SETTINGS, *flags), told, status, errors=errors)
+    return Run(("check", SETTINGS, *flags), told, status, errors=tuple(map(advice.told_of_mount, errors)))
 
 
 def dump(told, *flags, status=0, errors=()):
-    return Run(("dump", SETTINGS, *flags), told, status, errors=errors)
+    return Run(("dump", SETTINGS, *flags), told, status, errors=tuple(map(advice.told_of_mount, errors)))
 
 
 def lines(dies, live, spare, epoch, clean, written=0, thin=0):
@@ -125,7 +126,7 @@ def new_array(geometry, **other):
 
 def formats():
     made = new_array(FOUR)
-    steps = [Run(("check", SETTINGS), "mount: 7 image fault\n", 1, errors=("d0.img: No such file or directory",)),
+    steps = [Run(("check", SETTINGS), "mount: 7 image fault\n", 1, errors=(advice.image("d0.img", "No such file or directory"),)),
              Run(("format", SETTINGS), "formatted 4 images\n"),
              *(has_bytes(path, content) for path, content in zip(DIES, made)),
              check(lines(4, 4, 0, 1, True)), dump(""),
@@ -163,19 +164,19 @@ def formats():
         has_files(SETTINGS)],
         {SETTINGS: settings_text(ARRAY, DIES, FOUR)})
     yield Case("format/another_number_of_images", [
-        Run(("format", SETTINGS), "settings: 5 images\n", 2, errors=("there are 2 images, and 4 dies",)),
-        Run(("format", SETTINGS, "--die", "0"), "settings: 5 images\n", 2, errors=("there are 2 images, and 4 dies",)),
+        Run(("format", SETTINGS), "settings: 5 images\n", 2, errors=(advice.number_of_images(2, 4),)),
+        Run(("format", SETTINGS, "--die", "0"), "settings: 5 images\n", 2, errors=(advice.number_of_images(2, 4),)),
         has_files(SETTINGS)],
         {SETTINGS: settings_text(ARRAY, DIES[:2], FOUR)})
     yield Case("format/a_folder_that_is_not_there", [
-        Run(("format", SETTINGS), "format: image 2\n", 1, errors=("none/d2.img: No such file or directory",))],
+        Run(("format", SETTINGS), "format: image 2\n", 1, errors=(advice.image("none/d2.img", "No such file or directory"),))],
         {SETTINGS: settings_text(ARRAY, ["d0.img", "d1.img", "none/d2.img", "d3.img"], FOUR)})
     yield Case("format/a_folder_as_an_image", [
         lambda folder: os.mkdir(os.path.join(folder, "d1.img")),
-        Run(("format", SETTINGS), "format: image 1\n", 1, errors=("d1.img: Is a directory",))],
+        Run(("format", SETTINGS), "format: image 1\n", 1, errors=(advice.image("d1.img", "Is a directory"),))],
         {SETTINGS: settings_text(ARRAY, DIES, FOUR)})
     yield Case("format/no_settings", [
-        Run(("format", SETTINGS), "settings: cannot read\n", 2, errors=(f"{SETTINGS}: No such file or directory",))])
+        Run(("format", SETTINGS), "settings: cannot read\n", 2, errors=(advice.settings(SETTINGS, "No such file or directory"),))])
 
     # A die of an array that was mounted since it was formatted is told before it is lost.
     mounted = header_bytes(1, FOUR, ARRAY, epoch=2, mask=15)
@@ -218,12 +219,10 @@ def locked(path, runs):
 
 
 HELD = {}
-HELD_WORDS = "another process has this image, or another of the paths leads to it"
-TWICE_WORDS = "this path stands twice among the images"
 
 
 def paths():
-    held = f"d1.img: {HELD_WORDS}"
+    held = f"d1.img: {advice.HELD}"
     yield Case("paths/an_image_that_is_held", [
         Run(("format", SETTINGS), "formatted 4 images\n"),
         *locked("d1.img", [
@@ -234,7 +233,7 @@ def paths():
 
     twice = ["d0.img", "d1.img", "d0.img", "d3.img"]
     made = new_array(FOUR)
-    said = f"d0.img: {TWICE_WORDS}"
+    said = f"d0.img: {advice.TWICE}"
     yield Case("paths/a_path_that_stands_twice", [
         check("mount: 7 image fault\n", status=1, errors=(said,)), dump("mount: 7 image fault\n", status=1, errors=(said,)),
         Run(("format", SETTINGS), "format: image 2\n", 1, errors=(said,)),
@@ -243,7 +242,7 @@ def paths():
         {SETTINGS: settings_text(ARRAY, twice, FOUR), **dict(zip(DIES, made))})
     yield Case("paths/two_paths_to_one_image", [
         lambda folder: os.link(os.path.join(folder, "d0.img"), os.path.join(folder, "link.img")),
-        check("mount: 7 image fault\n", status=1, errors=(f"link.img: {HELD_WORDS}",))],
+        check("mount: 7 image fault\n", status=1, errors=(f"link.img: {advice.HELD}",))],
         {SETTINGS: settings_text(ARRAY, ["d0.img", "link.img", "d2.img", "d3.img"], FOUR), **dict(zip(DIES, made))})
 
     # A header says which die its image is: the order of the settings does not.
@@ -256,11 +255,11 @@ def paths():
     yield Case("paths/an_image_left_out", [
         *refused(5, "die 1: unclean"), check(lines(4, 2, 1, 1, False), "--unclean")],
         files(names=["d0.img", "d2.img", "d3.img"]))
-    missing = "d2.img: No such file or directory"
+    missing = advice.image("d2.img", "No such file or directory")
     yield Case("paths/an_image_that_is_missing", [
         *refused(7, missing),
         check(lines(4, 2, 1, 1, False), "--unclean", errors=(missing,))], files(headers={2: None}))
-    nothing = [f"{path}: No such file or directory" for path in DIES]
+    nothing = [advice.image(path, "No such file or directory") for path in DIES]
     yield Case("paths/no_image_at_all", [
         check("mount: 6 no die live\n", "--unclean", status=1, errors=(*nothing, "no die live"))],
         files(headers=dict.fromkeys(range(4))))
@@ -475,7 +474,7 @@ def slots():
 
     # The largest die, of 1,048,576 slots: its file has holes, which read as zeros, and so as slots that are bad.
     largest = (2, 0, 4096, 256, 1048064)
-    found = "d1.img: No such file or directory"
+    found = advice.image("d1.img", "No such file or directory")
     yield Case("slots/largest_die", [
         sparse("d0.img", header(0, largest), 1 << 20, slot(1048063, 1, 0, (1 << 20) - 1)),
         dump("page 1048063 seq 1 at 0:1048575\n", "--unclean", errors=(found,)),
@@ -487,7 +486,7 @@ def slots():
     eight = (4, 1, 4, 4, 8)
     yield Case("slots/three_copies_are_to_be", [check(lines(4, 3, 1, 1, True, 2, 1))], files(eight, slots=three, copies=3))
     yield Case("slots/two_copies_are_to_be", [check(lines(4, 3, 1, 1, True, 2, 0))], files(eight, slots=three, copies=2))
-    missing = "d2.img: No such file or directory"
+    missing = advice.image("d2.img", "No such file or directory")
     yield Case("slots/three_copies_and_two_live_dies", [check(lines(4, 2, 1, 1, False, 2, 0), "--unclean", errors=(missing,))],
                files(eight, headers={2: None}, slots=three, copies=3))
 
@@ -515,7 +514,7 @@ def documents():
     empty = [*(die_row(die) for die in range(3)), spare_row(3)]
     yield Case("json/dump_of_a_new_array", [dump(document({"pages": [], "table": empty}), "--json")], files())
     # What is not known of a die that has no image is null.
-    missing = "d1.img: No such file or directory"
+    missing = advice.image("d1.img", "No such file or directory")
     unknown = die_row(1, "missing", False, None, None, None, None, None)
     rows = [die_row(0), unknown, die_row(2, clean=False), spare_row(3)]
     array = {"dies": 4, "live": 2, "spare": 1, "epoch": 1, "clean": False, "written": 0, "thin": 0, "table": rows}

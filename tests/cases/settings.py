@@ -2,6 +2,7 @@
 
 A text without a fault comes as far as its images, of which there is none: `mount: 7 image fault`.
 """
+import advice
 from cases import Case, Run
 
 LINES = {
@@ -135,13 +136,12 @@ TOGETHER = [
                        "pages": "pages = 1048576", "copies": "copies = 3"}, GOOD, None),
 ]
 
-NOT_TOML = "the text is no TOML"
 # Two faults at once: name, edits, the line, and what is said of it.
 FIRST = [
-    ("the_first_unknown_key", {"colour": "colour = 1", "bell": "bell = 1"}, "4 bell", "there is no key bell"),
-    ("unknown_before_missing", {"colour": "colour = 1", "array": ""}, "4 colour", "there is no key colour"),
-    ("no_toml_before_unknown", {"colour": "colour = 1", "dies": "dies = "}, "1", NOT_TOML),
-    ("a_key_in_another_case", {"Dies": "Dies = 4", "bell": "bell = 1"}, "4 Dies", "there is no key Dies"),
+    ("the_first_unknown_key", {"colour": "colour = 1", "bell": "bell = 1"}, "4 bell", "there is no key bell: remove it"),
+    ("unknown_before_missing", {"colour": "colour = 1", "array": ""}, "4 colour", "there is no key colour: remove it"),
+    ("no_toml_before_unknown", {"colour": "colour = 1", "dies": "dies = "}, "1", advice.NOT_TOML),
+    ("a_key_in_another_case", {"Dies": "Dies = 4", "bell": "bell = 1"}, "4 Dies", "there is no key Dies: remove it"),
     ("limits_before_a_later_missing_key", {"sessions": "", "dies": "dies = 1"}, "5 dies", f"dies is 1: wanted is {WANTED['dies']}"),
     ("the_earlier_key", {"dies": 'dies = "4"', "images": "images = []"}, "5 images", f"images is []: wanted is {WANTED['images']}"),
     ("missing_before_copies", {"copies": "copies = 4", "export": ""}, "2 export", f"export is missing: {WANTED['export']}"),
@@ -149,17 +149,17 @@ FIRST = [
      f"sessions is 0: wanted is {WANTED['sessions']}"),
     ("copies_before_what_goes_together", {"spares": "spares = 3", "copies": "copies = 4"}, "5 copies",
      f"copies is 4: wanted is {WANTED['copies']}"),
-    ("a_table_at_the_top", {"bell": "[bell]\ndies = 4"}, "4 bell", "there is no key bell"),
+    ("a_table_at_the_top", {"bell": "[bell]\ndies = 4"}, "4 bell", "there is no key bell: remove it"),
 ]
 
 # Texts that are no TOML or empty.
 TEXTS = [
-    ("cut_line", b"array = ", "1", NOT_TOML),
-    ("no_utf_8", b"# \xff\n", "1", NOT_TOML),
+    ("cut_line", b"array = ", "1", advice.NOT_TOML),
+    ("no_utf_8", b"# \xff\n", "1", advice.NOT_TOML),
     ("empty", b"", "2 array", f"array is missing: {WANTED['array']}"),
-    ("a_key_twice", "".join(f"{line}\n" for line in [*LINES.values(), "dies = 4"]).encode(), "1", NOT_TOML),
+    ("a_key_twice", "".join(f"{line}\n" for line in [*LINES.values(), "dies = 4"]).encode(), "1", advice.NOT_TOML),
     ("a_number_of_65_bits", "".join(f"{line}\n" for line in {**LINES, "dies": "dies = 9223372036854775808"}.values()).encode(),
-     "1", NOT_TOML),
+     "1", advice.NOT_TOML),
 ]
 
 
@@ -175,7 +175,7 @@ def refused(name, content, fault, said):
 
 
 def accepted(name, content):
-    errors = ("d0.img: No such file or directory",)
+    errors = (advice.image("d0.img", "No such file or directory"),)
     return Case(name, [Run(("check", "array.toml"), "mount: 7 image fault\n", 1, errors=errors)], {"array.toml": content})
 
 
@@ -201,8 +201,8 @@ def cases():
     paths = [f"d{number}{'x' * 2000}.img" for number in range(64)]
     many = text({"images": f"images = [{', '.join(map(repr, paths))}]".replace("'", '"')})
     yield Case("long_text", [Run(("format", "array.toml"), "settings: 5 images\n", 2, errors=(
-        "there are 64 images, and 4 dies",))], {"array.toml": many})
+        advice.number_of_images(64, 4),))], {"array.toml": many})
     yield accepted("long_comment", "# " + "x" * (1 << 20) + "\n" + text({}))
     yield Case("no_file", [Run(("check", "array.toml"), "settings: cannot read\n", 2, errors=(
-        "array.toml: No such file or directory",))])
-    yield Case("a_folder", [Run(("check", "."), "settings: cannot read\n", 2, errors=(".: Is a directory",))])
+        advice.settings("array.toml", "No such file or directory"),))])
+    yield Case("a_folder", [Run(("check", "."), "settings: cannot read\n", 2, errors=(advice.settings(".", "Is a directory"),))])
