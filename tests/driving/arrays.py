@@ -1,0 +1,146 @@
+"""Whole arrays, one after the other, each formatted, and then mounted and closed some times. Their images fail now and then, or give wrong
+bytes, and memory is refused now and then. What they answer is compared with a plain array.
+"""
+from driving.closing import CLOSED, LEFT, OVER, close_busy, end_life
+from driving.desk import Desk
+from driving.dies import arm, bring_in, collect, work
+from driving.life import BLOCKS, PAGE_BYTES, SLOTS, SPARES, Life, Version, copies_fit, draw_copies, draw_shape
+from driving.mounting import Way, mount_images, refuse_each_growth, refuse_each_read
+from driving.readers import go_on_reading, read, rebuild
+from driving.resting import look_at_all, rest, settle
+from driving.turns import advance, flush, fold, make_stranger
+from driving.writers import write
+from lab import Ended, Lab
+
+# One array in so many is formatted in the older format.
+OLD_EVERY = 4
+MOST_LIVES = 4
+# The fewest steps of a life, how many more there may be, and the steps of a life with no live die.
+FEWEST_STEPS, MORE_STEPS, DEAD_STEPS = 500, 3000, 60
+# How often an image is armed: one step in so many.
+FAULTS_EVERY = 150, 500, 1500, 6000
+# One mounting in so many is tried before with each read of an image refused, and with each growth.
+READ_REFUSED_EVERY, GROWTH_REFUSED_EVERY = 4, 32
+# The page that was written last where few numbers are left, and the dies that hold it.
+OLD_PAGE, OLD_DIES = 0, 2
+
+
+def drive(program, seed, events):
+    """Drives arrays by a seed until they made so many events. Gives how often each thing came, and the differences in words."""
+    with Lab(program) as lab:
+        desk = Desk(lab, seed)
+        try:
+            while desk.counts["events"] < events:
+                run_array(desk, events)
+        except (Ended, ValueError, IndexError) as error:
+            desk.differ(f"the laboratory cannot be asked any more: {error!r}")
+    return desk.counts, desk.differences
+
+
+def run_array(desk, events):
+    """One array, until there were so many events or its lives are over."""
+    desk.count("arrays")
+    shape = draw_shape(desk.chance)
+    word = "images old" if desk.chance.one_in(OLD_EVERY) else "images"
+    line = f"{word} dies {shape.dies} spares {SPARES} blocks {BLOCKS} slots {SLOTS} bytes {PAGE_BYTES} pages {shape.pages}"
+    desk.expect(line, "made")
+    life = Life(shape, FAULTS_EVERY[desk.chance.below(len(FAULTS_EVERY))])
+    if shape.last:
+        write_last(desk, life, shape.last)
+    desk.flush()
+    live_on(desk, life, Way(shape.copies), events)
+    desk.expect("overwrites", "overwrites 0")
+    desk.flush()
+
+
+def write_last(desk, life, last):
+    """A page was written with the last number that was given, where few are left."""
+    number = desk.next_number()
+    for die in range(OLD_DIES):
+        desk.expect(f"put {die} 0 {OLD_PAGE} {last} {number}", "written")
+    life.versions[OLD_PAGE] = Version(last, False, number)
+
+
+def live_on(desk, life, way, events):
+    """The lives of an array, each from where it is mounted to where it is closed or left, and last a look at what is mounted then."""
+    for lived in range(MOST_LIVES + 1):
+        is_last = lived == MOST_LIVES or desk.counts["events"] >= events
+        if not mount_images(desk, life, way):
+            return
+        look_at_all(desk, life)
+        if is_last:
+            return
+        ended = live_once(desk, life, way, events)
+        if ended == OVER:
+            return
+        way = next_way(desk, life, way.copies, ended)
+
+
+def live_once(desk, life, way, events):
+    """A life of an array that was mounted, and how it ended."""
+    live(desk, life, events)
+    settle(desk, life)
+    look_at_all(desk, life)
+    close_busy(desk, life)
+    rest(desk, life)
+    return end_life(desk, life, way)
+
+
+def next_way(desk, life, copies, ended):
+    """How the array is mounted next. Its images change their places, and reads of them and growths are refused now and then."""
+    one, other = desk.chance.below(life.images), desk.chance.below(life.images)
+    desk.expect(f"swap {one} {other}", "swapped")
+    desk.flush()
+    drawn = draw_copies(desk.chance)
+    way = Way(drawn if copies_fit(drawn, life.dies, life.pages) else copies, ended == LEFT)
+    if ended == CLOSED and desk.chance.one_in(READ_REFUSED_EVERY):
+        refuse_each_read(desk, life, way, one)
+    if ended == CLOSED and desk.chance.one_in(GROWTH_REFUSED_EVERY):
+        refuse_each_growth(desk, life, way)
+    return way
+
+
+def live(desk, life, events):
+    """The events of an array in a random order."""
+    dead = 0
+    for _ in range(desk.chance.below(MORE_STEPS) + FEWEST_STEPS):
+        if desk.counts["events"] >= events or dead >= DEAD_STEPS:
+            return
+        if not life.live:
+            dead += 1
+        step(desk, life)
+
+
+def step(desk, life):
+    """One step of one of those who make events."""
+    die = desk.chance.below(life.dies)
+    if desk.chance.one_in(life.fault_every):
+        arm(desk, life, die)
+    take_turn(desk, life, die, desk.chance.below(1000))
+    desk.flush()
+
+
+def take_turn(desk, life, die, turn):
+    """The step of the one whose turn it is."""
+    if turn < 440:
+        work(desk, life, die)
+    elif turn < 640:
+        write(desk, life)
+    elif turn < 720:
+        read(desk, life)
+    elif turn < 810:
+        go_on_reading(desk, life)
+    elif turn < 870:
+        advance(desk, life)
+    elif turn < 920:
+        collect(desk, life, die)
+    elif turn < 970:
+        rebuild(desk, life)
+    elif turn < 990:
+        flush(desk, life)
+    elif turn < 994:
+        make_stranger(desk, life)
+    elif turn < 998:
+        fold(desk)
+    else:
+        bring_in(desk, life, die)

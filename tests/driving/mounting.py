@@ -1,0 +1,97 @@
+"""Arrays that are mounted, also where an image refuses a read, or where memory is refused."""
+from dataclasses import dataclass
+
+from driving.life import BLOCKS, SLOTS, lowest_lost
+
+# More calls of an image than a mounting makes, and more requests for memory.
+MOST_CALLS = BLOCKS * SLOTS + 2
+MOST_REQUESTS = 1000
+NO_MEMORY = "refused: no memory"
+
+
+@dataclass(frozen=True)
+class Way:
+    """How an array is mounted: with so many copies of each page, and whether it need not have been closed."""
+    copies: int
+    unclean: bool = False
+
+    def line(self):
+        return f"mount unclean {self.copies}" if self.unclean else f"mount {self.copies}"
+
+
+def mount_images(desk, life, way):
+    """Mounts the images, of which none fails, and compares each page with the plain array. False where they are not mounted."""
+    answer, places, shown, pages = desk.ask_all([way.line(), "places", "array", "map"])
+    if not answer.startswith("mounted live"):
+        desk.differ(f"{way.line()}: {answer}")
+        return False
+    desk.count("mount of an unclean array" if way.unclean else "mount")
+    live = [int(die) for die in answer.split()[2:]]
+    stand = [int(place) if place.isdigit() else None for place in places.split()[1:]]
+    life.begin(live, stand, int(shown.split()[1]))
+    judge_map(desk, life, way.line(), pages.split()[1:], life.live)
+    return True
+
+
+def judge_map(desk, life, line, words, live):
+    """Compares what a look at the map shows behind a mounting: each page has its last write, and none is lost."""
+    lost = lowest_lost(words, live)
+    if lost is not None:
+        desk.differ(f"{line}: page {lost} is lost")
+    wanted = [f"{version.sequence}{'h' if version.is_hole else ''}" for version in life.versions]
+    for page, (word, version) in enumerate(zip(words, wanted)):
+        if word.partition(":")[0] != version:
+            desk.differ(f"{line}: page {page} has the write {word}, and not {version}")
+    if len(words) != life.pages:
+        desk.differ(f"{line}: the map has {len(words)} pages, and not {life.pages}")
+
+
+def judge_mounted(desk, life, line, answer):
+    """Compares an array that was mounted beside another one, or again, with the plain array."""
+    mounted, _, pages = answer.partition(" map ")
+    judge_map(desk, life, line, pages.split(), [int(die) for die in mounted.split()[2:]])
+
+
+def refuse_each_read(desk, life, way, place):
+    """Mounts the images again and again, of which the one at a place refuses its first call, its second, and so on up to one that is not
+    made."""
+    for call in range(1, MOST_CALLS + 1):
+        if not refuse_read(desk, life, way, place, call):
+            return
+    desk.differ(f"the image at {place} is read more often than it has slots")
+
+
+def refuse_read(desk, life, way, place, call):
+    """The same of one call, which is told as a fault of that image. False where it is not made."""
+    lines = ["faults", f"arm {place} {call}", f"try {way.line()}", "faults", f"arm {place} 0"]
+    before, _, answer, behind, _ = desk.ask_all(lines)
+    is_made = before != behind
+    if is_made and answer == f"refused: image fault {place}":
+        desk.count("mount refused: image fault")
+    elif is_made or not answer.startswith("mounted"):
+        desk.differ(f"{lines[1]}, {lines[2]}: {answer}, with {before}, and {behind}")
+    else:
+        judge_mounted(desk, life, lines[2], answer)
+    return is_made
+
+
+def refuse_each_growth(desk, life, way):
+    """Mounts the images again and again, with the first request for memory refused, the second, and so on up to one that is not made."""
+    for number in range(1, MOST_REQUESTS + 1):
+        if not refuse_growth(desk, life, way, number):
+            return
+    desk.differ(f"{way.line()} asks for memory more than {MOST_REQUESTS} times")
+
+
+def refuse_growth(desk, life, way, number):
+    """The same of one request. False where it is not made."""
+    lines = ["heap", f"heap refuse {number}", f"try {way.line()}", "heap", "heap open"]
+    before, _, answer, behind, _ = desk.ask_all(lines)
+    is_made = " refused 1 " in behind
+    if is_made and answer == NO_MEMORY:
+        desk.count("mount refused: out of memory")
+    elif is_made or not answer.startswith("mounted"):
+        desk.differ(f"{lines[1]}, {lines[2]}: {answer}, with {behind}")
+    if before.split()[-1] != behind.split()[-1]:
+        desk.differ(f"{lines[1]}, {lines[2]}: {behind}, and before {before}")
+    return is_made

@@ -1,0 +1,58 @@
+"""Clients that write pages and make holes."""
+from functools import partial
+
+from driving.kinds import ABANDON, CLAIM, COMMIT, RELEASE, RESERVE, RESERVE_FEWER, RESERVE_HOLE
+from driving.life import Claim, Version
+
+# The most claims that are open.
+MOST_CLAIMS = 5
+
+
+def write(desk, life):
+    """A step of a client that writes: a page is claimed, or one that is claimed goes on."""
+    chance = desk.chance
+    if len(life.claims) < MOST_CLAIMS and chance.one_in(4):
+        page = chance.below(life.pages)
+        desk.event(CLAIM, f"claim {page}", lambda _: life.claims.append(Claim(page)))
+    elif life.claims:
+        claim = life.claims[chance.below(len(life.claims))]
+        if claim.reserved or chance.one_in(3):
+            end_claim(desk, life, claim)
+        else:
+            reserve(desk, claim)
+
+
+def end_claim(desk, life, claim):
+    """A claim goes on towards its end: what is reserved under it is committed or, less often, given up, and then it is released."""
+    if not claim.reserved:
+        desk.event(RELEASE, f"release {claim.page}", lambda _: life.claims.remove(claim))
+    elif desk.chance.one_in(10):
+        desk.event(ABANDON, f"abandon {claim.page}", lambda _: settle(claim))
+    else:
+        desk.event(COMMIT, f"commit {claim.page}", partial(commit, desk, life, claim))
+
+
+def reserve(desk, claim):
+    """Something is reserved under a claim."""
+    wish = desk.chance.below(8)
+    if wish == 0:
+        kind, number, line = RESERVE_HOLE, 0, f"reserve hole {claim.page}"
+    else:
+        number = desk.next_number()
+        kind, words = (RESERVE_FEWER, "reserve fewer") if wish == 1 else (RESERVE, "reserve")
+        line = f"{words} {claim.page} {number}"
+    desk.event(kind, line, lambda answer: settle(claim, Version(int(answer.split()[1]), wish == 0, number)))
+
+
+def settle(claim, reserved=None):
+    """This is reserved under the claim now."""
+    claim.reserved = reserved
+
+
+def commit(desk, life, claim, answer):
+    """What was reserved under a claim is the page's last write."""
+    version = claim.reserved
+    if answer != f"seq {version.sequence}" or version.sequence <= life.version(claim.page).sequence:
+        desk.differ(f"commit {claim.page}: {answer}, and reserved was {version}, over {life.version(claim.page)}")
+    life.versions[claim.page] = version
+    settle(claim)
