@@ -19,8 +19,8 @@ MOST_LIVES = 4
 FEWEST_STEPS, MORE_STEPS, DEAD_STEPS = 500, 3000, 60
 # How often an image is armed: one step in so many.
 FAULTS_EVERY = 150, 500, 1500, 6000
-# One mounting in so many is tried before with each read of an image refused, and with each growth.
-READ_REFUSED_EVERY, GROWTH_REFUSED_EVERY = 4, 32
+# One mounting of a closed array in so many is tried before with each read of an image refused.
+READ_REFUSED_EVERY = 4
 # The page that was written last where few numbers are left, and the dies that hold it.
 OLD_PAGE, OLD_DIES = 0, 2
 
@@ -65,6 +65,7 @@ def live_on(desk, life, way, events):
     """The lives of an array, each from where it is mounted to where it is closed or left, and last a look at what is mounted then."""
     for lived in range(MOST_LIVES + 1):
         is_last = lived == MOST_LIVES or desk.counts["events"] >= events
+        refuse_each_growth(desk, way)
         if not mount_images(desk, life, way):
             return
         look_at_all(desk, life)
@@ -87,7 +88,7 @@ def live_once(desk, life, way, events):
 
 
 def next_way(desk, life, copies, ended):
-    """How the array is mounted next. Its images change their places, and reads of them and growths are refused now and then."""
+    """How the array is mounted next. Its images change their places, and the reads of one are refused now and then."""
     one, other = desk.chance.below(life.images), desk.chance.below(life.images)
     desk.expect(f"swap {one} {other}", "swapped")
     desk.flush()
@@ -95,8 +96,6 @@ def next_way(desk, life, copies, ended):
     way = Way(drawn if copies_fit(drawn, life.dies, life.pages) else copies, ended == LEFT)
     if ended == CLOSED and desk.chance.one_in(READ_REFUSED_EVERY):
         refuse_each_read(desk, life, way, one)
-    if ended == CLOSED and desk.chance.one_in(GROWTH_REFUSED_EVERY):
-        refuse_each_growth(desk, life, way)
     return way
 
 

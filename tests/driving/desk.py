@@ -8,7 +8,7 @@ from driving.kinds import all_names
 MOST_TOLD = 20
 # Of so many events the first find no memory, the next find some and are then refused one request of so many, and others up to the last
 # find all. What the array shows is looked at before and behind each of these.
-WATCHED_OF, STARVED, INTERRUPTED, WATCHED = 256, 4, 1, 16
+WATCHED_OF, STARVED, INTERRUPTED, WATCHED = 512, 6, 3, 64
 MOST_REQUESTS = 8
 # Numbers of pages begin behind those of which each byte of a page is the number.
 LAST_OF_ONE_BYTE = 255

@@ -3,9 +3,9 @@ from dataclasses import dataclass
 
 from driving.life import BLOCKS, SLOTS, lowest_lost
 
-# More calls of an image than a mounting makes, and more requests for memory.
+# More calls of an image than a mounting makes, more requests for memory, and more bits than the bytes of one request have.
 MOST_CALLS = BLOCKS * SLOTS + 2
-MOST_REQUESTS = 1000
+MOST_REQUESTS, LARGEST_SIZE = 1000, 40
 NO_MEMORY = "refused: no memory"
 
 
@@ -75,23 +75,27 @@ def refuse_read(desk, life, way, place, call):
     return is_made
 
 
-def refuse_each_growth(desk, life, way):
-    """Mounts the images again and again, with the first request for memory refused, the second, and so on up to one that is not made."""
-    for number in range(1, MOST_REQUESTS + 1):
-        if not refuse_growth(desk, life, way, number):
+def refuse_each_growth(desk, way):
+    """Mounts the images again and again, with the first request for memory refused, the second, and so on up to one that is not made; and
+    with all requests refused of more than so many bytes, then twice as many, and so on until that is enough."""
+    for number in range(1, MOST_REQUESTS):
+        if not refuse_growth(desk, way, f"heap refuse {number}"):
+            break
+    for size in range(LARGEST_SIZE):
+        if not refuse_growth(desk, way, f"heap full {1 << size}"):
             return
-    desk.differ(f"{way.line()} asks for memory more than {MOST_REQUESTS} times")
+    desk.differ(f"{way.line()} is refused memory without an end")
 
 
-def refuse_growth(desk, life, way, number):
-    """The same of one request. False where it is not made."""
-    lines = ["heap", f"heap refuse {number}", f"try {way.line()}", "heap", "heap open"]
-    before, _, answer, behind, _ = desk.ask_all(lines)
-    is_made = " refused 1 " in behind
-    if is_made and answer == NO_MEMORY:
+def refuse_growth(desk, way, heap):
+    """Mounts the images in a heap that refuses something, and keeps no memory then. False where nothing was refused."""
+    line = f"try {way.line()}"
+    before, _, answer, behind, _ = desk.ask_all(["heap", heap, line, "heap", "heap open"])
+    is_refused = " refused 0 " not in behind
+    if is_refused and answer == NO_MEMORY:
         desk.count("mount refused: out of memory")
-    elif is_made or not answer.startswith("mounted"):
-        desk.differ(f"{lines[1]}, {lines[2]}: {answer}, with {behind}")
+    elif is_refused or not answer.startswith("mounted"):
+        desk.differ(f"{heap}, {line}: {answer}, with {behind}")
     if before.split()[-1] != behind.split()[-1]:
-        desk.differ(f"{lines[1]}, {lines[2]}: {behind}, and before {before}")
-    return is_made
+        desk.differ(f"{heap}, {line}: {behind}, and before {before}")
+    return is_refused
