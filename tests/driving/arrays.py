@@ -1,5 +1,5 @@
-"""Whole arrays, one after the other, each formatted, and then mounted and closed some times. Their images fail now and then, or give wrong
-bytes, and memory is refused now and then. What they answer is compared with a plain array.
+"""Drives whole arrays, one after the other. Each is formatted, and then mounted and closed some times. The images fail now and then, or
+give wrong bytes, and memory is refused now and then. The answers are compared with a plain array.
 """
 from driving.closing import CLOSED, LEFT, OVER, close_busy, end_life
 from driving.desk import Desk
@@ -12,21 +12,21 @@ from driving.turns import advance, flush, fold, make_stranger
 from driving.writers import write
 from lab import Ended, Lab
 
-# One array in so many is formatted in the older format.
+# One array in OLD_EVERY is formatted in the older format.
 OLD_EVERY = 4
 MOST_LIVES = 4
-# The fewest steps of a life, how many more there may be, and the steps of a life with no live die.
+# The fewest steps of a life, how many more there may be, and the most steps with no live die.
 FEWEST_STEPS, MORE_STEPS, DEAD_STEPS = 500, 3000, 60
-# How often an image is armed: one step in so many.
+# An image is armed in one step of one of these numbers.
 FAULTS_EVERY = 150, 500, 1500, 6000
-# One mounting of a closed array in so many is tried before with each read of an image refused.
+# One closed array in READ_REFUSED_EVERY is tried to be mounted with each read of an image refused.
 READ_REFUSED_EVERY = 4
 # The page that was written last where few numbers are left, and the dies that hold it.
 OLD_PAGE, OLD_DIES = 0, 2
 
 
 def drive(program, seed, events):
-    """Drives arrays by a seed until they made so many events. Gives how often each thing came, and the differences in words."""
+    """Drives arrays by a seed until this number of events is made. Gives how often each thing came, and the differences in words."""
     with Lab(program) as lab:
         desk = Desk(lab, seed)
         try:
@@ -38,7 +38,7 @@ def drive(program, seed, events):
 
 
 def run_array(desk, events):
-    """One array, until there were so many events or its lives are over."""
+    """Drives one array until its lives are over, or until this number of events is made."""
     desk.count("arrays")
     shape = draw_shape(desk.chance)
     word = "images old" if desk.chance.one_in(OLD_EVERY) else "images"
@@ -54,7 +54,7 @@ def run_array(desk, events):
 
 
 def write_last(desk, life, last):
-    """A page was written with the last number that was given, where few are left."""
+    """Writes a page with the last sequence number that was given, where few are left."""
     number = desk.next_number()
     for die in range(OLD_DIES):
         desk.expect(f"put {die} 0 {OLD_PAGE} {last} {number}", "written")
@@ -62,7 +62,7 @@ def write_last(desk, life, last):
 
 
 def live_on(desk, life, way, events):
-    """The lives of an array, each from where it is mounted to where it is closed or left, and last a look at what is mounted then."""
+    """Drives the lives of an array, each from where it is mounted to where it is closed or left. At the end it is mounted and looked at."""
     for lived in range(MOST_LIVES + 1):
         is_last = lived == MOST_LIVES or desk.counts["events"] >= events
         refuse_each_growth(desk, way)
@@ -78,7 +78,7 @@ def live_on(desk, life, way, events):
 
 
 def live_once(desk, life, way, events):
-    """A life of an array that was mounted, and how it ended."""
+    """Drives one life of an array that is mounted, and gives how it ended."""
     live(desk, life, events)
     settle(desk, life)
     look_at_all(desk, life)
@@ -88,7 +88,7 @@ def live_once(desk, life, way, events):
 
 
 def next_way(desk, life, copies, ended):
-    """How the array is mounted next. Its images change their places, and the reads of one are refused now and then."""
+    """Settles how an array is mounted next. Two of its images change their places, and now and then the reads of one are refused."""
     one, other = desk.chance.below(life.images), desk.chance.below(life.images)
     desk.expect(f"swap {one} {other}", "swapped")
     desk.flush()
@@ -100,7 +100,7 @@ def next_way(desk, life, copies, ended):
 
 
 def live(desk, life, events):
-    """The events of an array in a random order."""
+    """Makes the events of an array in a random order."""
     dead = 0
     for _ in range(desk.chance.below(MORE_STEPS) + FEWEST_STEPS):
         if desk.counts["events"] >= events or dead >= DEAD_STEPS:
@@ -111,7 +111,7 @@ def live(desk, life, events):
 
 
 def step(desk, life):
-    """One step of one of those who make events."""
+    """Makes a step of one of those who make events. An image is armed before it now and then."""
     die = desk.chance.below(life.dies)
     if desk.chance.one_in(life.fault_every):
         arm(desk, life, die)
@@ -120,7 +120,7 @@ def step(desk, life):
 
 
 def take_turn(desk, life, die, turn):
-    """The step of the one whose turn it is."""
+    """Makes the step of the one whose turn it is, of a thousand turns."""
     if turn < 440:
         work(desk, life, die)
     elif turn < 640:

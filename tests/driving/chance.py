@@ -13,5 +13,5 @@ class Chance:
         return int(self.source() * bound)
 
     def one_in(self, times):
-        """Yes, once in so many times."""
+        """Whether it happens this time, as it does once in `times` on average."""
         return self.source() * times < 1

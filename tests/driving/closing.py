@@ -4,18 +4,16 @@ from functools import partial
 from driving.life import lowest_lost
 from driving.mounting import judge_mounted
 
-# How a life of an array ends: it is closed, it is left as it stands with the images of its live dies, or nothing more comes of it.
+# How a life of an array ends: it is closed, it is left as it stands with the images of its live dies alone, or a page is lost.
 CLOSED, LEFT, OVER = "closed", "left", "over"
-# One life in so many is left as it stands.
-LEFT_EVERY = 4
-# One life in so many is closed with each call of an image refused in turn, before it is closed.
-REFUSED_EVERY = 3
+# One life in LEFT_EVERY is left as it stands. One in REFUSED_EVERY is closed with each call of an image refused in turn, and then closed.
+LEFT_EVERY, REFUSED_EVERY = 4, 3
 # The calls that are made of an image while its array is closed, and one more.
 CALLS = 4
 
 
 def close_busy(desk, life):
-    """An array with something open is not closed."""
+    """Tries to close an array with something open, which is refused."""
     if " busy " in desk.ask("array"):
         desk.expect("close", "refused: busy")
         desk.count("close refused: busy")
@@ -23,7 +21,7 @@ def close_busy(desk, life):
 
 
 def end_life(desk, life, way):
-    """An array at rest is closed, or left as it stands."""
+    """Closes an array at rest, or leaves it as it stands."""
     closing = Closing(desk, life)
     if not life.live or lowest_lost(closing.pages, life.live) is not None:
         closing.close()
@@ -40,7 +38,7 @@ def end_life(desk, life, way):
 
 
 def keep_living(desk, life):
-    """Only the images of live dies are kept."""
+    """Drops the images of all dies but the live ones."""
     places = [life.place_of(die) for die in range(life.dies) if die not in life.live]
     for place in sorted((place for place in places if place is not None), reverse=True):
         desk.expect(f"drop {place}", "dropped")
@@ -80,7 +78,7 @@ class Closing:
                 self.desk.flush()
 
     def refuse_call(self, way, die, call):
-        """The same of one call of a die. Where the array was closed, what is mounted of all images is the same array."""
+        """Closes the array where one call of a die's image is refused. What is mounted of all images then is the same array."""
         self.desk.expect(f"arm {self.life.place_of(die)} {call}", "armed")
         is_closed = self.close(None if call == CALLS else die)
         line = f"try mount {way.copies}"
@@ -91,7 +89,7 @@ class Closing:
             self.desk.differ(f"what was closed is not mounted: {line}: {answer}")
 
     def close(self, refusing=None):
-        """Closes the array, of which a die refuses a call where one is given, and compares the answer and the marks. Whether it was
+        """Closes the array, of which the die `refusing` refuses a call, and compares the answer and the marks. Gives whether it was
         closed."""
         mask = sorted(self.life.live - {refusing})
         answer = self.desk.ask("close")

@@ -6,12 +6,11 @@ from driving.kinds import all_names
 
 # The most differences that are told one by one.
 MOST_TOLD = 20
-# Of so many events the first find no memory, the next find some and are then refused one request of so many, and others up to the last
-# find all. What the array shows is looked at before and behind each of these.
-WATCHED_OF, STARVED, INTERRUPTED, WATCHED = 512, 6, 3, 64
-MOST_REQUESTS = 8
-# Numbers of pages begin behind those of which each byte of a page is the number.
-LAST_OF_ONE_BYTE = 255
+# Of EVENTS events, WATCHED are watched: what the array shows is looked at before and behind each of them. STARVED of these find no memory,
+# and INTERRUPTED of them are refused one request for it, the first to the MOST_REQUESTS-th.
+EVENTS, WATCHED, STARVED, INTERRUPTED, MOST_REQUESTS = 512, 64, 6, 3, 8
+# A page of a smaller number than this has that number in each byte, and any other page has the eight bytes of its number over and over.
+FIRST_NUMBER = 256
 OUT_OF_MEMORY = "refused: out of memory"
 # The one refusal that changes something: no copy is under way then.
 COPY_FAILED = "refused: the copy failed"
@@ -25,11 +24,12 @@ class Desk:
         self.chance = Chance(seed)
         self.counts = dict.fromkeys(all_names(), 0)
         self.differences = []
-        self.last_number = LAST_OF_ONE_BYTE
+        self.last_number = FIRST_NUMBER - 1
+        # Lines that were not sent yet, each with what is done with its answer.
         self.posted = []
 
     def next_number(self):
-        """A number that no page was written with."""
+        """A number for a page that no page was written with."""
         self.last_number += 1
         return self.last_number
 
@@ -42,18 +42,18 @@ class Desk:
         if len(self.differences) < MOST_TOLD:
             self.differences.append(words)
 
-    # Lines wait here until an answer is needed, and go to the laboratory together.
+    # Lines wait until an answer is needed, and go to the laboratory together.
 
     def post(self, line, then):
-        """A line is to be sent. Its answer is given to `then`."""
+        """Adds a line to those that wait. Its answer is given to `then`."""
         self.posted.append((line, then))
 
     def expect(self, line, wanted):
-        """A line is to be sent, of which the answer is known."""
+        """Adds a line of which the answer is known."""
         self.post(line, partial(self.compare, line, wanted))
 
     def flush(self):
-        """Sends what waits, and handles each answer in its turn."""
+        """Sends the lines that wait, and handles their answers in order."""
         posted, self.posted = self.posted, []
         for (_, then), answer in zip(posted, self.lab.ask_all([line for line, _ in posted])):
             then(answer)
@@ -77,9 +77,9 @@ class Desk:
     # Events.
 
     def event(self, kind, line, then=None, refused=None):
-        """An event is to be made, which is counted by its answer. An accepted answer is given to `then`, and a refusal to `refused`."""
+        """Adds the line of an event, which is counted by its answer. An accepted answer is given to `then`, and a refusal to `refused`."""
         self.counts["events"] += 1
-        draw = self.chance.below(WATCHED_OF) if kind.is_watched else WATCHED_OF
+        draw = self.chance.below(EVENTS) if kind.is_watched else EVENTS
         if draw < STARVED:
             self.watch("heap full 0", kind, line, then, refused)
         elif draw < STARVED + INTERRUPTED:
@@ -90,7 +90,7 @@ class Desk:
             self.post(line, partial(self.judge, kind, line, then, refused, False))
 
     def watch(self, heap, kind, line, then, refused):
-        """The same of an event that finds the heap so. A refusal changes nothing that a look shows."""
+        """Adds an event that finds the heap in the state of the line `heap`. A refusal changes nothing that a look shows."""
         answers = []
         for before in ("all", heap, line, "heap", "heap open", "all"):
             self.post(before, answers.append)
@@ -103,7 +103,7 @@ class Desk:
         self.judge(kind, line, then, refused, " refused 0 " not in heap, answer)
 
     def judge(self, kind, line, then, refused, was_memory_refused, answer):
-        """Counts an answer, and passes it on."""
+        """Counts the answer of an event, and passes it on."""
         name = kind.name_of(answer)
         if name is None:
             self.differ(f"{line}: {answer}")

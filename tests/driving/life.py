@@ -2,13 +2,12 @@
 from dataclasses import dataclass
 
 BLOCKS, SLOTS, PAGE_BYTES, SPARES = 6, 4, 512, 1
-# The fewest dies, and how many more there may be.
-FEWEST_DIES, MORE_DIES = 4, 2
-# At most so many pages fewer than the dies have room for.
-MOST_PAGES_LEFT = 3
-# One array of two copies in so many has room for three.
+FEWEST_DIES, MOST_DIES = 4, 5
+# An array has pages for all the room of its dies, or at most MOST_PAGES_LEFT fewer.
+MOST_PAGES_LEFT = 2
+# One array of two copies in ROOMY_EVERY has room for three.
 ROOMY_EVERY = 4
-# One array in so many begins where few sequence numbers are left, and at most so many.
+# One array in FEW_NUMBERS_EVERY begins where FEW_NUMBERS sequence numbers are left, or fewer.
 FEW_NUMBERS_EVERY, FEW_NUMBERS = 8, 200
 MAX_SEQUENCE = (1 << 62) - 1
 
@@ -34,17 +33,17 @@ def room_of(dies):
 
 def draw_shape(chance):
     """A shape with pages near the limit."""
-    dies = FEWEST_DIES + chance.below(MORE_DIES)
+    dies = FEWEST_DIES + chance.below(MOST_DIES - FEWEST_DIES + 1)
     copies = draw_copies(chance)
     most = room_of(dies) // (3 if chance.one_in(ROOMY_EVERY) else copies)
-    pages = most - chance.below(MOST_PAGES_LEFT)
+    pages = most - chance.below(MOST_PAGES_LEFT + 1)
     last = MAX_SEQUENCE - chance.below(FEW_NUMBERS) if chance.one_in(FEW_NUMBERS_EVERY) else 0
     return Shape(dies, pages, copies, last)
 
 
-@dataclass
+@dataclass(frozen=True)
 class Version:
-    """The last write of a page: its sequence number, 0 where it was never written, and the number that the page is full of."""
+    """A write of a page: its sequence number, 0 where it was never written, and the number that the page is full of."""
     sequence: int = 0
     is_hole: bool = False
     content: int = 0
@@ -66,12 +65,22 @@ class Batch:
 
 
 @dataclass
+class Flush:
+    """A flush, with the dies that were live when it began, and those of them that it waits for, by their syncs."""
+    number: int
+    dies: frozenset
+    waiting: set
+
+
+@dataclass
 class Flight:
-    """The job that a die is at. Of a read, the page, its version at the Take and the number of the batch."""
+    """The job that a die is at. Of a read, the page, its version at the Take and the number of the batch; of a sync, the flushes that were
+    begun at the Take."""
     job: str
     page: int = None
     due: Version = None
     batch: int = None
+    flushes: tuple = ()
 
 
 class Life:
@@ -79,7 +88,7 @@ class Life:
 
     def __init__(self, shape, fault_every):
         self.dies, self.pages = shape.dies, shape.pages
-        # How often an image is armed: one step in so many.
+        # An image is armed in one step of this number.
         self.fault_every = fault_every
         self.images = shape.dies
         # The plain array: what the disk would be with no dies.
@@ -87,11 +96,14 @@ class Life:
         self.begin((), (), 0)
 
     def begin(self, live, places, this_round):
-        """The array is mounted with these live dies, and the images of its dies at these places. Nothing is under way."""
+        """Begins a life: these dies are live, the images of the dies stand at these places, and nothing is under way."""
         self.live, self.places, self.round = set(live), tuple(places), this_round
         self.claims, self.batches, self.flushes = [], [], []
         self.flights = [None] * self.dies
-        self.is_copying = False
+        # The page of the copy under way, and the write that is copied, and None where no copy is under way.
+        self.copy = None
+        # The last sequence number that is known to be given.
+        self.last = max((version.sequence for version in self.versions), default=0)
         # The batch and the page that a round of a die is booked for, by both. Bookings that were released are left here.
         self.booked = {}
 
@@ -108,7 +120,7 @@ class Life:
 
 
 def copies_fit(copies, dies, pages):
-    """Whether the dies in use have room for so many copies of each page."""
+    """Whether the dies in use have room for this number of copies of each page."""
     return copies <= dies - SPARES and copies * pages <= room_of(dies)
 
 

@@ -11,8 +11,10 @@ NO_MEMORY = "refused: no memory"
 
 @dataclass(frozen=True)
 class Way:
-    """How an array is mounted: with so many copies of each page, and whether it need not have been closed."""
+    """How an array is mounted."""
+    # How many copies each page is to have.
     copies: int
+    # Whether the array need not have been closed.
     unclean: bool = False
 
     def line(self):
@@ -20,7 +22,7 @@ class Way:
 
 
 def mount_images(desk, life, way):
-    """Mounts the images, of which none fails, and compares each page with the plain array. False where they are not mounted."""
+    """Mounts the images, of which none fails, and compares the map with the plain array. Gives whether they are mounted."""
     answer, places, shown, pages = desk.ask_all([way.line(), "places", "array", "map"])
     if not answer.startswith("mounted live"):
         desk.differ(f"{way.line()}: {answer}")
@@ -34,7 +36,7 @@ def mount_images(desk, life, way):
 
 
 def judge_map(desk, life, line, words, live):
-    """Compares what a look at the map shows behind a mounting: each page has its last write, and none is lost."""
+    """Compares the map behind a mounting with the plain array: each page has its last write, and none is lost."""
     lost = lowest_lost(words, live)
     if lost is not None:
         desk.differ(f"{line}: page {lost} is lost")
@@ -47,13 +49,13 @@ def judge_map(desk, life, line, words, live):
 
 
 def judge_mounted(desk, life, line, answer):
-    """Compares an array that was mounted beside another one, or again, with the plain array."""
+    """Compares the map in the answer of a mounting that is tried."""
     mounted, _, pages = answer.partition(" map ")
     judge_map(desk, life, line, pages.split(), [int(die) for die in mounted.split()[2:]])
 
 
 def refuse_each_read(desk, life, way, place):
-    """Mounts the images again and again, of which the one at a place refuses its first call, its second, and so on up to one that is not
+    """Tries to mount the images again and again. The image at a place refuses its first call, its second, and so on up to one that is not
     made."""
     for call in range(1, MOST_CALLS + 1):
         if not refuse_read(desk, life, way, place, call):
@@ -62,7 +64,7 @@ def refuse_each_read(desk, life, way, place):
 
 
 def refuse_read(desk, life, way, place, call):
-    """The same of one call, which is told as a fault of that image. False where it is not made."""
+    """Tries to mount the images, of which one refuses a call. The refusal is a fault of that image. Gives whether the call is made."""
     lines = ["faults", f"arm {place} {call}", f"try {way.line()}", "faults", f"arm {place} 0"]
     before, _, answer, behind, _ = desk.ask_all(lines)
     is_made = before != behind
@@ -76,8 +78,8 @@ def refuse_read(desk, life, way, place, call):
 
 
 def refuse_each_growth(desk, way):
-    """Mounts the images again and again, with the first request for memory refused, the second, and so on up to one that is not made; and
-    with all requests refused of more than so many bytes, then twice as many, and so on until that is enough."""
+    """Tries to mount the images again and again: with the first request for memory refused, the second, and so on up to one that is not
+    made, and then with each request refused of more than 1 byte, 2 bytes, 4 bytes, and so on up to what is enough."""
     for number in range(1, MOST_REQUESTS):
         if not refuse_growth(desk, way, f"heap refuse {number}"):
             break
@@ -88,7 +90,8 @@ def refuse_each_growth(desk, way):
 
 
 def refuse_growth(desk, way, heap):
-    """Mounts the images in a heap that refuses something, and keeps no memory then. False where nothing was refused."""
+    """Tries to mount the images where the heap refuses something. No memory is in use then that was not before. Gives whether something is
+    refused."""
     line = f"try {way.line()}"
     before, _, answer, behind, _ = desk.ask_all(["heap", heap, line, "heap", "heap open"])
     is_refused = " refused 0 " not in behind

@@ -1,32 +1,33 @@
 """Clients that read batches, and the rebuilder, which reads a page to give it one more copy."""
 from functools import partial
 
+from driving.desk import COPY_FAILED
 from driving.kinds import ADMIT, COMMIT_COPY, COPY, END, REPLAN
 from driving.life import Batch
 
 # The most batches that are open, and the most pages of one.
 MOST_BATCHES, MOST_PAGES = 4, 8
-# One batch in so many is ended or planned anew though it waits, and one that is torn is ended.
+# One batch in RASH_EVERY is ended or planned anew though it waits, and one in GIVEN_UP_EVERY is ended where it is torn.
 RASH_EVERY, GIVEN_UP_EVERY = 64, 8
-# One more copy in so many is asked for with an older sequence number than the page has.
+# One copy in LATE_EVERY is asked for with an older sequence number than the page has.
 LATE_EVERY = 16
 
 
 def read(desk, life):
-    """A client asks for some pages, if not too many batches are open."""
+    """Asks for a batch of some pages, if not too many are open."""
     if len(life.batches) < MOST_BATCHES:
         count = desk.chance.below(MOST_PAGES) + 1
         admit(desk, life, list(dict.fromkeys(desk.chance.below(life.pages) for _ in range(count))))
 
 
 def admit(desk, life, pages, is_for_copy=False):
-    """A batch of these pages is asked for."""
+    """Asks for a batch of these pages."""
     line = "admit " + " ".join(map(str, pages))
     desk.event(ADMIT, line, partial(open_batch, desk, life, line, pages, is_for_copy), partial(judge_lost, desk))
 
 
 def open_batch(desk, life, line, pages, is_for_copy, answer):
-    """A batch of these pages was admitted with a plan of those that have data."""
+    """Keeps a batch that was admitted. Its plan is of the pages that have data."""
     _, number, *plan = answer.split()
     batch = Batch(int(number), {page: life.version(page) for page in pages}, is_for_copy)
     life.batches.append(batch)
@@ -54,7 +55,7 @@ def judge_plan(desk, life, batch, line, words):
 
 
 def judge_lost(desk, refusal):
-    """A page that is refused as lost is held by no die."""
+    """Looks at a page that is refused as lost: no die holds it."""
     if refusal.startswith("refused: a page is lost"):
         desk.post(f"page {refusal.split()[-1]}", partial(judge_holders, desk))
 
@@ -65,7 +66,7 @@ def judge_holders(desk, shown):
 
 
 def go_on_reading(desk, life):
-    """An open batch of a client goes on as it stands."""
+    """Goes on with an open batch of a client as it stands."""
     if not life.batches:
         return
     batch = life.batches[desk.chance.below(len(life.batches))]
@@ -81,7 +82,7 @@ def go_on_reading(desk, life):
 
 
 def replan(desk, life, batch):
-    """A batch is planned anew. Where a page of it is lost it is ended."""
+    """Plans a batch anew, and ends it where a page of it is lost."""
     line = f"replan {batch.number}"
     then = lambda answer: judge_plan(desk, life, batch, line, answer.split())
     desk.event(REPLAN, line, then, partial(end_lost, desk, life, batch))
@@ -94,7 +95,7 @@ def end_lost(desk, life, batch, refusal):
 
 
 def end(desk, life, batch, is_whole, then=None):
-    """A batch is ended, and what it answers is compared. One that is whole answers each of its pages."""
+    """Ends a batch, and compares what it answers. A whole batch answers each of its pages."""
     life.batches.remove(batch)
     desk.event(END, f"end {batch.number}", partial(compare, desk, batch, is_whole, then))
 
@@ -116,8 +117,8 @@ def compare(desk, batch, is_whole, then, answer):
 
 
 def rebuild(desk, life):
-    """A step of the rebuilder: the copy under way ends, or the next thin page is read, or it is copied."""
-    if life.is_copying and not desk.chance.one_in(3):
+    """Makes a step of the rebuilder: it ends the copy under way, reads the next thin page, or asks for a copy of the one that it read."""
+    if life.copy and not desk.chance.one_in(3):
         commit_copy(desk, life)
         return
     batch = next((batch for batch in life.batches if batch.is_for_copy), None)
@@ -132,24 +133,37 @@ def rebuild(desk, life):
 
 
 def copy_last(desk, life, batch, answers):
-    """A page that was answered is to have one more copy."""
+    """Asks for one more copy of the last page that was answered."""
     if not answers:
         return
     page, content = answers[-1]
-    sequence = batch.dues[page].sequence if page in batch.dues else 0
-    if not sequence or not content.isdigit():
+    due = batch.dues.get(page)
+    if not due or not due.sequence or not content.isdigit():
         return
-    if desk.chance.one_in(LATE_EVERY):
-        sequence -= 1
-    desk.event(COPY, f"copy {page} {sequence} {content}", lambda _: set_copying(life, True))
+    sequence = due.sequence - desk.chance.one_in(LATE_EVERY)
+    desk.event(COPY, f"copy {page} {sequence} {content}", partial(open_copy, desk, life, page, sequence))
 
 
-def set_copying(life, is_copying):
-    life.is_copying = is_copying
+def open_copy(desk, life, page, sequence, answer):
+    """Keeps the copy that was reserved, which is one of the page's last write."""
+    life.copy = page, life.version(page)
+    if sequence != life.version(page).sequence:
+        desk.differ(f"copy {page} {sequence}: {answer}, and its last write is {life.version(page)}")
 
 
 def commit_copy(desk, life):
-    """The copy under way ends, if it was programmed. One that failed is not under way any more."""
-    over = lambda _: set_copying(life, False)
-    failed = lambda refusal: set_copying(life, refusal != "refused: the copy failed")
-    desk.event(COMMIT_COPY, "commit copy", over, failed)
+    """Ends the copy under way, if it was programmed. A copy that failed is under way no longer."""
+    desk.event(COMMIT_COPY, "commit copy", partial(close_copy, desk, life), partial(lose_copy, life))
+
+
+def close_copy(desk, life, answer):
+    """Compares how the copy under way ended: it is current where the page was not written since."""
+    page, version = life.copy
+    if answer != ("current" if version == life.version(page) else "late"):
+        desk.differ(f"commit copy: {answer}, of page {page} and {version}, and its last write is {life.version(page)}")
+    life.copy = None
+
+
+def lose_copy(life, refusal):
+    if refusal == COPY_FAILED:
+        life.copy = None

@@ -6,30 +6,30 @@ from driving.writers import end_claim
 
 # The turns that the last batches have to be answered, and the last claims to be released.
 SETTLING_TURNS, RESTING_TURNS = 2000, 4000
-# So many pages are looked at, each by a batch of its own, before these are answered.
+# The pages that are asked for, each by a batch of its own, before these batches are settled.
 PAGES_AT_ONCE = 8
 
 
 def rest(desk, life):
-    """Each claim is released, the copy under way ends, each batch is answered, and each die ends its job."""
+    """Brings an array to rest: each claim is released, the copy under way ends, each batch is answered, and each die ends its job."""
     settle(desk, life)
     for _ in range(RESTING_TURNS):
-        if not life.claims and not life.is_copying:
+        if not life.claims and not life.copy:
             for die in range(life.dies):
                 end_job(desk, life, die)
             desk.flush()
             return
         turn(desk, life)
-        if life.is_copying:
+        if life.copy:
             commit_copy(desk, life)
         if life.claims:
             end_claim(desk, life, life.claims[0])
         desk.flush()
-    desk.differ(f"claims are not released: {life.claims}, and a copy is under way: {life.is_copying}")
+    desk.differ(f"claims are not released: {life.claims}, and the copy under way is {life.copy}")
 
 
 def settle(desk, life):
-    """Each open batch is answered or, where a page of it is lost, ended."""
+    """Goes on until each open batch is answered or, where a page of it is lost, ended."""
     desk.flush()
     for _ in range(SETTLING_TURNS):
         if not life.batches:
@@ -47,14 +47,14 @@ def settle(desk, life):
 
 
 def turn(desk, life):
-    """Each die ends its job or takes one, and the round rises, if it may."""
+    """Lets each die end its job or take one, and the round rise, if it may."""
     for die in range(life.dies):
         work(desk, life, die)
     advance(desk, life)
 
 
 def look_at_all(desk, life):
-    """Each page is read that is not lost, some at a time."""
+    """Reads each page that is not lost, some at a time."""
     for page in range(life.pages):
         admit(desk, life, [page])
         if page % PAGES_AT_ONCE == 0:

@@ -2,6 +2,7 @@
 from functools import partial
 
 from driving.kinds import ADVANCE, FLUSH_BEGIN, FLUSH_STATE, FOLD, STRANGER
+from driving.life import Flush
 
 # The most flushes of which it is asked how they stand.
 MOST_FLUSHES = 4
@@ -12,7 +13,7 @@ NO_DIE, LONG_WINDOW = 64, 65
 
 
 def advance(desk, life):
-    """The round rises, if it may."""
+    """Asks for the next round."""
     desk.event(ADVANCE, "advance", partial(rise, desk, life))
 
 
@@ -23,22 +24,32 @@ def rise(desk, life, answer):
 
 
 def flush(desk, life):
-    """A flush is begun, or it is asked how one stands."""
+    """Begins a flush, or asks how one stands."""
     if len(life.flushes) < MOST_FLUSHES and desk.chance.one_in(3):
-        desk.event(FLUSH_BEGIN, "flush begin", lambda answer: life.flushes.append(int(answer.split()[1])))
+        desk.event(FLUSH_BEGIN, "flush begin", partial(keep_flush, life))
     elif life.flushes:
-        number = life.flushes[desk.chance.below(len(life.flushes))]
-        desk.event(FLUSH_STATE, f"flush state {number}", partial(forget_flush, life, number))
+        asked = life.flushes[desk.chance.below(len(life.flushes))]
+        desk.event(FLUSH_STATE, f"flush state {asked.number}", partial(judge_flush, desk, life, asked))
 
 
-def forget_flush(life, number, state):
-    """A flush that stands so is asked for no longer, if it is over."""
+def keep_flush(life, answer):
+    life.flushes.append(Flush(int(answer.split()[1]), frozenset(life.live), set(life.live)))
+
+
+def judge_flush(desk, life, asked, state):
+    """Compares how a flush stands with the syncs that were ended since it began, and forgets one that is over."""
+    if not asked.dies & life.live:
+        wanted = "no die"
+    else:
+        wanted = "waiting" if asked.waiting & life.live else "synced"
+    if state != wanted:
+        desk.differ(f"flush {asked.number}: {state}, and not {wanted}, of dies {sorted(asked.dies)} and live {sorted(life.live)}")
     if state != "waiting":
-        life.flushes.remove(number)
+        life.flushes.remove(asked)
 
 
 def fold(desk):
-    """The history is folded."""
+    """Folds the history."""
     desk.event(FOLD, "fold")
 
 
