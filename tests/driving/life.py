@@ -1,5 +1,5 @@
 """What is kept beside one array."""
-from dataclasses import dataclass
+from dataclasses import dataclass, field
 
 BLOCKS, SLOTS, PAGE_BYTES, SPARES = 6, 4, 512, 1
 FEWEST_DIES, MOST_DIES = 4, 5
@@ -51,9 +51,10 @@ class Version:
 
 @dataclass
 class Claim:
-    """An open claim, with the write that is reserved under it."""
+    """An open claim, with the write that is reserved under it, and the dies that have programmed it."""
     page: int
     reserved: Version = None
+    programmed: set = field(default_factory=set)
 
 
 @dataclass
@@ -72,17 +73,6 @@ class Flush:
     waiting: set
 
 
-@dataclass
-class Flight:
-    """The job that a die is at. Of a read, the page, its version at the Take and the number of the batch; of a sync, the flushes that were
-    begun at the Take."""
-    job: str
-    page: int = None
-    due: Version = None
-    batch: int = None
-    flushes: tuple = ()
-
-
 class Life:
     """What is kept beside an array: its images, what is under way, and the plain array."""
 
@@ -99,7 +89,8 @@ class Life:
         """Begins a life: these dies are live, the images of the dies stand at these places, and nothing is under way."""
         self.live, self.places, self.round = set(live), tuple(places), this_round
         self.claims, self.batches, self.flushes = [], [], []
-        self.flights = [None] * self.dies
+        # The job that each die is at.
+        self.jobs = [None] * self.dies
         # The page of the copy under way, and the write that is copied, and None where no copy is under way.
         self.copy = None
         # The last sequence number that is known to be given.

@@ -133,15 +133,16 @@ def rebuild(desk, life):
 
 
 def copy_last(desk, life, batch, answers):
-    """Asks for one more copy of the last page that was answered."""
+    """Asks for one more copy of the last page that was answered. That of a hole has zeros, whatever bytes are given."""
     if not answers:
         return
     page, content = answers[-1]
     due = batch.dues.get(page)
     if not due or not due.sequence or not content.isdigit():
         return
+    number = desk.next_number() if due.is_hole else content
     sequence = due.sequence - desk.chance.one_in(LATE_EVERY)
-    desk.event(COPY, f"copy {page} {sequence} {content}", partial(open_copy, desk, life, page, sequence))
+    desk.event(COPY, f"copy {page} {sequence} {number}", partial(open_copy, desk, life, page, sequence))
 
 
 def open_copy(desk, life, page, sequence, answer):

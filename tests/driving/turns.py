@@ -62,7 +62,7 @@ def make_stranger(desk, life):
         f"take {NO_DIE}", f"done {NO_DIE} erased",
     ]
     lines += [line for claim in life.claims for line in strangers_of(claim)]
-    lines += [f"done {die} ok" for die in range(life.dies) if not life.flights[die]]
+    lines += [f"done {die} ok" for die in range(life.dies) if not life.jobs[die]]
     desk.event(STRANGER, lines[desk.chance.below(len(lines))])
 
 

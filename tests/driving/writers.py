@@ -1,6 +1,7 @@
 """Clients that write pages and make holes."""
 from functools import partial
 
+from driving.jobs import Program
 from driving.kinds import ABANDON, CLAIM, COMMIT, RELEASE, RESERVE, RESERVE_FEWER, RESERVE_HOLE
 from driving.life import Claim, Version
 
@@ -13,13 +14,24 @@ def write(desk, life):
     chance = desk.chance
     if len(life.claims) < MOST_CLAIMS and chance.one_in(4):
         page = chance.below(life.pages)
-        desk.event(CLAIM, f"claim {page}", lambda _: life.claims.append(Claim(page)))
+        desk.event(CLAIM, f"claim {page}", partial(open_claim, desk, life, page), partial(judge_claimed, desk, life, page))
     elif life.claims:
         claim = life.claims[chance.below(len(life.claims))]
         if claim.reserved or chance.one_in(3):
             end_claim(desk, life, claim)
         else:
             reserve(desk, life, claim)
+
+
+def open_claim(desk, life, page, answer):
+    if any(claim.page == page for claim in life.claims):
+        desk.differ(f"claim {page}: {answer}, and the page is claimed")
+    life.claims.append(Claim(page))
+
+
+def judge_claimed(desk, life, page, refusal):
+    if "claimed" in refusal and not any(claim.page == page for claim in life.claims):
+        desk.differ(f"claim {page}: {refusal}, and the page is not claimed")
 
 
 def end_claim(desk, life, claim):
@@ -54,14 +66,25 @@ def open_write(desk, life, claim, is_hole, number, answer):
 
 
 def settle(claim, reserved=None):
-    """Keeps what is reserved under a claim now."""
-    claim.reserved = reserved
+    """Keeps what is reserved under a claim now. No die has programmed it."""
+    claim.reserved, claim.programmed = reserved, set()
 
 
 def commit(desk, life, claim, answer):
-    """Writes what was reserved under a claim into the plain array."""
+    """Writes what was reserved under a claim into the plain array. The live dies that programmed it hold the page, and no other die."""
     version = claim.reserved
     if answer != f"seq {version.sequence}" or version.sequence <= life.version(claim.page).sequence:
         desk.differ(f"commit {claim.page}: {answer}, and reserved was {version}, over {life.version(claim.page)}")
+    if any(isinstance(job, Program) and job.write == version for job in life.jobs):
+        desk.differ(f"commit {claim.page}: {answer}, and a program of it is in flight")
     life.versions[claim.page] = version
+    desk.post(f"page {claim.page}", partial(judge_holders, desk, version, claim.programmed & life.live))
     settle(claim)
+
+
+def judge_holders(desk, version, dies, shown):
+    """Compares the dies that hold a page once it was committed with those that programmed it."""
+    words = shown.split()
+    holders = [int(words[at + 1]) for at, word in enumerate(words) if word == "at"]
+    if holders != sorted(dies) or f" seq {version.sequence} " not in shown:
+        desk.differ(f"{shown}, and programmed was {version} by the dies {sorted(dies)}")
