@@ -30,10 +30,10 @@ def drive(program, seed, events):
     with Lab(program) as lab:
         desk = Desk(lab, seed)
         try:
-            while desk.counts["events"] < events:
+            while desk.goes_on(events):
                 run_array(desk, events)
-        except (Ended, ValueError, IndexError) as error:
-            desk.differ(f"the laboratory cannot be asked any more: {error!r}")
+        except (Ended, LookupError, TypeError, ValueError) as error:
+            desk.differ(f"an answer that cannot be understood: {error!r}")
     return desk.counts, desk.differences
 
 
@@ -47,10 +47,10 @@ def run_array(desk, events):
     life = Life(shape, FAULTS_EVERY[desk.chance.below(len(FAULTS_EVERY))])
     if shape.last:
         write_last(desk, life, shape.last)
-    desk.flush()
+    desk.send()
     live_on(desk, life, Way(shape.copies), events)
     desk.expect("overwrites", "overwrites 0")
-    desk.flush()
+    desk.send()
 
 
 def write_last(desk, life, last):
@@ -64,7 +64,7 @@ def write_last(desk, life, last):
 def live_on(desk, life, way, events):
     """Drives the lives of an array, each from where it is mounted to where it is closed or left. At the end it is mounted and looked at."""
     for lived in range(MOST_LIVES + 1):
-        is_last = lived == MOST_LIVES or desk.counts["events"] >= events
+        is_last = lived == MOST_LIVES or not desk.goes_on(events)
         refuse_each_growth(desk, way)
         if not mount_images(desk, life, way):
             return
@@ -91,7 +91,7 @@ def next_way(desk, life, copies, ended):
     """Settles how an array is mounted next. Two of its images change their places, and now and then the reads of one are refused."""
     one, other = desk.chance.below(life.images), desk.chance.below(life.images)
     desk.expect(f"swap {one} {other}", "swapped")
-    desk.flush()
+    desk.send()
     drawn = draw_copies(desk.chance)
     way = Way(drawn if copies_fit(drawn, life.dies, life.pages) else copies, ended == LEFT)
     if ended == CLOSED and desk.chance.one_in(READ_REFUSED_EVERY):
@@ -103,7 +103,7 @@ def live(desk, life, events):
     """Makes the events of an array in a random order."""
     dead = 0
     for _ in range(desk.chance.below(MORE_STEPS) + FEWEST_STEPS):
-        if desk.counts["events"] >= events or dead >= DEAD_STEPS:
+        if dead >= DEAD_STEPS or not desk.goes_on(events):
             return
         if not life.live:
             dead += 1
@@ -116,7 +116,7 @@ def step(desk, life):
     if desk.chance.one_in(life.fault_every):
         arm(desk, life, die)
     take_turn(desk, life, die, desk.chance.below(1000))
-    desk.flush()
+    desk.send()
 
 
 def take_turn(desk, life, die, turn):

@@ -4,7 +4,8 @@ from functools import partial
 from driving.life import lowest_lost
 from driving.mounting import judge_mounted
 
-# How a life of an array ends: it is closed, it is left as it stands with the images of its live dies alone, or a page is lost.
+# How a life of an array ends. It is closed, or left as it stands with the images of its live dies alone; or it is over, as a page is
+# lost or no die is live.
 CLOSED, LEFT, OVER = "closed", "left", "over"
 # One life in LEFT_EVERY is left as it stands. One in REFUSED_EVERY is closed with each call of an image refused in turn, and then closed.
 LEFT_EVERY, REFUSED_EVERY = 4, 3
@@ -17,7 +18,7 @@ def close_busy(desk, life):
     if " busy " in desk.ask("array"):
         desk.expect("close", "refused: busy")
         desk.count("close refused: busy")
-        desk.flush()
+        desk.send()
 
 
 def end_life(desk, life, way):
@@ -25,7 +26,7 @@ def end_life(desk, life, way):
     closing = Closing(desk, life)
     if not life.live or lowest_lost(closing.pages, life.live) is not None:
         closing.close()
-        desk.flush()
+        desk.send()
         return OVER
     if desk.chance.one_in(LEFT_EVERY):
         keep_living(desk, life)
@@ -33,7 +34,7 @@ def end_life(desk, life, way):
     if desk.chance.one_in(REFUSED_EVERY):
         closing.refuse_each_call(way)
     closing.close()
-    desk.flush()
+    desk.send()
     return CLOSED
 
 
@@ -43,7 +44,7 @@ def keep_living(desk, life):
     for place in sorted((place for place in places if place is not None), reverse=True):
         desk.expect(f"drop {place}", "dropped")
         life.images -= 1
-    desk.flush()
+    desk.send()
 
 
 class Closing:
@@ -75,7 +76,7 @@ class Closing:
                 self.refuse_call(way, die, call)
                 for place, header in enumerate(headers):
                     self.desk.expect(f"write {header.replace(' ', f' {place} ')}", "written")
-                self.desk.flush()
+                self.desk.send()
 
     def refuse_call(self, way, die, call):
         """Closes the array where one call of a die's image is refused. What is mounted of all images then is the same array."""

@@ -6,9 +6,9 @@ from driving.kinds import all_names
 
 # The most differences that are told one by one.
 MOST_TOLD = 20
-# Of EVENTS events, WATCHED are watched: what the array shows is looked at before and behind each of them. STARVED of these find no memory,
+# Of SHARES events, WATCHED are watched: what the array shows is looked at before and behind each of them. STARVED of these find no memory,
 # and INTERRUPTED of them are refused one request for it, the first to the MOST_REQUESTS-th.
-EVENTS, WATCHED, STARVED, INTERRUPTED, MOST_REQUESTS = 512, 64, 6, 3, 8
+SHARES, WATCHED, STARVED, INTERRUPTED, MOST_REQUESTS = 512, 64, 6, 3, 8
 # A page of a smaller number than this has that number in each byte, and any other page has the eight bytes of its number over and over.
 FIRST_NUMBER = 256
 OUT_OF_MEMORY = "refused: out of memory"
@@ -36,8 +36,12 @@ class Desk:
     def count(self, name):
         self.counts[name] += 1
 
+    def goes_on(self, events):
+        """Whether fewer events than this are made, and not too much differs."""
+        return self.counts["events"] < events and len(self.differences) < MOST_TOLD
+
     def differ(self, words):
-        """Something is not as it is to be."""
+        """Counts a difference, and keeps its words."""
         self.counts["differences"] += 1
         if len(self.differences) < MOST_TOLD:
             self.differences.append(words)
@@ -52,7 +56,7 @@ class Desk:
         """Adds a line of which the answer is known."""
         self.post(line, partial(self.compare, line, wanted))
 
-    def flush(self):
+    def send(self):
         """Sends the lines that wait, and handles their answers in order."""
         posted, self.posted = self.posted, []
         for (_, then), answer in zip(posted, self.lab.ask_all([line for line, _ in posted])):
@@ -63,7 +67,7 @@ class Desk:
         answers = []
         for line in lines:
             self.post(line, answers.append)
-        self.flush()
+        self.send()
         return answers
 
     def ask(self, line):
@@ -79,7 +83,7 @@ class Desk:
     def event(self, kind, line, then=None, refused=None):
         """Adds the line of an event, which is counted by its answer. An accepted answer is given to `then`, and a refusal to `refused`."""
         self.counts["events"] += 1
-        draw = self.chance.below(EVENTS) if kind.is_watched else EVENTS
+        draw = self.chance.below(SHARES) if kind.is_watched else SHARES
         if draw < STARVED:
             self.watch("heap full 0", kind, line, then, refused)
         elif draw < STARVED + INTERRUPTED:
@@ -97,6 +101,7 @@ class Desk:
         self.post("nothing", lambda _: self.judge_watched(kind, line, then, refused, answers))
 
     def judge_watched(self, kind, line, then, refused, answers):
+        """Compares what the array showed before and behind an event, and judges its answer."""
         shown, _, answer, heap, _, shown_behind = answers
         if answer.startswith("refused") and answer != COPY_FAILED and shown != shown_behind:
             self.differ(f"{line}: {answer}, and before it {shown}, and behind it {shown_behind}")

@@ -3,9 +3,8 @@ from dataclasses import dataclass
 
 from driving.life import BLOCKS, SLOTS, lowest_lost
 
-# More calls of an image than a mounting makes, more requests for memory, and more bits than the bytes of one request have.
-MOST_CALLS = BLOCKS * SLOTS + 2
-MOST_REQUESTS, LARGEST_SIZE = 1000, 40
+# More calls of an image than a mounting makes, more requests for memory, and more doublings of a byte than to the size of one request.
+MANY_CALLS, MANY_REQUESTS, MANY_DOUBLINGS = BLOCKS * SLOTS + 3, 1000, 40
 NO_MEMORY = "refused: no memory"
 
 
@@ -57,7 +56,7 @@ def judge_mounted(desk, life, line, answer):
 def refuse_each_read(desk, life, way, place):
     """Tries to mount the images again and again. The image at a place refuses its first call, its second, and so on up to one that is not
     made."""
-    for call in range(1, MOST_CALLS + 1):
+    for call in range(1, MANY_CALLS):
         if not refuse_read(desk, life, way, place, call):
             return
     desk.differ(f"the image at {place} is read more often than it has slots")
@@ -80,11 +79,11 @@ def refuse_read(desk, life, way, place, call):
 def refuse_each_growth(desk, way):
     """Tries to mount the images again and again: with the first request for memory refused, the second, and so on up to one that is not
     made, and then with each request refused of more than 1 byte, 2 bytes, 4 bytes, and so on up to what is enough."""
-    for number in range(1, MOST_REQUESTS):
+    for number in range(1, MANY_REQUESTS):
         if not refuse_growth(desk, way, f"heap refuse {number}"):
             break
-    for size in range(LARGEST_SIZE):
-        if not refuse_growth(desk, way, f"heap full {1 << size}"):
+    for doublings in range(MANY_DOUBLINGS):
+        if not refuse_growth(desk, way, f"heap full {1 << doublings}"):
             return
     desk.differ(f"{way.line()} is refused memory without an end")
 

@@ -57,10 +57,10 @@ def judge_plan(desk, life, batch, line, words):
 def judge_lost(desk, refusal):
     """Looks at a page that is refused as lost: no die holds it."""
     if refusal.startswith("refused: a page is lost"):
-        desk.post(f"page {refusal.split()[-1]}", partial(judge_holders, desk))
+        desk.post(f"page {refusal.split()[-1]}", partial(judge_no_holder, desk))
 
 
-def judge_holders(desk, shown):
+def judge_no_holder(desk, shown):
     if " at " in shown or " seq " not in shown:
         desk.differ(f"a page is refused as lost: {shown}")
 

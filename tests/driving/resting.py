@@ -17,23 +17,23 @@ def rest(desk, life):
         if not life.claims and not life.copy:
             for die in range(life.dies):
                 end_job(desk, life, die)
-            desk.flush()
+            desk.send()
             return
         turn(desk, life)
         if life.copy:
             commit_copy(desk, life)
         if life.claims:
             end_claim(desk, life, life.claims[0])
-        desk.flush()
+        desk.send()
     desk.differ(f"claims are not released: {life.claims}, and the copy under way is {life.copy}")
 
 
 def settle(desk, life):
     """Goes on until each open batch is answered or, where a page of it is lost, ended."""
-    desk.flush()
+    desk.send()
     for _ in range(SETTLING_TURNS):
         if not life.batches:
-            desk.flush()
+            desk.send()
             return
         turn(desk, life)
         first = life.batches[0]
@@ -42,7 +42,7 @@ def settle(desk, life):
             end(desk, life, first, True)
         elif state == "torn":
             replan(desk, life, first)
-            desk.flush()
+            desk.send()
     desk.differ(f"batches are not answered: {life.batches}")
 
 

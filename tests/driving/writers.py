@@ -39,7 +39,7 @@ def end_claim(desk, life, claim):
     if not claim.reserved:
         desk.event(RELEASE, f"release {claim.page}", lambda _: life.claims.remove(claim))
     elif desk.chance.one_in(10):
-        desk.event(ABANDON, f"abandon {claim.page}", lambda _: settle(claim))
+        desk.event(ABANDON, f"abandon {claim.page}", lambda _: hold(claim))
     else:
         desk.event(COMMIT, f"commit {claim.page}", partial(commit, desk, life, claim))
 
@@ -62,10 +62,10 @@ def open_write(desk, life, claim, is_hole, number, answer):
     if sequence <= life.last:
         desk.differ(f"under the claim of page {claim.page}: {answer}, and {life.last} was given")
     life.last = sequence
-    settle(claim, Version(sequence, is_hole, number))
+    hold(claim, Version(sequence, is_hole, number))
 
 
-def settle(claim, reserved=None):
+def hold(claim, reserved=None):
     """Keeps what is reserved under a claim now. No die has programmed it."""
     claim.reserved, claim.programmed = reserved, set()
 
@@ -79,7 +79,7 @@ def commit(desk, life, claim, answer):
         desk.differ(f"commit {claim.page}: {answer}, and a program of it is in flight")
     life.versions[claim.page] = version
     desk.post(f"page {claim.page}", partial(judge_holders, desk, version, claim.programmed & life.live))
-    settle(claim)
+    hold(claim)
 
 
 def judge_holders(desk, version, dies, shown):
