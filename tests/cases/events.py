@@ -69,7 +69,7 @@ def no_room_at_home(page):
 
 def kind_of(line):
     """The kind of an event that may take memory. None of another line."""
-    return next((kind for words, kind in KINDS.items() if line.startswith(f"{words} ")), None)
+    return next((kind for words, kind in KINDS.items() if f"{line} ".startswith(f"{words} ")), None)
 
 
 def answered(lab, line, refused, faults):
