@@ -7,8 +7,8 @@ from driving.kinds import all_names
 # The most differences that are told one by one.
 MOST_TOLD = 20
 # Of SHARES events, WATCHED are watched: what the array shows is looked at before and behind each of them. STARVED of these find no memory,
-# and INTERRUPTED of them are refused one request for it, the first to the MOST_REQUESTS-th.
-SHARES, WATCHED, STARVED, INTERRUPTED, MOST_REQUESTS = 512, 64, 6, 3, 8
+# and INTERRUPTED of them are refused one request for it, an early one more often.
+SHARES, WATCHED, STARVED, INTERRUPTED = 512, 64, 3, 6
 # A page of a smaller number than this has that number in each byte, and any other page has the eight bytes of its number over and over.
 FIRST_NUMBER = 256
 OUT_OF_MEMORY = "refused: out of memory"
@@ -83,11 +83,12 @@ class Desk:
     def event(self, kind, line, then=None, refused=None):
         """Adds the line of an event, which is counted by its answer. An accepted answer is given to `then`, and a refusal to `refused`."""
         self.counts["events"] += 1
-        draw = self.chance.below(SHARES) if kind.is_watched else SHARES
+        draw = self.chance.below(SHARES) if kind.requests else SHARES
         if draw < STARVED:
             self.watch("heap full 0", kind, line, then, refused)
         elif draw < STARVED + INTERRUPTED:
-            self.watch(f"heap refuse {self.chance.below(MOST_REQUESTS) + 1}", kind, line, then, refused)
+            number = self.chance.below(self.chance.below(kind.requests) + 1) + 1
+            self.watch(f"heap refuse {number}", kind, line, then, refused)
         elif draw < WATCHED:
             self.watch("heap open", kind, line, then, refused)
         else:

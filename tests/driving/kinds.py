@@ -9,12 +9,12 @@ PLAN = {"a page is lost": "lost page", "a calendar is full": "calendar full", "n
 class Kind:
     """A kind of event. Each accepted answer counts as something by how it begins, and each refusal by its reason."""
 
-    def __init__(self, name, accepted, refused=None, is_watched=True):
+    def __init__(self, name, accepted, refused=None, requests=1):
         self.name = name
         self.accepted = list(accepted.items())
         self.refused = [(f"refused: {reason}", f"{name} refused: {short}") for reason, short in (refused or {}).items()]
-        # Whether such events find no memory now and then, and are watched.
-        self.is_watched = is_watched
+        # How many requests for memory such an event makes that may be refused alone. With 0 it is not watched.
+        self.requests = requests
 
     def name_of(self, answer):
         """What an answer counts as, and None where this kind of event has no such answer."""
@@ -26,20 +26,20 @@ class Kind:
         return None
 
 
-CLAIM = Kind("claim", {"claim ": "claim"}, {"the page is claimed": "claimed", **MEMORY})
+CLAIM = Kind("claim", {"claim ": "claim"}, {"the page is claimed": "claimed", **MEMORY}, requests=4)
 RELEASE = Kind("release", {"released": "release"})
 RESERVE = Kind("reserve", {"seq ": "reserve data"}, ROOM)
 RESERVE_HOLE = Kind("reserve", {"seq ": "reserve a hole"}, ROOM)
 RESERVE_FEWER = Kind("reserve", {"seq ": "reserve on fewer dies"}, ROOM)
 COMMIT = Kind("commit", {"seq ": "commit"}, {"a program is pending": "pending", "no copy was programmed": "failed"})
 ABANDON = Kind("abandon", {"abandoned": "abandon"}, {"a program is in flight": "pending", "a copy was programmed": "programmed"})
-ADMIT = Kind("admit", {"batch ": "admit"}, PLAN)
-REPLAN = Kind("replan", {"rounds ": "replan"}, PLAN)
+ADMIT = Kind("admit", {"batch ": "admit"}, PLAN, requests=12)
+REPLAN = Kind("replan", {"rounds ": "replan"}, PLAN, requests=12)
 END = Kind("end batch", {"pages ": "end batch"})
 TAKE = Kind("take", {
     "header ": "take header", "move ": "take move", "erase ": "take erase", "read ": "take read", "program ": "take program",
     "sync": "take sync", "no job": "take nothing",
-}, is_watched=False)
+}, requests=0)
 DONE = Kind("done", {
     "done ok": "done well", "done data ": "done well", "done fault read": "done fault: read slot",
     "done fault program": "done fault: program", "done fault erase": "done fault: erase block", "done fault header": "done fault: header",
