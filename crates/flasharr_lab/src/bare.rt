@@ -4,7 +4,7 @@ ghost use Rattle.fa_image.specs.Image.{slot_bytes, slot_count};
 ghost use Rattle.fa_types.specs.declared.kind.Kind.TheVariants.{Data};
 
 use crate::content::full_page;
-use crate::images::{ARRAY, Made, Yard};
+use crate::images::{ARRAY, DieImage, Yard};
 use crate::lab::Lab;
 use crate::meter::Meter;
 use crate::order::Bare;
@@ -42,7 +42,7 @@ struct Run {
 }
 
 /// Does what a line asks of the image beside those of the array, and tells it.
-pub(crate) fn bare<'a, I: Made>(
+pub(crate) fn bare<'a, I: DieImage>(
     wish: Bare,
     numbers: &[u64],
     lab: &mut Lab<'a>,
@@ -65,9 +65,9 @@ pub(crate) fn bare<'a, I: Made>(
 }
 
 /// Makes the image, of the geometry of those that were made last.
-fn make_bare<'a, I: Made>(lab: &mut Lab<'a>, yard: &mut Yard<'a, I>) {
+fn make_bare<'a, I: DieImage>(lab: &mut Lab<'a>, yard: &mut Yard<'a, I>) {
     yard.bare = match yard.geometry {
-        Some(geometry) => I::make(lab.meter.rt, yard.folder, "bare", geometry).ok(),
+        Some(geometry) => I::make(lab.meter.rt, yard.folder, "bare", geometry),
         None => None,
     };
     lab.told.word(if yard.bare.is_some() {

@@ -255,27 +255,24 @@ pub(crate) fn work_all<'a, M: Map + Drop, I: Image>(
     let mut count = 0u64;
     for die in 0..MAX_DIES {
         let die = Die(die as u8);
-        if has_job(&mounted.array, die) && work(mounted, images, lab, die) {
-            count = count.saturating_add(1);
-        }
+        count = count.saturating_add(work_one(mounted, images, lab, die));
     }
     count
 }
 
-fn has_job<M: Map, A: Allocator + Copy>(array: &Array<M, A>, die: Die) -> bool {
-    array.is_die(die) && array.has_job(die)
-}
-
-/// A die takes a job, makes its calls and ends it, and nothing of that is told. Whether it took one.
-fn work<'a, M: Map + Drop, I: Image>(
+/// A die that has a job takes it, makes its calls and ends it, and nothing of that is told. How many jobs it was.
+fn work_one<'a, M: Map + Drop, I: Image>(
     mounted: &mut MountedArray<M, &'a Heap>,
     images: &mut [I],
     lab: &mut Lab<'a>,
     die: Die,
-) -> bool
+) -> u64
     requires { IsWhole M.view mounted.old.array }
     ensures { IsWhole M.view mounted.new.array }
 {
+    if !mounted.array.is_die(die) || !mounted.array.has_job(die) {
+        return 0;
+    }
     if take(&mut mounted.array, lab, die).is_err() {
         lab.told.fail();
     }
@@ -284,9 +281,9 @@ fn work<'a, M: Map + Drop, I: Image>(
         Some(mut flying) => {
             make_calls(&mut flying, mounted.image_of(die), images, lab);
             end_job(&mut mounted.array, lab, flying);
-            true
+            1
         }
-        None => false,
+        None => 0,
     }
 }
 

@@ -53,12 +53,10 @@ impl<'a> Lab<'a> {
 
     /// The answer to a line is over.
     pub(crate) fn answer(&mut self) {
-        let took = if self.meter.is_timing() {
-            Some(self.meter.took())
-        } else {
-            None
-        };
-        self.told.end(took);
+        if self.meter.is_timing() {
+            self.told.put_times(self.meter.took());
+        }
+        self.told.end();
     }
 
     /// Prints what was answered.

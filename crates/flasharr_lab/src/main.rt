@@ -36,7 +36,7 @@ mod unmounted;
 mod words;
 
 use crate::heap::new_heap;
-use crate::images::{Made, Yard};
+use crate::images::{DieImage, Fused, Yard};
 use crate::lab::Lab;
 use crate::mounting::run_lines;
 use crate::script::Script;
@@ -51,8 +51,8 @@ const FAULTY: u8 = 2;
 fn main(rt: HostRuntime) -> io::Result<ExitCode> {
     let words: Vec<String> = env::args(&rt)?.skip(1).collect(rt.alloc())?;
     match words.as_slice() {
-        [] => run::<HostRuntime, MemImage>(&rt, &rt, ""),
-        [folder] => run::<HostRuntime, FileImage>(&rt, &rt, folder.as_str()),
+        [] => run::<HostRuntime, Fused<MemImage>>(&rt, &rt, ""),
+        [folder] => run::<HostRuntime, Fused<FileImage>>(&rt, &rt, folder.as_str()),
         _ => {
             println!(rt; "usage: flasharr_lab [FOLDER]")?;
             Ok(ExitCode::from(FAULTY))
@@ -61,7 +61,7 @@ fn main(rt: HostRuntime) -> io::Result<ExitCode> {
 }
 
 /// Does what the lines of the input ask for, with images of this kind.
-fn run<T: Threads + Sync, I: Made>(
+fn run<T: Threads + Sync, I: DieImage>(
     rt: &HostRuntime,
     threads: &T,
     folder: &str,

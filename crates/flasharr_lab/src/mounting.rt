@@ -5,7 +5,7 @@ ghost use Rattle.fa_core.specs.Array.{IsWhole};
 
 use crate::answers::show_live;
 use crate::heap::Heap;
-use crate::images::{DieImage, Images, Made, Yard};
+use crate::images::{DieImage, Images, Yard};
 use crate::lab::Lab;
 use crate::looks::show_map;
 use crate::order::{Begin, Wish};
@@ -31,7 +31,7 @@ use std::sync::ledger::Blank;
 use std::thread::Threads;
 
 /// Does what all lines ask for, over images that are made as they say.
-pub(crate) fn run_lines<'a, T: Threads + Sync, R: BufRead + Drop, I: Made>(
+pub(crate) fn run_lines<'a, T: Threads + Sync, R: BufRead + Drop, I: DieImage>(
     threads: &T,
     script: &mut Script<R>,
     lab: &mut Lab<'a>,
@@ -51,7 +51,7 @@ pub(crate) fn run_lines<'a, T: Threads + Sync, R: BufRead + Drop, I: Made>(
 }
 
 /// Mounts the images, and does what lines ask of the array until it is let go.
-fn mounted<'a, R: BufRead + Drop, I: Made>(
+fn mounted<'a, R: BufRead + Drop, I: DieImage>(
     script: &mut Script<R>,
     lab: &mut Lab<'a>,
     yard: &mut Yard<'a, I>,
@@ -82,11 +82,11 @@ fn mounted<'a, R: BufRead + Drop, I: Made>(
 }
 
 /// Tells that an array was mounted, and does what lines ask of it until it is let go.
-fn own_mounted<'a, R: BufRead + Drop, M: Map + Drop, I: Made>(
+fn own_mounted<'a, R: BufRead + Drop, M: Map + Drop, I: DieImage>(
     script: &mut Script<R>,
     lab: &mut Lab<'a>,
     yard: &mut Yard<'a, I>,
-    parts: Parts<M, DieImage<I>, &'a Heap>,
+    parts: Parts<M, I, &'a Heap>,
 ) -> Images<'a, I>
     requires { IsWhole M.view parts.mounted.array }
 {
@@ -150,7 +150,7 @@ fn tell_beside<M: Map + Drop, A: Allocator + Copy>(mounted: MountedArray<M, A>, 
 }
 
 /// Makes an array without images, and does what lines ask of it until it is let go.
-fn alone<'a, R: BufRead + Drop, I: Made>(
+fn alone<'a, R: BufRead + Drop, I: DieImage>(
     script: &mut Script<R>,
     lab: &mut Lab<'a>,
     yard: &mut Yard<'a, I>,
@@ -168,7 +168,7 @@ fn alone<'a, R: BufRead + Drop, I: Made>(
 }
 
 /// No memory is had for an array.
-fn none_made<'a, R: BufRead + Drop, I: Made>(
+fn none_made<'a, R: BufRead + Drop, I: DieImage>(
     script: &mut Script<R>,
     lab: &mut Lab<'a>,
 ) -> Images<'a, I> {
@@ -178,7 +178,7 @@ fn none_made<'a, R: BufRead + Drop, I: Made>(
 }
 
 /// Makes an array over a new page map, and does what lines ask of it until it is let go.
-fn own_new<'a, R: BufRead + Drop, M: Map + Drop, I: Made>(
+fn own_new<'a, R: BufRead + Drop, M: Map + Drop, I: DieImage>(
     script: &mut Script<R>,
     lab: &mut Lab<'a>,
     yard: &mut Yard<'a, I>,
@@ -197,7 +197,7 @@ fn own_new<'a, R: BufRead + Drop, M: Map + Drop, I: Made>(
 }
 
 /// Does what lines ask of an array without images until it is let go.
-fn own_alone<'a, R: BufRead + Drop, M: Map + Drop, I: Made>(
+fn own_alone<'a, R: BufRead + Drop, M: Map + Drop, I: DieImage>(
     script: &mut Script<R>,
     lab: &mut Lab<'a>,
     yard: &mut Yard<'a, I>,
@@ -217,11 +217,11 @@ fn own_alone<'a, R: BufRead + Drop, M: Map + Drop, I: Made>(
 }
 
 /// Does what lines ask of an array until it is let go. Its images are left. Each array ends here.
-fn own<'a, R: BufRead + Drop, M: Map + Drop, I: Made>(
+fn own<'a, R: BufRead + Drop, M: Map + Drop, I: DieImage>(
     script: &mut Script<R>,
     lab: &mut Lab<'a>,
     yard: &mut Yard<'a, I>,
-    parts: Parts<M, DieImage<I>, &'a Heap>,
+    parts: Parts<M, I, &'a Heap>,
 ) -> Images<'a, I>
     requires { IsWhole M.view parts.mounted.array }
 {
@@ -237,24 +237,16 @@ fn own<'a, R: BufRead + Drop, M: Map + Drop, I: Made>(
 }
 
 /// Does what lines ask of a store of the array, until a line is none of a store's.
-fn with_store<'a, R: BufRead + Drop, M: Map + Drop, I: Made>(
+fn with_store<'a, R: BufRead + Drop, M: Map + Drop, I: DieImage>(
     script: &mut Script<R>,
     lab: &mut Lab<'a>,
     yard: &mut Yard<'a, I>,
-    parts: Parts<M, DieImage<I>, &'a Heap>,
+    parts: Parts<M, I, &'a Heap>,
     rounds: u64,
-) -> Parts<M, DieImage<I>, &'a Heap>
+) -> Parts<M, I, &'a Heap>
     requires { IsWhole M.view parts.mounted.array }
     ensures { IsWhole M.view result.mounted.array }
 {
     let heap = lab.heap();
-    over_store::<Brand, R, M, DieImage<I>, I, &'a Heap>(
-        heap,
-        Blank::new(257),
-        script,
-        lab,
-        yard,
-        parts,
-        rounds,
-    )
+    over_store::<Brand, R, M, I, &'a Heap>(heap, Blank::new(257), script, lab, yard, parts, rounds)
 }

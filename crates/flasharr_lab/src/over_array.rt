@@ -6,7 +6,7 @@ use crate::bare::bare;
 use crate::beside::free;
 use crate::certified::held_pages;
 use crate::heap::Heap;
-use crate::images::{DieImage, Made, Yard};
+use crate::images::{DieImage, Yard};
 use crate::jobs::{make_job, run_job_of, work_all};
 use crate::lab::Lab;
 use crate::looks::show;
@@ -31,11 +31,11 @@ use std::io::BufRead;
 const LAST_ROUND: u64 = (1 << 56) - (1 << 24);
 
 /// Does what lines ask of an array, up to one that lets it go, or one that asks for a store of it: then how many rounds its windows have.
-pub(crate) fn over_array<'a, R: BufRead + Drop, M: Map + Drop, I: Made>(
+pub(crate) fn over_array<'a, R: BufRead + Drop, M: Map + Drop, I: DieImage>(
     script: &mut Script<R>,
     lab: &mut Lab<'a>,
     yard: &mut Yard<'a, I>,
-    parts: &mut Parts<M, DieImage<I>, &'a Heap>,
+    parts: &mut Parts<M, I, &'a Heap>,
 ) -> Option<u64>
     requires { IsWhole M.view parts.old.mounted.array }
     ensures { IsWhole M.view parts.new.mounted.array }
@@ -58,11 +58,11 @@ pub(crate) fn over_array<'a, R: BufRead + Drop, M: Map + Drop, I: Made>(
 }
 
 /// Does what a line asks for.
-fn do_line<'a, M: Map + Drop, I: Made>(
+fn do_line<'a, M: Map + Drop, I: DieImage>(
     order: &Order,
     lab: &mut Lab<'a>,
     yard: &mut Yard<'a, I>,
-    parts: &mut Parts<M, DieImage<I>, &'a Heap>,
+    parts: &mut Parts<M, I, &'a Heap>,
 )
     requires { IsWhole M.view parts.old.mounted.array }
     ensures { IsWhole M.view parts.new.mounted.array }

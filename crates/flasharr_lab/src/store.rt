@@ -6,13 +6,12 @@ use crate::bare::bare;
 use crate::beside::free;
 use crate::content::full_page;
 use crate::heap::Heap;
-use crate::images::{Made, Yard};
+use crate::images::{DieImage, Yard};
 use crate::lab::Lab;
 use crate::meter::Meter;
 use crate::order::{Ask, Order, Wish};
 use crate::script::Script;
 use crate::words::number_at;
-use fa_image::Image;
 use fa_map::Map;
 use fa_session::serve_stream;
 use fa_solo::{Parts, Solo};
@@ -30,15 +29,14 @@ pub(crate) fn over_store<
     L: Ledger,
     R: BufRead + Drop,
     M: Map + Drop,
-    I: Image,
-    J: Made,
+    I: DieImage,
     A: Allocator + Copy,
 >(
     alloc: A,
     blank: Blank,
     script: &mut Script<R>,
     lab: &mut Lab<'a>,
-    yard: &mut Yard<'a, J>,
+    yard: &mut Yard<'a, I>,
     parts: Parts<M, I, A>,
     rounds: u64,
 ) -> Parts<M, I, A>
@@ -67,10 +65,10 @@ pub(crate) fn over_store<
 }
 
 /// Does what lines ask of a store, up to one that is none of a store's.
-fn ask_all<'a, R: BufRead + Drop, J: Made, B: Blocks>(
+fn ask_all<'a, R: BufRead + Drop, I: DieImage, B: Blocks>(
     script: &mut Script<R>,
     lab: &mut Lab<'a>,
-    yard: &mut Yard<'a, J>,
+    yard: &mut Yard<'a, I>,
     store: &mut B,
 ) {
     for _ in 0..u64::MAX {

@@ -102,11 +102,8 @@ impl Told {
         self.is_fresh = true;
     }
 
-    /// The answer is over. Where its line was timed the nanoseconds of each call stand before it.
-    pub(crate) fn end(&mut self, took: Option<&[u64]>) {
-        if let Some(took) = took {
-            self.put_times(took);
-        }
+    /// The answer is over.
+    pub(crate) fn end(&mut self) {
         let is_put = self.text.push_str(self.answer.as_str()).is_ok()
             && self.text.push_str("\n").is_ok();
         if !is_put {
@@ -115,7 +112,8 @@ impl Told {
         self.begin();
     }
 
-    fn put_times(&mut self, took: &[u64]) {
+    /// The nanoseconds of each time that a line was done, before its answer.
+    pub(crate) fn put_times(&mut self, took: &[u64]) {
         let _ = self.text.push_str("took ");
         for nanoseconds in took {
             let _ = write!(self.text, "{nanoseconds} ");

@@ -1,7 +1,7 @@
 //! What is done to the images themselves, and looks at them.
 use crate::answers::{show_live, show_version};
 use crate::content::{full_page, tell_page};
-use crate::images::{DieImage, Images, Made, overwrites, rig};
+use crate::images::{DieImage, Images, overwrites, rig};
 use crate::lab::Lab;
 use crate::mounting::try_mount;
 use crate::order::{Deed, Order};
@@ -17,7 +17,7 @@ use std::alloc::Global;
 const FORMAT_AT: usize = 11;
 
 /// Does what a line asks of images, and tells it.
-pub(crate) fn touch<'a, I: Made>(
+pub(crate) fn touch<'a, I: DieImage>(
     order: &Order,
     deed: Deed,
     lab: &mut Lab<'a>,
@@ -62,11 +62,11 @@ fn tell_armed(is_armed: bool, told: &mut Told) {
 }
 
 /// Does what a line asks of one image, and tells it.
-fn touch_one<I: Image>(
+fn touch_one<I: DieImage>(
     order: &Order,
     deed: Deed,
     alloc: Global,
-    image: &mut DieImage<I>,
+    image: &mut I,
     told: &mut Told,
 ) {
     let numbers = order.numbers.as_slice();
@@ -80,19 +80,19 @@ fn touch_one<I: Image>(
         Deed::ReadHeader => tell_header(alloc, image, told),
         Deed::WriteHeader => write_header(alloc, image, order.text.as_str(), told),
         _ => {
-            image.arm(number_at(numbers, 1));
+            image.set_fuse(number_at(numbers, 1));
             told.word("armed");
         }
     }
 }
 
 /// Tells how often each image refused a call, how often its second fuse did, and whether it gave wrong bytes.
-fn show_faults<I: Image>(images: &[DieImage<I>], told: &mut Told) {
+fn show_faults<I: DieImage>(images: &[I], told: &mut Told) {
     told.word("faults");
     for image in images {
         told.number(image.faults());
-        told.number(image.inner().faults());
-        told.number(u64::from(image.inner().inner().has_lied()));
+        told.number(image.second_faults());
+        told.number(u64::from(image.lied()));
     }
 }
 

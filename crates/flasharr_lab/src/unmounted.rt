@@ -1,7 +1,7 @@
 //! What is done while no array is there.
 use crate::bare::bare;
 use crate::beside::free;
-use crate::images::{Images, Made, Yard, formatted, give_up, swap};
+use crate::images::{DieImage, Images, Yard, formatted, give_up, swap};
 use crate::lab::Lab;
 use crate::order::{Begin, Wish};
 use crate::scanning::scan_images;
@@ -13,7 +13,7 @@ use std::io::BufRead;
 use std::thread::Threads;
 
 /// Does what a line asks for while no array is there, and gives the images that there are then.
-pub(crate) fn unmounted<'a, T: Threads + Sync, R: BufRead + Drop, I: Made>(
+pub(crate) fn unmounted<'a, T: Threads + Sync, R: BufRead + Drop, I: DieImage>(
     threads: &T,
     script: &mut Script<R>,
     lab: &mut Lab<'a>,
@@ -46,7 +46,7 @@ pub(crate) fn unmounted<'a, T: Threads + Sync, R: BufRead + Drop, I: Made>(
 }
 
 /// Makes images. None are left where they are not had.
-fn make_images<'a, R: BufRead + Drop, I: Made>(
+fn make_images<'a, R: BufRead + Drop, I: DieImage>(
     script: &mut Script<R>,
     lab: &mut Lab<'a>,
     yard: &mut Yard<'a, I>,
@@ -72,7 +72,7 @@ fn make_images<'a, R: BufRead + Drop, I: Made>(
 }
 
 /// Does what a line asks for that makes nothing.
-fn do_unmounted<'a, R: BufRead + Drop, I: Made>(
+fn do_unmounted<'a, R: BufRead + Drop, I: DieImage>(
     script: &mut Script<R>,
     lab: &mut Lab<'a>,
     yard: &mut Yard<'a, I>,
