@@ -8,7 +8,7 @@ from driving.kinds import all_names
 MOST_TOLD = 20
 # Of SHARES events, WATCHED are watched: what the array shows is looked at before and behind each of them. STARVED of these find no memory,
 # and INTERRUPTED of them are refused one request for it, an early one more often.
-SHARES, WATCHED, STARVED, INTERRUPTED = 512, 64, 3, 6
+SHARES, WATCHED, STARVED, INTERRUPTED = 512, 64, 4, 4
 # A page of a smaller number than this has that number in each byte, and any other page has the eight bytes of its number over and over.
 FIRST_NUMBER = 256
 OUT_OF_MEMORY = "refused: out of memory"
