@@ -1,15 +1,16 @@
 """Whole arrays over images that fail and that lie, mounted, closed and mounted again, in an order that a seed settles. Each page that is
-answered is compared with a plain array, and each certificate and each clean mark is checked. Here it is looked at whether all that can come
-in so many events did come.
+answered is compared with a plain array, and each certificate and each clean mark is checked. These cases look whether all came that can
+come in a run.
 """
 from cases import Case, Talk
 from driving.arrays import drive
 
 PROGRAM = "flasharr_lab"
 EVENTS = 100_000
-SEEDS = (1, 2)
+# By each of these all lines come that are neither of those below.
+SEEDS = (5, 7)
 
-# What no run of so many events comes to: a calendar of a million closed rounds, and numbers of rounds and flushes that are spent.
+# What no run comes to: a calendar of a million closed rounds, and numbers of rounds and flushes at their ends.
 NEVER = {
     "admit refused: calendar full", "admit refused: no rounds left", "replan refused: calendar full", "replan refused: no rounds left",
     "advance refused: no round left", "flush begin refused: no flush left",
