@@ -34,7 +34,7 @@ pub(crate) fn show_answer<M: Map, A: Allocator + Copy>(
 }
 
 /// The answers that are a few words.
-fn show_short<A: Allocator + Copy>(answer: &Answer<A>, told: &mut Told) {
+pub(crate) fn show_short<A: Allocator + Copy>(answer: &Answer<A>, told: &mut Told) {
     match answer {
         Answer::Stranger(_) => told.word("stranger"),
         Answer::Claim(answer) => show_numbered("claim", answer.map(|claim| claim.0), told),

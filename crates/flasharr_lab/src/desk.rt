@@ -65,13 +65,8 @@ impl Desk {
     }
 
     /// Keeps what an event answered, as far as a later one asks for it. The error is out of memory.
-    pub(crate) fn keep<A: Allocator>(
-        &mut self,
-        die: Die,
-        answer: &Answer<A>,
-    ) -> Result<(), AllocError> {
+    pub(crate) fn keep<A: Allocator>(&mut self, answer: &Answer<A>) -> Result<(), AllocError> {
         match answer {
-            Answer::Take(Some(job)) => self.keep_flight(die, job.flight),
             Answer::FlushBegin(Ok(flush)) => self.flushes.push(*flush)?,
             Answer::Admit(Ok(admitted)) => self.batches.push(admitted.batch)?,
             _ => {}
@@ -79,7 +74,8 @@ impl Desk {
         Ok(())
     }
 
-    fn keep_flight(&mut self, die: Die, flight: Flight) {
+    /// The die has taken this job.
+    pub(crate) fn keep_flight(&mut self, die: Die, flight: Flight) {
         if let Some(place) = self.flights.get_mut(die.0 as usize) {
             *place = Some(flight);
         }

@@ -3,7 +3,7 @@ ghost use Rattle.std.specs.Prelude.{◌≡◌};
 ghost use Rattle.fa_core.specs.Array.{IsWhole};
 ghost use Rattle.fa_core.specs.Calls.{FitsAnswer};
 
-use crate::answers::show_answer;
+use crate::answers::show_short;
 use crate::content::tell_page;
 use crate::desk::{slot_read, well_ended};
 use crate::heap::Heap;
@@ -70,32 +70,41 @@ impl<'a> Jobs<'a> {
     }
 }
 
-/// A die takes its next job, and it is told. The error is out of memory.
-pub(crate) fn take<'a, M: Map>(
-    array: &mut Array<M, &'a Heap>,
-    lab: &mut Lab<'a>,
-    die: Die,
-) -> Result<(), AllocError>
+/// A die takes its next job, and it is told.
+pub(crate) fn take<'a, M: Map>(array: &mut Array<M, &'a Heap>, lab: &mut Lab<'a>, die: Die)
     requires { IsWhole M.view array.old }
     ensures { IsWhole M.view array.new }
 {
     let heap = lab.heap();
     let geometry = array.geometry();
     let number = array.array_id();
-    let buffer = lab.lent.buffer(heap, geometry.page_bytes)?;
     let call = take_of(die, &heap);
     let start = lab.meter.start();
     let answer = array.step(heap, SEAT, call);
     lab.meter.stop(start);
-    lab.desk.keep(die, &answer)?;
-    show_answer(array, heap, &None, &answer, &lab.desk, &mut lab.told)?;
-    match handed_out(die, geometry, number, answer) {
-        Some(taken) => lab.jobs.start(Flying {
-            taken,
-            buffer,
-            outcome: None,
-        }),
-        None => lab.lent.keep(buffer),
+    show_short(&answer, &mut lab.told);
+    if let Some(taken) = handed_out(die, geometry, number, answer) {
+        begin_job(lab, taken, geometry.page_bytes);
+    }
+}
+
+/// Keeps a job that a die has taken.
+fn begin_job<'a>(lab: &mut Lab<'a>, taken: Taken<'a>, page_bytes: u32) {
+    let heap = lab.heap();
+    lab.desk.keep_flight(taken.die(), taken.flight());
+    let is_kept = match lab.lent.buffer(heap, page_bytes) {
+        Ok(buffer) => lab
+            .jobs
+            .start(Flying {
+                taken,
+                buffer,
+                outcome: None,
+            })
+            .is_ok(),
+        Err(_) => false,
+    };
+    if !is_kept {
+        lab.told.fail();
     }
 }
 
@@ -146,18 +155,19 @@ pub(crate) fn run_job_of<'a, M: Map + Drop, I: Image>(
     images: &mut [I],
     lab: &mut Lab<'a>,
     die: Die,
-)
+) -> bool
     requires { IsWhole M.view mounted.old.array }
     ensures { IsWhole M.view mounted.new.array }
 {
     let Some(mut flying) = lab.jobs.land(die) else {
         lab.told.word("no job");
-        return;
+        return false;
     };
     make_calls(&mut flying, mounted.image_of(die), images, lab);
     lab.told.word("done");
     show_outcome(&flying, &mut lab.told);
     end_job(&mut mounted.array, lab, flying);
+    true
 }
 
 /// Makes the calls of a job where they were not made yet.
@@ -226,15 +236,24 @@ fn end_job<'a, M: Map>(array: &mut Array<M, &'a Heap>, lab: &mut Lab<'a>, flying
     let start = lab.meter.start();
     let answer = array.step(heap, SEAT, call);
     lab.meter.stop(start);
-    let is_kept = match answer {
-        Answer::Done(buffer) => lab.lent.keep(buffer).is_ok(),
-        _ => {
-            lab.told.word("stranger");
-            true
-        }
-    };
-    if !is_kept {
-        lab.told.fail();
+    if !is_done(&answer) {
+        lab.told.word("stranger");
+    }
+    if let Some(buffer) = buffer_back(answer) {
+        lab.keep_buffer(buffer);
+    }
+}
+
+/// Whether a Done was made.
+pub(crate) fn is_done<A: Allocator>(answer: &Answer<A>) -> bool {
+    matches!(answer, Answer::Done(_))
+}
+
+/// The buffer that an answer gives back.
+pub(crate) fn buffer_back<'a>(answer: Answer<&'a Heap>) -> Option<Vec<u8, &'a Heap>> {
+    match answer {
+        Answer::Done(buffer) | Answer::Stranger(Some(buffer)) => Some(buffer),
+        _ => None,
     }
 }
 
@@ -270,21 +289,17 @@ fn work_one<'a, M: Map + Drop, I: Image>(
     requires { IsWhole M.view mounted.old.array }
     ensures { IsWhole M.view mounted.new.array }
 {
-    if !mounted.array.is_die(die) || !mounted.array.has_job(die) {
+    if !has_job(&mounted.array, die) {
         return 0;
     }
-    if take(&mut mounted.array, lab, die).is_err() {
-        lab.told.fail();
-    }
+    take(&mut mounted.array, lab, die);
+    let is_run = run_job_of(mounted, images, lab, die);
     lab.told.begin();
-    match lab.jobs.land(die) {
-        Some(mut flying) => {
-            make_calls(&mut flying, mounted.image_of(die), images, lab);
-            end_job(&mut mounted.array, lab, flying);
-            1
-        }
-        None => 0,
-    }
+    u64::from(is_run)
+}
+
+fn has_job<M: Map, A: Allocator + Copy>(array: &Array<M, A>, die: Die) -> bool {
+    array.is_die(die) && array.has_job(die)
 }
 
 /// Tells how the calls of a job ended. What a read gave is in the buffer.

@@ -12,6 +12,8 @@ use std::alloc::{AllocError, Global};
 pub(crate) struct Lent<'a> {
     pages: Vec<Page>,
     payload: Option<Payload<&'a Heap>>,
+    /// What a read gave whose job is ended.
+    page: Option<Vec<u8, &'a Heap>>,
     /// Buffers of a page's bytes that no job has.
     buffers: Vec<Vec<u8, &'a Heap>>,
     /// The bytes of a slot, for the calls of jobs.
@@ -23,6 +25,7 @@ impl<'a> Lent<'a> {
         Lent {
             pages: Vec::new(alloc),
             payload: None,
+            page: None,
             buffers: Vec::new(alloc),
             scratch: None,
         }
@@ -31,6 +34,7 @@ impl<'a> Lent<'a> {
     /// Another array is there, whose pages may have another size.
     pub(crate) fn forget(&mut self) {
         self.payload = None;
+        self.page = None;
         self.buffers.clear();
         self.scratch = None;
     }
@@ -60,6 +64,10 @@ impl<'a> Lent<'a> {
                 self.payload = Some(Payload::new(full_page(heap, last, page_bytes)?)?);
                 Ok(())
             }
+            Event::Done(_) => {
+                self.page = Some(full_page(heap, number_at(numbers, 1), page_bytes)?);
+                Ok(())
+            }
             _ => Ok(()),
         }
     }
@@ -85,14 +93,9 @@ impl<'a> Lent<'a> {
         }
     }
 
-    /// A page of the second of these numbers, as what a read gave. The error is out of memory.
-    pub(crate) fn read_page(
-        &mut self,
-        heap: &'a Heap,
-        numbers: &[u64],
-        page_bytes: u32,
-    ) -> Result<Vec<u8, &'a Heap>, AllocError> {
-        full_page(heap, number_at(numbers, 1), page_bytes)
+    /// The page that a read gave, which is lent once.
+    pub(crate) fn take_page(&mut self) -> Option<Vec<u8, &'a Heap>> {
+        self.page.take()
     }
 
     /// The bytes of a slot of pages of so many bytes. None where there is no memory for them.

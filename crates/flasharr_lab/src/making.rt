@@ -5,7 +5,7 @@ use crate::answers::show_answer;
 use crate::certified::closed_before;
 use crate::desk::Desk;
 use crate::heap::Heap;
-use crate::jobs::take;
+use crate::jobs::{buffer_back, is_done, take};
 use crate::lab::Lab;
 use crate::lent::Lent;
 use crate::order::Event;
@@ -14,7 +14,6 @@ use fa_core::{Answer, Array, Call};
 use fa_machine::ClaimId;
 use fa_map::Map;
 use fa_types::{Die, Page, Seq};
-use std::alloc::AllocError;
 
 /// Who makes all events.
 pub(crate) const SEAT: u32 = 0;
@@ -29,50 +28,67 @@ pub(crate) fn run_event<'a, M: Map>(
     requires { IsWhole M.view array.old }
     ensures { IsWhole M.view array.new }
 {
-    let made = match event {
+    match event {
         Event::Take => take(array, lab, die_of(number_at(numbers, 0))),
         _ => make_told(array, lab, event, numbers),
-    };
-    if made.is_err() {
-        lab.told.fail();
     }
 }
 
-/// Makes an event that is no Take, and tells its answer. The error is out of memory.
+/// Makes an event that is no Take, and tells its answer.
 fn make_told<'a, M: Map>(
     array: &mut Array<M, &'a Heap>,
     lab: &mut Lab<'a>,
     event: Event,
     numbers: &[u64],
-) -> Result<(), AllocError>
+)
     requires { IsWhole M.view array.old }
     ensures { IsWhole M.view array.new }
 {
     let heap = lab.heap();
     let page_bytes = array.geometry().page_bytes;
-    lab.lent.lend(heap, event, numbers, page_bytes)?;
-    let buffer = buffer_of(lab, event, numbers, page_bytes)?;
-    let closed = closed_before(array, heap, event, numbers, &lab.desk)?;
-    let answer = make(array, lab, event, numbers, buffer);
-    let die = die_of(number_at(numbers, 0));
-    lab.desk.keep(die, &answer)?;
-    show_answer(array, heap, &closed, &answer, &lab.desk, &mut lab.told)?;
-    take_back(array, lab, die, answer)
+    if lab.lent.lend(heap, event, numbers, page_bytes).is_err() {
+        lab.told.fail();
+        return;
+    }
+    note_closed(array, lab, event, numbers);
+    let answer = make(array, lab, event, numbers);
+    tell_answer(array, lab, &answer);
+    take_back(array, lab, die_of(number_at(numbers, 0)), answer);
 }
 
-/// The buffer of the end of a job. The error is out of memory.
-fn buffer_of<'a>(
+/// Keeps which rounds are closed before an event that plans a batch.
+fn note_closed<'a, M: Map>(
+    array: &Array<M, &'a Heap>,
     lab: &mut Lab<'a>,
     event: Event,
     numbers: &[u64],
-    page_bytes: u32,
-) -> Result<Option<Vec<u8, &'a Heap>>, AllocError> {
-    match event {
-        Event::Done(_) => {
-            let heap = lab.heap();
-            Ok(Some(lab.lent.read_page(heap, numbers, page_bytes)?))
-        }
-        _ => Ok(None),
+)
+    requires { IsWhole M.view array.now }
+{
+    let heap = lab.heap();
+    match closed_before(array, heap, event, numbers, &lab.desk) {
+        Ok(closed) => lab.closed = closed,
+        Err(_) => lab.told.fail(),
+    }
+}
+
+/// Keeps what later events ask for of an answer, and tells it.
+fn tell_answer<'a, M: Map>(
+    array: &Array<M, &'a Heap>,
+    lab: &mut Lab<'a>,
+    answer: &Answer<&'a Heap>,
+) {
+    let heap = lab.heap();
+    let Lab {
+        desk,
+        told,
+        closed,
+        ..
+    } = lab;
+    let is_kept = desk.keep(answer).is_ok();
+    let is_told = show_answer(array, heap, closed, answer, desk, told).is_ok();
+    if !is_kept || !is_told {
+        told.fail();
     }
 }
 
@@ -82,7 +98,6 @@ fn make<'a, M: Map>(
     lab: &mut Lab<'a>,
     event: Event,
     numbers: &[u64],
-    buffer: Option<Vec<u8, &'a Heap>>,
 ) -> Answer<&'a Heap>
     requires { IsWhole M.view array.old }
     ensures { IsWhole M.view array.new }
@@ -94,6 +109,7 @@ fn make<'a, M: Map>(
         meter,
         ..
     } = lab;
+    let buffer = lent.take_page();
     match call_of(event, numbers, desk, lent, buffer) {
         Some(call) => {
             let start = meter.start();
@@ -141,30 +157,24 @@ fn call_of<'b, 'a>(
 }
 
 /// Keeps the buffer that an answer gives back. The job of a Done is over. What an answer hands out is given back to the array where its
-/// line is timed, as by who asks for the like again. The error is out of memory.
+/// line is timed, as by who asks for the like again.
 fn take_back<'a, M: Map>(
     array: &mut Array<M, &'a Heap>,
     lab: &mut Lab<'a>,
     die: Die,
     answer: Answer<&'a Heap>,
-) -> Result<(), AllocError>
+)
     requires { IsWhole M.view array.old }
     ensures { IsWhole M.view array.new }
 {
-    let is_asked_again = lab.meter.is_timing();
-    match answer {
-        Answer::Done(buffer) => {
-            let _ = lab.jobs.land(die);
-            lab.lent.keep(buffer)?;
-        }
-        Answer::Stranger(Some(buffer)) => lab.lent.keep(buffer)?,
-        answer => {
-            if is_asked_again {
-                give_back(array, answer);
-            }
-        }
+    if is_done(&answer) {
+        let _ = lab.jobs.land(die);
+    } else if lab.meter.is_timing() {
+        return give_back(array, answer);
     }
-    Ok(())
+    if let Some(buffer) = buffer_back(answer) {
+        lab.keep_buffer(buffer);
+    }
 }
 
 /// Gives a plan or buffers back to the array.

@@ -17,13 +17,14 @@ use crate::seen::MAX_DIES;
 use crate::told::Told;
 use crate::touching::touch;
 use crate::words::{die_of, number_at};
+use fa_batch::Batch;
 use fa_core::Array;
 use fa_image::Image;
 use fa_map::Map;
 use fa_mount::{CloseFault, MountedArray, close_clean};
 use fa_plan::plan;
 use fa_solo::Parts;
-use fa_types::Die;
+use fa_types::{Die, Rounds};
 use std::alloc::{AllocError, Allocator};
 use std::io::BufRead;
 
@@ -100,7 +101,9 @@ fn do_work<'a, M: Map + Drop, I: Image>(
     let die = die_of(number_at(numbers, 0));
     match work {
         Work::Make => make_job(mounted, images, lab, die),
-        Work::Run => run_job_of(mounted, images, lab, die),
+        Work::Run => {
+            let _ = run_job_of(mounted, images, lab, die);
+        }
         Work::All => {
             let count = work_all(mounted, images, lab);
             lab.told.pair("worked", count);
@@ -172,16 +175,26 @@ fn plan_pages<'a, M: Map>(
     let heap = lab.heap();
     let closed = array.closed(heap)?;
     let batch = held_pages(array, heap, numbers)?;
-    if !batch.is_sound() || array.now().0 > LAST_ROUND {
+    plan_held(heap, &batch, &closed, lab);
+    Ok(())
+}
+
+/// Plans a batch against closed rounds.
+fn plan_held<'a, R: Rounds>(
+    heap: &'a Heap,
+    batch: &Batch<&'a Heap>,
+    rounds: &R,
+    lab: &mut Lab<'a>,
+) {
+    if !batch.is_sound() || rounds.now().0 > LAST_ROUND {
         lab.told.word("unsound");
-        return Ok(());
+        return;
     }
     let start = lab.meter.start();
-    let planned = plan(heap, &batch, &closed);
+    let planned = plan(heap, batch, rounds);
     lab.meter.stop(start);
     match planned {
         Ok(planned) => lab.told.pair("rounds", planned.rounds),
         Err(error) => lab.told.refusal(&error),
     }
-    Ok(())
 }
