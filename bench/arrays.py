@@ -4,7 +4,7 @@ collector works. Then a die goes out, and the spare comes in.
 import itertools
 import random
 import statistics
-from collections import Counter
+from collections import Counter, defaultdict
 
 from timed import PAGE_BYTES, expect, fail, split_times
 
@@ -35,7 +35,7 @@ MOST = 20_000
 # The history is folded once it has this many entries.
 FOLDED = 4096
 WINDOW_ROUNDS = 16
-# How many rounds pass at once while a die has no room or a batch waits, and how often at most.
+# How many rounds pass at once while a die has no room, and how often something is waited for at most.
 WAIT_ROUNDS, MOST_WAITS = 8, 1024
 # How many pages are filled by lines that go out together.
 PIECE = 1024
@@ -46,6 +46,16 @@ LOST, LATE_COPIES = 0, 2048
 def dies_of(pages):
     """How many dies an array with this number of pages has in use, where that is not given."""
     return 4 if pages < 20_000 else 16 if pages < 200_000 else 63
+
+
+def bookings(plans):
+    """The dies that are booked in each round by plans, as Replan answers them."""
+    booked = defaultdict(list)
+    for plan in plans:
+        for place in plan.split(" place ")[1:]:
+            _, die, number = place.split()[:3]
+            booked[int(number)].append(int(die))
+    return booked
 
 
 def first_words(line):
@@ -61,10 +71,10 @@ class Array:
         full = COPIES * pages // self.in_use // BLOCK_SLOTS
         self.blocks = full + full // SLACK + MORE_BLOCKS
         self.random = random.Random(SEED)
-        self.times = {name: [] for name in NAMES}
+        self.times, self.is_timed = {name: [] for name in NAMES}, False
         self.dies, self.jobs, self.entries = [], {}, 0
-        # How many pages each batch has that was admitted, and how many flushes were begun.
-        self.batches, self.flushes = [], 0
+        # How many pages each batch has that was admitted, how many flushes were begun, and the current round.
+        self.batches, self.flushes, self.round = [], 0, 1
 
     def slots(self):
         return (self.in_use + 1) * self.blocks * BLOCK_SLOTS
@@ -117,22 +127,31 @@ class Array:
         for line, answer in zip(lines, answers):
             if line.startswith("commit") and not answer.startswith("seq"):
                 fail(f"{line}: {answer}")
+            self.note_round(line, answer)
         self.dies = answers[-1].split()[1:]
 
-    def time(self, lines):
-        """The answer to each line and its nanoseconds, which are kept unless it was refused. The dies are looked at behind them."""
-        *told, dies = self.lab.ask_all([*(f"time 1 {line}" for line in lines), "dies"])
+    def note_round(self, line, answer):
+        """Keeps the current round, which Advance answers."""
+        if line == "advance" and answer.startswith("round"):
+            self.round = int(answer.split()[1])
+
+    def time(self, lines, front=()):
+        """The answer to each line and its nanoseconds, which are kept unless it was refused. The lines in front are not timed. Behind all
+        lines the dies are looked at."""
+        *told, dies = self.lab.ask_all([*front, *(f"time 1 {line}" for line in lines), "dies"])[len(front):]
         self.dies = dies.split()[1:]
         found = []
         for line, answer in zip(lines, told):
             (nanoseconds,), last = split_times(answer)
             found.append((last, nanoseconds))
+            self.note_round(line, last)
             if not last.startswith(("refused", "stranger", "unsound")):
                 self.note(self.name_of(line, last), nanoseconds)
         return found
 
     def note(self, name, nanoseconds):
-        if len(self.times[name]) < MOST:
+        """Keeps a time, once turns are timed and while there are not too many of it."""
+        if self.is_timed and len(self.times[name]) < MOST:
             self.times[name].append(nanoseconds)
 
     def name_of(self, line, answer):
@@ -180,17 +199,21 @@ class Array:
         """The lines by which each die that wants a window and has none gets one."""
         return [f"window {die} {WINDOW_ROUNDS}" for die, word in enumerate(self.dies) if "v" in word and "w" not in word]
 
+    def live_dies(self):
+        """The dies that are live."""
+        return [die for die, word in enumerate(self.dies) if word != "out"]
+
     def busy_dies(self):
-        """The dies that have work now, or will have with windows."""
-        return [die for die, word in enumerate(self.dies) if set("vwj") & set(word)]
+        """The dies that have a window, or get one."""
+        return [die for die, word in enumerate(self.dies) if "v" in word or "w" in word]
 
-    def job_lines(self, dies):
-        """The lines by which each of these dies that has work does one job, which ends by a page where it is a read, and else well."""
-        return [line for die in dies for line in (f"take {die}", f"done {die} ok", f"done {die} data {NUMBER}")]
+    def job_lines(self, dies, how="ok"):
+        """The lines by which each of these dies that has work does one job. It ends so, which is well where it is no read."""
+        return [line for die in dies for line in (f"take {die}", f"done {die} {how}")]
 
-    def round_lines(self, dies, rounds):
-        """The lines by which rounds pass, in each of which these dies do a job."""
-        return ["advance", *self.job_lines(dies)] * rounds
+    def round_lines(self, dies):
+        """The lines by which a round passes and these dies then do a job."""
+        return ["advance", *self.job_lines(dies)]
 
     def homes(self, page):
         """The dies that are to have the copies of a page, as long as they have room."""
@@ -205,7 +228,8 @@ class Array:
             # The collector takes room too where it moves pages, one in each round.
             if all(self.room(die) >= more + count for die, more in wanted.items()):
                 return pages
-            self.time([*self.window_lines(), *self.round_lines(self.busy_dies(), WAIT_ROUNDS)])
+            self.time([*self.window_lines(), *self.round_lines(self.busy_dies())])
+            self.ask(["advance", "work"] * WAIT_ROUNDS)
         return fail(f"no room for {count} pages: {' '.join(self.dies)}")
 
     # Turns.
@@ -217,6 +241,7 @@ class Array:
             pages = self.draw_pages(TOGETHER)
             lines = [line for page in pages for line in ("advance", "work", *self.write_lines(page, 2))]
             self.ask([*self.window_lines(), *lines, *self.fold_lines(len(pages))])
+        self.is_timed = True
         for number in range(TURNS // TOGETHER):
             self.turns(number % 4 == 0)
         self.replace()
@@ -225,18 +250,17 @@ class Array:
         """Some turns. In each a random page is written again, and a round passes in which windows are kept. Then batches of one page and
         one of some are read together, and now and then one of many alone."""
         pages, busy = self.draw_pages(TOGETHER), self.busy_dies()
-        turns = [line for page in pages for line in (*self.round_lines(busy, 1), *self.page_lines(page))]
+        turns = [line for page in pages for line in (*self.round_lines(busy), *self.page_lines(page))]
         first, batches = len(self.batches), [self.draw_batch(count) for count in (1, 1, 1, 1, 64)]
         lines = [*self.window_lines(), *turns, *self.other_lines(), *self.fold_lines(len(pages))]
         admits = [line for at, batch in enumerate(batches, first) for line in (f"admit {batch}", f"replan {at}")]
         found = self.time([*lines, *admits])
         self.settle(lines, found)
-        self.read_out(range(first, len(self.batches)), [answer for answer, _ in found[len(lines):]])
+        self.read_out(range(first, len(self.batches)), [plan for plan, _ in found[len(lines) + 1::2]])
         if has_large:
-            batch = self.draw_batch(min(self.pages, 1024))
-            at = len(self.batches)
+            batch, at = self.draw_batch(min(self.pages, 1024)), len(self.batches)
             found = self.time([f"plan {batch}", f"admit {batch}", f"replan {at}"])
-            self.read_out(range(at, len(self.batches)), [answer for answer, _ in found])
+            self.read_out(range(at, len(self.batches)), [found[-1][0]])
 
     def page_lines(self, page):
         """The eight lines that write a page."""
@@ -245,12 +269,11 @@ class Array:
 
     def other_lines(self):
         """The lines of a flush, of the next thin page, of writes that are given up, and of a die that is asked for work."""
-        all_dies = range(len(self.dies))
-        lines = ["flush begin", *self.job_lines(all_dies), f"flush state {self.flushes + 1}", "next thin"]
         self.flushes += 1
+        lines = ["flush begin", *self.job_lines(self.live_dies()), f"flush state {self.flushes}", "next thin"]
         for page in (self.random.randrange(self.pages) for _ in range(2)):
             lines += [f"claim {page}", f"reserve {page} {NUMBER}", f"abandon {page}", f"release {page}"]
-        return [*lines, f"take {self.random.choice(all_dies)}"]
+        return [*lines, f"take {self.random.choice(self.live_dies())}"]
 
     def settle(self, lines, found):
         """Times each write whole that took eight calls, with no other job between them. Ends each that waits for its programs."""
@@ -262,7 +285,7 @@ class Array:
                 self.note("write", sum(nanoseconds for _, nanoseconds in eight) - 7 * self.clock())
             answer = found[at][0]
             while answer.startswith("refused"):
-                more = self.time([*self.job_lines(range(len(self.dies))), *lines[at:at + 2]])
+                more = self.time([*self.job_lines(self.live_dies()), *lines[at:at + 2]])
                 answer = more[-2][0]
 
     def draw_batch(self, count):
@@ -271,19 +294,22 @@ class Array:
         return " ".join(str(at * part + self.random.randrange(part)) for at in range(count))
 
     def read_out(self, batches, plans):
-        """Rounds pass until all reads of these batches have ended: first as many as the longest plan has."""
-        rounds = max([int(plan.partition("rounds ")[2].split()[0]) for plan in plans if "rounds " in plan], default=1)
-        dies, left = self.busy_dies() if rounds < 2 else range(len(self.dies)), list(batches)
+        """Rounds pass until all reads of these batches have ended, which have these plans."""
+        booked = bookings(plans)
+        lines = []
+        for number in range(self.round, max(booked, default=self.round) + 1):
+            others = [die for die in self.busy_dies() if die not in booked[number]]
+            lines += [*self.job_lines(booked[number], f"data {NUMBER}"), *self.job_lines(others), "advance"]
+        ends = [line for batch in batches for line in (f"results {batch}", f"end {batch}")]
         for _ in range(MOST_WAITS):
-            lines = [*self.job_lines(dies), *self.round_lines(dies, rounds)]
-            ends = [line for batch in left for line in (f"results {batch}", f"end {batch}")]
             found = self.time([*self.window_lines(), *lines, *ends])
             self.entries += sum(answer.startswith("read") for answer, _ in found)
-            states = [answer for answer, _ in found[-len(ends)::2]] if ends else []
-            left = [batch for batch, state in zip(left, states) if state == "waiting"]
-            if not left:
+            if all(answer != "waiting" for answer, _ in found[len(found) - len(ends)::2]):
                 return
-            rounds, dies = WAIT_ROUNDS, range(len(self.dies))
+            # A job was another one than was thought. It is ended now, and another round passes.
+            self.time([f"done {die} {f'data {NUMBER}' if job == 'read' else 'ok'}" for die, job in list(self.jobs.items())])
+            lines = [*self.job_lines(self.live_dies(), f"data {NUMBER}"), "advance"]
+        fail(f"batches wait: {' '.join(self.dies)}")
 
     # A die that goes out.
 
@@ -292,18 +318,19 @@ class Array:
         found = self.time(["flush begin", f"take {LOST}", f"done {LOST} fault", f"spare in {self.in_use}"])
         if found[1][0] == "no job":
             return
-        self.time(self.job_lines(range(len(self.dies))))
-        self.time([*self.window_lines(), *self.round_lines(self.busy_dies(), 1)])
+        self.time(self.job_lines(self.live_dies()))
+        self.time([*self.window_lines(), *self.round_lines(self.busy_dies())])
+        thin = self.time(["next thin"])[0][0]
         for _ in range(LATE_COPIES):
-            if not self.copy_next():
+            if not thin.startswith("page"):
                 return
+            thin = self.copy(thin)
 
-    def copy_next(self):
-        """The next thin page gets one more copy, if there is one."""
-        (answer, _), = self.time(["next thin"])
-        if not answer.startswith("page"):
-            return False
-        _, page, _, die = answer.split()
-        seq = self.lab.ask(f"page {page}").split()[3]
-        self.time([f"copy {page} {seq} {NUMBER}", *self.job_lines([die]), "commit copy"])
-        return True
+    def copy(self, thin):
+        """A thin page gets one more copy. Both it and the next one are as `next thin` is answered."""
+        _, page, _, die = thin.split()
+        look = f"page {page}"
+        seq = self.lab.ask(look).split()[3]
+        lines = [f"copy {page} {seq} {NUMBER}", *self.job_lines([die]), "commit copy", "next thin"]
+        # The second look has the program at work when the first of these lines comes.
+        return self.time(lines, [look])[-1][0]
