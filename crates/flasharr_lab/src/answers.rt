@@ -1,31 +1,34 @@
 //! What events are answered, in words.
+ghost use Rattle.fa_core.specs.Array.{IsWhole};
+
 use crate::certified::show_planned;
 use crate::content::tell_page;
 use crate::desk::Desk;
 use crate::told::Told;
-use fa_batch::Closed;
 use fa_core::{Answer, Array, Job};
-use fa_machine::{AdmitRefused, CommitCopyRefused, Copied, Flight, FlushState, Version};
+use fa_machine::{AdmitRefused, BatchId, CommitCopyRefused, Copied, Flight, FlushState, Version};
 use fa_map::Map;
 use fa_types::{Kind, Page, Slot};
 use std::alloc::{AllocError, Allocator};
 use std::fmt::Display;
 
-/// Tells the answer of an event. Before it these rounds were closed, where it plans a batch. The error is out of memory.
+/// Tells the answer of an event, which is of this batch where it is a Replan. The error is out of memory.
 pub(crate) fn show_answer<M: Map, A: Allocator + Copy>(
     array: &Array<M, A>,
     heap: A,
-    closed: &Option<Closed<A>>,
+    batch: BatchId,
     answer: &Answer<A>,
     desk: &Desk,
     told: &mut Told,
-) -> Result<(), AllocError> {
+) -> Result<(), AllocError>
+    requires { IsWhole M.view array.now }
+{
     match answer {
         Answer::Admit(Ok(admitted)) => {
             told.pair("batch", desk.last_batch());
-            show_planned(array, heap, closed, &admitted.planned, told)?;
+            show_planned(array, heap, admitted.batch, &admitted.planned, told)?;
         }
-        Answer::Replan(Ok(planned)) => show_planned(array, heap, closed, planned, told)?,
+        Answer::Replan(Ok(planned)) => show_planned(array, heap, batch, planned, told)?,
         Answer::Admit(Err(refused)) => show_admit_refused(*refused, told),
         Answer::Replan(Err(refused)) => show_admit_refused(*refused, told),
         _ => show_short(answer, told),

@@ -1,61 +1,52 @@
 //! A plan that the array made, with what the checker says of it.
 ghost use Rattle.fa_core.specs.Array.{IsWhole};
 
-use crate::desk::Desk;
-use crate::order::Event;
 use crate::seen::{MAX_DIES, copy_seen};
 use crate::told::Told;
-use crate::words::number_at;
 use fa_batch::{Batch, Closed, Place};
 use fa_cert::{Verdict, check};
 use fa_core::{Array, Planned};
+use fa_machine::BatchId;
 use fa_map::Map;
 use fa_types::{Die, Page};
 use std::alloc::{AllocError, Allocator};
 
-/// The rounds that are closed before an event that plans a batch: those that are not its own. None of another event, and where there is no
-/// such batch. The error is out of memory.
-pub(crate) fn closed_before<M: Map, A: Allocator + Copy>(
-    array: &Array<M, A>,
-    heap: A,
-    event: Event,
-    numbers: &[u64],
-    desk: &Desk,
-) -> Result<Option<Closed<A>>, AllocError>
-    requires { IsWhole M.view array.now }
-{
-    match event {
-        Event::Admit => Ok(Some(array.closed(heap)?)),
-        Event::Replan => {
-            let batch = desk.batch(number_at(numbers, 0));
-            if array.batch_open(batch) {
-                Ok(Some(array.closed_without(heap, batch)?))
-            } else {
-                Ok(None)
-            }
-        }
-        _ => Ok(None),
-    }
-}
-
-/// Tells the rounds of a plan, the verdict on it, its places, and its shortage. The error is out of memory.
+/// Tells the rounds of a batch's plan, the verdict on it, its places, and its shortage. The error is out of memory.
 pub(crate) fn show_planned<M: Map, A: Allocator + Copy>(
     array: &Array<M, A>,
     heap: A,
-    closed: &Option<Closed<A>>,
+    batch: BatchId,
     planned: &Planned<A>,
     told: &mut Told,
-) -> Result<(), AllocError> {
+) -> Result<(), AllocError>
+    requires { IsWhole M.view array.now }
+{
     told.pair("rounds", planned.rounds);
-    if let Some(closed) = closed {
-        let held = held_places(array, heap, planned.plan.places.as_slice())?;
-        show_verdict(heap, &held, closed, planned, told)?;
-    }
+    show_check(array, heap, batch, planned, told)?;
     for place in planned.plan.places.as_slice() {
         show_place(*place, told);
     }
     show_shortage(planned.shortage.as_slice(), told);
     Ok(())
+}
+
+/// Tells the verdict on a batch's plan, if the batch is open: against the rounds that are closed without its own bookings. The error is out of
+/// memory.
+fn show_check<M: Map, A: Allocator + Copy>(
+    array: &Array<M, A>,
+    heap: A,
+    batch: BatchId,
+    planned: &Planned<A>,
+    told: &mut Told,
+) -> Result<(), AllocError>
+    requires { IsWhole M.view array.now }
+{
+    if !array.batch_open(batch) {
+        return Ok(());
+    }
+    let closed = array.closed_without(heap, batch)?;
+    let held = held_places(array, heap, planned.plan.places.as_slice())?;
+    show_verdict(heap, &held, &closed, planned, told)
 }
 
 /// What the checker says of a plan for a batch.

@@ -5,7 +5,6 @@ use crate::jobs::Jobs;
 use crate::lent::Lent;
 use crate::meter::Meter;
 use crate::told::Told;
-use fa_batch::Closed;
 use std::alloc::Global;
 use std::io;
 
@@ -18,8 +17,6 @@ pub(crate) struct Lab<'a> {
     pub(crate) desk: Desk,
     pub(crate) lent: Lent<'a>,
     pub(crate) jobs: Jobs<'a>,
-    /// The rounds that were closed before the last event that planned a batch.
-    pub(crate) closed: Option<Closed<&'a Heap>>,
     /// What a client says that was not served yet.
     pub(crate) said: Vec<u8>,
     /// Room for slots.
@@ -37,7 +34,6 @@ impl<'a> Lab<'a> {
             desk: Desk::new(alloc),
             lent: Lent::new(alloc),
             jobs: Jobs::new(alloc),
-            closed: None,
             said: Vec::new(alloc),
             slots: Vec::new(alloc),
         }
@@ -53,7 +49,6 @@ impl<'a> Lab<'a> {
         self.desk.begin_anew();
         self.jobs.forget();
         self.lent.forget();
-        self.closed = None;
     }
 
     /// A buffer of a job is free again.

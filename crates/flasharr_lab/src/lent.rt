@@ -1,5 +1,5 @@
 //! What events are lent, and what their answers give back.
-use crate::content::full_page;
+use crate::content::{fill, full_page};
 use crate::heap::Heap;
 use crate::order::Event;
 use crate::words::number_at;
@@ -65,7 +65,9 @@ impl<'a> Lent<'a> {
                 Ok(())
             }
             Event::Done(_) => {
-                self.page = Some(full_page(heap, number_at(numbers, 1), page_bytes)?);
+                let mut page = self.buffer(heap, page_bytes)?;
+                fill(page.as_mut_slice(), number_at(numbers, 1));
+                self.page = Some(page);
                 Ok(())
             }
             _ => Ok(()),

@@ -2,18 +2,19 @@
 ghost use Rattle.fa_core.specs.Array.{IsWhole};
 
 use crate::answers::show_answer;
-use crate::certified::closed_before;
 use crate::desk::Desk;
 use crate::heap::Heap;
 use crate::jobs::{buffer_back, is_done, take};
 use crate::lab::Lab;
 use crate::lent::Lent;
 use crate::order::Event;
+use crate::told::Told;
 use crate::words::{die_of, number_at};
 use fa_core::{Answer, Array, Call};
-use fa_machine::ClaimId;
+use fa_machine::{BatchId, ClaimId};
 use fa_map::Map;
 use fa_types::{Die, Page, Seq};
+use std::alloc::Allocator;
 
 /// Who makes all events.
 pub(crate) const SEAT: u32 = 0;
@@ -50,43 +51,25 @@ fn make_told<'a, M: Map>(
         lab.told.fail();
         return;
     }
-    note_closed(array, lab, event, numbers);
     let answer = make(array, lab, event, numbers);
-    tell_answer(array, lab, &answer);
+    let batch = lab.desk.batch(number_at(numbers, 0));
+    tell_answer(array, heap, batch, &answer, &mut lab.desk, &mut lab.told);
     take_back(array, lab, die_of(number_at(numbers, 0)), answer);
 }
 
-/// Keeps which rounds are closed before an event that plans a batch.
-fn note_closed<'a, M: Map>(
-    array: &Array<M, &'a Heap>,
-    lab: &mut Lab<'a>,
-    event: Event,
-    numbers: &[u64],
+/// Keeps what later events ask for of an answer, and tells it.
+fn tell_answer<M: Map, A: Allocator + Copy>(
+    array: &Array<M, A>,
+    heap: A,
+    batch: BatchId,
+    answer: &Answer<A>,
+    desk: &mut Desk,
+    told: &mut Told,
 )
     requires { IsWhole M.view array.now }
 {
-    let heap = lab.heap();
-    match closed_before(array, heap, event, numbers, &lab.desk) {
-        Ok(closed) => lab.closed = closed,
-        Err(_) => lab.told.fail(),
-    }
-}
-
-/// Keeps what later events ask for of an answer, and tells it.
-fn tell_answer<'a, M: Map>(
-    array: &Array<M, &'a Heap>,
-    lab: &mut Lab<'a>,
-    answer: &Answer<&'a Heap>,
-) {
-    let heap = lab.heap();
-    let Lab {
-        desk,
-        told,
-        closed,
-        ..
-    } = lab;
     let is_kept = desk.keep(answer).is_ok();
-    let is_told = show_answer(array, heap, closed, answer, desk, told).is_ok();
+    let is_told = show_answer(array, heap, batch, answer, desk, told).is_ok();
     if !is_kept || !is_told {
         told.fail();
     }

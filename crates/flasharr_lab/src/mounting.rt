@@ -24,7 +24,7 @@ use fa_map::{Map, PageMap};
 use fa_mount::{MountedArray, mount};
 use fa_solo::Parts;
 use fa_types::Copies;
-use std::alloc::Allocator;
+use std::alloc::{AllocError, Allocator};
 use std::io::BufRead;
 use std::marker::Brand;
 use std::sync::ledger::Blank;
@@ -156,15 +156,25 @@ fn alone<'a, R: BufRead + Drop, I: DieImage>(
     yard: &mut Yard<'a, I>,
 ) -> Images<'a, I> {
     lab.begin_anew();
-    let heap = lab.heap();
     let Some(shape) = shape_of(script.order.numbers.as_slice()) else {
         script.refuse(lab);
-        return Vec::new(heap);
+        return Vec::new(lab.heap());
     };
-    match PageMap::new(heap, shape.geometry) {
-        Ok(page_map) => own_new(script, lab, yard, page_map, shape),
+    match over_new_map(script, lab, yard, shape) {
+        Ok(images) => images,
         Err(_) => none_made(script, lab),
     }
+}
+
+/// Makes an array over a new page map, and does what lines ask of it until it is let go. The error is that there is no memory for the map.
+fn over_new_map<'a, R: BufRead + Drop, I: DieImage>(
+    script: &mut Script<R>,
+    lab: &mut Lab<'a>,
+    yard: &mut Yard<'a, I>,
+    shape: Shape,
+) -> Result<Images<'a, I>, AllocError> {
+    let page_map = PageMap::new(lab.heap(), shape.geometry)?;
+    Ok(own_new(script, lab, yard, page_map, shape))
 }
 
 /// No memory is had for an array.
@@ -177,7 +187,7 @@ fn none_made<'a, R: BufRead + Drop, I: DieImage>(
     Vec::new(lab.heap())
 }
 
-/// Makes an array over a new page map, and does what lines ask of it until it is let go.
+/// Makes an array over this page map, and does what lines ask of it until it is let go.
 fn own_new<'a, R: BufRead + Drop, M: Map + Drop, I: DieImage>(
     script: &mut Script<R>,
     lab: &mut Lab<'a>,

@@ -12,6 +12,7 @@ use crate::lab::Lab;
 use crate::looks::show;
 use crate::making::run_event;
 use crate::order::{Order, Wish, Work};
+use crate::plans::plan_apart;
 use crate::script::Script;
 use crate::seen::MAX_DIES;
 use crate::told::Told;
@@ -22,7 +23,6 @@ use fa_core::Array;
 use fa_image::Image;
 use fa_map::Map;
 use fa_mount::{CloseFault, MountedArray, close_clean};
-use fa_plan::plan;
 use fa_solo::Parts;
 use fa_types::{Die, Rounds};
 use std::alloc::{AllocError, Allocator};
@@ -180,18 +180,18 @@ fn plan_pages<'a, M: Map>(
 }
 
 /// Plans a batch against closed rounds.
-fn plan_held<'a, R: Rounds>(
-    heap: &'a Heap,
-    batch: &Batch<&'a Heap>,
+fn plan_held<R: Rounds, A: Allocator + Copy>(
+    heap: A,
+    batch: &Batch<A>,
     rounds: &R,
-    lab: &mut Lab<'a>,
+    lab: &mut Lab<'_>,
 ) {
     if !batch.is_sound() || rounds.now().0 > LAST_ROUND {
         lab.told.word("unsound");
         return;
     }
     let start = lab.meter.start();
-    let planned = plan(heap, batch, rounds);
+    let planned = plan_apart(heap, batch, rounds);
     lab.meter.stop(start);
     match planned {
         Ok(planned) => lab.told.pair("rounds", planned.rounds),

@@ -1,13 +1,14 @@
 //! Batches of texts that are planned, and the checks of their plans.
 ghost use Rattle.std.specs.Prelude.{◌-◌, ◌^◌, ◌≤◌};
+ghost use Rattle.fa_batch.specs.Batch.{IsSound};
 
 use crate::lab::Lab;
 use fa_batch::Batch;
 use fa_cert::check;
-use fa_plan::plan;
+use fa_plan::{Planned, plan};
 use fa_texts::read_batch;
 use fa_types::Rounds;
-use std::alloc::{AllocError, Global};
+use std::alloc::{AllocError, Allocator, Global};
 
 /// Plans the batch of a text, whose lines are parted by `/`, and checks the plan, and tells what came of it. Either the plan is timed or the check.
 pub(crate) fn plan_text(text: &str, lab: &mut Lab<'_>, is_check_timed: bool) {
@@ -54,7 +55,7 @@ fn plan_batch<R: Rounds>(
         return Ok(());
     }
     let start = lab.meter.start();
-    let planned = plan(lab.alloc, batch, calendar)?;
+    let planned = plan_apart(lab.alloc, batch, calendar)?;
     let start = if is_check_timed {
         lab.meter.start()
     } else {
@@ -71,4 +72,17 @@ fn plan_batch<R: Rounds>(
     lab.told.pair("searches", planned.searches);
     lab.told.pair("looks", planned.looks);
     Ok(())
+}
+
+/// Plans a batch, compiled apart from what asks for it. The error is out of memory.
+#[inline(never)]
+pub(crate) fn plan_apart<R: Rounds, A: Allocator + Copy>(
+    alloc: A,
+    batch: &Batch<A>,
+    calendar: &R,
+) -> Result<Planned<A>, AllocError>
+    requires sound { IsSound batch.now }
+    requires early { R.current calendar.now ≤ 2 ^ 56 - 2 ^ 24 }
+{
+    plan(alloc, batch, calendar)
 }

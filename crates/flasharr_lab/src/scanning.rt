@@ -2,11 +2,12 @@
 use crate::lab::Lab;
 use crate::mounting::{copies_of, tell_unmounted};
 use crate::told::Told;
+use fa_headers::MountRefused;
 use fa_image::Image;
-use fa_map::Map;
+use fa_map::{Map, PageMap};
 use fa_scan::{Mounted, scan, scan_side_by_side};
 use fa_types::Copies;
-use std::alloc::Allocator;
+use std::alloc::{Allocator, Global};
 use std::thread::Threads;
 
 /// Scans the images, in one thread or with one for each, and tells how many pages were written.
@@ -25,7 +26,7 @@ pub(crate) fn scan_images<'a, T: Threads + Sync, I: Image + Send>(
     let found = if together {
         scan_side_by_side(threads, lab.alloc, images, copies, unclean)
     } else {
-        scan(lab.alloc, images, copies, unclean)
+        scan_apart(lab.alloc, images, copies, unclean)
     };
     lab.meter.stop(start);
     match found {
@@ -41,4 +42,15 @@ fn tell_scanned<M: Map + Drop, A: Allocator>(
     told: &mut Told,
 ) {
     told.pair("scanned", mounted.report(copies).written);
+}
+
+/// Scans images in one thread, compiled apart from what asks for it.
+#[inline(never)]
+fn scan_apart<I: Image>(
+    alloc: Global,
+    images: &mut [I],
+    copies: Copies,
+    unclean: bool,
+) -> Result<Mounted<PageMap<Global>, Global>, MountRefused> {
+    scan(alloc, images, copies, unclean)
 }
