@@ -239,27 +239,32 @@ class Array:
         self.time_clock()
         for _ in range(self.pages // 4 // TOGETHER):
             pages = self.draw_pages(TOGETHER)
-            lines = [line for page in pages for line in ("advance", "work", *self.write_lines(page, 2))]
-            self.ask([*self.window_lines(), *lines, *self.fold_lines(len(pages))])
+            self.ask([*self.window_lines(), *self.turn_lines(pages), *self.fold_lines(len(pages))])
         self.is_timed = True
         for number in range(TURNS // TOGETHER):
             self.turns(number % 4 == 0)
         self.replace()
 
+    def turn_lines(self, pages):
+        """The lines of turns that are not timed: in each a round passes, and a page is written."""
+        return [line for page in pages for line in ("advance", "work", *self.write_lines(page, 2))]
+
     def turns(self, has_large):
         """Some turns. In each a random page is written again, and a round passes in which windows are kept. Then batches of one page and
         one of some are read together, and now and then one of many alone."""
-        pages, busy = self.draw_pages(TOGETHER), self.busy_dies()
+        first_page, *pages = self.draw_pages(1 + TOGETHER)
+        busy = self.busy_dies()
         turns = [line for page in pages for line in (*self.round_lines(busy), *self.page_lines(page))]
         first, batches = len(self.batches), [self.draw_batch(count) for count in (1, 1, 1, 1, 64)]
         lines = [*self.window_lines(), *turns, *self.other_lines(), *self.fold_lines(len(pages))]
         admits = [line for at, batch in enumerate(batches, first) for line in (f"admit {batch}", f"replan {at}")]
-        found = self.time([*lines, *admits])
+        # One turn more has the program at work when the first of these lines comes.
+        found = self.time([*lines, *admits], self.turn_lines([first_page]))
         self.settle(lines, found)
         self.read_out(range(first, len(self.batches)), [plan for plan, _ in found[len(lines) + 1::2]])
         if has_large:
             batch, at = self.draw_batch(min(self.pages, 1024)), len(self.batches)
-            found = self.time([f"plan {batch}", f"admit {batch}", f"replan {at}"])
+            found = self.time([f"plan {batch}", f"admit {batch}", f"replan {at}"], [f"plan {batch}"])
             self.read_out(range(at, len(self.batches)), [found[-1][0]])
 
     def page_lines(self, page):
