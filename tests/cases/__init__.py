@@ -32,9 +32,15 @@ class Run:
 
 
 @dataclass
+class Talk:
+    """A step that talks with the program, whose path it is given, and gives what is wrong as lines."""
+    faults: Callable
+
+
+@dataclass
 class Case:
-    """A case: its name, files by their paths, and its steps, each a run or a change that is made to the folder. One that is
-    `long` takes seconds where others take a hundredth of one. Its runs are those of `program`."""
+    """A case: its name, files by their paths, and its steps, each a run, a talk or a change that is made to the folder. One that
+    is `long` takes seconds where others take a hundredth of one. Its runs are those of `program`."""
     name: str
     steps: list
     files: dict = field(default_factory=dict)

@@ -1,16 +1,23 @@
-"""The events of an array, one after the other, as docs/EVENTS.md spells them. What is wanted is worked out by hand from
+"""The events of an array, one after the other, as docs/LAB.md spells them. What is wanted is worked out by hand from
 docs/MACHINE.md: the homes of the pages, the lowest erased slots, the rounds of a least plan.
 
-A script is lines `LINE -> ANSWER`. Each is made twice: with ample memory, and with the growths of each event refused first, which
+A script is lines `LINE -> ANSWER`. Each is made twice: with ample memory, and with each growth of each event refused first, which
 has to answer the same and may change nothing.
 """
-import re
+from collections import Counter
 
-from cases import Case, Like, Run
+from cases import Case, Run, Talk
+from lab import Lab
 
-PROGRAM = "flasharr_events"
+PROGRAM = "flasharr_lab"
 DONE = "done"
-KINDS = ("claim", "reserve", "hole", "fewer", "admit", "replan", "window", "copy")
+MADE = "made"
+NO_MEMORY = "refused: out of memory"
+# The events that may take memory, by the first words of their lines; the others take none.
+KINDS = {"reserve hole": "hole", "reserve fewer": "fewer", "reserve": "reserve", "claim": "claim", "admit": "admit", "replan": "replan",
+         "window": "window", "copy": "copy"}
+# What is no event, and has its memory.
+ROOMY = ("mount", "solo")
 
 
 def shape(dies, spares=0, blocks=16, slots=8, pages=64, copies=2, epoch=2, last=0):
@@ -60,31 +67,51 @@ def no_room_at_home(page):
     return [(f"claim {page}", f"claim {page}"), *reserved]
 
 
-def tally(kinds):
-    """The last line where memory is refused: each of these kinds of events was refused it."""
-    return " ".join(f"{kind} {'[1-9][0-9]*' if kind in kinds else '[0-9]+'}" for kind in KINDS)
+def kind_of(line):
+    """The kind of an event that may take memory. None of another line."""
+    return next((kind for words, kind in KINDS.items() if f"{line} ".startswith(f"{words} ")), None)
 
 
-def refused_first(text, kinds):
-    """The output of a script, and behind it the tally."""
-    form = re.compile(re.escape(text) + "refused memory: " + tally(kinds) + "\n")
+def answered(lab, line, refused, faults):
+    """The answer to a line once no memory is refused to it. First all of it is refused, and then each request alone: where that is told, all
+    looks are as they were."""
+    kind = kind_of(line)
+    if kind is None:
+        lab.ask("heap open" if line.startswith(ROOMY) else "heap full 0")
+        return lab.ask(line)
+    before = lab.ask("all")
+    for which in ("full 0", *(f"refuse {number}" for number in range(1, 1000))):
+        lab.ask(f"heap {which}")
+        answer = lab.ask(line)
+        if answer != NO_MEMORY:
+            return answer
+        refused[kind] += 1
+        if lab.ask("all") != before:
+            faults.append(f"changed though it was refused memory ({which}): {line}")
+    return NO_MEMORY
 
-    def fault(output):
-        told = output.decode("utf-8", "replace")
-        if form.fullmatch(told):
-            return None
-        at = next((n for n, (a, b) in enumerate(zip(told.splitlines(), text.splitlines())) if a != b), len(text.splitlines()))
-        return f"differs from the script at its answer {at + 1}, or in what was refused memory ({tally(kinds)})"
-    return Like("the answers, and a tally", fault)
+
+def refused_first(first, steps, kinds):
+    """A script with each growth refused first. Each of these kinds of events has to be refused memory."""
+    def faults(program):
+        refused, found = Counter(), []
+        with Lab(program) as lab:
+            lab.ask(first)
+            for line, wanted in steps:
+                answer = answered(lab, line, refused, found)
+                if answer != wanted:
+                    return [*found, f"memory refused first, {line}: wanted {wanted}, and it was {answer}"]
+        missing = [kind for kind in kinds if not refused[kind]]
+        return found + [f"memory was never refused to: {kind}" for kind in missing]
+    return Talk(faults)
 
 
 def case(name, first, steps, refused=()):
     """A script on an array of this shape. At least these kinds of its events are refused memory where that is tried. Events of another
     kind take none, or find the room that earlier ones made."""
     lines = first + "\n" + "".join(f"{line}\n" for line, _ in steps)
-    answers = "".join(f"{answer}\n" for _, answer in steps)
-    runs = [Run((), answers, input=lines), Run(("--refuse",), refused_first(answers, refused), input=lines)]
-    return Case(name, runs, program=PROGRAM)
+    answers = f"{MADE}\n" + "".join(f"{answer}\n" for _, answer in steps)
+    return Case(name, [Run((), answers, input=lines), refused_first(first, steps, refused)], program=PROGRAM)
 
 
 # Three dies in use, of 16 blocks of 8 slots, with 64 pages.
@@ -984,16 +1011,18 @@ def limits():
 def wrong_lines():
     first = THREE + "\n"
     for name, text, told in (
-            ("no_line", "", "no line of a text: 1\n"),
             ("no_array", "dies 3\n", "no line of a text: 1\n"),
             ("an_array_that_cannot_be", shape(3, spares=2) + "\n", "no line of a text: 1\n"),
             ("copies_that_cannot_be", shape(2, copies=3) + "\n", "no line of a text: 1\n"),
-            ("an_unknown_word", first + "claim 0\nclaims 0\nclaim 1\n", "claim 0\nno line of a text: 3\n"),
-            ("a_number_too_many", first + "claim 0 1\n", "no line of a text: 2\n"),
-            ("a_number_too_few", first + "reserve 0\n", "no line of a text: 2\n"),
-            ("an_empty_line", first + "\n", "no line of a text: 2\n")):
+            ("an_unknown_word", first + "claim 0\nclaims 0\nclaim 1\n", "made\nclaim 0\nno line of a text: 3\n"),
+            ("a_number_too_many", first + "claim 0 1\n", "made\nno line of a text: 2\n"),
+            ("a_number_too_few", first + "reserve 0\n", "made\nno line of a text: 2\n"),
+            ("no_event_over_nothing", "claims 0\n", "no line of a text: 1\n"),
+            ("no_time", first + "time 0 advance\n", "made\nno line of a text: 2\n"),
+            ("an_empty_line", first + "\n", "made\nno line of a text: 2\n")):
         yield Case(name, [Run((), told, 2, input=text)], program=PROGRAM)
-    yield Case("an_unknown_argument", [Run(("--memory",), "usage: flasharr_events [--refuse]\n", 2)], program=PROGRAM)
+    yield Case("no_line", [Run((), "")], program=PROGRAM)
+    yield Case("two_arguments", [Run(("here", "there"), "usage: flasharr_lab [FOLDER]\n", 2)], program=PROGRAM)
 
 
 def cases():

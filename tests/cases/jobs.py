@@ -467,7 +467,7 @@ def mounting():
         old slot 0 128 0 1 7 -> not written
         old slot 0 0 0 0 7 -> not written
         arm 1 1 -> armed
-        mount 2 -> refused: image fault
+        mount 2 -> refused: image fault 1
         mount 2 -> mounted live 0 1 2
         run 0 -> no job
         run 3 -> no job
@@ -479,15 +479,14 @@ def wrong_lines():
     for name, text, told in (
             ("images_that_cannot_be", images(3, spares=2) + "\n", "no line of a text: 1\n"),
             ("a_number_of_images_too_few", THREE.rpartition(" ")[0] + "\n", "no line of a text: 1\n"),
-            ("a_job_that_is_ended_by_the_text", fresh + "take 0\ndone 0 ok\n",
-             "mounted live 0 1 2\nheader epoch 2 live 0 1 2\nno line of a text: 4\n"),
-            ("an_unknown_word", fresh + "mounts 2\n", "mounted live 0 1 2\nno line of a text: 3\n")):
+            ("an_unknown_word", fresh + "mounts 2\n", "made\nmounted live 0 1 2\nno line of a text: 3\n")):
         yield Case(name, [Run((), told, 2, input=text)], program=PROGRAM)
     alone = "dies 3 spares 0 blocks 16 slots 8 bytes 512 pages 64 copies 2 epoch 2 last 0\n"
-    for line in ("run 0", "arm 0 1", "lie 0 1", "close", "mount 2", "mount unclean 2", "header 0", "slot 0 0", "overwrites",
-                 "old slot 0 0 0 1 7"):
+    for line, told in (("run 0", "no job"), ("make 0", "no job"), ("arm 0 1", "no die"), ("lie 0 1", "no die"), ("close", "refused: busy"),
+                       ("mount 2", "no die"), ("mount unclean 2", "no die"), ("header 0", "no die"), ("slot 0 0", "no die"),
+                       ("overwrites", "overwrites 0"), ("old slot 0 0 0 1 7", "not written"), ("solo 1", "no image")):
         name = f"no_images/{'_'.join(line.split())}"
-        yield Case(name, [Run((), "no line of a text: 2\n", 2, input=alone + line + "\n")], program=PROGRAM)
+        yield Case(name, [Run((), f"made\n{told}\n", input=alone + line + "\n")], program=PROGRAM)
 
 
 def cases():

@@ -8,29 +8,39 @@ from cases import Case, Run, spelled
 from cases.conversations import DISC, FLAGS, GO, GONE, GREETING, INPUT_ENDED, DISCONNECTED
 from cases import conversations
 
-PROGRAM = "flasharr_solo"
+PROGRAM = "flasharr_lab"
+IMAGES = "images dies 4 spares 0 blocks 16 slots 8 bytes 512 pages 64"
+# A client says no more digits in one line.
+DIGITS = 2 ** 20
+
+
+def served(said, answer):
+    """A client over a store of its own: what it says and what is said to it, in hexadecimal, with how it ends."""
+    digits, end = answer.split("\nend ")
+    pieces = [said[at:at + DIGITS] for at in range(0, len(said), DIGITS)]
+    return [*((f"say {piece}", "said") for piece in pieces), ("solo 1", "store"), ("serve", f"end {end.strip()} {digits}")]
 
 
 def client(requests, replies, end=INPUT_ENDED):
-    """A client behind its handshake: what it says, and what is printed of it."""
+    """A client behind its handshake."""
     said = spelled(f"{FLAGS} {GO} {requests}").hex()
-    return said, f"{spelled(f'{GREETING} {GONE} {replies}').hex()}\nend {end}"
+    return served(said, f"{spelled(f'{GREETING} {GONE} {replies}').hex()}\nend {end}")
 
 
 def look(line, wanted):
-    return line, wanted
+    return [(line, wanted)]
 
 
 def arm(*dies, count=1):
     """The images of these dies fail at their count-th next call."""
-    return [(f"arm {die} {count}", None) for die in dies]
+    return [(f"arm {die} {count}", "armed") for die in dies]
 
 
-def case(name, copies, steps):
-    """Lines in turn, each with what is printed of it if something is."""
-    text = "".join(f"{line}\n" for line, _ in steps)
-    wanted = "".join(f"{printed}\n" for _, printed in steps if printed is not None)
-    return Case(name, [Run(("talk", str(copies)), wanted, input=text)], program=PROGRAM)
+def case(name, copies, *steps, long=False):
+    """Lines in turn, each with its answer."""
+    lines = [(IMAGES, "made"), (f"mount {copies}", "mounted live 0 1 2 3"), *(line for step in steps for line in step)]
+    wanted = "".join(f"{answer}\n" for _, answer in lines)
+    return Case(name, [Run((), wanted, input=lambda _: "".join(f"{line}\n" for line, _ in lines))], long=long, program=PROGRAM)
 
 
 # Pages 0 and 5 are written.
@@ -52,44 +62,41 @@ def reply(cookie, data=None):
 
 def rows():
     # Page 5 has the homes 1 and 3, and both go out where it is read. What page 0 has lost on die 1 it gets on die 2.
-    yield case("both_dies_of_a_page_fail", 2, [
-        client(TWO_PAGES, WRITTEN), look("page 0", "page 0 seq 1 at 0:0 1:0"), look("page 5", "page 5 seq 2 at 1:1 3:0"), *arm(1, 3),
-        client(f"{READ_5} {READ_0} {REWRITE_5} {REREAD_5}",
-               f"{reply(4)} {reply(5, 'aax512')} {reply(6, '')} {reply(7, 'ccx512')}"),
-        look("live", "live 0 2"), look("page 0", "page 0 seq 1 at 0:0 2:0"), look("page 5", "page 5 seq 3 at 0:1 2:1")])
+    yield case("both_dies_of_a_page_fail", 2,
+               client(TWO_PAGES, WRITTEN), look("page 0", "page 0 seq 1 at 0 0 at 1 0"), look("page 5", "page 5 seq 2 at 1 1 at 3 0"), arm(1, 3),
+               client(f"{READ_5} {READ_0} {REWRITE_5} {REREAD_5}",
+                      f"{reply(4)} {reply(5, 'aax512')} {reply(6, '')} {reply(7, 'ccx512')}"),
+               look("live", "live 0 2"), look("page 0", "page 0 seq 1 at 0 0 at 2 0"), look("page 5", "page 5 seq 3 at 0 1 at 2 1"))
 
     # With three copies page 5 is on die 0 too. A FLUSH takes the two dies out, and page 5 gets its second copy on die 2.
-    yield case("two_of_three_dies_of_a_page_fail", 3, [
-        client(TWO_PAGES, WRITTEN), look("page 0", "page 0 seq 1 at 0:0 1:0 2:0"), look("page 5", "page 5 seq 2 at 0:1 1:1 3:0"),
-        *arm(1, 3), client(f"{FLUSH} {READ_5} {READ_0}", f"{reply(3, '')} {reply(4, 'bbx512')} {reply(5, 'aax512')}"),
-        look("live", "live 0 2"), look("page 0", "page 0 seq 1 at 0:0 2:0"), look("page 5", "page 5 seq 2 at 0:1 2:1"),
-        client(f"{REWRITE_5} {REREAD_5} {DISC}", f"{reply(6, '')} {reply(7, 'ccx512')}", DISCONNECTED),
-        look("page 5", "page 5 seq 3 at 0:2 2:2")])
+    yield case("two_of_three_dies_of_a_page_fail", 3,
+               client(TWO_PAGES, WRITTEN), look("page 0", "page 0 seq 1 at 0 0 at 1 0 at 2 0"), look("page 5", "page 5 seq 2 at 0 1 at 1 1 at 3 0"),
+               arm(1, 3), client(f"{FLUSH} {READ_5} {READ_0}", f"{reply(3, '')} {reply(4, 'bbx512')} {reply(5, 'aax512')}"),
+               look("live", "live 0 2"), look("page 0", "page 0 seq 1 at 0 0 at 2 0"), look("page 5", "page 5 seq 2 at 0 1 at 2 1"),
+               client(f"{REWRITE_5} {REREAD_5} {DISC}", f"{reply(6, '')} {reply(7, 'ccx512')}", DISCONNECTED),
+               look("page 5", "page 5 seq 3 at 0 2 at 2 2"))
 
     # No die is left by a FLUSH. What was never written reads as zeros all the same.
-    yield case("all_dies_fail", 2, [
-        client(TWO_PAGES, WRITTEN), *arm(0, 1, 2, 3),
-        client(f"""{FLUSH} {READ_5} {REWRITE_5}
+    yield case("all_dies_fail", 2, client(TWO_PAGES, WRITTEN), arm(0, 1, 2, 3), client(
+        f"""{FLUSH} {READ_5} {REWRITE_5}
                    25609513 0000 0000 0000000000000008 0000000000000400 00000200
                    25609513 0000 0006 0000000000000009 0000000000000400 00000200
                    25609513 0000 0004 000000000000000a 0000000000000400 00000200
                    25609513 0000 0003 000000000000000b 0000000000000000 00000000""",
-               f"{reply(3)} {reply(4)} {reply(6)} {reply(8, '00x512')} {reply(9)} {reply(10)} {reply(11)}"),
-        look("live", "live")])
+        f"{reply(3)} {reply(4)} {reply(6)} {reply(8, '00x512')} {reply(9)} {reply(10)} {reply(11)}"), look("live", "live"))
 
     # Die 1 writes its header, and the first program of it fails, in a write of eight pages.
-    yield case("a_program_fails_inside_of_a_write", 2, [
-        *arm(1, count=2), client("25609513 0001 0001 0000000000000001 0000000000000000 00001000 ddx4096", reply(1, "")),
-        look("live", "live 0 2 3"), client("25609513 0000 0000 0000000000000002 0000000000000000 00001000", reply(2, "ddx4096")),
-        look("live", "live 0 2 3")])
+    yield case("a_program_fails_inside_of_a_write", 2,
+               arm(1, count=2), client("25609513 0001 0001 0000000000000001 0000000000000000 00001000 ddx4096", reply(1, "")),
+               look("live", "live 0 2 3"), client("25609513 0000 0000 0000000000000002 0000000000000000 00001000", reply(2, "ddx4096")),
+               look("live", "live 0 2 3"))
 
 
 def over_stores(copies):
     """The conversations with `talk`, each over a store of its own."""
     for told in conversations.cases():
         [run] = told.steps
-        yield Case(f"{copies}_copies/{told.name}", [Run((*run.words, str(copies)), run.output, input=run.input)], long=told.long,
-                   program=PROGRAM)
+        yield case(f"{copies}_copies/{told.name}", copies, served(run.input(b""), run.output), long=told.long)
 
 
 def cases():

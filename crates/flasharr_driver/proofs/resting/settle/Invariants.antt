@@ -1,5 +1,0 @@
-use Rattle.fa_core.specs.Array.{IsWhole}
-use Rattle.flasharr_driver.proofs.resting.settle.Given as goal
-
-abbrev pub invariant-turns : goal.invariant-turns
-invariant-turns g l = IsWhole g.M.Map.view l.array

@@ -1,4 +1,0 @@
-use Rattle.flasharr_events.proofs.ballast.Ballast.fill.Given as goal
-
-abbrev pub decreases-loop-bytes : goal.decreases-loop-bytes
-decreases-loop-bytes g l = l.bytes

@@ -1,0 +1,4 @@
+mod Bodies
+mod Few
+mod Parts
+mod Refusals

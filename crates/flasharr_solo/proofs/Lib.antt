@@ -1,2 +1,0 @@
-mod Bodies
-mod Refusals
