@@ -264,7 +264,7 @@ class Array:
         self.read_out(range(first, len(self.batches)), [plan for plan, _ in found[len(lines) + 1::2]])
         if has_large:
             batch, at = self.draw_batch(min(self.pages, 1024)), len(self.batches)
-            found = self.time([f"plan {batch}", f"admit {batch}", f"replan {at}"], [f"plan {batch}"])
+            found = self.time([f"plan {batch}", f"admit {batch}", f"replan {at}"])
             self.read_out(range(at, len(self.batches)), [found[-1][0]])
 
     def page_lines(self, page):
