@@ -12,7 +12,6 @@ use crate::lab::Lab;
 use crate::looks::show;
 use crate::making::run_event;
 use crate::order::{Order, Wish, Work};
-use crate::plans::plan_apart;
 use crate::script::Script;
 use crate::seen::MAX_DIES;
 use crate::told::Told;
@@ -23,6 +22,7 @@ use fa_core::Array;
 use fa_image::Image;
 use fa_map::Map;
 use fa_mount::{CloseFault, MountedArray, close_clean};
+use fa_plan::plan;
 use fa_solo::Parts;
 use fa_types::{Die, Rounds};
 use std::alloc::{AllocError, Allocator};
@@ -191,7 +191,7 @@ fn plan_held<R: Rounds, A: Allocator + Copy>(
         return;
     }
     let start = lab.meter.start();
-    let planned = plan_apart(heap, batch, rounds);
+    let planned = plan(heap, batch, rounds);
     lab.meter.stop(start);
     match planned {
         Ok(planned) => lab.told.pair("rounds", planned.rounds),

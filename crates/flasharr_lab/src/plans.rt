@@ -1,14 +1,14 @@
 //! Batches of texts that are planned, and the checks of their plans.
 ghost use Rattle.std.specs.Prelude.{◌-◌, ◌^◌, ◌≤◌};
-ghost use Rattle.fa_batch.specs.Batch.{IsSound};
 
 use crate::lab::Lab;
+use crate::told::Told;
 use fa_batch::Batch;
-use fa_cert::check;
+use fa_cert::{Verdict, check};
 use fa_plan::{Planned, plan};
 use fa_texts::read_batch;
 use fa_types::Rounds;
-use std::alloc::{AllocError, Allocator, Global};
+use std::alloc::{AllocError, Global};
 
 /// Plans the batch of a text, whose lines are parted by `/`, and checks the plan, and tells what came of it. Either the plan is timed or the check.
 pub(crate) fn plan_text(text: &str, lab: &mut Lab<'_>, is_check_timed: bool) {
@@ -33,7 +33,12 @@ fn lines_of(alloc: Global, text: &str) -> Result<Vec<u8>, AllocError> {
 fn plan_lines(lines: &[u8], lab: &mut Lab<'_>, is_check_timed: bool) {
     match read_batch(lab.alloc, lines) {
         Ok(found) => {
-            if plan_batch(&found.batch, &found.closed, lab, is_check_timed).is_err() {
+            let planned = if is_check_timed {
+                check_batch(&found.batch, &found.closed, lab)
+            } else {
+                plan_batch(&found.batch, &found.closed, lab)
+            };
+            if planned.is_err() {
                 lab.told.fail();
             }
         }
@@ -41,13 +46,8 @@ fn plan_lines(lines: &[u8], lab: &mut Lab<'_>, is_check_timed: bool) {
     }
 }
 
-/// Plans a batch. The error is out of memory.
-fn plan_batch<R: Rounds>(
-    batch: &Batch,
-    calendar: &R,
-    lab: &mut Lab<'_>,
-    is_check_timed: bool,
-) -> Result<(), AllocError>
+/// Plans a batch, of which the plan is timed. The error is out of memory.
+fn plan_batch<R: Rounds>(batch: &Batch, calendar: &R, lab: &mut Lab<'_>) -> Result<(), AllocError>
     requires { R.current calendar.now ≤ 2 ^ 56 - 2 ^ 24 }
 {
     if !batch.is_sound() {
@@ -55,34 +55,32 @@ fn plan_batch<R: Rounds>(
         return Ok(());
     }
     let start = lab.meter.start();
-    let planned = plan_apart(lab.alloc, batch, calendar)?;
-    let start = if is_check_timed {
-        lab.meter.start()
-    } else {
-        start
-    };
-    if !is_check_timed {
-        lab.meter.stop(start);
-    }
+    let planned = plan(lab.alloc, batch, calendar)?;
+    lab.meter.stop(start);
     let verdict = check(lab.alloc, batch, calendar, &planned.plan, &planned.shortage)?;
-    if is_check_timed {
-        lab.meter.stop(start);
-    }
-    lab.told.shown(&verdict);
-    lab.told.pair("searches", planned.searches);
-    lab.told.pair("looks", planned.looks);
+    tell_plan(&planned, verdict, &mut lab.told);
     Ok(())
 }
 
-/// Plans a batch, compiled apart from what asks for it. The error is out of memory.
-#[inline(never)]
-pub(crate) fn plan_apart<R: Rounds, A: Allocator + Copy>(
-    alloc: A,
-    batch: &Batch<A>,
-    calendar: &R,
-) -> Result<Planned<A>, AllocError>
-    requires sound { IsSound batch.now }
-    requires early { R.current calendar.now ≤ 2 ^ 56 - 2 ^ 24 }
+/// Plans a batch, of which the check of the plan is timed. The error is out of memory.
+fn check_batch<R: Rounds>(batch: &Batch, calendar: &R, lab: &mut Lab<'_>) -> Result<(), AllocError>
+    requires { R.current calendar.now ≤ 2 ^ 56 - 2 ^ 24 }
 {
-    plan(alloc, batch, calendar)
+    if !batch.is_sound() {
+        lab.told.word("unsound");
+        return Ok(());
+    }
+    let planned = plan(lab.alloc, batch, calendar)?;
+    let start = lab.meter.start();
+    let verdict = check(lab.alloc, batch, calendar, &planned.plan, &planned.shortage)?;
+    lab.meter.stop(start);
+    tell_plan(&planned, verdict, &mut lab.told);
+    Ok(())
+}
+
+/// Tells the verdict on a plan, and the searches and looks that it took.
+fn tell_plan(planned: &Planned, verdict: Verdict, told: &mut Told) {
+    told.shown(&verdict);
+    told.pair("searches", planned.searches);
+    told.pair("looks", planned.looks);
 }
