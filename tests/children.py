@@ -22,6 +22,12 @@ class Ending(Exception):
     """A process was to be started while the script ends."""
 
 
+def heed_signals():
+    """Has this process end by the signals, where whoever started the script ignores some of them."""
+    for number in SIGNALS:
+        signal.signal(number, signal.SIG_DFL)
+
+
 class Children:
     """What a script has started. No process is started once it ends."""
 
@@ -36,7 +42,7 @@ class Children:
         with self.lock:
             if self.is_ending:
                 raise Ending("the script ends")
-            process = subprocess.Popen(words, start_new_session=in_group, **how)
+            process = subprocess.Popen(words, start_new_session=in_group, preexec_fn=heed_signals if in_group else None, **how)
             process.in_group = in_group
             self.processes = [it for it in self.processes if it.returncode is None] + [process]
         return process
