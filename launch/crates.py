@@ -45,9 +45,9 @@ def seen(pid):
 
 
 def memory_of(pid):
-    """The bytes of memory that a process holds."""
-    with open(f"/proc/{pid}/statm", encoding="ascii") as statm:
-        return int(statm.read().split()[1]) * os.sysconf("SC_PAGE_SIZE")
+    """The bytes of memory that a process holds, with its share of what it holds together with others."""
+    with open(f"/proc/{pid}/smaps_rollup", encoding="ascii") as rollup:
+        return next((int(line.split()[1]) << 10 for line in rollup if line.startswith("Pss:")), 0)
 
 
 def part_of(pid):
