@@ -5,13 +5,12 @@ import subprocess
 import sys
 
 TOP = os.path.dirname(os.path.dirname(os.path.abspath(__file__)))
-sys.path.insert(0, os.path.join(TOP, "tests"))
+sys.path[:0] = [os.path.join(TOP, "tests"), os.path.join(TOP, "launch")]
 
+from crates import processors
 from lab import Lab
 
 PROGRAM = "flasharr_lab"
-# What a processor has that runs programs for x86-64-v3.
-FLAGS = {"avx2", "bmi1", "bmi2", "fma", "movbe", "abm", "f16c"}
 PAGE_BYTES = 4096
 # A slot has a page and its tag, and its digest is of all but its own bytes.
 SLOT_BYTES = PAGE_BYTES + 64
@@ -31,13 +30,6 @@ def program_path(processor=None):
     if asked.returncode:
         fail(f"{PROGRAM} is not built")
     return asked.stdout.strip()
-
-
-def processors():
-    """The processors that programs are built for and that this machine has."""
-    with open("/proc/cpuinfo", encoding="ascii", errors="replace") as info:
-        flags = next((line.split() for line in info if line.startswith("flags")), [])
-    return ["x86-64-v2", "x86-64-v3"] if FLAGS <= {*flags} else ["x86-64-v2"]
 
 
 def programs(given, folder):

@@ -3,6 +3,15 @@ import os
 import re
 
 TICKS = os.sysconf("SC_CLK_TCK")
+# What a processor has that runs programs for x86-64-v3.
+V3_FLAGS = {"avx2", "bmi1", "bmi2", "fma", "movbe", "abm", "f16c"}
+
+
+def processors():
+    """The processors that programs are built for and that this machine has, the best one last."""
+    with open("/proc/cpuinfo", encoding="ascii", errors="replace") as info:
+        flags = next((line.split() for line in info if line.startswith("flags")), [])
+    return ["x86-64-v2", "x86-64-v3"] if V3_FLAGS <= {*flags} else ["x86-64-v2"]
 
 
 def crate_rows(top):

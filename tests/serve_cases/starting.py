@@ -8,7 +8,7 @@ import socket
 from images import header_bytes, image_bytes, slot_bytes
 from nbd_client import Client, READ, TRANSMISSION_FLAGS
 from serve_cases import case
-from servers import ARRAY, Geometry, SETTINGS, ensure, equal, same_bytes, wait_until
+from servers import ARRAY, Geometry, SETTINGS, START, ensure, equal, same_bytes, wait_until
 
 
 def taken_port():
@@ -49,6 +49,14 @@ def an_address_that_is_taken(make):
     taken, port = taken_port()
     with taken:
         make(port=port).wanted("listen: failed\n", "serve", status=1)
+
+
+@case
+def a_taken_address_is_told_with_what_to_do(make):
+    taken, port = taken_port()
+    with taken, make(port=port).start_below_launcher() as server:
+        equal(server.process.wait(START), 1, "the status")
+        ensure(wait_until(lambda: server.is_told("choose another address for listen"), 5), f"what is told: {server.errors}")
 
 
 @case
