@@ -15,23 +15,23 @@ use Rattle.fa_machine.specs.declared.refusals.ReserveRefused.{ReserveRefused}
 use Rattle.fa_machine.specs.declared.refusals.ReserveRefused.TheVariants.{NoDie as ReserveNoDie, NoMemory as ReserveNoMemory}
 use Rattle.fa_machine.specs.declared.refusals.ReserveRefused.TheVariants.{NoRoom as ReserveNoRoom}
 use Rattle.fa_machine.specs.declared.refusals.ReserveRefused.TheVariants.{Spent as NumbersSpent}
-use Rattle.fa_ops.specs.Moves.{Moves, Strays}
-use Rattle.fa_stages.specs.Stages.{AfterReserve, after_pages, from_page, opened, with_fewer}
-use Rattle.fa_ops.specs.Ops.{Prepares}
-use Rattle.fa_stages.specs.Stages.{beginning, beginning_by}
-use Rattle.fa_stages.specs.Prepared.{IsMerged, SortsPage}
-use Rattle.fa_stages.specs.Ranges.{covers, first_page, past_page}
-use Rattle.fa_ops.specs.Waiting.{without_room}
-use Rattle.fa_stages.specs.declared.request.Fill.{Fill}
-use Rattle.fa_stages.specs.declared.request.Task.{Task}
-use Rattle.fa_stages.specs.declared.stage.Held.{Held}
-use Rattle.fa_stages.specs.declared.stage.Purpose.TheVariants.{Answer, Merge}
-use Rattle.fa_stages.specs.declared.stage.Stage.{Stage}
-use Rattle.fa_stages.specs.declared.stage.Stage.TheVariants.{Abandoning, Asking, BeginningFlush, Claiming, Committing, Ended, Filling}
-use Rattle.fa_stages.specs.declared.stage.Stage.TheVariants.{Flushing, Leaving}
-use Rattle.fa_stages.specs.declared.stage.Stage.TheVariants.{Listing, Reading, Releasing, Reserving, Sorting}
-use Rattle.fa_stages.specs.declared.stage.Wish.{Wish}
-use Rattle.fa_stages.specs.declared.stage.Wish.TheVariants.{Data, Fewer, Hole}
+use Rattle.fa_shared_request.specs.Moves.{Moves, Strays}
+use Rattle.fa_shared_steps.specs.Stages.{AfterReserve, after_pages, from_page, opened, with_fewer}
+use Rattle.fa_shared_request.specs.Ops.{Prepares}
+use Rattle.fa_shared_steps.specs.Stages.{beginning, beginning_by}
+use Rattle.fa_shared_steps.specs.Prepared.{IsMerged, SortsPage}
+use Rattle.fa_shared_steps.specs.Ranges.{covers, first_page, past_page}
+use Rattle.fa_shared_request.specs.Waiting.{without_room}
+use Rattle.fa_shared_steps.specs.declared.request.Fill.{Fill}
+use Rattle.fa_shared_steps.specs.declared.request.Task.{Task}
+use Rattle.fa_shared_steps.specs.declared.stage.Held.{Held}
+use Rattle.fa_shared_steps.specs.declared.stage.Purpose.TheVariants.{Answer, Merge}
+use Rattle.fa_shared_steps.specs.declared.stage.Stage.{Stage}
+use Rattle.fa_shared_steps.specs.declared.stage.Stage.TheVariants.{Abandoning, Asking, BeginningFlush, Claiming, Committing, Ended, Filling}
+use Rattle.fa_shared_steps.specs.declared.stage.Stage.TheVariants.{Flushing, Leaving}
+use Rattle.fa_shared_steps.specs.declared.stage.Stage.TheVariants.{Listing, Reading, Releasing, Reserving, Sorting}
+use Rattle.fa_shared_steps.specs.declared.stage.Wish.{Wish}
+use Rattle.fa_shared_steps.specs.declared.stage.Wish.TheVariants.{Data, Fewer, Hole}
 use Rattle.fa_types.specs.declared.blocks.BlockFault.{BlockFault}
 use Rattle.fa_types.specs.declared.numbers.Seq.{Seq}
 use Rattle.std.proofs.Common.{Bool, List, None, Option, Some, [], ap, false, inl, inr, refl, subst, sym, true, ℕ, ◌+◌, ◌==◌, ◌∷◌, ◌≡◌}

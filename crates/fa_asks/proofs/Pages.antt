@@ -3,9 +3,9 @@ use Rattle.fa_machine.specs.Among.{Among}
 use Rattle.fa_machine.specs.Maps.{is_one_of}
 use Rattle.fa_machine.specs.State.{Core}
 use Rattle.fa_machine.specs.Step.{is_distinct, is_page}
-use Rattle.fa_stages.specs.Prepared.{has_part, pages_between}
-use Rattle.fa_stages.specs.Ranges.{begins_at, bytes_in}
-use Rattle.fa_stages.specs.declared.range.Range.{Range}
+use Rattle.fa_shared_steps.specs.Prepared.{has_part, pages_between}
+use Rattle.fa_shared_steps.specs.Ranges.{begins_at, bytes_in}
+use Rattle.fa_shared_steps.specs.declared.range.Range.{Range}
 use Rattle.fa_types.specs.declared.numbers.Page.{Page}
 use Rattle.std.proofs.Common.{List, [], ap, arith, false, inl, inr, length, map, not, refl, suc, true, zero, ℕ, ◌+◌, ◌-◌, ◌<◌, ◌∷◌, ◌≡◌, ◌≤◌}
 use Rattle.std.proofs.lemmas.Bool.{and_from, le-leb, lt-ltb, ne_eqb, not_from_false, or_from}

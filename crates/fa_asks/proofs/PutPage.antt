@@ -2,11 +2,11 @@
 use Rattle.fa_asks.proofs.PlainBytes.{page_long, take_on}
 use Rattle.fa_asks.proofs.PutBytes.{put_part, with_all, with_on}
 use Rattle.fa_asks.proofs.RangePages.{IsInside, IsOf, page_low, part_begins, part_ends, part_fits, upto}
-use Rattle.fa_stages.specs.Prepared.{content}
-use Rattle.fa_stages.specs.Ranges.{begins_at, bytes_in, covers}
-use Rattle.fa_stages.specs.declared.range.Range.{Range}
-use Rattle.fa_stages.specs.declared.request.Fill.{Fill}
-use Rattle.fa_stages.specs.declared.request.Fill.TheVariants.{Bytes, Holes, Zeros}
+use Rattle.fa_shared_steps.specs.Prepared.{content}
+use Rattle.fa_shared_steps.specs.Ranges.{begins_at, bytes_in, covers}
+use Rattle.fa_shared_steps.specs.declared.range.Range.{Range}
+use Rattle.fa_shared_steps.specs.declared.request.Fill.{Fill}
+use Rattle.fa_shared_steps.specs.declared.request.Fill.TheVariants.{Bytes, Holes, Zeros}
 use Rattle.fa_types.specs.MemoryMeets.{length-bytes_at, length-with_bytes}
 use Rattle.fa_types.specs.Plain.{HasPages, export, put}
 use Rattle.fa_types.specs.Store.{bytes_at, with_bytes}

@@ -1,7 +1,7 @@
 -- The pages of a range one after the other, and the bytes of the plain array that they have together.
 use Rattle.fa_asks.proofs.PlainBytes.{bytes_on, page_at}
-use Rattle.fa_stages.specs.Ranges.{begins_at, bytes_in, first_page, part_of, past_page}
-use Rattle.fa_stages.specs.declared.range.Range.{Range}
+use Rattle.fa_shared_steps.specs.Ranges.{begins_at, bytes_in, first_page, part_of, past_page}
+use Rattle.fa_shared_steps.specs.declared.range.Range.{Range}
 use Rattle.fa_types.specs.Plain.{HasPages, export}
 use Rattle.fa_types.specs.Store.{IsMet, bytes_at}
 use Rattle.std.proofs.Common.{List, [], ap, arith, cond, eq-eqb, inl, inr, length, map, subst, suc, sym, zero, ℕ, ◌*◌, ◌+◌, ◌++◌}

@@ -9,13 +9,13 @@ use Rattle.fa_asks.specs.Begun.{HasBegun}
 use Rattle.fa_asks.specs.Shown.{store_of}
 use Rattle.fa_laws.proofs.Answering.{reached_holds}
 use Rattle.fa_machine.specs.World.{World}
-use Rattle.fa_stages.specs.Ranges.{first_page}
-use Rattle.fa_stages.specs.Tasks.{task_of}
-use Rattle.fa_stages.specs.declared.request.Request.TheVariants.{Read}
-use Rattle.fa_stages.specs.declared.request.Task.{Task}
-use Rattle.fa_stages.specs.declared.stage.Purpose.TheVariants.{Answer}
-use Rattle.fa_stages.specs.declared.stage.Stage.{Stage}
-use Rattle.fa_stages.specs.declared.stage.Stage.TheVariants.{Ended, Listing}
+use Rattle.fa_shared_steps.specs.Ranges.{first_page}
+use Rattle.fa_shared_steps.specs.Tasks.{task_of}
+use Rattle.fa_shared_steps.specs.declared.request.Request.TheVariants.{Read}
+use Rattle.fa_shared_steps.specs.declared.request.Task.{Task}
+use Rattle.fa_shared_steps.specs.declared.stage.Purpose.TheVariants.{Answer}
+use Rattle.fa_shared_steps.specs.declared.stage.Stage.{Stage}
+use Rattle.fa_shared_steps.specs.declared.stage.Stage.TheVariants.{Ended, Listing}
 use Rattle.fa_types.specs.Plain.{export}
 use Rattle.fa_types.specs.Store.{Gave, HasCause, IsMet, IsUnwritten, Reading, Refused, Serves, bytes_at}
 use Rattle.fa_types.specs.declared.blocks.BlockFault.{BlockFault}

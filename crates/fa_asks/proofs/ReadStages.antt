@@ -20,17 +20,17 @@ use Rattle.fa_machine.specs.Step.{Act, Admit, EndBatch, Fold, Replan, is_distinc
 use Rattle.fa_machine.specs.World.{World, plain_page}
 use Rattle.fa_machine.specs.declared.answers.ReadState.TheVariants.{Ready}
 use Rattle.fa_machine.specs.declared.refusals.AdmitRefused.TheVariants.{Lost as PageLost, CalendarFull, Spent as RoundsSpent, NoMemory as AdmitNoMemory}
-use Rattle.fa_ops.specs.Founded.{IsBarred, IsFounded}
-use Rattle.fa_ops.specs.Moves.{Moves, Strays}
-use Rattle.fa_ops.specs.Ops.{Prepares}
-use Rattle.fa_stages.specs.Prepared.{after_batch, has_part, until}
-use Rattle.fa_stages.specs.Ranges.{first_page, part_of, past_page}
-use Rattle.fa_stages.specs.declared.range.Range.{Range}
-use Rattle.fa_stages.specs.declared.request.Task.{Task}
-use Rattle.fa_stages.specs.declared.stage.Purpose.TheVariants.{Answer}
-use Rattle.fa_ops.specs.Waiting.{without_room}
-use Rattle.fa_stages.specs.declared.stage.Stage.{Stage}
-use Rattle.fa_stages.specs.declared.stage.Stage.TheVariants.{Asking, Ended, Leaving, Listing, Reading, Reserving, Sorting}
+use Rattle.fa_shared_request.specs.Founded.{IsBarred, IsFounded}
+use Rattle.fa_shared_request.specs.Moves.{Moves, Strays}
+use Rattle.fa_shared_request.specs.Ops.{Prepares}
+use Rattle.fa_shared_steps.specs.Prepared.{after_batch, has_part, until}
+use Rattle.fa_shared_steps.specs.Ranges.{first_page, part_of, past_page}
+use Rattle.fa_shared_steps.specs.declared.range.Range.{Range}
+use Rattle.fa_shared_steps.specs.declared.request.Task.{Task}
+use Rattle.fa_shared_steps.specs.declared.stage.Purpose.TheVariants.{Answer}
+use Rattle.fa_shared_request.specs.Waiting.{without_room}
+use Rattle.fa_shared_steps.specs.declared.stage.Stage.{Stage}
+use Rattle.fa_shared_steps.specs.declared.stage.Stage.TheVariants.{Asking, Ended, Leaving, Listing, Reading, Reserving, Sorting}
 use Rattle.fa_types.specs.MemoryMeets.{length-bytes_at}
 use Rattle.fa_types.specs.Plain.{HasPages, export}
 use Rattle.fa_types.specs.Store.{HasCause, IsMet, bytes_at}

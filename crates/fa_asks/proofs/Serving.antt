@@ -19,15 +19,15 @@ use Rattle.fa_laws.proofs.Answering.{reached_holds}
 use Rattle.fa_laws.specs.Reached.{IsReached}
 use Rattle.fa_machine.specs.Run.{Event}
 use Rattle.fa_machine.specs.World.{World}
-use Rattle.fa_stages.specs.Stages.{from_page}
-use Rattle.fa_stages.specs.Ranges.{first_page, past_page}
-use Rattle.fa_stages.specs.Tasks.{task_of, whole_range, zeros_as}
-use Rattle.fa_stages.specs.declared.range.Range.{Range}
-use Rattle.fa_stages.specs.declared.request.Request.{Request}
-use Rattle.fa_stages.specs.declared.request.Request.TheVariants.{Flush, Read, Trim, Write, Zero}
-use Rattle.fa_stages.specs.declared.request.Task.{Task}
-use Rattle.fa_stages.specs.declared.stage.Stage.{Stage}
-use Rattle.fa_stages.specs.declared.stage.Stage.TheVariants.{Ended}
+use Rattle.fa_shared_steps.specs.Stages.{from_page}
+use Rattle.fa_shared_steps.specs.Ranges.{first_page, past_page}
+use Rattle.fa_shared_steps.specs.Tasks.{task_of, whole_range, zeros_as}
+use Rattle.fa_shared_steps.specs.declared.range.Range.{Range}
+use Rattle.fa_shared_steps.specs.declared.request.Request.{Request}
+use Rattle.fa_shared_steps.specs.declared.request.Request.TheVariants.{Flush, Read, Trim, Write, Zero}
+use Rattle.fa_shared_steps.specs.declared.request.Task.{Task}
+use Rattle.fa_shared_steps.specs.declared.stage.Stage.{Stage}
+use Rattle.fa_shared_steps.specs.declared.stage.Stage.TheVariants.{Ended}
 use Rattle.fa_types.specs.Plain.{export}
 use Rattle.fa_types.specs.MemoryMeets.{length-bytes_at}
 use Rattle.fa_types.specs.Store.{Answer, Done, Flushing, IsAnswer, Meets, Reading, HasCause, IsCutShort, IsUnwritten, IsWritten, IsZeroed, Refused, Serves}

@@ -9,8 +9,8 @@ use Rattle.fa_asks.specs.Begun.{IsCalm}
 use Rattle.fa_asks.specs.Shown.{store_of}
 use Rattle.fa_laws.specs.Reached.{IsReached}
 use Rattle.fa_machine.specs.World.{World}
-use Rattle.fa_stages.specs.Ranges.{covers, first_page, past_page}
-use Rattle.fa_stages.specs.declared.range.Range.{Range}
+use Rattle.fa_shared_steps.specs.Ranges.{covers, first_page, past_page}
+use Rattle.fa_shared_steps.specs.declared.range.Range.{Range}
 use Rattle.fa_types.specs.Plain.{export}
 use Rattle.fa_types.specs.Store.{IsCovered, IsMet, IsUnwritten, IsWritten, with_bytes}
 use Rattle.std.proofs.Common.{List, [], ap, arith, inl, inr, length, refl, subst, suc, sym, take, true, ℕ, ◌*◌, ◌+◌, ◌-◌, ◌/◌, ◌<◌, ◌∙◌, ◌≡◌, ◌≤◌}

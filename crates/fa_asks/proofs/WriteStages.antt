@@ -44,24 +44,24 @@ use Rattle.fa_machine.specs.declared.refusals.FlushRefused.TheVariants.{Spent as
 use Rattle.fa_machine.specs.declared.refusals.ReserveRefused.{ReserveRefused}
 use Rattle.fa_machine.specs.declared.refusals.ReserveRefused.TheVariants.{NoDie as ReserveNoDie, NoMemory as ReserveNoMemory, NoRoom as ReserveNoRoom}
 use Rattle.fa_machine.specs.declared.refusals.ReserveRefused.TheVariants.{Spent as NumbersSpent}
-use Rattle.fa_ops.specs.Founded.{IsBarred, IsFounded, may_collect, fits}
-use Rattle.fa_ops.specs.Moves.{Moves, Strays}
-use Rattle.fa_stages.specs.Stages.{AfterReserve, after_pages, from_page, opened, with_fewer}
-use Rattle.fa_ops.specs.Ops.{Prepares}
-use Rattle.fa_stages.specs.Prepared.{IsMerged, IsWish, SortsPage, content, has_content, has_part}
-use Rattle.fa_stages.specs.Ranges.{begins_at, bytes_in, covers, first_page, past_page}
-use Rattle.fa_stages.specs.declared.range.Range.{Range}
-use Rattle.fa_stages.specs.declared.request.Fill.{Fill}
-use Rattle.fa_stages.specs.declared.request.Fill.TheVariants.{Bytes, Holes, Zeros}
-use Rattle.fa_stages.specs.declared.request.Task.{Task}
-use Rattle.fa_stages.specs.declared.stage.Held.{Held}
-use Rattle.fa_stages.specs.declared.stage.Purpose.TheVariants.{Merge}
-use Rattle.fa_ops.specs.Waiting.{HasNoWindow, without_room}
-use Rattle.fa_stages.specs.declared.stage.Stage.{Stage}
-use Rattle.fa_stages.specs.declared.stage.Stage.TheVariants.{Abandoning, Asking, BeginningFlush, Claiming, Committing, Ended, Filling, Flushing, Leaving}
-use Rattle.fa_stages.specs.declared.stage.Stage.TheVariants.{Listing, Reading, Releasing, Reserving, Sorting}
-use Rattle.fa_stages.specs.declared.stage.Wish.{Wish}
-use Rattle.fa_stages.specs.declared.stage.Wish.TheVariants.{Data, Fewer, Hole}
+use Rattle.fa_shared_request.specs.Founded.{IsBarred, IsFounded, may_collect, fits}
+use Rattle.fa_shared_request.specs.Moves.{Moves, Strays}
+use Rattle.fa_shared_steps.specs.Stages.{AfterReserve, after_pages, from_page, opened, with_fewer}
+use Rattle.fa_shared_request.specs.Ops.{Prepares}
+use Rattle.fa_shared_steps.specs.Prepared.{IsMerged, IsWish, SortsPage, content, has_content, has_part}
+use Rattle.fa_shared_steps.specs.Ranges.{begins_at, bytes_in, covers, first_page, past_page}
+use Rattle.fa_shared_steps.specs.declared.range.Range.{Range}
+use Rattle.fa_shared_steps.specs.declared.request.Fill.{Fill}
+use Rattle.fa_shared_steps.specs.declared.request.Fill.TheVariants.{Bytes, Holes, Zeros}
+use Rattle.fa_shared_steps.specs.declared.request.Task.{Task}
+use Rattle.fa_shared_steps.specs.declared.stage.Held.{Held}
+use Rattle.fa_shared_steps.specs.declared.stage.Purpose.TheVariants.{Merge}
+use Rattle.fa_shared_request.specs.Waiting.{HasNoWindow, without_room}
+use Rattle.fa_shared_steps.specs.declared.stage.Stage.{Stage}
+use Rattle.fa_shared_steps.specs.declared.stage.Stage.TheVariants.{Abandoning, Asking, BeginningFlush, Claiming, Committing, Ended, Filling, Flushing, Leaving}
+use Rattle.fa_shared_steps.specs.declared.stage.Stage.TheVariants.{Listing, Reading, Releasing, Reserving, Sorting}
+use Rattle.fa_shared_steps.specs.declared.stage.Wish.{Wish}
+use Rattle.fa_shared_steps.specs.declared.stage.Wish.TheVariants.{Data, Fewer, Hole}
 use Rattle.fa_types.specs.Plain.{HasPages, export, put}
 use Rattle.fa_types.specs.Store.{bytes_at, with_bytes}
 use Rattle.fa_types.specs.declared.blocks.BlockFault.{BlockFault}

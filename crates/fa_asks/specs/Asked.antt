@@ -5,16 +5,16 @@ use Rattle.fa_alone.specs.Unwritten.{EndsNoBatch, WritesNothing}
 use Rattle.fa_machine.specs.Run.{Happening, Event, Happens, HappensEvent}
 use Rattle.fa_machine.specs.Step.{Act, Abandon, Commit, Fold, Release, Reserve, ReserveFewer, ReserveHole, SpareIn}
 use Rattle.fa_machine.specs.World.{World}
-use Rattle.fa_ops.specs.Founded.{IsBarred, IsFounded}
-use Rattle.fa_ops.specs.Moves.{Moves, Strays}
-use Rattle.fa_ops.specs.Ops.{Prepares}
-use Rattle.fa_ops.specs.Waiting.{HasNoWindow, waits, without_room}
-use Rattle.fa_stages.specs.declared.request.Task.{Task}
-use Rattle.fa_stages.specs.declared.stage.Purpose.{Purpose}
-use Rattle.fa_stages.specs.declared.stage.Purpose.TheVariants.{Answer, Merge}
-use Rattle.fa_stages.specs.declared.stage.Stage.{Stage}
-use Rattle.fa_stages.specs.declared.stage.Stage.TheVariants.{Listing, Asking, Reading, Leaving, Sorting, Filling, Reserving}
-use Rattle.fa_stages.specs.declared.stage.Stage.TheVariants.{Committing, Abandoning, Releasing, Flushing}
+use Rattle.fa_shared_request.specs.Founded.{IsBarred, IsFounded}
+use Rattle.fa_shared_request.specs.Moves.{Moves, Strays}
+use Rattle.fa_shared_request.specs.Ops.{Prepares}
+use Rattle.fa_shared_request.specs.Waiting.{HasNoWindow, waits, without_room}
+use Rattle.fa_shared_steps.specs.declared.request.Task.{Task}
+use Rattle.fa_shared_steps.specs.declared.stage.Purpose.{Purpose}
+use Rattle.fa_shared_steps.specs.declared.stage.Purpose.TheVariants.{Answer, Merge}
+use Rattle.fa_shared_steps.specs.declared.stage.Stage.{Stage}
+use Rattle.fa_shared_steps.specs.declared.stage.Stage.TheVariants.{Listing, Asking, Reading, Leaving, Sorting, Filling, Reserving}
+use Rattle.fa_shared_steps.specs.declared.stage.Stage.TheVariants.{Committing, Abandoning, Releasing, Flushing}
 use Rattle.fa_types.specs.declared.blocks.BlockFault.{BlockFault}
 
 -- the array's world, how far the request is, and its answer so far

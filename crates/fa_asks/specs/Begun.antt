@@ -5,9 +5,9 @@ use Rattle.fa_laws.specs.Reached.{IsReached}
 use Rattle.fa_machine.specs.Copies.{is_lost}
 use Rattle.fa_machine.specs.World.{World}
 use Rattle.fa_machine.specs.declared.places.Copying.{Copying}
-use Rattle.fa_stages.specs.Stages.{beginning}
-use Rattle.fa_stages.specs.Tasks.{end_of, task_of}
-use Rattle.fa_stages.specs.declared.request.Request.{Request}
+use Rattle.fa_shared_steps.specs.Stages.{beginning}
+use Rattle.fa_shared_steps.specs.Tasks.{end_of, task_of}
+use Rattle.fa_shared_steps.specs.declared.request.Request.{Request}
 
 -- no copy of a page that is lost is under way
 abbrev pub IsCalm : World → Type 0

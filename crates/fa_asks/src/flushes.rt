@@ -5,9 +5,9 @@ ghost use Rattle.fa_laws.specs.Reached.{IsReached};
 ghost use Rattle.fa_laws.specs.Syncing.{TakesAndEndsSync};
 ghost use Rattle.fa_machine.specs.Run.{Run};
 ghost use Rattle.fa_machine.specs.State.{is_live};
-ghost use Rattle.fa_stages.specs.Stages.{beginning};
-ghost use Rattle.fa_stages.specs.declared.request.Task.{Task};
-ghost use Rattle.fa_stages.specs.declared.stage.Stage.TheVariants.{Ended};
+ghost use Rattle.fa_shared_steps.specs.Stages.{beginning};
+ghost use Rattle.fa_shared_steps.specs.declared.request.Task.{Task};
+ghost use Rattle.fa_shared_steps.specs.declared.stage.Stage.TheVariants.{Ended};
 
 use fa_laws::steps::{
     a_sync_is_of_its_take, flushes_are_counted, live_dies_are_kept, no_older_sync_answers_a_flush,

@@ -3,9 +3,9 @@ ghost use Rattle.std.specs.Prelude.{◌≡◌, ◌≢◌, ℕ, List, None, Some,
 ghost use Rattle.fa_asks.specs.Asked.{Asked, Moment, Turn};
 ghost use Rattle.fa_asks.specs.Begun.{HasBegun};
 ghost use Rattle.fa_asks.specs.Shown.{store_of};
-ghost use Rattle.fa_stages.specs.Tasks.{task_of};
-ghost use Rattle.fa_stages.specs.declared.request.Request.TheVariants.{Read};
-ghost use Rattle.fa_stages.specs.declared.stage.Stage.TheVariants.{Ended};
+ghost use Rattle.fa_shared_steps.specs.Tasks.{task_of};
+ghost use Rattle.fa_shared_steps.specs.declared.request.Request.TheVariants.{Read};
+ghost use Rattle.fa_shared_steps.specs.declared.stage.Stage.TheVariants.{Ended};
 ghost use Rattle.fa_types.specs.Store.{Gave, IsMet, Reading, Refused, Serves, bytes_at};
 ghost use Rattle.fa_types.specs.declared.blocks.BlockFault.{BlockFault};
 

@@ -13,7 +13,7 @@ ghost use Rattle.fa_cert.specs.Verdict.{IsVerdict, IsRefused};
 
 use crate::verdict::{Refusal, Verdict};
 use fa_batch::{Batch, MAX_PAGES, Place, Plan, Shortage};
-use fa_room::are_more;
+use fa_cert_places::are_more;
 use fa_types::{Die, Page, Round, Rounds};
 use std::alloc::{AllocError, Allocator};
 use std::collections::BTreeSet;

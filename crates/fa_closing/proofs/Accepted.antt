@@ -1,13 +1,13 @@
 -- The headers that closing wrote are those of an array that is mounted.
 use Rattle.fa_closing.proofs.Headers.{clean_header}
-use Rattle.fa_headers.specs.Rules.{can_hold, die_twice, epoch_refusal, first_of, greatest_epoch, has_earlier}
-use Rattle.fa_headers.specs.Rules.{is_clean, is_geometry, is_in, is_unclean_die, mask_in, no_die_live, of_another_array}
-use Rattle.fa_headers.specs.Rules.{of_another_geometry, of_another_mask, refused, refused_die, refused_for, seen_at, seen_from}
-use Rattle.fa_headers.specs.Rules.{seen_refusal, unclean, without_room}
-use Rattle.fa_headers.specs.declared.fault.MountFault.TheVariants.{ArraysDiffer, DieTwice, GeometryDiffers, NoDieLive, Unclean}
-use Rattle.fa_headers.specs.declared.found.Found.{Found}
-use Rattle.fa_headers.specs.declared.found.HeaderFound.TheVariants.{Good}
-use Rattle.fa_headers.specs.declared.seen.Seen.{Seen}
+use Rattle.fa_mount_headers.specs.Rules.{can_hold, die_twice, epoch_refusal, first_of, greatest_epoch, has_earlier}
+use Rattle.fa_mount_headers.specs.Rules.{is_clean, is_geometry, is_in, is_unclean_die, mask_in, no_die_live, of_another_array}
+use Rattle.fa_mount_headers.specs.Rules.{of_another_geometry, of_another_mask, refused, refused_die, refused_for, seen_at, seen_from}
+use Rattle.fa_mount_headers.specs.Rules.{seen_refusal, unclean, without_room}
+use Rattle.fa_mount_headers.specs.declared.fault.MountFault.TheVariants.{ArraysDiffer, DieTwice, GeometryDiffers, NoDieLive, Unclean}
+use Rattle.fa_mount_headers.specs.declared.found.Found.{Found}
+use Rattle.fa_mount_headers.specs.declared.found.HeaderFound.TheVariants.{Good}
+use Rattle.fa_mount_headers.specs.declared.seen.Seen.{Seen}
 use Rattle.fa_machine.proofs.Lists.{any_some}
 use Rattle.fa_machine.specs.Among.{Among}
 use Rattle.fa_map.proofs.Ranges.{find_none}

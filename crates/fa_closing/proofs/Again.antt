@@ -8,15 +8,15 @@ use Rattle.fa_closing.proofs.Mounting.{agree_again, current_again, same_plain}
 use Rattle.fa_closing.specs.Closed.{AreOfMask, IsImageAt, WasClosed}
 use Rattle.fa_closing.specs.LastCells.{AreOfLast, HoldAll}
 use Rattle.fa_closing.specs.Mounted.{AreCellsOf, LastCopiesAgree}
-use Rattle.fa_headers.proofs.Reading.{are_of, are_only_read}
-use Rattle.fa_headers.specs.Found.{AreOf, AreOnlyRead}
-use Rattle.fa_headers.specs.Judged.{standing_of}
-use Rattle.fa_headers.specs.Rules.{is_in, seen_from}
-use Rattle.fa_headers.specs.declared.found.Found.{Found}
-use Rattle.fa_headers.specs.declared.found.HeaderFound.{HeaderFound}
-use Rattle.fa_headers.specs.declared.found.HeaderFound.TheVariants.{Good}
-use Rattle.fa_headers.specs.declared.judging.Standing.{Standing}
-use Rattle.fa_headers.specs.declared.judging.Standing.TheVariants.{Live, Missing, Out, Spare}
+use Rattle.fa_mount_headers.proofs.Reading.{are_of, are_only_read}
+use Rattle.fa_mount_headers.specs.Found.{AreOf, AreOnlyRead}
+use Rattle.fa_mount_headers.specs.Judged.{standing_of}
+use Rattle.fa_mount_headers.specs.Rules.{is_in, seen_from}
+use Rattle.fa_mount_headers.specs.declared.found.Found.{Found}
+use Rattle.fa_mount_headers.specs.declared.found.HeaderFound.{HeaderFound}
+use Rattle.fa_mount_headers.specs.declared.found.HeaderFound.TheVariants.{Good}
+use Rattle.fa_mount_headers.specs.declared.judging.Standing.{Standing}
+use Rattle.fa_mount_headers.specs.declared.judging.Standing.TheVariants.{Live, Missing, Out, Spare}
 use Rattle.fa_image.specs.Image.{ImageAnswer, ImageCall, ImageMeets, ImageState, IsImage, slot_at}
 use Rattle.fa_machine.specs.Beginning.{IsBeginning}
 use Rattle.fa_machine.specs.State.{Core, MapState, is_live}
@@ -24,15 +24,15 @@ use Rattle.fa_machine.specs.World.{World}
 use Rattle.fa_mount.proofs.Worlds.{mounted_world}
 use Rattle.fa_mount.specs.Closing.{IsClosedClean}
 use Rattle.fa_mount.specs.MountsArray.{MountsArray}
-use Rattle.fa_scan.proofs.Filling.{read_die_below}
-use Rattle.fa_found.proofs.HonestSlots.{mounted_there}
-use Rattle.fa_scan.proofs.OnlyReading.{die_only_read}
-use Rattle.fa_scan.specs.Content.{slots_on}
-use Rattle.fa_scan.specs.ContentCells.{IsCellOf}
-use Rattle.fa_scan.specs.ContentReading.{HasOutcome, ReadsAt, image_read}
-use Rattle.fa_scan.specs.MountedWorld.{CopiesAgree, HoldMap, IsMountedWorld, SlotBytes, bytes_of, is_spare_of}
-use Rattle.fa_scan.specs.Scanned.{Outcome, fault_at, is_refused, mounted_of, settled}
-use Rattle.fa_scan.specs.declared.slots.content.SlotContent.{SlotContent}
+use Rattle.fa_mount_scan.proofs.Filling.{read_die_below}
+use Rattle.fa_mount_laws.proofs.HonestSlots.{mounted_there}
+use Rattle.fa_mount_scan.proofs.OnlyReading.{die_only_read}
+use Rattle.fa_mount_scan.specs.Content.{slots_on}
+use Rattle.fa_mount_scan.specs.ContentCells.{IsCellOf}
+use Rattle.fa_mount_scan.specs.ContentReading.{HasOutcome, ReadsAt, image_read}
+use Rattle.fa_mount_scan.specs.MountedWorld.{CopiesAgree, HoldMap, IsMountedWorld, SlotBytes, bytes_of, is_spare_of}
+use Rattle.fa_mount_scan.specs.Scanned.{Outcome, fault_at, is_refused, mounted_of, settled}
+use Rattle.fa_mount_scan.specs.declared.slots.content.SlotContent.{SlotContent}
 use Rattle.fa_tag.specs.HeaderGrammar.{IsHeader}
 use Rattle.fa_tag.specs.declared.header.Header.{Header}
 use Rattle.fa_types.specs.declared.geometry.Geometry.{Geometry}

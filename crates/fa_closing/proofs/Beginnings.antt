@@ -5,12 +5,12 @@ use Rattle.fa_machine.specs.Cells.{Sealed}
 use Rattle.fa_machine.specs.State.{is_live}
 use Rattle.fa_machine.specs.World.{World, plain_page}
 use Rattle.fa_machine.specs.declared.places.Version.{Version}
-use Rattle.fa_scan.proofs.LastWrites.{found_on}
-use Rattle.fa_found.proofs.MountedFacts.{held_found, live_found, used_within}
-use Rattle.fa_found.proofs.SlotCells.{copy_is_sealed}
-use Rattle.fa_scan.specs.Content.{HasCopy, IsLastOf, IsLastWrite}
-use Rattle.fa_scan.specs.ContentCells.{IsCellOf}
-use Rattle.fa_scan.specs.MountedWorld.{CopiesAgree, IsFirstPlain, IsMountedWorld, SlotBytes}
+use Rattle.fa_mount_scan.proofs.LastWrites.{found_on}
+use Rattle.fa_mount_laws.proofs.MountedFacts.{held_found, live_found, used_within}
+use Rattle.fa_mount_laws.proofs.SlotCells.{copy_is_sealed}
+use Rattle.fa_mount_scan.specs.Content.{HasCopy, IsLastOf, IsLastWrite}
+use Rattle.fa_mount_scan.specs.ContentCells.{IsCellOf}
+use Rattle.fa_mount_scan.specs.MountedWorld.{CopiesAgree, IsFirstPlain, IsMountedWorld, SlotBytes}
 use Rattle.std.proofs.Common.{Bool, List, None, Option, Some, ap, refl, subst, sym, true, ℕ, ◌<◌, ◌∙◌, ◌≡◌}
 use Rattle.std.proofs.lemmas.Bool.{or_left}
 use Rattle.std.proofs.lemmas.Option.{same_Some}

@@ -1,17 +1,17 @@
 -- Images with the clean headers of one epoch and mask, as they are found and judged.
-use Rattle.fa_headers.proofs.Images.{images_of}
-use Rattle.fa_headers.specs.Found.{AreOf, IsFound, IsOf}
-use Rattle.fa_headers.specs.Judged.{IsJudged, first_seen, standing_in, standing_of}
-use Rattle.fa_headers.specs.Rules.{bad, first_of, greatest_epoch, header_refusal, is_bad_header, is_in, is_unread_header, mask_in}
-use Rattle.fa_headers.specs.Rules.{reading_refusal, refused, refused_at, seen_at, seen_from, seen_refusal, unread}
-use Rattle.fa_headers.specs.declared.fault.MountFault.TheVariants.{HeaderBad, ImageFault, NoDieLive}
-use Rattle.fa_headers.specs.declared.found.Found.{Found}
-use Rattle.fa_headers.specs.declared.found.HeaderFound.{HeaderFound}
-use Rattle.fa_headers.specs.declared.found.HeaderFound.TheVariants.{Bad, Good, Unread}
-use Rattle.fa_headers.specs.declared.judging.Judged.{Judged}
-use Rattle.fa_headers.specs.declared.judging.Standing.{Standing}
-use Rattle.fa_headers.specs.declared.judging.Standing.TheVariants.{Live, Missing, Out, Spare}
-use Rattle.fa_headers.specs.declared.seen.Seen.{Seen}
+use Rattle.fa_mount_headers.proofs.Images.{images_of}
+use Rattle.fa_mount_headers.specs.Found.{AreOf, IsFound, IsOf}
+use Rattle.fa_mount_headers.specs.Judged.{IsJudged, first_seen, standing_in, standing_of}
+use Rattle.fa_mount_headers.specs.Rules.{bad, first_of, greatest_epoch, header_refusal, is_bad_header, is_in, is_unread_header, mask_in}
+use Rattle.fa_mount_headers.specs.Rules.{reading_refusal, refused, refused_at, seen_at, seen_from, seen_refusal, unread}
+use Rattle.fa_mount_headers.specs.declared.fault.MountFault.TheVariants.{HeaderBad, ImageFault, NoDieLive}
+use Rattle.fa_mount_headers.specs.declared.found.Found.{Found}
+use Rattle.fa_mount_headers.specs.declared.found.HeaderFound.{HeaderFound}
+use Rattle.fa_mount_headers.specs.declared.found.HeaderFound.TheVariants.{Bad, Good, Unread}
+use Rattle.fa_mount_headers.specs.declared.judging.Judged.{Judged}
+use Rattle.fa_mount_headers.specs.declared.judging.Standing.{Standing}
+use Rattle.fa_mount_headers.specs.declared.judging.Standing.TheVariants.{Live, Missing, Out, Spare}
+use Rattle.fa_mount_headers.specs.declared.seen.Seen.{Seen}
 use Rattle.fa_image.specs.Image.{Gave, ImageState}
 use Rattle.fa_machine.proofs.Lists.{found_passes, none_passes}
 use Rattle.fa_machine.specs.Among.{Among}

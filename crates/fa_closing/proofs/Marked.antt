@@ -4,8 +4,8 @@ use Rattle.fa_closing.proofs.Headers.{all_from, clean_header}
 use Rattle.fa_closing.proofs.Kept.{Kept}
 use Rattle.fa_closing.specs.Closed.{WasClosed}
 use Rattle.fa_closing.specs.LastCells.{HoldAll}
-use Rattle.fa_headers.specs.Rules.{is_in}
-use Rattle.fa_headers.specs.declared.judging.Standing.{Standing}
+use Rattle.fa_mount_headers.specs.Rules.{is_in}
+use Rattle.fa_mount_headers.specs.declared.judging.Standing.{Standing}
 use Rattle.fa_image.specs.Image.{Done, ImageAnswer, ImageCall, ImageMeets, ImageState, Syncing, WritingHeader, accepted, slot_at}
 use Rattle.fa_machine.proofs.Lists.{among-range, none_passes}
 use Rattle.fa_machine.proofs.Maps.{has_some}
@@ -31,7 +31,7 @@ use Rattle.std.specs.FinMap.{get}
 use Rattle.std.specs.Int.{bit_at}
 use Rattle.std.specs.List.{AllByRecursion, list_any}
 use Rattle.std.specs.Prelude.{Err, Ok, Result, slice_index_or, ◌&&◌}
-use Rattle.fa_scan.specs.ContentCells.{IsCellOf}
+use Rattle.fa_mount_scan.specs.ContentCells.{IsCellOf}
 
 some_passes : {X : Type 0} (p : X → Bool) (xs : List X) → list_any p xs ≡ true → (x : X) × Among x xs × (p x ≡ true)
 some_passes p [] e = absurd (false≢true e)

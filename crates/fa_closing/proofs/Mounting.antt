@@ -8,13 +8,13 @@ use Rattle.fa_machine.specs.Reading.{zeros}
 use Rattle.fa_machine.specs.State.{MapState, is_live}
 use Rattle.fa_machine.specs.World.{World, plain_page}
 use Rattle.fa_machine.specs.declared.places.Version.{Version}
-use Rattle.fa_found.proofs.Cells.{one_cell}
-use Rattle.fa_scan.proofs.Filling.{slots_of_found}
-use Rattle.fa_scan.proofs.LastWrites.{found_on}
-use Rattle.fa_found.proofs.MountedFacts.{held_found, live_found, read_live, used_within}
-use Rattle.fa_found.proofs.SlotCells.{copy_is_sealed}
-use Rattle.fa_scan.specs.Content.{HasCopy, IsLastOf, IsLastWrite}
-use Rattle.fa_scan.specs.MountedWorld.{CopiesAgree, HoldMap, HoldsPayload, IsFirstPlain, IsMountedWorld, SlotBytes}
+use Rattle.fa_mount_laws.proofs.Cells.{one_cell}
+use Rattle.fa_mount_scan.proofs.Filling.{slots_of_found}
+use Rattle.fa_mount_scan.proofs.LastWrites.{found_on}
+use Rattle.fa_mount_laws.proofs.MountedFacts.{held_found, live_found, read_live, used_within}
+use Rattle.fa_mount_laws.proofs.SlotCells.{copy_is_sealed}
+use Rattle.fa_mount_scan.specs.Content.{HasCopy, IsLastOf, IsLastWrite}
+use Rattle.fa_mount_scan.specs.MountedWorld.{CopiesAgree, HoldMap, HoldsPayload, IsFirstPlain, IsMountedWorld, SlotBytes}
 use Rattle.fa_types.specs.declared.geometry.Geometry.{Geometry}
 use Rattle.fa_types.specs.declared.numbers.Page.{Page}
 use Rattle.std.proofs.Common.{Bool, List, None, Option, Some, [], ap, arith, refl, subst, sym, true, ℕ, ◌*◌, ◌<◌, ◌∙◌, ◌≡◌}

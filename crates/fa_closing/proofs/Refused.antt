@@ -7,16 +7,16 @@ use Rattle.fa_closing.proofs.Kept.{Kept}
 use Rattle.fa_closing.proofs.Marked.{IsLeft, header_fits, hold_all, left_image, was_clean}
 use Rattle.fa_closing.specs.Closed.{AreOfMask, IsImageAt, WasClosed}
 use Rattle.fa_closing.specs.LastCells.{HoldAll}
-use Rattle.fa_headers.proofs.Reading.{are_of}
-use Rattle.fa_headers.specs.Found.{AreOf, ReadsHeaders}
-use Rattle.fa_headers.specs.Rules.{bad, can_hold, first_of, header_refusal, is_bad_header, is_in, is_unread_header, refused_at}
-use Rattle.fa_headers.specs.Rules.{seen_from, seen_refusal}
-use Rattle.fa_headers.specs.declared.fault.MountFault.TheVariants.{HeaderBad, ImageFault, NoMemory}
-use Rattle.fa_headers.specs.declared.fault.MountRefused.{MountRefused}
-use Rattle.fa_headers.specs.declared.found.Found.{Found}
-use Rattle.fa_headers.specs.declared.judging.Judged.{Judged}
-use Rattle.fa_headers.specs.declared.judging.Standing.{Standing}
-use Rattle.fa_headers.specs.declared.judging.Standing.TheVariants.{Live}
+use Rattle.fa_mount_headers.proofs.Reading.{are_of}
+use Rattle.fa_mount_headers.specs.Found.{AreOf, ReadsHeaders}
+use Rattle.fa_mount_headers.specs.Rules.{bad, can_hold, first_of, header_refusal, is_bad_header, is_in, is_unread_header, refused_at}
+use Rattle.fa_mount_headers.specs.Rules.{seen_from, seen_refusal}
+use Rattle.fa_mount_headers.specs.declared.fault.MountFault.TheVariants.{HeaderBad, ImageFault, NoMemory}
+use Rattle.fa_mount_headers.specs.declared.fault.MountRefused.{MountRefused}
+use Rattle.fa_mount_headers.specs.declared.found.Found.{Found}
+use Rattle.fa_mount_headers.specs.declared.judging.Judged.{Judged}
+use Rattle.fa_mount_headers.specs.declared.judging.Standing.{Standing}
+use Rattle.fa_mount_headers.specs.declared.judging.Standing.TheVariants.{Live}
 use Rattle.fa_image.specs.Image.{ImageAnswer, ImageCall, ImageMeets, ImageState}
 use Rattle.fa_machine.proofs.Lists.{among-range, any_some, found_passes, none_passes}
 use Rattle.fa_machine.specs.Among.{Among}
@@ -24,9 +24,9 @@ use Rattle.fa_machine.specs.Maps.{below}
 use Rattle.fa_machine.specs.World.{World}
 use Rattle.fa_mount.proofs.Bits.{fits_below}
 use Rattle.fa_mount.specs.MountsArray.{IsTooLate, RefusesArray}
-use Rattle.fa_scan.specs.ContentReading.{AreOutcomes}
-use Rattle.fa_scan.specs.Mounting.{RefusesMount, SayArray}
-use Rattle.fa_scan.specs.Scanned.{IsNoneLive, IsScanRefused, Outcome, fault_at, is_refused}
+use Rattle.fa_mount_scan.specs.ContentReading.{AreOutcomes}
+use Rattle.fa_mount_scan.specs.Mounting.{RefusesMount, SayArray}
+use Rattle.fa_mount_scan.specs.Scanned.{IsNoneLive, IsScanRefused, Outcome, fault_at, is_refused}
 use Rattle.fa_tag.specs.HeaderGrammar.{IsHeader}
 use Rattle.fa_types.specs.declared.geometry.Geometry.{Geometry}
 use Rattle.std.proofs.Common.{Bool, Err, IsTrue, List, None, Ok, Option, Some, [], ap, arith, false, get_or, inl, inr, length, map, refl, slice_get, subst, suc}

@@ -1,14 +1,14 @@
 -- An array that was closed, and the images of the dies that are left.
 use Rattle.std.specs.Prelude.{◌≡◌, ℕ, ◌+◌, ◌*◌, ◌^◌, ◌<◌, ◌≤◌, true, List, Some, Ok, length, slice_get}
 use Rattle.std.specs.FinMap.{len}
-use Rattle.fa_headers.specs.Rules.{is_in}
-use Rattle.fa_headers.specs.declared.judging.Standing.{Standing}
+use Rattle.fa_mount_headers.specs.Rules.{is_in}
+use Rattle.fa_mount_headers.specs.declared.judging.Standing.{Standing}
 use Rattle.fa_image.specs.Image.{ImageAnswer, ImageCall, ImageState, slot_at}
 use Rattle.fa_machine.specs.State.{is_live}
 use Rattle.fa_machine.specs.World.{World}
 use Rattle.fa_mount.specs.Closing.{Closes}
 use Rattle.fa_mount.specs.Standings.{HaveImages, place_on}
-use Rattle.fa_scan.specs.ContentCells.{IsCellOf}
+use Rattle.fa_mount_scan.specs.ContentCells.{IsCellOf}
 
 module _ {I : Type 0} (view : I → ImageState) where
   -- The image of each live die is made for its array's geometry, and the bytes in its slots are what the world sees there.

@@ -4,8 +4,8 @@ use Rattle.std.specs.FinMap.{get}
 use Rattle.fa_machine.specs.State.{MapState, is_live}
 use Rattle.fa_machine.specs.World.{World}
 use Rattle.fa_machine.specs.declared.places.Version.{Version}
-use Rattle.fa_scan.specs.ContentCells.{IsCellOf, tag_of}
-use Rattle.fa_scan.specs.MountedWorld.{SlotBytes}
+use Rattle.fa_mount_scan.specs.ContentCells.{IsCellOf, tag_of}
+use Rattle.fa_mount_scan.specs.MountedWorld.{SlotBytes}
 use Rattle.fa_tag.specs.SlotGrammar.{IsSlot}
 
 -- The bytes in the slots of some dies are what the world sees there.

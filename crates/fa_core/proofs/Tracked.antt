@@ -1,12 +1,12 @@
 -- With no bookings and no jobs, batches that have no pages are tracked, and nothing that is named is outside of the array.
-use Rattle.fa_batches.specs.Batches.{state_of}
-use Rattle.fa_batches.specs.declared.batches.Batches.{Batches}
-use Rattle.fa_batches.specs.Pages.{opened}
+use Rattle.fa_core_batches.specs.Batches.{state_of}
+use Rattle.fa_core_batches.specs.declared.batches.Batches.{Batches}
+use Rattle.fa_core_batches.specs.Pages.{opened}
 use Rattle.fa_machine.specs.Maps.{place_cmp}
 use Rattle.fa_machine.specs.State.{OpenBatch}
 use Rattle.fa_machine.specs.declared.jobs.Flight.{Flight}
 use Rattle.fa_machine.specs.declared.places.Booking.{Booking}
-use Rattle.fa_state.specs.Tracked.{AreTracked}
+use Rattle.fa_core_state.specs.Tracked.{AreTracked}
 use Rattle.std.proofs.Common.{None, Option, [], ap, sym, true, ℕ, ◌∙◌, ◌≡◌, ◌<◌}
 use Rattle.std.proofs.lemmas.Bool.{false≢true}
 use Rattle.std.proofs.lemmas.Option.{none-some}

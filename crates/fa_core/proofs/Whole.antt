@@ -1,7 +1,7 @@
 -- What is true of an array as it is mounted, after an event, and once buffers came back.
-use Rattle.fa_batches.specs.Batches.{batches_of, bytes_of, next_of, state_of as stands_in}
-use Rattle.fa_batches.specs.Pages.{opened}
-use Rattle.fa_batches.specs.declared.batches.Batches.{Batches}
+use Rattle.fa_core_batches.specs.Batches.{batches_of, bytes_of, next_of, state_of as stands_in}
+use Rattle.fa_core_batches.specs.Pages.{opened}
+use Rattle.fa_core_batches.specs.declared.batches.Batches.{Batches}
 use Rattle.fa_core.specs.Array.{IsWhole, state_of}
 use Rattle.fa_core.specs.Begun.{begun, numbers_of}
 use Rattle.fa_core.specs.declared.array.Array.{Array}
@@ -16,11 +16,11 @@ use Rattle.fa_machine.specs.Writing.{claimed_page}
 use Rattle.fa_machine.specs.declared.places.Used.TheVariants.{Held}
 use Rattle.fa_machine.specs.declared.places.Version.{Version}
 use Rattle.fa_map.specs.Slots.{IsPageMap}
-use Rattle.fa_reads.proofs.Others.{AreInside, fitted_with, tracked_again}
+use Rattle.fa_core_read.proofs.Others.{AreInside, fitted_with, tracked_again}
 use Rattle.fa_sound.specs.Owners.{Owned, owned_claim, owned_of}
 use Rattle.fa_sound.specs.Ready.{AreReady}
 use Rattle.fa_sound.specs.Sound.{IsSound}
-use Rattle.fa_state.specs.Fitted.{IsFitted}
+use Rattle.fa_core_state.specs.Fitted.{IsFitted}
 use Rattle.fa_types.specs.declared.geometry.Geometry.{Geometry}
 use Rattle.std.proofs.Common.{None, Option, Some, ap, arith, false, length, map, refl, subst, sym, true, ℕ, ◌-◌, ◌<◌, ◌≤◌, ◌∙◌, ◌≡◌}
 use Rattle.std.proofs.lemmas.Option.{none-some, same_Some}

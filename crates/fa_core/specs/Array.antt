@@ -6,8 +6,8 @@ use Rattle.fa_machine.specs.Reading.{zeros}
 use Rattle.fa_machine.specs.State.{Core, MapState}
 use Rattle.fa_sound.specs.Ready.{AreReady}
 use Rattle.fa_sound.specs.Sound.{IsSound}
-use Rattle.fa_state.specs.Core.{core_of}
-use Rattle.fa_state.specs.Fitted.{IsFitted}
+use Rattle.fa_core_state.specs.Core.{core_of}
+use Rattle.fa_core_state.specs.Fitted.{IsFitted}
 
 module _ {M A : Type 0} (view : M → MapState) where
   -- the array's state: the machine's own

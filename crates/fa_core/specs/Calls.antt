@@ -15,7 +15,7 @@ use Rattle.fa_core.specs.declared.call.Call.{Call}
 use Rattle.fa_core.specs.declared.call.Call.TheVariants.{Claim, Release, Reserve, ReserveHole, ReserveFewer, Commit, Abandon, Admit}
 use Rattle.fa_core.specs.declared.call.Call.TheVariants.{Replan, EndBatch, Take, Done, Window, Advance, SpareIn, ReserveCopy, CommitCopy}
 use Rattle.fa_core.specs.declared.call.Call.TheVariants.{FlushBegin, FlushState, Fold}
-use Rattle.fa_ends.specs.Outcomes.{outcome_of}
+use Rattle.fa_core_complete.specs.Outcomes.{outcome_of}
 use Rattle.fa_machine.specs.Cells.{is_of_kind}
 use Rattle.fa_machine.specs.Conditions.{batch_open, claim_open, copy_open, history_full, is_reserved}
 use Rattle.fa_machine.specs.State.{Core}
@@ -25,9 +25,9 @@ use Rattle.fa_machine.specs.Step.{Commit as ActCommit, Abandon as ActAbandon, Ad
 use Rattle.fa_machine.specs.Step.{EndBatch as ActEndBatch, Take as ActTake, Done as ActDone, Window as ActWindow, Advance as ActAdvance}
 use Rattle.fa_machine.specs.Step.{SpareIn as ActSpareIn, ReserveCopy as ActReserveCopy, CommitCopy as ActCommitCopy}
 use Rattle.fa_machine.specs.Step.{FlushBegin as ActFlushBegin, FlushState as ActFlushState, Fold as ActFold}
-use Rattle.fa_reads.specs.Answers.{admit_answer, plan_answer}
-use Rattle.fa_takes.specs.Fits.{IsJobFor}
-use Rattle.fa_takes.specs.Handed.{handed_of}
+use Rattle.fa_core_read.specs.Answers.{admit_answer, plan_answer}
+use Rattle.fa_core_dispatch.specs.Fits.{IsJobFor}
+use Rattle.fa_core_dispatch.specs.Handed.{handed_of}
 use Rattle.fa_types.specs.declared.geometry.Geometry.{Geometry}
 use Rattle.fa_types.specs.declared.numbers.Page.{Page}
 

@@ -9,9 +9,9 @@ ghost use Rattle.fa_set.specs.Members.{bound_of, members};
 
 use crate::mounting::begin;
 use fa_map::Map;
-use fa_reads::Planner;
+use fa_core_read::Planner;
 use fa_set::NumberSet;
-use fa_state::State;
+use fa_core_state::State;
 use fa_tag::Payload;
 use fa_types::{Copies, Seq};
 use std::alloc::{AllocError, Allocator, Global};

@@ -6,7 +6,7 @@ use fa_machine::{
     ReserveRefused, SpareRefused, WindowRefused,
 };
 use fa_plan::Planned;
-use fa_reads::Admitted;
+use fa_core_read::Admitted;
 use fa_tag::Payload;
 use fa_types::{Die, Page, Round, Seq};
 use std::alloc::{Allocator, Global};

@@ -2,19 +2,19 @@
 ghost use Rattle.std.specs.Prelude.{◌≡◌, length, true, false, option_map, IfSome};
 ghost use Rattle.std.specs.FinMap.{get};
 ghost use Rattle.std.specs.Option.{option_map_or};
-ghost use Rattle.fa_ends.specs.Outcomes.{outcome_of};
+ghost use Rattle.fa_core_complete.specs.Outcomes.{outcome_of};
 ghost use Rattle.fa_machine.specs.Cells.{is_of_kind};
 ghost use Rattle.fa_machine.specs.Conditions.{history_full};
 ghost use Rattle.fa_machine.specs.Step.{Done, Step, Take, is_die};
-ghost use Rattle.fa_takes.specs.Fits.{IsJobFor};
-ghost use Rattle.fa_takes.specs.Handed.{handed_of};
+ghost use Rattle.fa_core_dispatch.specs.Fits.{IsJobFor};
+ghost use Rattle.fa_core_dispatch.specs.Handed.{handed_of};
 
 use crate::array::Array;
 use crate::keeping::{an_event_keeps, is_a_number};
-use fa_ends::Outcome;
+use fa_core_complete::Outcome;
 use fa_map::Map;
-use fa_takes::Job;
-use fa_takes::laws::what_is_handed_out_fits;
+use fa_core_dispatch::Job;
+use fa_core_dispatch::laws::what_is_handed_out_fits;
 use fa_types::Die;
 use std::alloc::Allocator;
 
@@ -37,7 +37,7 @@ impl<M: Map, A: Allocator + Clone> Array<M, A> {
         let _geometry = self.state.page_map.geometry();
         is_a_number(&self.array);
         what_is_handed_out_fits();
-        let job = fa_takes::take(&mut self.state, die, seat);
+        let job = fa_core_dispatch::take(&mut self.state, die, seat);
         an_event_keeps();
         job
     }
@@ -54,7 +54,7 @@ impl<M: Map, A: Allocator + Clone> Array<M, A> {
         ensures whole { IsWhole M.view self.new }
         ensures buffer { length buffer.new.items ≡ length buffer.old.items }
     {
-        fa_ends::done(&mut self.state, die, outcome, buffer);
+        fa_core_complete::done(&mut self.state, die, outcome, buffer);
         an_event_keeps();
     }
 }

@@ -21,7 +21,7 @@ mod writers;
 
 pub use array::Array;
 pub use call::{Answer, Call};
-pub use fa_ends::Outcome;
+pub use fa_core_complete::Outcome;
 pub use fa_plan::Planned;
-pub use fa_reads::Admitted;
-pub use fa_takes::Job;
+pub use fa_core_read::Admitted;
+pub use fa_core_dispatch::Job;

@@ -123,7 +123,7 @@ impl<M: Map, A: Allocator + Clone> Array<M, A> {
     pub fn history_full(&self) -> bool
         ensures { result ≡ rule_full (state_of M.view self.now) }
     {
-        fa_flushes::history_full(&self.state)
+        fa_core_flush::history_full(&self.state)
     }
 
     /// How many Commits and how many Starts there were since mounting; of 2^64 and more, 2^64 - 1 are told.
@@ -131,42 +131,42 @@ impl<M: Map, A: Allocator + Clone> Array<M, A> {
         ensures commits { result.0 ≡ capped (rule_counts (state_of M.view self.now)).0 }
         ensures starts { result.1 ≡ capped (rule_counts (state_of M.view self.now)).1 }
     {
-        fa_flushes::counts(&self.state)
+        fa_core_flush::counts(&self.state)
     }
 
     /// Whether the claim is open.
     pub fn claim_open(&self, claim: ClaimId) -> bool
         ensures { result ≡ rule_claim (state_of M.view self.now) claim.0 }
     {
-        fa_flushes::claim_open(&self.state, claim)
+        fa_core_flush::claim_open(&self.state, claim)
     }
 
     /// Whether something is reserved under the claim.
     pub fn is_reserved(&self, claim: ClaimId) -> bool
         ensures { result ≡ rule_reserved (state_of M.view self.now) claim.0 }
     {
-        fa_flushes::is_reserved(&self.state, claim)
+        fa_core_flush::is_reserved(&self.state, claim)
     }
 
     /// Whether the batch is open.
     pub fn batch_open(&self, batch: BatchId) -> bool
         ensures { result ≡ rule_batch (state_of M.view self.now) batch.0 }
     {
-        fa_flushes::batch_open(&self.state, batch)
+        fa_core_flush::batch_open(&self.state, batch)
     }
 
     /// Whether a copy is under way.
     pub fn copy_open(&self) -> bool
         ensures { result ≡ rule_copy (state_of M.view self.now) }
     {
-        fa_flushes::copy_open(&self.state)
+        fa_core_flush::copy_open(&self.state)
     }
 
     /// Whether a job, a claim, a batch or a copy is open.
     pub fn is_busy(&self) -> bool
         ensures { result ≡ rule_busy (state_of M.view self.now) }
     {
-        fa_flushes::is_busy(&self.state)
+        fa_core_flush::is_busy(&self.state)
     }
 
     /// Whether a Take of the die would hand out a job, or drop a booking. Who looks for work goes by it; which answer it gives is in no
@@ -174,12 +174,12 @@ impl<M: Map, A: Allocator + Clone> Array<M, A> {
     pub fn has_job(&self, die: Die) -> bool
         requires { die.0 < (state_of M.view self.now).page_map.geometry.dies }
     {
-        fa_takes::has_job(&self.state, die)
+        fa_core_dispatch::has_job(&self.state, die)
     }
 
     /// Whether what is reserved under the claim waits for a program of a live die.
     pub fn is_pending(&self, claim: ClaimId) -> bool {
-        fa_writes::is_pending(&self.state, claim)
+        fa_core_write::is_pending(&self.state, claim)
     }
 
     /// Whether the die has a window that has not passed.
@@ -193,6 +193,6 @@ impl<M: Map, A: Allocator + Clone> Array<M, A> {
     pub fn job_kind(&self, die: Die) -> Option<JobKind>
         ensures { result ≡ rule_job (state_of M.view self.now) die.0 }
     {
-        fa_flushes::job_kind(&self.state, die)
+        fa_core_flush::job_kind(&self.state, die)
     }
 }

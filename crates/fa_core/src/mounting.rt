@@ -5,16 +5,16 @@ ghost use Rattle.fa_core.specs.Begun.{begun, numbers_of};
 ghost use Rattle.fa_parts.specs.Logs.{base_of, history_of};
 ghost use Rattle.fa_parts.specs.Counted.{new_base};
 ghost use Rattle.fa_set.specs.Members.{bound_of, members};
-ghost use Rattle.fa_state.specs.Core.{core_of};
-ghost use Rattle.fa_state.specs.Fitted.{IsFitted};
+ghost use Rattle.fa_core_state.specs.Core.{core_of};
+ghost use Rattle.fa_core_state.specs.Fitted.{IsFitted};
 
-use fa_batches::Batches;
-use fa_bookings::Bookings;
+use fa_core_batches::Batches;
+use fa_core_bookings::Bookings;
 use fa_claims::Claims;
 use fa_map::Map;
 use fa_parts::{ByDie, Log, Waiting};
 use fa_set::NumberSet;
-use fa_state::{State, mark_live};
+use fa_core_state::{State, mark_live};
 use fa_types::{Copies, Round, Seq};
 use std::alloc::{AllocError, Allocator};
 

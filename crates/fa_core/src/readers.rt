@@ -6,7 +6,7 @@ ghost use Rattle.fa_machine.specs.Conditions.{batch_open};
 ghost use Rattle.fa_machine.specs.Reading.{released, results as rule_results};
 ghost use Rattle.fa_machine.specs.Rounds.{is_taken};
 ghost use Rattle.fa_machine.specs.Step.{Admit, EndBatch, Replan, Step, is_distinct};
-ghost use Rattle.fa_reads.specs.Answers.{admit_answer, plan_answer};
+ghost use Rattle.fa_core_read.specs.Answers.{admit_answer, plan_answer};
 
 use crate::array::Array;
 use crate::keeping::an_event_keeps;
@@ -14,7 +14,7 @@ use fa_batch::Closed;
 use fa_machine::{AdmitRefused, BatchId, ReadState};
 use fa_map::Map;
 use fa_plan::Planned;
-use fa_reads::Admitted;
+use fa_core_read::Admitted;
 use fa_types::Page;
 use std::alloc::{AllocError, Allocator};
 
@@ -33,7 +33,7 @@ impl<M: Map, A: Allocator + Copy> Array<M, A> {
         ensures number { number_of self.new ≡ number_of self.old }
         ensures whole { IsWhole M.view self.new }
     {
-        let answer = fa_reads::admit(alloc, &mut self.planner, &mut self.state, pages);
+        let answer = fa_core_read::admit(alloc, &mut self.planner, &mut self.state, pages);
         an_event_keeps();
         answer
     }
@@ -47,7 +47,7 @@ impl<M: Map, A: Allocator + Copy> Array<M, A> {
         ensures number { number_of self.new ≡ number_of self.old }
         ensures whole { IsWhole M.view self.new }
     {
-        let answer = fa_reads::replan(alloc, &mut self.planner, &mut self.state, batch);
+        let answer = fa_core_read::replan(alloc, &mut self.planner, &mut self.state, batch);
         an_event_keeps();
         answer
     }
@@ -71,7 +71,7 @@ impl<M: Map, A: Allocator + Copy> Array<M, A> {
         ensures closed { IfOk result (λ closed. (die round : ℕ) → (state_of M.view self.now).calendar.round ≤ round
             → is_closed closed die round ≡ is_taken (released batch.0 (state_of M.view self.now).calendar) die round) }
     {
-        fa_reads::closed_without(alloc, &self.state, batch)
+        fa_core_read::closed_without(alloc, &self.state, batch)
     }
 
     /// The closed rounds of all dies from the current one on. The error is out of memory.
@@ -97,7 +97,7 @@ impl<M: Map, A: Allocator + Clone> Array<M, A> {
         ensures number { number_of self.new ≡ number_of self.old }
         ensures whole { IsWhole M.view self.new }
     {
-        let answers = fa_reads::end_batch(&mut self.state, batch);
+        let answers = fa_core_read::end_batch(&mut self.state, batch);
         an_event_keeps();
         answers
     }
@@ -117,6 +117,6 @@ impl<M: Map, A: Allocator + Clone> Array<M, A> {
         requires whole { IsWhole M.view self.now }
         ensures { result ≡ rule_results (state_of M.view self.now) batch.0 }
     {
-        fa_reads::results(&self.state, batch)
+        fa_core_read::results(&self.state, batch)
     }
 }

@@ -5,7 +5,7 @@ ghost use Rattle.fa_machine.specs.Looks.{counts as rule_counts};
 use crate::array::Array;
 use crate::call::{Answer, Call};
 use crate::keeping::an_event_counts;
-use fa_ends::Outcome;
+use fa_core_complete::Outcome;
 use fa_machine::Flush;
 use fa_map::Map;
 use fa_types::Die;

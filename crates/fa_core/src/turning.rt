@@ -27,7 +27,7 @@ impl<M: Map, A: Allocator + Clone> Array<M, A> {
         ensures number { number_of self.new ≡ number_of self.old }
         ensures whole { IsWhole M.view self.new }
     {
-        let answer = fa_turns::window(&mut self.state, die, rounds);
+        let answer = fa_core_upkeep::window(&mut self.state, die, rounds);
         an_event_keeps();
         answer
     }
@@ -39,7 +39,7 @@ impl<M: Map, A: Allocator + Clone> Array<M, A> {
         ensures number { number_of self.new ≡ number_of self.old }
         ensures whole { IsWhole M.view self.new }
     {
-        let answer = fa_turns::advance(&mut self.state);
+        let answer = fa_core_upkeep::advance(&mut self.state);
         an_event_keeps();
         answer
     }
@@ -52,7 +52,7 @@ impl<M: Map, A: Allocator + Clone> Array<M, A> {
         ensures number { number_of self.new ≡ number_of self.old }
         ensures whole { IsWhole M.view self.new }
     {
-        let answer = fa_turns::spare_in(&mut self.state, die);
+        let answer = fa_core_upkeep::spare_in(&mut self.state, die);
         an_event_keeps();
         answer
     }
@@ -73,7 +73,7 @@ impl<M: Map, A: Allocator + Clone> Array<M, A> {
         ensures number { number_of self.new ≡ number_of self.old }
         ensures whole { IsWhole M.view self.new }
     {
-        let answer = fa_turns::reserve_copy(&mut self.state, page, seq, payload, &self.zeros);
+        let answer = fa_core_upkeep::reserve_copy(&mut self.state, page, seq, payload, &self.zeros);
         an_event_keeps();
         answer
     }
@@ -86,7 +86,7 @@ impl<M: Map, A: Allocator + Clone> Array<M, A> {
         ensures number { number_of self.new ≡ number_of self.old }
         ensures whole { IsWhole M.view self.new }
     {
-        let answer = fa_turns::commit_copy(&mut self.state);
+        let answer = fa_core_upkeep::commit_copy(&mut self.state);
         an_event_keeps();
         answer
     }

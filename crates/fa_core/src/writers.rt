@@ -23,7 +23,7 @@ impl<M: Map, A: Allocator + Clone> Array<M, A> {
         ensures number { number_of self.new ≡ number_of self.old }
         ensures whole { IsWhole M.view self.new }
     {
-        let answer = fa_writes::claim(&mut self.state, page);
+        let answer = fa_core_write::claim(&mut self.state, page);
         an_event_keeps();
         answer
     }
@@ -37,7 +37,7 @@ impl<M: Map, A: Allocator + Clone> Array<M, A> {
         ensures number { number_of self.new ≡ number_of self.old }
         ensures whole { IsWhole M.view self.new }
     {
-        fa_writes::release(&mut self.state, claim);
+        fa_core_write::release(&mut self.state, claim);
         an_event_keeps();
     }
 
@@ -53,7 +53,7 @@ impl<M: Map, A: Allocator + Clone> Array<M, A> {
         ensures whole { IsWhole M.view self.new }
     {
         let least = copies_asked(&self.state.page_map, self.state.copies);
-        let answer = fa_writes::reserve(&mut self.state, claim, least, Kind::Data, payload);
+        let answer = fa_core_write::reserve(&mut self.state, claim, least, Kind::Data, payload);
         an_event_keeps();
         answer
     }
@@ -68,7 +68,7 @@ impl<M: Map, A: Allocator + Clone> Array<M, A> {
         ensures whole { IsWhole M.view self.new }
     {
         let least = copies_asked(&self.state.page_map, self.state.copies);
-        let answer = fa_writes::reserve(&mut self.state, claim, least, Kind::Hole, &self.zeros);
+        let answer = fa_core_write::reserve(&mut self.state, claim, least, Kind::Hole, &self.zeros);
         an_event_keeps();
         answer
     }
@@ -89,7 +89,7 @@ impl<M: Map, A: Allocator + Clone> Array<M, A> {
         ensures whole { IsWhole M.view self.new }
     {
         let least = one_of(copies_asked(&self.state.page_map, self.state.copies));
-        let answer = fa_writes::reserve(&mut self.state, claim, least, Kind::Data, payload);
+        let answer = fa_core_write::reserve(&mut self.state, claim, least, Kind::Data, payload);
         an_event_keeps();
         answer
     }
@@ -103,7 +103,7 @@ impl<M: Map, A: Allocator + Clone> Array<M, A> {
         ensures number { number_of self.new ≡ number_of self.old }
         ensures whole { IsWhole M.view self.new }
     {
-        let answer = fa_writes::commit(&mut self.state, claim, seat);
+        let answer = fa_core_write::commit(&mut self.state, claim, seat);
         an_event_keeps();
         answer
     }
@@ -116,7 +116,7 @@ impl<M: Map, A: Allocator + Clone> Array<M, A> {
         ensures number { number_of self.new ≡ number_of self.old }
         ensures whole { IsWhole M.view self.new }
     {
-        let answer = fa_writes::abandon(&mut self.state, claim);
+        let answer = fa_core_write::abandon(&mut self.state, claim);
         an_event_keeps();
         answer
     }

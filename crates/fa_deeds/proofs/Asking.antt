@@ -7,7 +7,7 @@ use Rattle.fa_asks.specs.Asked.{batch_at, claim_at}
 use Rattle.fa_deeds.proofs.Driving.{dies_plain, goes_shape, requests_plain}
 use Rattle.fa_deeds.proofs.Led.{Stands, deeds_led, fair_before, images_kept}
 use Rattle.fa_deeds.specs.Driving.{IsDeedOf, IsOfJob, IsPlain, image_on}
-use Rattle.fa_headers.specs.declared.judging.Standing.{Standing}
+use Rattle.fa_mount_headers.specs.declared.judging.Standing.{Standing}
 use Rattle.fa_image.specs.Image.{ImageAnswer, ImageCall, ImageMeets, ImageState, IsImage}
 use Rattle.fa_laws.proofs.Ranged.{calls_core}
 use Rattle.fa_laws.proofs.Within.{GeometryLaw}
@@ -16,12 +16,12 @@ use Rattle.fa_machine.specs.State.{Core}
 use Rattle.fa_machine.specs.Step.{Act, Advance, Done, Fold, ReserveCopy, SpareIn, Take, Window}
 use Rattle.fa_machine.specs.World.{Gave, Work, World}
 use Rattle.fa_mount.specs.Standings.{AreApart}
-use Rattle.fa_ops.specs.Moves.{Folded, Moved, Moves, Rested, Strayed, Turned}
-use Rattle.fa_ops.specs.Waiting.{HasNoWindow, awaits_flush, waits}
-use Rattle.fa_stages.specs.declared.request.Task.{Task}
-use Rattle.fa_stages.specs.declared.stage.Stage.{Stage}
-use Rattle.fa_stages.specs.declared.stage.Stage.TheVariants.{Flushing, Reserving}
-use Rattle.fa_stages.specs.declared.stage.Wish.TheVariants.{Data, Fewer, Hole}
+use Rattle.fa_shared_request.specs.Moves.{Folded, Moved, Moves, Rested, Strayed, Turned}
+use Rattle.fa_shared_request.specs.Waiting.{HasNoWindow, awaits_flush, waits}
+use Rattle.fa_shared_steps.specs.declared.request.Task.{Task}
+use Rattle.fa_shared_steps.specs.declared.stage.Stage.{Stage}
+use Rattle.fa_shared_steps.specs.declared.stage.Stage.TheVariants.{Flushing, Reserving}
+use Rattle.fa_shared_steps.specs.declared.stage.Wish.TheVariants.{Data, Fewer, Hole}
 use Rattle.fa_runs.specs.Drives.{AreHonest, AreImages, events_of}
 use Rattle.fa_shared.specs.Seats.{number_of}
 use Rattle.fa_shared.specs.declared.seat.Seat.{Seat}

@@ -1,9 +1,9 @@
 -- The store over an array that was just mounted.
 use Rattle.fa_deeds.specs.Driving.{image_on}
 use Rattle.fa_deeds.specs.Sessions.{IsStoreOf}
-use Rattle.fa_headers.specs.Found.{AreOnlyRead}
-use Rattle.fa_headers.specs.declared.judging.Standing.{Standing}
-use Rattle.fa_headers.specs.declared.judging.Standing.TheVariants.{Live, Missing, Out, Spare}
+use Rattle.fa_mount_headers.specs.Found.{AreOnlyRead}
+use Rattle.fa_mount_headers.specs.declared.judging.Standing.{Standing}
+use Rattle.fa_mount_headers.specs.declared.judging.Standing.TheVariants.{Live, Missing, Out, Spare}
 use Rattle.fa_image.specs.Image.{ImageAnswer, ImageCall, ImageMeets, ImageState, IsImage, slot_at}
 use Rattle.fa_machine.specs.Beginning.{IsBeginning, IsPlainOf, StandsAt}
 use Rattle.fa_machine.specs.State.{Core, is_live, used_at}
@@ -18,9 +18,9 @@ use Rattle.fa_runs.proofs.MountedImages.{mounted_begins, out_is_neither, placed_
 use Rattle.fa_runs.specs.Drives.{AreImages}
 use Rattle.fa_runs.specs.Images.{IsImageOf}
 use Rattle.fa_runs.specs.Mounted.{images_on}
-use Rattle.fa_scan.specs.ContentCells.{IsCellOf}
-use Rattle.fa_scan.specs.ContentReading.{image_read}
-use Rattle.fa_scan.specs.MountedWorld.{CopiesAgree, IsMountedWorld, SlotBytes, bytes_of, is_spare_of}
+use Rattle.fa_mount_scan.specs.ContentCells.{IsCellOf}
+use Rattle.fa_mount_scan.specs.ContentReading.{image_read}
+use Rattle.fa_mount_scan.specs.MountedWorld.{CopiesAgree, IsMountedWorld, SlotBytes, bytes_of, is_spare_of}
 use Rattle.fa_solo.specs.Stores.{StoreState}
 use Rattle.std.proofs.Common.{Bool, IsTrue, List, None, Option, Some, ap, length, map, refl, slice_get, subst, sym, true, ℕ, ◌*◌, ◌∙◌, ◌≡◌, ◌||◌}
 use Rattle.std.proofs.lemmas.Option.{none-some}

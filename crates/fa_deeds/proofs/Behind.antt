@@ -7,7 +7,7 @@ use Rattle.fa_asks.specs.Shown.{is_spent, store_of}
 use Rattle.fa_deeds.proofs.Around.{IsKept}
 use Rattle.fa_deeds.proofs.Driving.{settles_goes}
 use Rattle.fa_deeds.specs.Driving.{IsForCopy}
-use Rattle.fa_headers.specs.declared.judging.Standing.{Standing}
+use Rattle.fa_mount_headers.specs.declared.judging.Standing.{Standing}
 use Rattle.fa_image.specs.Image.{ImageAnswer, ImageCall}
 use Rattle.fa_laws.specs.Kept.{KeepsRound}
 use Rattle.fa_laws.specs.Syncing.{KeepsFlushes}

@@ -1,8 +1,8 @@
 -- The calls of a connection, one after the other.
-use Rattle.fa_asking.specs.Asking.{call_of as wanted_call}
+use Rattle.fa_session_ask.specs.Asking.{call_of as wanted_call}
 use Rattle.fa_asks.specs.Calls.{HasBytes, call_of as asked_call}
 use Rattle.fa_asks.specs.Shown.{store_of}
-use Rattle.fa_blocks.specs.Counts.{request_of}
+use Rattle.fa_shared_store.specs.Counts.{request_of}
 use Rattle.fa_cmds.specs.Requests.{body_length, decision, first_of, has_unknown_flag, is_disconnect, is_past_end, is_too_long, row_of}
 use Rattle.fa_cmds.specs.declared.decision.Decision.TheVariants.{Disconnect as Leave, Do, Refuse}
 use Rattle.fa_cmds.specs.declared.reply.ReplyCode.{ReplyCode}
@@ -16,12 +16,12 @@ use Rattle.fa_deeds.proofs.Whole.{call_dies, call_meets, whole_fair}
 use Rattle.fa_deeds.specs.Driving.{image_on}
 use Rattle.fa_deeds.specs.Sessions.{AreTimely, IsStoreOf, IsTimelySession, was_timely}
 use Rattle.fa_deeds.specs.Standing.{IsTimely}
-use Rattle.fa_headers.specs.declared.judging.Standing.{Standing}
+use Rattle.fa_mount_headers.specs.declared.judging.Standing.{Standing}
 use Rattle.fa_image.specs.Image.{ImageAnswer, ImageCall, ImageMeets, ImageState, IsImage}
 use Rattle.fa_io.specs.Streams.{Streams}
 use Rattle.fa_machine.specs.World.{World}
 use Rattle.fa_mount.specs.Standings.{AreApart}
-use Rattle.fa_stages.specs.Tasks.{end_of, task_of}
+use Rattle.fa_shared_steps.specs.Tasks.{end_of, task_of}
 use Rattle.fa_runs.specs.Drives.{AreHonest}
 use Rattle.fa_session.specs.Exchanges.{Asked, Chain, Exchange, IsExchange, Makes, MayCome, NoneForData, NotAsked, Outcome}
 use Rattle.fa_session.specs.Session.{Session}

@@ -1,6 +1,6 @@
 -- The deeds of a store of one thread drive its array.
 use Rattle.fa_deeds.specs.Driving.{IsDeedOf, IsForCopy, IsPlain, StandsFor, image_on}
-use Rattle.fa_headers.specs.declared.judging.Standing.{Standing}
+use Rattle.fa_mount_headers.specs.declared.judging.Standing.{Standing}
 use Rattle.fa_image.specs.Image.{ImageAnswer, ImageCall}
 use Rattle.fa_laws.proofs.Within.{GeometryLaw}
 use Rattle.fa_machine.specs.State.{Core}
@@ -15,7 +15,7 @@ use Rattle.fa_solo.specs.Deeds.{Goes, IsForDies, IsForOrder, IsForRequests, Make
 use Rattle.fa_solo.proofs.Chains.{goes_more, goes_wider}
 use Rattle.fa_solo.specs.House.{House}
 use Rattle.fa_solo.specs.Orders.{Commits, Endless, IsOver, Looks, NoLook, OneMore, Settles}
-use Rattle.fa_takes.specs.Fits.{IsJobFor}
+use Rattle.fa_core_dispatch.specs.Fits.{IsJobFor}
 use Rattle.fa_types.specs.declared.geometry.Geometry.{Geometry}
 use Rattle.fa_workers.specs.Made.{Ran}
 use Rattle.std.proofs.Common.{List, None, Ok, Err, Option, Some, [], ap, inl, inr, map, refl, slice_get, slice_set, subst, suc, sym, zero, ℕ}

@@ -2,7 +2,7 @@
 use Rattle.fa_deeds.proofs.Driving.{got_here, got_other}
 use Rattle.fa_deeds.proofs.Counts.{Counts, faults_by, more, more_both, ran_counts, syncs_by}
 use Rattle.fa_deeds.specs.Driving.{image_on}
-use Rattle.fa_headers.specs.declared.judging.Standing.{Standing}
+use Rattle.fa_mount_headers.specs.declared.judging.Standing.{Standing}
 use Rattle.fa_image.specs.Image.{ImageAnswer, ImageCall, ImageMeets, ImageState}
 use Rattle.fa_laws.proofs.Failing.{LiveLaw}
 use Rattle.fa_laws.proofs.Returning.{IsOut, SparesLaw, finished_live, stays_out}

@@ -18,12 +18,12 @@ use Rattle.fa_machine.specs.declared.jobs.Flight.TheVariants.{Sync}
 use Rattle.fa_machine.specs.Step.{Act, Done, FlushBegin, FlushState, Step, Take}
 use Rattle.fa_machine.specs.declared.answers.Flush.{Flush}
 use Rattle.fa_machine.specs.declared.answers.FlushState.TheVariants.{Synced, Waiting}
-use Rattle.fa_ops.specs.Moves.{Moves, Strays}
-use Rattle.fa_ops.specs.Ops.{Prepares}
-use Rattle.fa_stages.specs.Stages.{beginning}
-use Rattle.fa_ops.specs.Waiting.{waits, without_room}
-use Rattle.fa_stages.specs.declared.request.Task.{Task}
-use Rattle.fa_stages.specs.declared.stage.Stage.{Stage}
+use Rattle.fa_shared_request.specs.Moves.{Moves, Strays}
+use Rattle.fa_shared_request.specs.Ops.{Prepares}
+use Rattle.fa_shared_steps.specs.Stages.{beginning}
+use Rattle.fa_shared_request.specs.Waiting.{waits, without_room}
+use Rattle.fa_shared_steps.specs.declared.request.Task.{Task}
+use Rattle.fa_shared_steps.specs.declared.stage.Stage.{Stage}
 use Rattle.fa_types.specs.declared.blocks.BlockFault.{BlockFault}
 use Rattle.std.proofs.Common.{Bool, IsTrue, List, None, Option, Some, ap, arith, false, inl, inr, nat_le, not, refl, subst, sym, true}
 use Rattle.std.proofs.Common.{ℕ}

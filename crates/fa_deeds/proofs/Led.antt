@@ -1,7 +1,7 @@
 -- Deeds of the store lead from a world that its array and images are of to another one, by the run that they drive.
 use Rattle.fa_deeds.proofs.Driving.{deeds_drive}
 use Rattle.fa_deeds.specs.Driving.{IsDeedOf, IsPlain, StandsFor, image_on}
-use Rattle.fa_headers.specs.declared.judging.Standing.{Standing}
+use Rattle.fa_mount_headers.specs.declared.judging.Standing.{Standing}
 use Rattle.fa_image.specs.Image.{ImageAnswer, ImageCall, ImageMeets, ImageState, IsImage, slot_at}
 use Rattle.fa_laws.proofs.Within.{GeometryLaw}
 use Rattle.fa_machine.specs.Run.{Happening, HappensEvent, Run}
@@ -12,7 +12,7 @@ use Rattle.fa_mount.specs.Standings.{AreApart}
 use Rattle.fa_runs.proofs.DrivenRuns.{Follows, driven, honest_before}
 use Rattle.fa_runs.proofs.Following.{images_follow}
 use Rattle.fa_runs.specs.Drives.{AreHonest, AreImages, Drive, Driven, Drives, acts_of, events_of}
-use Rattle.fa_scan.specs.ContentCells.{IsCellOf}
+use Rattle.fa_mount_scan.specs.ContentCells.{IsCellOf}
 use Rattle.fa_solo.specs.Deeds.{Goes}
 use Rattle.fa_solo.specs.House.{House}
 use Rattle.fa_types.specs.declared.geometry.Geometry.{Geometry}

@@ -13,7 +13,7 @@ use Rattle.fa_deeds.proofs.Around.{IsKept, kept_unwritten}
 use Rattle.fa_deeds.proofs.Driving.{copy_plain, dies_plain, order_plain, requests_plain, settles_goes}
 use Rattle.fa_deeds.specs.Driving.{IsDeedOf, IsForCopy, IsOfJob, IsPlain, image_on}
 use Rattle.fa_deeds.specs.Standing.{IsWorldOf}
-use Rattle.fa_headers.specs.declared.judging.Standing.{Standing}
+use Rattle.fa_mount_headers.specs.declared.judging.Standing.{Standing}
 use Rattle.fa_image.specs.Image.{ImageAnswer, ImageCall, ImageMeets, ImageState, IsImage}
 use Rattle.fa_laws.proofs.Runs.{runs_on}
 use Rattle.fa_laws.specs.Kept.{KeepsNumbers}

@@ -7,20 +7,20 @@ use Rattle.fa_deeds.proofs.Asking.{Went, asks_fair, went}
 use Rattle.fa_deeds.proofs.Led.{Stands}
 use Rattle.fa_deeds.specs.Driving.{image_on}
 use Rattle.fa_deeds.specs.Standing.{IsWorldOf, turns_in}
-use Rattle.fa_headers.specs.declared.judging.Standing.{Standing}
+use Rattle.fa_mount_headers.specs.declared.judging.Standing.{Standing}
 use Rattle.fa_image.specs.Image.{ImageAnswer, ImageCall, ImageMeets, ImageState, IsImage}
 use Rattle.fa_laws.proofs.Within.{GeometryLaw}
 use Rattle.fa_laws.specs.Reached.{IsReached}
 use Rattle.fa_machine.specs.World.{World}
 use Rattle.fa_mount.specs.Standings.{AreApart}
-use Rattle.fa_ops.specs.Ops.{OpView, answer_of, ended, stage_of, task_in}
-use Rattle.fa_stages.specs.Stages.{beginning}
-use Rattle.fa_stages.specs.Tasks.{answered, end_of, task_of}
-use Rattle.fa_stages.specs.declared.request.Request.{Request}
-use Rattle.fa_stages.specs.declared.request.Request.TheVariants.{Read, Write, Zero, Trim, Flush}
-use Rattle.fa_stages.specs.declared.request.Task.{Task}
-use Rattle.fa_stages.specs.declared.stage.Stage.{Stage}
-use Rattle.fa_stages.specs.declared.stage.Stage.TheVariants.{Ended}
+use Rattle.fa_shared_request.specs.Ops.{OpView, answer_of, ended, stage_of, task_in}
+use Rattle.fa_shared_steps.specs.Stages.{beginning}
+use Rattle.fa_shared_steps.specs.Tasks.{answered, end_of, task_of}
+use Rattle.fa_shared_steps.specs.declared.request.Request.{Request}
+use Rattle.fa_shared_steps.specs.declared.request.Request.TheVariants.{Read, Write, Zero, Trim, Flush}
+use Rattle.fa_shared_steps.specs.declared.request.Task.{Task}
+use Rattle.fa_shared_steps.specs.declared.stage.Stage.{Stage}
+use Rattle.fa_shared_steps.specs.declared.stage.Stage.TheVariants.{Ended}
 use Rattle.fa_runs.specs.Drives.{AreHonest, AreImages}
 use Rattle.fa_shared.specs.Seats.{number_of}
 use Rattle.fa_solo.specs.Calls.{Ended as EndedSo, Endless, EndsBy, IsRefused, Made, MakesRequest, NoMemory, OfOtherLength}

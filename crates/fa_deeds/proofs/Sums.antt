@@ -12,18 +12,18 @@ use Rattle.fa_deeds.proofs.Walks.{asks_fate, orders_fate}
 use Rattle.fa_deeds.proofs.Worlds.{HasWorld, LeavesLaw, asks_world, goes_fate, goes_world}
 use Rattle.fa_deeds.specs.Driving.{image_on}
 use Rattle.fa_deeds.specs.Standing.{IsWorldOf}
-use Rattle.fa_headers.specs.declared.judging.Standing.{Standing}
+use Rattle.fa_mount_headers.specs.declared.judging.Standing.{Standing}
 use Rattle.fa_image.specs.Image.{ImageAnswer, ImageCall, ImageMeets, ImageState, IsImage, one_more}
 use Rattle.fa_laws.proofs.Answering.{reached_holds}
 use Rattle.fa_laws.proofs.Returning.{IsOut}
 use Rattle.fa_machine.specs.State.{Core, is_live}
 use Rattle.fa_machine.specs.World.{World}
 use Rattle.fa_mount.specs.Standings.{AreApart}
-use Rattle.fa_ops.specs.Ops.{OpView, stage_of, task_in}
-use Rattle.fa_stages.specs.Stages.{beginning}
-use Rattle.fa_stages.specs.declared.request.Task.{Task}
-use Rattle.fa_stages.specs.declared.stage.Stage.{Stage}
-use Rattle.fa_stages.specs.declared.stage.Stage.TheVariants.{Ended}
+use Rattle.fa_shared_request.specs.Ops.{OpView, stage_of, task_in}
+use Rattle.fa_shared_steps.specs.Stages.{beginning}
+use Rattle.fa_shared_steps.specs.declared.request.Task.{Task}
+use Rattle.fa_shared_steps.specs.declared.stage.Stage.{Stage}
+use Rattle.fa_shared_steps.specs.declared.stage.Stage.TheVariants.{Ended}
 use Rattle.fa_runs.specs.Drives.{AreHonest}
 use Rattle.fa_shared.specs.Seats.{number_of}
 use Rattle.fa_solo.specs.Calls.{EndsBy, Made, MakesRequest, MakesWhole, NoMemory}

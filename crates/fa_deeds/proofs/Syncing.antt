@@ -6,7 +6,7 @@ use Rattle.fa_deeds.proofs.Flushes.{keeps_same, keeps_strayed, keeps_waiting, ke
 use Rattle.fa_deeds.proofs.Walks.{asks_fate, time_fair, time_fate}
 use Rattle.fa_deeds.proofs.Worlds.{HasWorld, LeavesLaw, asks_world}
 use Rattle.fa_deeds.specs.Driving.{image_on}
-use Rattle.fa_headers.specs.declared.judging.Standing.{Standing}
+use Rattle.fa_mount_headers.specs.declared.judging.Standing.{Standing}
 use Rattle.fa_image.specs.Image.{ImageAnswer, ImageCall, ImageMeets, ImageState, IsImage}
 use Rattle.fa_laws.proofs.Returning.{stays_out}
 use Rattle.fa_laws.proofs.Within.{reached_inside}
@@ -15,9 +15,9 @@ use Rattle.fa_machine.specs.Step.{FlushBegin, FlushState, Fold, Step}
 use Rattle.fa_machine.specs.declared.answers.Flush.{Flush}
 use Rattle.fa_machine.specs.declared.answers.FlushState.TheVariants.{Synced}
 use Rattle.fa_mount.specs.Standings.{AreApart}
-use Rattle.fa_ops.specs.Moves.{Folded, Moved, Rested, Strayed, Turned}
-use Rattle.fa_stages.specs.declared.request.Task.{Task}
-use Rattle.fa_stages.specs.declared.stage.Stage.{Stage}
+use Rattle.fa_shared_request.specs.Moves.{Folded, Moved, Rested, Strayed, Turned}
+use Rattle.fa_shared_steps.specs.declared.request.Task.{Task}
+use Rattle.fa_shared_steps.specs.declared.stage.Stage.{Stage}
 use Rattle.fa_runs.specs.Drives.{AreHonest}
 use Rattle.fa_shared.specs.Seats.{number_of}
 use Rattle.fa_shared.specs.declared.seat.Seat.{Seat}

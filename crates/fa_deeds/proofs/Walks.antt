@@ -6,17 +6,17 @@ use Rattle.fa_deeds.proofs.Fates.{DieLaws, Fate, IsNoDone, event_fate, fate_on, 
 use Rattle.fa_deeds.proofs.Led.{fair_before}
 use Rattle.fa_deeds.proofs.Worlds.{HasWorld, LeavesLaw, asks_world, copies_world, event_world, goes_fate, goes_world}
 use Rattle.fa_deeds.specs.Driving.{IsForCopy, IsPlain, image_on}
-use Rattle.fa_headers.specs.declared.judging.Standing.{Standing}
+use Rattle.fa_mount_headers.specs.declared.judging.Standing.{Standing}
 use Rattle.fa_image.specs.Image.{ImageAnswer, ImageCall, ImageMeets, ImageState, IsImage}
 use Rattle.fa_machine.specs.Cells.{Outcome}
 use Rattle.fa_machine.specs.Step.{Act, Admit, Done, EndBatch, Fold, ReserveCopy}
 use Rattle.fa_mount.specs.Standings.{AreApart}
-use Rattle.fa_ops.specs.Moves.{Folded, Moved, Moves, Rested, Strayed, Turned}
-use Rattle.fa_ops.specs.Waiting.{awaits_flush}
-use Rattle.fa_stages.specs.declared.request.Task.{Task}
-use Rattle.fa_stages.specs.declared.stage.Stage.{Stage}
-use Rattle.fa_stages.specs.declared.stage.Stage.TheVariants.{Reserving}
-use Rattle.fa_stages.specs.declared.stage.Wish.TheVariants.{Data, Fewer, Hole}
+use Rattle.fa_shared_request.specs.Moves.{Folded, Moved, Moves, Rested, Strayed, Turned}
+use Rattle.fa_shared_request.specs.Waiting.{awaits_flush}
+use Rattle.fa_shared_steps.specs.declared.request.Task.{Task}
+use Rattle.fa_shared_steps.specs.declared.stage.Stage.{Stage}
+use Rattle.fa_shared_steps.specs.declared.stage.Stage.TheVariants.{Reserving}
+use Rattle.fa_shared_steps.specs.declared.stage.Wish.TheVariants.{Data, Fewer, Hole}
 use Rattle.fa_runs.specs.Drives.{AreHonest}
 use Rattle.fa_shared.specs.Seats.{number_of}
 use Rattle.fa_shared.specs.declared.seat.Seat.{Seat}

@@ -12,14 +12,14 @@ use Rattle.fa_solo.specs.Deeds.{IsForRequests}
 use Rattle.fa_deeds.proofs.Served.{RequestLaws, request_fair, request_served}
 use Rattle.fa_deeds.specs.Driving.{image_on}
 use Rattle.fa_deeds.specs.Standing.{IsTimely, IsWorldOf, turns_in}
-use Rattle.fa_headers.specs.declared.judging.Standing.{Standing}
+use Rattle.fa_mount_headers.specs.declared.judging.Standing.{Standing}
 use Rattle.fa_image.specs.Image.{ImageAnswer, ImageCall, ImageMeets, ImageState, IsImage}
 use Rattle.fa_machine.specs.State.{Core}
 use Rattle.fa_machine.specs.World.{World}
 use Rattle.fa_mount.specs.Standings.{AreApart}
-use Rattle.fa_stages.specs.Tasks.{end_of, task_of}
-use Rattle.fa_stages.specs.declared.request.Request.{Request}
-use Rattle.fa_stages.specs.declared.request.Task.{Task}
+use Rattle.fa_shared_steps.specs.Tasks.{end_of, task_of}
+use Rattle.fa_shared_steps.specs.declared.request.Request.{Request}
+use Rattle.fa_shared_steps.specs.declared.request.Task.{Task}
 use Rattle.fa_runs.specs.Drives.{AreHonest}
 use Rattle.fa_shared.specs.Seats.{number_of}
 use Rattle.fa_solo.specs.Calls.{Made, MakesRequest, MakesWhole, NoMemory}

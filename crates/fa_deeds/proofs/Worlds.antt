@@ -8,7 +8,7 @@ use Rattle.fa_deeds.proofs.Fates.{DieLaws, Fate, IsNoDone, event_fate, fate_on, 
 use Rattle.fa_deeds.proofs.Led.{Stands, deeds_led, fair_before, happens, images_kept, next, stands_next}
 use Rattle.fa_deeds.proofs.Quiet.{copies_quiet}
 use Rattle.fa_deeds.specs.Driving.{IsPlain, image_on}
-use Rattle.fa_headers.specs.declared.judging.Standing.{Standing}
+use Rattle.fa_mount_headers.specs.declared.judging.Standing.{Standing}
 use Rattle.fa_image.specs.Image.{ImageAnswer, ImageCall, ImageMeets, ImageState, IsImage}
 use Rattle.fa_laws.proofs.Within.{GeometryLaw}
 use Rattle.fa_laws.specs.Reached.{IsReached}
@@ -18,7 +18,7 @@ use Rattle.fa_machine.specs.State.{Core, is_live}
 use Rattle.fa_machine.specs.Step.{Act, Done, Step, Take}
 use Rattle.fa_machine.specs.World.{IsTold, World, followed}
 use Rattle.fa_mount.specs.Standings.{AreApart}
-use Rattle.fa_stages.specs.declared.request.Task.{Task}
+use Rattle.fa_shared_steps.specs.declared.request.Task.{Task}
 use Rattle.fa_runs.proofs.Following.{images_follow}
 use Rattle.fa_runs.proofs.JobCalls.{job_runs, value_here}
 use Rattle.fa_runs.specs.Drives.{AreHonest}
@@ -28,7 +28,7 @@ use Rattle.fa_solo.specs.Deeds.{Goes, Makes, MakesJob, Runs, Stays}
 use Rattle.fa_solo.specs.House.{House}
 use Rattle.fa_solo.specs.Orders.{CopiesPage}
 use Rattle.fa_solo.specs.Turns.{Asking, Asks}
-use Rattle.fa_takes.specs.Fits.{IsJobFor}
+use Rattle.fa_core_dispatch.specs.Fits.{IsJobFor}
 use Rattle.fa_types.specs.declared.geometry.Geometry.{Geometry}
 use Rattle.fa_workers.specs.Made.{Ran}
 use Rattle.std.proofs.Common.{Bool, IsTrue, List, Some, [], ap, false, map, refl, subst, suc, sym, true, ℕ, ◌∙◌, ◌∷◌, ◌≡◌}

@@ -1,6 +1,6 @@
 -- How what the store of one thread has stands for what drives an array, and which of its events are like any other.
 use Rattle.std.specs.Prelude.{◌≡◌, ◌⊎◌, ℕ, List, Option, Some, None, Ok, option_and_then, slice_get}
-use Rattle.fa_headers.specs.declared.judging.Standing.{Standing}
+use Rattle.fa_mount_headers.specs.declared.judging.Standing.{Standing}
 use Rattle.fa_machine.specs.Step.{Act, CommitCopy, Done, ReserveCopy, Take}
 use Rattle.fa_mount.specs.Standings.{place_on}
 use Rattle.fa_runs.specs.Drives.{Driven}

@@ -1,13 +1,13 @@
 -- The store of one thread over a world, and the calls that a connection makes of it.
 use Rattle.std.proofs.Common.{inl, inr}
 use Rattle.std.specs.Prelude.{◌≡◌, ℕ, ◌*◌, List, [], ◌∷◌, None}
-use Rattle.fa_blocks.specs.Counts.{request_of}
+use Rattle.fa_shared_store.specs.Counts.{request_of}
 use Rattle.fa_deeds.specs.Standing.{IsTimely, IsWorldOf}
 use Rattle.fa_image.specs.Image.{ImageAnswer, ImageCall, ImageState}
 use Rattle.fa_io.specs.Streams.{Streams}
 use Rattle.fa_machine.specs.World.{World}
 use Rattle.fa_mount.specs.Standings.{AreApart}
-use Rattle.fa_stages.specs.Tasks.{task_of}
+use Rattle.fa_shared_steps.specs.Tasks.{task_of}
 use Rattle.fa_session.specs.Exchanges.{Asked, Chain, Exchange, Makes, Outcome}
 use Rattle.fa_session.specs.Session.{Session}
 use Rattle.fa_session.specs.declared.session_end.SessionEnd.{SessionEnd}

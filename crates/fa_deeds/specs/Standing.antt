@@ -4,7 +4,7 @@ use Rattle.fa_deeds.specs.Driving.{image_on}
 use Rattle.fa_image.specs.Image.{ImageAnswer, ImageCall, ImageState}
 use Rattle.fa_laws.specs.Reached.{IsReached}
 use Rattle.fa_machine.specs.World.{World}
-use Rattle.fa_stages.specs.declared.request.Task.{Task}
+use Rattle.fa_shared_steps.specs.declared.request.Task.{Task}
 use Rattle.fa_runs.specs.Drives.{AreImages}
 use Rattle.fa_shared.specs.Seats.{number_of}
 use Rattle.fa_solo.specs.Calls.{Made, MakesRequest, MakesWhole, NoMemory}

@@ -5,7 +5,7 @@ ghost use Rattle.fa_asks.specs.Begun.{IsCalm};
 ghost use Rattle.fa_asks.specs.Shown.{store_of};
 ghost use Rattle.fa_deeds.specs.Driving.{IsDeedOf, StandsFor, image_on};
 ghost use Rattle.fa_deeds.specs.Standing.{IsWorldOf};
-ghost use Rattle.fa_headers.specs.declared.judging.Standing.{Standing};
+ghost use Rattle.fa_mount_headers.specs.declared.judging.Standing.{Standing};
 ghost use Rattle.fa_machine.specs.World.{World};
 ghost use Rattle.fa_mount.specs.Standings.{AreApart};
 ghost use Rattle.fa_runs.specs.Drives.{AreHonest, Drive, Driven, Drives, acts_of};

@@ -5,7 +5,7 @@ ghost use Rattle.fa_deeds.specs.Standing.{IsWorldOf};
 ghost use Rattle.fa_machine.specs.State.{is_live};
 ghost use Rattle.fa_machine.specs.World.{World};
 ghost use Rattle.fa_mount.specs.Standings.{AreApart};
-ghost use Rattle.fa_stages.specs.declared.request.Task.{Task};
+ghost use Rattle.fa_shared_steps.specs.declared.request.Task.{Task};
 ghost use Rattle.fa_runs.specs.Drives.{AreHonest};
 ghost use Rattle.fa_solo.specs.Calls.{MakesWhole};
 ghost use Rattle.fa_solo.specs.declared.rig.Rig.{Rig};

@@ -3,7 +3,7 @@ use Rattle.std.proofs.Common.{◌≡◌, ◌<◌, ◌≤◌, ℕ, List, Some, le
 use Rattle.std.proofs.lemmas.Bool.{cases_order}
 use Rattle.std.proofs.lemmas.Option.{slice_get_within}
 use Rattle.std.specs.Prelude.{None, Option, option_and_then, slice_get}
-use Rattle.fa_headers.specs.declared.judging.Standing.{Standing}
+use Rattle.fa_mount_headers.specs.declared.judging.Standing.{Standing}
 use Rattle.fa_mount.specs.Standings.{AreApart, SharePlace, place_of, place_on}
 
 some_standing : (o : Option Standing) (index : ℕ) → option_and_then place_of o ≡ Some index → (standing : Standing) × (o ≡ Some standing)

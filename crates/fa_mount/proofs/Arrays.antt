@@ -1,16 +1,16 @@
 -- The array over what was scanned.
 use Rattle.std.proofs.Common.{◌≡◌, ◌⊎◌, ℕ, ◌-◌, ◌<◌, ◌≤◌, ◌^◌, Bool, List, Result, Ok, Err, inl, inr, refl, sym, subst, ap, length, ◌∙◌}
 use Rattle.std.specs.Result.{IfErr, IfOk, MatchResult}
-use Rattle.fa_headers.specs.Rules.{refused}
-use Rattle.fa_headers.specs.declared.fault.MountFault.TheVariants.{HeaderBad, NoMemory}
-use Rattle.fa_headers.specs.declared.fault.MountRefused.{MountRefused}
-use Rattle.fa_headers.specs.declared.found.Found.{Found}
-use Rattle.fa_headers.specs.declared.judging.Standing.{Standing}
+use Rattle.fa_mount_headers.specs.Rules.{refused}
+use Rattle.fa_mount_headers.specs.declared.fault.MountFault.TheVariants.{HeaderBad, NoMemory}
+use Rattle.fa_mount_headers.specs.declared.fault.MountRefused.{MountRefused}
+use Rattle.fa_mount_headers.specs.declared.found.Found.{Found}
+use Rattle.fa_mount_headers.specs.declared.judging.Standing.{Standing}
 use Rattle.fa_image.specs.Image.{ImageCall, ImageAnswer, ImageState}
 use Rattle.fa_machine.specs.State.{Core, MapState}
 use Rattle.fa_mount.specs.Begins.{IsBegun}
 use Rattle.fa_mount.specs.MountsArray.{MountsArray, MountsArrayBy, RefusesArray}
-use Rattle.fa_scan.specs.Mounting.{Mounts, MountsBy}
+use Rattle.fa_mount_scan.specs.Mounting.{Mounts, MountsBy}
 
 module _ {I A T : Type 0} (view : I → ImageState) (made : I → ImageCall → ImageAnswer → I → Type 0) (copies : ℕ) (unclean : Bool)
     (before after : List I) (array : List ℕ) (epoch : ℕ) (clean : Bool) (dies : List Standing) (m : MapState)

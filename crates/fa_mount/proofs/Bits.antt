@@ -7,12 +7,12 @@ use Rattle.std.proofs.lemmas.Nat.{and_le_l}
 use Rattle.std.proofs.lemmas.Nat.Bits.{bit_at-lt, bit_at-suc, bit_at-zero, bit_at_above, bit_at_clear_other, bit_at_clear_same, bit_at_set_other, bit_at_set_same, same_from_bits}
 use Rattle.std.specs.FinMap.{contains_key, len, remove}
 use Rattle.std.specs.Int.{bit_at, bit_not}
-use Rattle.fa_headers.specs.Rules.{is_in}
+use Rattle.fa_mount_headers.specs.Rules.{is_in}
 use Rattle.fa_machine.specs.Maps.{Numbers}
 use Rattle.fa_map.proofs.Ranges.{bit, count_agree, count_more}
 use Rattle.fa_mount.specs.Closing.{how_many}
 use Rattle.fa_set.proofs.Changed.{removed_other}
-use Rattle.fa_state.proofs.Numbers.{len_less}
+use Rattle.fa_core_state.proofs.Numbers.{len_less}
 
 pub with_die : (n k : ℕ) → k < 64 → (other : ℕ) → is_in (bit_or n (1 * 2 ^ k % 2 ^ 64)) other ≡ (other == k || is_in n other)
 with_die n k within other =

@@ -1,8 +1,8 @@
 -- One call of each die of a mask, the dies rising.
 use Rattle.std.proofs.Common.{ℕ, ◌+◌, ◌<◌, ◌≡◌, ◌∙◌, ◌==◌, ◌&&◌, ◌||◌, Bool, true, false, nat_lt, cond, List, refl, ap, sym, subst, arith, inl, inr, eq-eqb}
 use Rattle.std.proofs.lemmas.Bool.{and_from, and_left, and_right, cases_Bool, cases_eq, le-ltb, lt-ltb, ne_eqb}
-use Rattle.fa_headers.specs.Rules.{is_in}
-use Rattle.fa_headers.specs.declared.judging.Standing.{Standing}
+use Rattle.fa_mount_headers.specs.Rules.{is_in}
+use Rattle.fa_mount_headers.specs.declared.judging.Standing.{Standing}
 use Rattle.fa_image.specs.Image.{ImageCall, ImageAnswer, Done, Refused}
 use Rattle.fa_image.specs.declared.fault.ImageFault.{ImageFault}
 use Rattle.fa_mount.proofs.Bits.{lt_next}

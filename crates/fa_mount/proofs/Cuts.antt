@@ -3,8 +3,8 @@ use Rattle.std.proofs.Common.{◌≡◌, ◌∙◌, ◌==◌, ◌&&◌, ◌||◌
 use Rattle.std.proofs.lemmas.Bool.{eqb-true, false≢true, or_right}
 use Rattle.std.specs.Bool.{MatchBool}
 use Rattle.std.specs.Result.{IfErr}
-use Rattle.fa_headers.specs.Rules.{is_in}
-use Rattle.fa_headers.specs.declared.judging.Standing.{Standing}
+use Rattle.fa_mount_headers.specs.Rules.{is_in}
+use Rattle.fa_mount_headers.specs.declared.judging.Standing.{Standing}
 use Rattle.fa_image.specs.Image.{ImageCall, Syncing, ImageAnswer, Done}
 use Rattle.fa_mount.specs.Closing.{AreAccepted, IsOut, Took}
 use Rattle.fa_mount.specs.Phases.{AreMade, ByDie, Makes, Went, NotMade, WasAccepted, WasRefused, called, called_to, each_called, is_accepted}

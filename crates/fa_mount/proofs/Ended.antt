@@ -2,8 +2,8 @@
 use Rattle.std.proofs.Common.{◌≡◌, ◌∙◌, ◌==◌, ◌&&◌, ◌+◌, ◌*◌, ◌<◌, ◌^◌, not, ℕ, Bool, true, false, List, Some, None, length, ap, inl, inr, sym, subst, arith}
 use Rattle.std.proofs.lemmas.Bool.{and_parts}
 use Rattle.std.specs.FinMap.{len}
-use Rattle.fa_headers.specs.Rules.{is_in}
-use Rattle.fa_headers.specs.declared.judging.Standing.{Standing}
+use Rattle.fa_mount_headers.specs.Rules.{is_in}
+use Rattle.fa_mount_headers.specs.declared.judging.Standing.{Standing}
 use Rattle.fa_image.specs.Image.{ImageCall, Syncing, ImageAnswer}
 use Rattle.fa_machine.specs.State.{Core, is_live}
 use Rattle.fa_mount.proofs.Become.{Become, begun_by, cut_by, done_by, lost_by, none_by}

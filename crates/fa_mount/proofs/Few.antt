@@ -1,7 +1,7 @@
 -- How many members a set of numbers below a bound has.
 use Rattle.fa_machine.specs.Maps.{Numbers}
 use Rattle.fa_set.proofs.Changed.{removed_here, removed_other}
-use Rattle.fa_state.proofs.Numbers.{len_less, no_entry}
+use Rattle.fa_core_state.proofs.Numbers.{len_less, no_entry}
 use Rattle.std.proofs.Common.{◌≡◌, ℕ, zero, suc, ◌<◌, ◌≤◌, true, Option, Some, None, refl, sym, ap, ◌∙◌, inl, inr, arith, eqb-true}
 use Rattle.std.proofs.lemmas.Bool.{cases_Bool, cases_eq, false≢true}
 use Rattle.std.specs.FinMap.{contains_key, get, len, remove}

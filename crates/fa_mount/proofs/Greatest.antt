@@ -7,7 +7,7 @@ use Rattle.fa_machine.specs.State.{MapState}
 use Rattle.fa_machine.specs.declared.places.Version.{Version}
 use Rattle.fa_map.specs.Slots.{IsPageMap}
 use Rattle.fa_mount.specs.Begins.{IsGreatestNumber, MayBegin, number_in}
-use Rattle.fa_headers.specs.declared.judging.Standing.{Standing}
+use Rattle.fa_mount_headers.specs.declared.judging.Standing.{Standing}
 
 pub record IsGreatestBelow (m : MapState) (end last : ℕ) : Type 0 where
   pub above : (page : ℕ) (version : Version) → page < end → get m.versions page ≡ Some version → version.seq.0 ≤ last

@@ -5,11 +5,11 @@ use Rattle.fa_types.specs.Geometry.{AreCopies}
 use Rattle.fa_types.specs.declared.geometry.Geometry.{Geometry}
 use Rattle.fa_image.specs.Image.{ImageState, ImageCall, ImageAnswer}
 use Rattle.fa_machine.specs.State.{MapState}
-use Rattle.fa_headers.specs.declared.judging.Standing.{Standing}
-use Rattle.fa_headers.specs.Judged.{standing_of}
-use Rattle.fa_headers.specs.Rules.{seen_from}
+use Rattle.fa_mount_headers.specs.declared.judging.Standing.{Standing}
+use Rattle.fa_mount_headers.specs.Judged.{standing_of}
+use Rattle.fa_mount_headers.specs.Rules.{seen_from}
 use Rattle.fa_mount.specs.Begins.{MayBegin}
-use Rattle.fa_scan.specs.Mounting.{Mounts}
+use Rattle.fa_mount_scan.specs.Mounting.{Mounts}
 use Rattle.fa_mount.proofs.Numbers.{numbers_fit}
 use Rattle.fa_mount.proofs.Room.{copies_fit, is_held}
 use Rattle.fa_mount.proofs.Spares.{spare_not_live}

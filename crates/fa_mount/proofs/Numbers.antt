@@ -12,14 +12,14 @@ use Rattle.fa_tag.specs.declared.tag.Opened.TheVariants.{Erased as ErasedBytes, 
 use Rattle.fa_tag.specs.SlotGrammar.{IsOpened}
 use Rattle.fa_machine.specs.State.{MapState}
 use Rattle.fa_machine.specs.declared.places.Version.{Version}
-use Rattle.fa_scan.specs.Content.{Contents, HasCopy, IsLastOf, IsMountedContent, content_of, slots_on}
-use Rattle.fa_scan.specs.ContentReading.{AreOutcomes, HasOutcome, ReadsAt, ReadsSlots, image_read}
-use Rattle.fa_scan.specs.Scanned.{AreSettled, Outcome, mounted_of}
-use Rattle.fa_scan.specs.declared.slots.content.SlotContent.{SlotContent}
-use Rattle.fa_scan.specs.declared.slots.content.SlotContent.TheVariants.{Copy, Stale}
-use Rattle.fa_headers.specs.declared.judging.Standing.{Standing}
-use Rattle.fa_headers.specs.declared.judging.Standing.TheVariants.{Missing, Live, Spare, Out}
-use Rattle.fa_scan.proofs.Filling.{read_die_below, slots_of_found}
+use Rattle.fa_mount_scan.specs.Content.{Contents, HasCopy, IsLastOf, IsMountedContent, content_of, slots_on}
+use Rattle.fa_mount_scan.specs.ContentReading.{AreOutcomes, HasOutcome, ReadsAt, ReadsSlots, image_read}
+use Rattle.fa_mount_scan.specs.Scanned.{AreSettled, Outcome, mounted_of}
+use Rattle.fa_mount_scan.specs.declared.slots.content.SlotContent.{SlotContent}
+use Rattle.fa_mount_scan.specs.declared.slots.content.SlotContent.TheVariants.{Copy, Stale}
+use Rattle.fa_mount_headers.specs.declared.judging.Standing.{Standing}
+use Rattle.fa_mount_headers.specs.declared.judging.Standing.TheVariants.{Missing, Live, Spare, Out}
+use Rattle.fa_mount_scan.proofs.Filling.{read_die_below, slots_of_found}
 
 -- a number of 1 to 2^62 - 1
 abbrev pub Fits : Version → Type 0

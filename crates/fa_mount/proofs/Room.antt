@@ -5,13 +5,13 @@ use Rattle.std.proofs.lemmas.Option.{none-some, same_Some}
 use Rattle.std.specs.Prelude.{nat_le, option_map, if◌then◌else◌}
 use Rattle.fa_types.specs.Geometry.{AreCopies}
 use Rattle.fa_types.specs.declared.geometry.Geometry.{Geometry}
-use Rattle.fa_headers.specs.Judged.{IsJudged, first_seen}
-use Rattle.fa_headers.specs.Rules.{can_hold, first_of, header_refusal, of_another_array}
-use Rattle.fa_headers.specs.Rules.{of_another_geometry, reading_refusal, refused_for, seen_from, seen_refusal, without_room}
-use Rattle.fa_headers.specs.declared.fault.MountFault.TheVariants.{GeometryDiffers}
-use Rattle.fa_headers.specs.declared.found.Found.{Found}
-use Rattle.fa_headers.specs.declared.judging.Judged.{Judged}
-use Rattle.fa_headers.specs.declared.seen.Seen.{Seen}
+use Rattle.fa_mount_headers.specs.Judged.{IsJudged, first_seen}
+use Rattle.fa_mount_headers.specs.Rules.{can_hold, first_of, header_refusal, of_another_array}
+use Rattle.fa_mount_headers.specs.Rules.{of_another_geometry, reading_refusal, refused_for, seen_from, seen_refusal, without_room}
+use Rattle.fa_mount_headers.specs.declared.fault.MountFault.TheVariants.{GeometryDiffers}
+use Rattle.fa_mount_headers.specs.declared.found.Found.{Found}
+use Rattle.fa_mount_headers.specs.declared.judging.Judged.{Judged}
+use Rattle.fa_mount_headers.specs.declared.seen.Seen.{Seen}
 
 first_none : {X : Type 0} (o : Option X) (others : List (Option X)) → first_of (o ∷ others) ≡ None → (o ≡ None) × (first_of others ≡ None)
 first_none None others none = (refl, none)

@@ -4,8 +4,8 @@ use Rattle.std.specs.Bool.{MatchBool}
 use Rattle.std.specs.List.{AllByRecursion}
 use Rattle.std.proofs.lemmas.Bool.{cases_eq}
 use Rattle.std.proofs.lemmas.Option.{none-some, same_Some}
-use Rattle.fa_headers.specs.Rules.{is_in}
-use Rattle.fa_headers.specs.declared.judging.Standing.{Standing}
+use Rattle.fa_mount_headers.specs.Rules.{is_in}
+use Rattle.fa_mount_headers.specs.declared.judging.Standing.{Standing}
 use Rattle.fa_image.specs.Image.{ImageState, ImageMeets, ImageCall, WritingHeader, Syncing, ImageAnswer, Gave, Done, Refused}
 use Rattle.fa_machine.specs.State.{Core, is_live}
 use Rattle.fa_mount.specs.Closing.{AreAccepted, Ends, HasBecome, HaveBecome, IsClosed, IsEarlier, IsOut, IsUnmarked, Took, writing_in}

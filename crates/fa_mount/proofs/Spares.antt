@@ -6,17 +6,17 @@ use Rattle.std.specs.FinMap.{contains_key, empty, get-empty, insert}
 use Rattle.std.specs.Option.{option_map_or}
 use Rattle.std.specs.Ordering.{nat_cmp}
 use Rattle.std.specs.Prelude.{is_some}
-use Rattle.fa_headers.specs.declared.judging.Standing.{Standing}
-use Rattle.fa_headers.specs.declared.judging.Standing.TheVariants.{Missing, Live, Spare, Out}
+use Rattle.fa_mount_headers.specs.declared.judging.Standing.{Standing}
+use Rattle.fa_mount_headers.specs.declared.judging.Standing.TheVariants.{Missing, Live, Spare, Out}
 use Rattle.fa_machine.specs.Maps.{Numbers}
 use Rattle.fa_mount.specs.Begins.{AreSpares}
 use Rattle.fa_set.proofs.Changed.{inserted_here, inserted_other}
 use Rattle.fa_machine.specs.State.{MapState, is_live}
 use Rattle.fa_types.specs.declared.geometry.Geometry.{Geometry}
-use Rattle.fa_scan.specs.Content.{Contents, IsMountedContent}
-use Rattle.fa_scan.specs.MountedWorld.{is_spare_of}
-use Rattle.fa_scan.specs.Reported.{is_spare}
-use Rattle.fa_scan.specs.Scanned.{AreSettled, Outcome, mounted_of, settled}
+use Rattle.fa_mount_scan.specs.Content.{Contents, IsMountedContent}
+use Rattle.fa_mount_scan.specs.MountedWorld.{is_spare_of}
+use Rattle.fa_mount_scan.specs.Reported.{is_spare}
+use Rattle.fa_mount_scan.specs.Scanned.{AreSettled, Outcome, mounted_of, settled}
 
 pub spare_index : (standing : Option Standing) → option_map_or is_spare standing false ≡ true → (index : ℕ) × (standing ≡ Some (Spare index))
 spare_index None e = absurd (false≢true e)

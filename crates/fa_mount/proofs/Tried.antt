@@ -2,7 +2,7 @@
 use Rattle.std.proofs.Common.{ℕ, ◌+◌, ◌<◌, ◌≡◌, ◌∙◌, ◌&&◌, Bool, true, false, nat_lt, List, refl, ap, sym, subst, arith, inl, inr}
 use Rattle.std.specs.Bool.{MatchBool}
 use Rattle.std.proofs.lemmas.Bool.{and_from, and_left, and_right, cases_Bool, cases_eq, le-ltb, lt-ltb}
-use Rattle.fa_headers.specs.declared.judging.Standing.{Standing}
+use Rattle.fa_mount_headers.specs.declared.judging.Standing.{Standing}
 use Rattle.fa_image.specs.Image.{ImageCall, ImageAnswer}
 use Rattle.fa_mount.proofs.Bits.{lt_next}
 use Rattle.fa_mount.proofs.Images.{one_more, unchanged, weaker}

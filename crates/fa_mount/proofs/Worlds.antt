@@ -10,10 +10,10 @@ use Rattle.std.specs.FinMap.{contains_key, entries, get, get-entries, get-from_e
 use Rattle.std.specs.List.{AllByRecursion}
 use Rattle.std.specs.Prelude.{is_some, option_and_then, option_map, slice_index_or}
 use Rattle.fa_core.specs.Begun.{begun, numbers_of}
-use Rattle.fa_headers.proofs.Images.{images_of}
-use Rattle.fa_headers.specs.Rules.{seen_from}
-use Rattle.fa_headers.specs.declared.judging.Standing.{Standing}
-use Rattle.fa_headers.specs.declared.judging.Standing.TheVariants.{Missing, Live, Spare, Out}
+use Rattle.fa_mount_headers.proofs.Images.{images_of}
+use Rattle.fa_mount_headers.specs.Rules.{seen_from}
+use Rattle.fa_mount_headers.specs.declared.judging.Standing.{Standing}
+use Rattle.fa_mount_headers.specs.declared.judging.Standing.TheVariants.{Missing, Live, Spare, Out}
 use Rattle.fa_image.specs.Image.{ImageState, ImageCall, ImageAnswer, ImageMeets, IsImage, slot_at, slot_bytes, slot_count}
 use Rattle.fa_machine.proofs.Maps.{found_changed, nat_same}
 use Rattle.fa_machine.specs.Beginning.{IsBeginning}
@@ -26,22 +26,22 @@ use Rattle.fa_machine.specs.declared.places.Version.{Version}
 use Rattle.fa_mount.proofs.Mounted.{may_begin}
 use Rattle.fa_mount.specs.Begins.{AreSpares, IsGreatestNumber, MayBegin}
 use Rattle.fa_mount.specs.MountsArray.{MountsArray}
-use Rattle.fa_scan.proofs.Filling.{read_die_below}
-use Rattle.fa_found.proofs.HonestSlots.{mounted_there}
-use Rattle.fa_scan.proofs.LastWrites.{found_on}
-use Rattle.fa_found.proofs.MountedFacts.{held_found, live_found, used_within, written_held}
-use Rattle.fa_found.proofs.MountedWorlds.{is_beginning}
-use Rattle.fa_scan.proofs.OnlyReading.{die_only_read}
-use Rattle.fa_scan.proofs.Readable.{are_readable}
-use Rattle.fa_found.proofs.SlotCells.{copy_bytes, found_cell}
-use Rattle.fa_scan.specs.Content.{slots_on}
-use Rattle.fa_scan.specs.ContentCells.{IsCellOf}
-use Rattle.fa_scan.specs.ContentReading.{HasOutcome, ReadsAt, image_read}
-use Rattle.fa_scan.specs.MountedWorld.{CopiesAgree, HoldMap, IsFirstPlain, IsMountedWorld, SlotBytes, bytes_of, is_spare_of}
-use Rattle.fa_scan.specs.Mounting.{Mounts}
-use Rattle.fa_scan.specs.Scanned.{Outcome, mounted_of, settled}
-use Rattle.fa_scan.specs.declared.slots.content.SlotContent.{SlotContent}
-use Rattle.fa_scan.specs.declared.slots.content.SlotContent.TheVariants.{Copy}
+use Rattle.fa_mount_scan.proofs.Filling.{read_die_below}
+use Rattle.fa_mount_laws.proofs.HonestSlots.{mounted_there}
+use Rattle.fa_mount_scan.proofs.LastWrites.{found_on}
+use Rattle.fa_mount_laws.proofs.MountedFacts.{held_found, live_found, used_within, written_held}
+use Rattle.fa_mount_laws.proofs.MountedWorlds.{is_beginning}
+use Rattle.fa_mount_scan.proofs.OnlyReading.{die_only_read}
+use Rattle.fa_mount_scan.proofs.Readable.{are_readable}
+use Rattle.fa_mount_laws.proofs.SlotCells.{copy_bytes, found_cell}
+use Rattle.fa_mount_scan.specs.Content.{slots_on}
+use Rattle.fa_mount_scan.specs.ContentCells.{IsCellOf}
+use Rattle.fa_mount_scan.specs.ContentReading.{HasOutcome, ReadsAt, image_read}
+use Rattle.fa_mount_scan.specs.MountedWorld.{CopiesAgree, HoldMap, IsFirstPlain, IsMountedWorld, SlotBytes, bytes_of, is_spare_of}
+use Rattle.fa_mount_scan.specs.Mounting.{Mounts}
+use Rattle.fa_mount_scan.specs.Scanned.{Outcome, mounted_of, settled}
+use Rattle.fa_mount_scan.specs.declared.slots.content.SlotContent.{SlotContent}
+use Rattle.fa_mount_scan.specs.declared.slots.content.SlotContent.TheVariants.{Copy}
 use Rattle.fa_tag.specs.SlotGrammar.{payload_of}
 use Rattle.fa_types.specs.declared.geometry.Geometry.{Geometry}
 use Rattle.fa_types.specs.declared.numbers.Page.{Page}

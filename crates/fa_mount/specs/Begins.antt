@@ -2,11 +2,11 @@
 use Rattle.std.specs.Prelude.{◌≡◌, ℕ, ◌+◌, ◌^◌, ◌<◌, ◌≤◌, ◌⊎◌, true, false, List, length, Option, Some, None}
 use Rattle.std.specs.FinMap.{contains_key, get}
 use Rattle.fa_core.specs.Begun.{begun}
-use Rattle.fa_headers.specs.declared.judging.Standing.{Standing}
+use Rattle.fa_mount_headers.specs.declared.judging.Standing.{Standing}
 use Rattle.fa_machine.specs.Maps.{Numbers}
 use Rattle.fa_machine.specs.State.{Core, MapState, is_live}
 use Rattle.fa_machine.specs.declared.places.Version.{Version}
-use Rattle.fa_scan.specs.MountedWorld.{is_spare_of}
+use Rattle.fa_mount_scan.specs.MountedWorld.{is_spare_of}
 use Rattle.fa_types.specs.Geometry.{AreCopies}
 
 -- exactly the dies that stand as spares

@@ -3,8 +3,8 @@ use Rattle.std.specs.Prelude.{◌≡◌, ◌⊎◌, ℕ, ◌+◌, ◌<◌, Bool,
 use Rattle.std.specs.Prelude.{Result, Ok, Err}
 use Rattle.std.specs.FinMap.{get}
 use Rattle.std.specs.List.{AllByRecursion, count_by, list_any}
-use Rattle.fa_headers.specs.declared.judging.Standing.{Standing}
-use Rattle.fa_headers.specs.Rules.{is_in}
+use Rattle.fa_mount_headers.specs.declared.judging.Standing.{Standing}
+use Rattle.fa_mount_headers.specs.Rules.{is_in}
 use Rattle.fa_image.specs.Image.{ImageCall, WritingHeader, Syncing, ImageAnswer, Done, Refused}
 use Rattle.fa_image.specs.declared.fault.ImageFault.{ImageFault}
 use Rattle.fa_machine.specs.Copies.{holds_page}

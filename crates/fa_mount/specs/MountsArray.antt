@@ -1,14 +1,14 @@
 -- What mounting an array comes to: its images are scanned, and the array is the one over what they hold.
 use Rattle.std.specs.Prelude.{◌≡◌, ℕ, ◌-◌, ◌^◌, ◌<◌, ◌≤◌, ◌⊎◌, Bool, List}
-use Rattle.fa_headers.specs.declared.fault.MountFault.TheVariants.{HeaderBad}
-use Rattle.fa_headers.specs.declared.fault.MountRefused.{MountRefused}
-use Rattle.fa_headers.specs.declared.found.Found.{Found}
-use Rattle.fa_headers.specs.declared.judging.Standing.{Standing}
-use Rattle.fa_headers.specs.Rules.{refused}
+use Rattle.fa_mount_headers.specs.declared.fault.MountFault.TheVariants.{HeaderBad}
+use Rattle.fa_mount_headers.specs.declared.fault.MountRefused.{MountRefused}
+use Rattle.fa_mount_headers.specs.declared.found.Found.{Found}
+use Rattle.fa_mount_headers.specs.declared.judging.Standing.{Standing}
+use Rattle.fa_mount_headers.specs.Rules.{refused}
 use Rattle.fa_image.specs.Image.{ImageState, ImageCall, ImageAnswer}
 use Rattle.fa_machine.specs.State.{Core, MapState}
 use Rattle.fa_mount.specs.Begins.{IsBegun}
-use Rattle.fa_scan.specs.Mounting.{Mounts, RefusesMount}
+use Rattle.fa_mount_scan.specs.Mounting.{Mounts, RefusesMount}
 
 module _ {I : Type 0} (A : Type 0) (view : I → ImageState) (made : I → ImageCall → ImageAnswer → I → Type 0) (copies : ℕ)
     (unclean : Bool) where

@@ -1,7 +1,7 @@
 -- One turn of closing: the dies that are left are synced, told, and synced again, up to the first that refuses.
 use Rattle.std.specs.Prelude.{◌≡◌, ◌⊎◌, ℕ, ◌<◌, ◌==◌, ◌&&◌, Bool, true, false, MatchBool, List, [], ◌∷◌, Some, None, Result, Ok, Err}
-use Rattle.fa_headers.specs.declared.judging.Standing.{Standing}
-use Rattle.fa_headers.specs.Rules.{is_in}
+use Rattle.fa_mount_headers.specs.declared.judging.Standing.{Standing}
+use Rattle.fa_mount_headers.specs.Rules.{is_in}
 use Rattle.fa_image.specs.Image.{ImageCall, Syncing, ImageAnswer}
 use Rattle.fa_machine.specs.State.{MapState}
 use Rattle.fa_mount.specs.Closing.{AreAccepted, IsOut, Took, lowest_lost}

@@ -2,16 +2,16 @@
 ghost use Rattle.std.specs.Prelude.{◌≡◌, ◌+◌, ◌-◌, ◌*◌, ◌^◌, ◌<◌, ◌≤◌, ◌⊎◌, if◌then◌else◌, length, IfErr, IfOk};
 ghost use Rattle.std.specs.FinMap.{get, insert};
 ghost use Rattle.fa_core.specs.Array.{IsWhole, number_of, state_of};
-ghost use Rattle.fa_headers.specs.Rules as rules;
+ghost use Rattle.fa_mount_headers.specs.Rules as rules;
 ghost use Rattle.fa_mount.specs.Begins.{AreSpares, IsBegun, IsGreatestNumber, MayBegin, number_in};
-ghost use Rattle.fa_scan.specs.Reported.{is_spare as is_spare_die};
+ghost use Rattle.fa_mount_scan.specs.Reported.{is_spare as is_spare_die};
 ghost use Rattle.fa_set.specs.Members.{bound_of, members};
 
 use crate::array::MountedArray;
 use fa_core::Array;
-use fa_headers::{MountFault, MountRefused, Standing};
+use fa_mount_headers::{MountFault, MountRefused, Standing};
 use fa_map::Map;
-use fa_scan::Mounted;
+use fa_mount_scan::Mounted;
 use fa_set::NumberSet;
 use fa_types::{Copies, Page, Seq};
 use std::alloc::{AllocError, Allocator};

@@ -1,7 +1,7 @@
 //! Closing an array: the images of its live dies are told that they hold all there is.
 ghost use Rattle.std.specs.Prelude.{◌≡◌, ◌+◌, ◌<◌, ◌≤◌, ◌^◌, length, map};
 ghost use Rattle.fa_core.specs.Array.{IsWhole, number_of, state_of};
-ghost use Rattle.fa_headers.specs.Rules.{is_in as rule_in};
+ghost use Rattle.fa_mount_headers.specs.Rules.{is_in as rule_in};
 ghost use Rattle.fa_machine.specs.State.{is_live};
 ghost use Rattle.fa_mount.specs.Closing.{Closes, Ends, close_fault_number};
 ghost use Rattle.fa_mount.specs.Standings.{AreApart, HaveImages};
@@ -13,7 +13,7 @@ use crate::losing::{live_mask, lost_page};
 use crate::masks::without;
 use crate::telling::{Told, mark_all, sync_all, unmark_all};
 use fa_core::Array;
-use fa_headers::Standing;
+use fa_mount_headers::Standing;
 use fa_image::Image;
 use fa_map::Map;
 use fa_types::{Die, Page};

@@ -1,12 +1,12 @@
 //! Laws of the definitions, each the contract of a function with no code.
 ghost use Rattle.std.specs.Prelude.{◌≡◌, ℕ, Bool, IsTrue, List, length, map};
 ghost use Rattle.std.specs.List.{AllByRecursion};
-ghost use Rattle.fa_headers.specs.declared.judging.Standing.{Standing};
+ghost use Rattle.fa_mount_headers.specs.declared.judging.Standing.{Standing};
 ghost use Rattle.fa_machine.specs.Beginning.{IsBeginning};
 ghost use Rattle.fa_machine.specs.State.{Core};
 ghost use Rattle.fa_machine.specs.World.{World};
 ghost use Rattle.fa_mount.specs.MountsArray.{MountsArray};
-ghost use Rattle.fa_scan.specs.MountedWorld.{CopiesAgree, IsMountedWorld, bytes_of, is_spare_of};
+ghost use Rattle.fa_mount_scan.specs.MountedWorld.{CopiesAgree, IsMountedWorld, bytes_of, is_spare_of};
 
 use fa_image::Image;
 

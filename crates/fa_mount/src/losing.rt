@@ -1,7 +1,7 @@
 //! Which dies of an array are live, and which of its pages are lost where some of them are left.
 ghost use Rattle.std.specs.Prelude.{◌≡◌, ◌<◌, ◌&&◌, ℕ, option_map};
 ghost use Rattle.fa_core.specs.Array.{state_of};
-ghost use Rattle.fa_headers.specs.Rules.{is_in as rule_in};
+ghost use Rattle.fa_mount_headers.specs.Rules.{is_in as rule_in};
 ghost use Rattle.fa_machine.specs.Copies.{holds_page};
 ghost use Rattle.fa_machine.specs.State.{is_live};
 ghost use Rattle.fa_mount.specs.Closing.{is_held_in, is_lost_in, lowest_lost};

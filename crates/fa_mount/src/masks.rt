@@ -1,6 +1,6 @@
 //! Masks of dies: bit `d` stands for die `d`.
 ghost use Rattle.std.specs.Prelude.{◌≡◌, ◌≤◌, ◌<◌, ◌==◌, ◌&&◌, ◌||◌, ℕ, not};
-ghost use Rattle.fa_headers.specs.Rules.{is_in as rule_in};
+ghost use Rattle.fa_mount_headers.specs.Rules.{is_in as rule_in};
 
 /// Whether the die is in the mask.
 pub(crate) fn is_in(mask: u64, die: u32) -> bool

@@ -1,25 +1,25 @@
 //! An array, mounted from its images in one call.
 ghost use Rattle.std.specs.Prelude.{◌≡◌, List, IfOk, MatchResult, length, map};
 ghost use Rattle.fa_core.specs.Array.{IsWhole, number_of, state_of};
-ghost use Rattle.fa_headers.specs.Found.{AreFound, AreOnlyRead, IsReadOf};
+ghost use Rattle.fa_mount_headers.specs.Found.{AreFound, AreOnlyRead, IsReadOf};
 ghost use Rattle.fa_map.specs.PageView.{page_view};
 ghost use Rattle.fa_mount.specs.MountsArray.{MountsArray, MountsArrayBy, RefusesArray};
 
 use crate::array::MountedArray;
 use crate::beginning::begin;
-use fa_headers::{Found, MountRefused};
+use fa_mount_headers::{Found, MountRefused};
 use fa_image::Image;
 use fa_map::PageMap;
-use fa_scan::{scan, scan_found, scan_found_side_by_side};
+use fa_mount_scan::{scan, scan_found, scan_found_side_by_side};
 use fa_types::Copies;
 use std::alloc::Allocator;
 use std::thread::Threads;
 
-/// The array that images are, whose pages are to have so many copies: what [`fa_scan::scan`] mounts of them, with an epoch one above
+/// The array that images are, whose pages are to have so many copies: what [`fa_mount_scan::scan`] mounts of them, with an epoch one above
 /// the greatest of their headers. Nothing is written. The images may be in any order, and those that are left aside are named by
 /// `unclean` as there.
 ///
-/// The refusals are those of [`fa_scan::scan`], in its order, and last of all 1 where the greatest epoch is above 2^62 - 256, also
+/// The refusals are those of [`fa_mount_scan::scan`], in its order, and last of all 1 where the greatest epoch is above 2^62 - 256, also
 /// with `unclean`; 8 at any point.
 pub fn mount<I: Image, A: Allocator + Copy>(
     alloc: A,

@@ -2,7 +2,7 @@
 ghost use Rattle.std.specs.Prelude.{◌≡◌};
 ghost use Rattle.fa_mount.specs.Standings.{place_of as place_by, place_on};
 
-use fa_headers::Standing;
+use fa_mount_headers::Standing;
 
 /// The place of the image of a die. None where it has no image, or is none of the array.
 pub(crate) fn place_at(dies: &[Standing], die: usize) -> Option<usize>

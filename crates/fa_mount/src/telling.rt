@@ -1,6 +1,6 @@
 //! The calls that closing makes of the images of the dies that are left: one call of each, the dies rising.
 ghost use Rattle.std.specs.Prelude.{◌≡◌, ◌<◌, ◌^◌, ◌&&◌, ◌||◌, ℕ, true, false, IfErr, MatchBool, length};
-ghost use Rattle.fa_headers.specs.Rules.{is_in as rule_in};
+ghost use Rattle.fa_mount_headers.specs.Rules.{is_in as rule_in};
 ghost use Rattle.fa_image.specs.Image.{ImageAnswer, Syncing};
 ghost use Rattle.fa_mount.specs.Phases.{AreMade, ByDie, CallsDie, answer_of, called, is_accepted};
 ghost use Rattle.fa_mount.specs.Standings.{AreApart, HaveImages, place_on};
@@ -8,7 +8,7 @@ ghost use Rattle.fa_mount.specs.Told.{IsTold, writing};
 
 use crate::masks::{is_in, with};
 use crate::standings::place_at;
-use fa_headers::Standing;
+use fa_mount_headers::Standing;
 use fa_image::{Image, ImageFault};
 use fa_tag::{Header, seal_header};
 use fa_types::{Die, Geometry};

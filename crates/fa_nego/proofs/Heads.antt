@@ -2,7 +2,7 @@
 use Rattle.std.proofs.Common.{◌≡◌, ℕ, ◌^◌, ◌<◌, List, ◌++◌, length, take, drop, refl, sym, ap, ◌∙◌}
 use Rattle.byteorder.specs.Endian.{big_bytes, big_number}
 use Rattle.byteorder.specs.Numbers.{big_number-reads_back}
-use Rattle.fa_heads.specs.Heads.{head_bytes}
+use Rattle.fa_nego_head.specs.Heads.{head_bytes}
 
 -- there are 16 bytes of it
 pub length-head_bytes : (option len : ℕ) → length (head_bytes option len) ≡ 16

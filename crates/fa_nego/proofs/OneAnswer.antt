@@ -3,7 +3,7 @@ use Rattle.std.proofs.Common.{◌≡◌, ◌≢◌, ℕ, ◌^◌, ◌<◌, ◌�
 use Rattle.std.specs.List.{AllByRecursion}
 use Rattle.std.proofs.lemmas.List.{append-nil, take_at, drop_at}
 use Rattle.byteorder.specs.Endian.{big_bytes, big_number}
-use Rattle.fa_heads.specs.Heads.{IsPart, head_bytes, max_data}
+use Rattle.fa_nego_head.specs.Heads.{IsPart, head_bytes, max_data}
 use Rattle.fa_nego.specs.Negotiation.{Come, NameComesTo, unknown_name, known_name, ListComesTo, listed, with_data, InfoComesTo, invalid, unknown, known, told, Asked, ComesTo, export_name, abort, list, info, go, unsupported, Sent, IsOption, Turn, IsTurn, IsPassed, turns_heard, turns_said, AreKnown, Opens, Negotiates, hears_flags, refuses_flags, hears_options, ends, refuses_magic, refuses_length, option_bytes}
 use Rattle.fa_nego.specs.Numbers.{opt_info, opt_go}
 use Rattle.fa_nego.specs.declared.step.Step.{Step}

@@ -3,7 +3,7 @@ use Rattle.std.proofs.Common.{◌≡◌, ◌≢◌, ℕ, List, [], ◌∷◌, �
 use Rattle.std.specs.List.{AllByRecursion}
 use Rattle.std.proofs.lemmas.List.{take-append-le}
 use Rattle.byteorder.specs.Endian.{big_bytes}
-use Rattle.fa_heads.specs.Heads.{head_bytes}
+use Rattle.fa_nego_head.specs.Heads.{head_bytes}
 use Rattle.fa_nego.specs.Negotiation.{Turn, IsPassed, turns_heard, Negotiates, option_bytes}
 use Rattle.fa_nego.specs.declared.step.Step.{Step}
 use Rattle.fa_nego.specs.declared.step.Step.TheVariants.{More}

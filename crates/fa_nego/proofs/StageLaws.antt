@@ -2,7 +2,7 @@
 use Rattle.std.proofs.Common.{◌≡◌, ◌≢◌, ℕ, ◌+◌, ◌-◌, ◌≤◌, ◌↔◌, min, inl, inr, List, [], length, drop, refl, ap, ◌∙◌, arith, length-append}
 use Rattle.std.proofs.lemmas.Bool.Decides.{nat_tests}
 use Rattle.byteorder.specs.Endian.{big_number}
-use Rattle.fa_heads.specs.Heads.{IsPart, head_bytes}
+use Rattle.fa_nego_head.specs.Heads.{IsPart, head_bytes}
 use Rattle.fa_nego.specs.Negotiation.{Negotiates, hears_flags, hears_options}
 use Rattle.fa_nego.specs.declared.step.Step.TheVariants.{More}
 use Rattle.fa_nego.specs.NegoState.{Stage, Flags, Options, Over, NegoState, new_state, step_of, wanted, IsAt}

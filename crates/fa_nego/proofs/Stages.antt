@@ -4,7 +4,7 @@ use Rattle.std.specs.List.{AllByRecursion}
 use Rattle.std.proofs.lemmas.List.{append-nil, take-append-drop, flat_map_more, nil_from_length, take_all, take-take}
 use Rattle.std.proofs.lemmas.Bool.Decides.{nat_tests}
 use Rattle.byteorder.specs.Endian.{big_bytes, big_number}
-use Rattle.fa_heads.specs.Heads.{IsPart, head_bytes, max_data}
+use Rattle.fa_nego_head.specs.Heads.{IsPart, head_bytes, max_data}
 use Rattle.fa_nego.specs.Negotiation.{Turn, IsTurn, IsPassed, Sent, IsOption, turns_heard, refuses_flags, refuses_magic, refuses_length, ends, ComesTo, option_bytes}
 use Rattle.fa_nego.specs.declared.step.Step.{Step}
 use Rattle.fa_nego.specs.declared.step.Step.TheVariants.{More, Closed}

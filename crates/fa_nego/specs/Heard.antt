@@ -1,7 +1,7 @@
 -- What the parts of a negotiation do with the bytes of one item.
 use Rattle.std.specs.Prelude.{◌≡◌, ◌≢◌, ℕ, ◌^◌, ◌<◌, ◌≤◌, ◌⊎◌, List, [], ◌++◌, length, Option, None, Some}
 use Rattle.std.specs.List.{AllByRecursion}
-use Rattle.fa_heads.specs.Heads.{head_bytes, max_data}
+use Rattle.fa_nego_head.specs.Heads.{head_bytes, max_data}
 use Rattle.fa_nego.specs.Negotiation.{Turn, Opens, Negotiates, kinds_bytes}
 use Rattle.fa_nego.specs.declared.step.Step.TheVariants.{More}
 use Rattle.fa_nego.specs.NegoState.{Stage, Flags, Options, Over, NegoState, IsAt}

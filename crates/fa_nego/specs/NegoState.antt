@@ -1,7 +1,7 @@
 -- What a negotiation keeps between two pieces of the client's bytes, and what that stands for.
 use Rattle.std.specs.Prelude.{◌≡◌, ◌≢◌, ℕ, ◌+◌, ◌-◌, ◌<◌, nat_lt, if◌then◌else◌, List, [], ◌++◌, length, drop, Option, None, Some}
 use Rattle.byteorder.specs.Endian.{big_number}
-use Rattle.fa_heads.specs.Heads.{IsPart}
+use Rattle.fa_nego_head.specs.Heads.{IsPart}
 use Rattle.fa_nego.specs.Negotiation.{Turn, Opens, Negotiates}
 use Rattle.fa_nego.specs.declared.step.Step.{Step}
 use Rattle.fa_nego.specs.declared.step.Step.TheVariants.{More, Go, Aborted, Closed}

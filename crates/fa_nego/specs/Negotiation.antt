@@ -4,7 +4,7 @@
 use Rattle.std.specs.Prelude.{◌≡◌, ◌≢◌, ℕ, ◌^◌, ◌<◌, ◌≤◌, ◌==◌, ◌⊎◌, Bool, if◌then◌else◌, bit_and, List, [], ◌++◌, length, take, replicate}
 use Rattle.std.specs.List.{flat_map, list_any, AllByRecursion}
 use Rattle.byteorder.specs.Endian.{big_bytes}
-use Rattle.fa_heads.specs.Heads.{head_bytes, max_data, IsPart}
+use Rattle.fa_nego_head.specs.Heads.{head_bytes, max_data, IsPart}
 use Rattle.fa_nego.specs.Numbers.{flag_no_zeroes, opt_export_name, opt_abort, opt_list, opt_info, opt_go, rep_ack, rep_server, rep_info, rep_err_unsup, rep_err_invalid, rep_err_unknown, info_export, info_name, info_block_size}
 use Rattle.fa_nego.specs.declared.step.Step.{Step}
 use Rattle.fa_nego.specs.declared.step.Step.TheVariants.{More, Go, Aborted, Closed}

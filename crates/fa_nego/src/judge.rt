@@ -15,7 +15,7 @@ use crate::phase::Phase;
 use crate::reply::{export_data, information, listing, reply};
 use crate::step::{CloseCause, Step};
 use byteorder::{BigEndian, ByteOrder};
-use fa_heads::{Held, option_in};
+use fa_nego_head::{Held, option_in};
 use std::alloc::{AllocError, Allocator};
 
 /// How many bytes the client's flags have.

@@ -10,7 +10,7 @@ use crate::phase::Phase;
 use crate::reply::first_words;
 use crate::step::{CloseCause, Fed, Step};
 use byteorder::{BigEndian, ByteOrder};
-use fa_heads::HEAD_LEN;
+use fa_nego_head::HEAD_LEN;
 use std::alloc::{AllocError, Allocator, Global};
 use std::marker::Model;
 

@@ -21,7 +21,7 @@ use crate::numbers::{
     REP_SERVER,
 };
 use byteorder::{BigEndian, ByteOrder};
-use fa_heads::OPTION_MAGIC;
+use fa_nego_head::OPTION_MAGIC;
 use std::alloc::{AllocError, Allocator};
 
 /// The magic number with which the server's first words begin.

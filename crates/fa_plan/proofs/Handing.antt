@@ -6,11 +6,11 @@ use Rattle.std.proofs.Math.Seq.{get_or-append_seam}
 use Rattle.std.proofs.lemmas.List.Sums.{sum_by-set, sum_by_push}
 use Rattle.fa_types.specs.declared.numbers.Die.{Die}
 use Rattle.fa_batch.specs.Batch.{Entry}
-use Rattle.fa_walk.specs.declared.walk.Tables.{Tables}
-use Rattle.fa_walk.specs.declared.walk.Walk.{Walk}
+use Rattle.fa_plan_search.specs.declared.walk.Tables.{Tables}
+use Rattle.fa_plan_search.specs.declared.walk.Walk.{Walk}
 use Rattle.fa_plan.specs.Giving.{AreGiven, AreReaders, IsHandingOn}
-use Rattle.fa_walk.specs.Reading.{can_read, die_of, load_of, no_die}
-use Rattle.fa_walk.specs.Search.{HasFound, has_reached, rank_of, way_to}
+use Rattle.fa_plan_search.specs.Reading.{can_read, die_of, load_of, no_die}
+use Rattle.fa_plan_search.specs.Search.{HasFound, has_reached, rank_of, way_to}
 
 -- One page more is handed on along a way.
 module _ (batch : List Entry) (first : List Die) (w : Walk) (free : ℕ) (given : List Die) (d : Die) (page : ℕ) (so_far : IsHandingOn batch first w free given d page) (below : page < length given) where

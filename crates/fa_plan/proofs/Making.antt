@@ -9,15 +9,15 @@ use Rattle.fa_batch.specs.Batch.{Entry, IsSound, times_named}
 use Rattle.fa_batch.specs.Certificate.{AreNamed, ShowsNoFewer}
 use Rattle.fa_batch.proofs.Counting.{get_or-replicate_default}
 use Rattle.fa_plan.specs.declared.planner.Progress.{Progress}
-use Rattle.fa_walk.specs.declared.walk.Tables.{Tables}
-use Rattle.fa_walk.specs.declared.walk.Walk.{Walk}
-use Rattle.fa_room.specs.Rooms.{AreRooms}
+use Rattle.fa_plan_search.specs.declared.walk.Tables.{Tables}
+use Rattle.fa_plan_search.specs.declared.walk.Walk.{Walk}
+use Rattle.fa_cert_places.specs.Rooms.{AreRooms}
 use Rattle.fa_plan.specs.Bound.{IsSimpleBound}
 use Rattle.fa_plan.specs.Progress.{IsProgress}
 use Rattle.fa_plan.specs.Giving.{AreGiven}
-use Rattle.fa_walk.specs.Reading.{no_entry}
-use Rattle.fa_walk.specs.Search.{IsWalk, has_reached}
-use Rattle.fa_walk.specs.Pages.{AreReached, pages_of}
+use Rattle.fa_plan_search.specs.Reading.{no_entry}
+use Rattle.fa_plan_search.specs.Search.{IsWalk, has_reached}
+use Rattle.fa_plan_search.specs.Pages.{AreReached, pages_of}
 use Rattle.fa_plan.specs.Shortage.{AreTooFew, IsRaised}
 use Rattle.fa_plan.proofs.Bounds.{open_grows}
 use Rattle.fa_plan.proofs.Reached.{is_named_at, none_open, times_of_pages}

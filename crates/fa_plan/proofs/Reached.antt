@@ -11,16 +11,16 @@ use Rattle.fa_types.specs.declared.numbers.Die.{Die}
 use Rattle.fa_types.specs.declared.numbers.Page.{Page}
 use Rattle.fa_batch.specs.Batch.{AreFine, Entry, holds, is_among, times_named}
 use Rattle.fa_batch.specs.Certificate.{AreNamed, AreTheHolders, holds_any, open_places}
-use Rattle.fa_room.specs.Rooms.{AreRooms, marked}
+use Rattle.fa_cert_places.specs.Rooms.{AreRooms, marked}
 use Rattle.fa_batch.proofs.Counting.{AllByRecursion-of, AllByRecursion-weaker, count-from-any, count_by-cons, count_by-le-on, sum_by-add, sum_by-le-on}
 use Rattle.fa_cert.proofs.Marked.{are_the_holders, shows_iff, sum_by-same_counts}
-use Rattle.fa_walk.specs.declared.walk.Walk.{Walk}
+use Rattle.fa_plan_search.specs.declared.walk.Walk.{Walk}
 use Rattle.fa_plan.specs.Bound.{IsFirstEnough, IsSomeMarked, places_of}
-use Rattle.fa_walk.specs.Reading.{can_read, load_of, no_die, no_entry}
-use Rattle.fa_walk.specs.Search.{IsAtItsEnd, has_reached}
-use Rattle.fa_walk.specs.Pages.{AreReached, IsReachedPage, pages_of}
+use Rattle.fa_plan_search.specs.Reading.{can_read, load_of, no_die, no_entry}
+use Rattle.fa_plan_search.specs.Search.{IsAtItsEnd, has_reached}
+use Rattle.fa_plan_search.specs.Pages.{AreReached, IsReachedPage, pages_of}
 use Rattle.fa_plan.specs.Shortage.{AreTooFew, IsRaised}
-use Rattle.fa_walk.proofs.Walks.{among_at, reached_is_known}
+use Rattle.fa_plan_search.proofs.Walks.{among_at, reached_is_known}
 
 -- the pages of a batch are named as often as it names them
 pub times_of_pages : (batch : List Entry) (page : ℕ) → count_by (λ p. p.0 == page) (pages_of batch) ≡ times_named batch page

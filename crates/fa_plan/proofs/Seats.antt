@@ -18,12 +18,12 @@ use Rattle.fa_batch.specs.declared.plan.Place.{Place}
 use Rattle.fa_batch.proofs.Counting.{AllByRecursion-weaker, count_by-cons, count-from-any}
 use Rattle.fa_cert.proofs.Shortages.{no_fewer}
 use Rattle.fa_plan.specs.declared.layout.Seat.{Seat}
-use Rattle.fa_room.specs.Rooms.{AreRooms}
-use Rattle.fa_walk.specs.Pages.{pages_of}
+use Rattle.fa_cert_places.specs.Rooms.{AreRooms}
+use Rattle.fa_plan_search.specs.Pages.{pages_of}
 use Rattle.fa_plan.specs.Layout.{AreRising, IsInTurn, IsLaidOut, is_at_die, seat_of}
 use Rattle.fa_plan.specs.Progress.{AreSeats}
 use Rattle.fa_plan.specs.Giving.{AreReaders, AreWithinRooms}
-use Rattle.fa_walk.specs.Reading.{die_of, load_of, no_die, no_entry}
+use Rattle.fa_plan_search.specs.Reading.{die_of, load_of, no_die, no_entry}
 use Rattle.fa_plan.proofs.Bounds.{open_grows}
 use Rattle.fa_plan.proofs.Reached.{holds_if_reads, is_named_at, times_of_pages}
 

@@ -2,10 +2,10 @@
 use Rattle.std.specs.Prelude.{◌≡◌, ℕ, ◌+◌, ◌<◌, ◌≤◌, true, ◌==◌, if◌then◌else◌, List, length, slice_index}
 use Rattle.fa_types.specs.declared.numbers.Die.{Die}
 use Rattle.fa_batch.specs.Batch.{Entry}
-use Rattle.fa_walk.specs.declared.walk.Tables.{Tables}
-use Rattle.fa_walk.specs.declared.walk.Walk.{Walk}
-use Rattle.fa_walk.specs.Reading.{AreLoads, can_read, die_of, load_of}
-use Rattle.fa_walk.specs.Search.{IsWalk, has_reached, rank_of, way_to}
+use Rattle.fa_plan_search.specs.declared.walk.Tables.{Tables}
+use Rattle.fa_plan_search.specs.declared.walk.Walk.{Walk}
+use Rattle.fa_plan_search.specs.Reading.{AreLoads, can_read, die_of, load_of}
+use Rattle.fa_plan_search.specs.Search.{IsWalk, has_reached, rank_of, way_to}
 
 -- each page was given a die that holds it
 abbrev pub AreReaders : List Entry → List Die → Type 0

@@ -7,8 +7,8 @@ use Rattle.fa_plan.specs.declared.layout.Seat.{Seat}
 use Rattle.fa_plan.specs.declared.planner.Progress.{Progress}
 use Rattle.fa_plan.specs.Bound.{IsSimpleBound}
 use Rattle.fa_plan.specs.Giving.{AreGiven}
-use Rattle.fa_room.specs.Rooms.{AreRooms}
-use Rattle.fa_walk.specs.Pages.{pages_of}
+use Rattle.fa_cert_places.specs.Rooms.{AreRooms}
+use Rattle.fa_plan_search.specs.Pages.{pages_of}
 
 -- the pages of a batch with the dies that they were given
 pub record AreSeats (batch : List Entry) (given : List Die) (seats : List Seat) : Type 0 where

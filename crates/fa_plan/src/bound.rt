@@ -2,7 +2,7 @@
 ghost use Rattle.std.specs.Prelude.{◌≡◌, ℕ, ◌<◌, ◌≤◌, ◌+◌, ◌^◌};
 ghost use Rattle.fa_plan.specs.Bound.{IsFirstEnough, IsSomeMarked, places_of};
 
-use fa_room::are_more;
+use fa_cert_places::are_more;
 use fa_types::Rounds;
 
 /// The rounds of a die from the current one on that may be closed.

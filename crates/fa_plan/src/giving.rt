@@ -1,11 +1,11 @@
 //! Which die reads which page: one page more is given a die, and others are handed on for it.
 ghost use Rattle.std.specs.Prelude.{◌≡◌, ◌+◌, ◌<◌, ◌≤◌, true, false, length, IfOk};
 ghost use Rattle.fa_plan.specs.Giving.{AreGiven};
-ghost use Rattle.fa_walk.specs.Search.{IsAtItsEnd, IsWalk};
+ghost use Rattle.fa_plan_search.specs.Search.{IsAtItsEnd, IsWalk};
 
 use fa_batch::Batch;
 use fa_types::Die;
-use fa_walk::{Tables, Walk, search};
+use fa_plan_search::{Tables, Walk, search};
 use std::alloc::{AllocError, Allocator};
 
 /// Searches for a die for the first page that has none. Where the walk finds one with room, each page on

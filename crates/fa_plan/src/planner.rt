@@ -5,7 +5,7 @@ ghost use Rattle.fa_batch.specs.Certificate.{IsCertificate};
 ghost use Rattle.fa_batch.specs.Plan.{AreFirstRounds};
 ghost use Rattle.std.specs.List.Sorted.{IsPermutation};
 ghost use Rattle.fa_plan.specs.declared.layout.Seat.{Seat};
-ghost use Rattle.fa_walk.specs.Pages.{pages_of};
+ghost use Rattle.fa_plan_search.specs.Pages.{pages_of};
 ghost use Rattle.fa_plan.specs.Bound.{IsSimpleBound};
 ghost use Rattle.fa_plan.specs.Layout.{AreRising};
 ghost use Rattle.fa_plan.specs.Progress.{AreSeats, IsProgress, steps_left};
@@ -15,9 +15,9 @@ use crate::layout::{Seat, lay_out};
 use crate::shortage::rounds_for;
 use crate::workspace::Workspace;
 use fa_batch::{Batch, Plan, Shortage};
-use fa_room::count_rooms;
+use fa_cert_places::count_rooms;
 use fa_types::{Die, Rounds};
-use fa_walk::{Tables, Walk, all_pages, reached_pages};
+use fa_plan_search::{Tables, Walk, all_pages, reached_pages};
 use std::alloc::{AllocError, Allocator, Global};
 
 /// A plan that no plan beats, with what shows it.

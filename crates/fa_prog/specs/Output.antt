@@ -6,7 +6,7 @@ use Rattle.std.specs.declared.io.ErrorKind.TheVariants.{OutOfMemory}
 use Rattle.clap.specs.declared.error.kind.ErrorKind.{ErrorKind as Finding}
 use Rattle.clap.specs.declared.error.kind.ErrorKind.TheVariants.{DisplayHelp, DisplayVersion, OutOfMemory as NoMemoryFound}
 use Rattle.fa_io.specs.Streams.{IsCut}
-use Rattle.fa_host.specs.Printing.{Prints, TellsNoMemory}
+use Rattle.fa_prog_host.specs.Printing.{Prints, TellsNoMemory}
 
 -- The line of usage was printed, or a prefix of it, and the status is 2.
 abbrev pub ShowsUsage : Option (List ℕ) → Option (List ℕ) → ℕ → Type 0

@@ -5,15 +5,15 @@ use Rattle.clap.specs.declared.error.kind.ErrorKind.{ErrorKind}
 use Rattle.fa_io.specs.Streams.{Streams, Reads}
 use Rattle.fa_types.specs.declared.numbers.Die.{Die}
 use Rattle.fa_settings.specs.CommandLine.{Wanted, Formats, Checks, Dumps, Serves, Plans, Talks, Verifies, IsDie, found_instead, wanted_in}
-use Rattle.fa_admin.specs.Array.{TellsLook}
-use Rattle.fa_format.specs.Formatting.{TellsFormat}
-use Rattle.fa_host.specs.Printing.{TellsNoMemory}
-use Rattle.fa_admin.specs.declared.look.Asked.TheVariants.{Check, Dump}
-use Rattle.fa_server.specs.Serving.{TellsServe}
+use Rattle.fa_prog_inspect.specs.Array.{TellsLook}
+use Rattle.fa_prog_format.specs.Formatting.{TellsFormat}
+use Rattle.fa_prog_host.specs.Printing.{TellsNoMemory}
+use Rattle.fa_prog_inspect.specs.declared.look.Asked.TheVariants.{Check, Dump}
+use Rattle.fa_prog_serve.specs.Serving.{TellsServe}
 use Rattle.fa_prog.specs.Output.{ShowsUsage, ShowsText}
-use Rattle.fa_commands.specs.Plan.{RunsPlan}
-use Rattle.fa_commands.specs.Talk.{RunsTalk}
-use Rattle.fa_commands.specs.Verify.{RunsVerify}
+use Rattle.fa_prog_text.specs.Plan.{RunsPlan}
+use Rattle.fa_prog_text.specs.Talk.{RunsTalk}
+use Rattle.fa_prog_text.specs.Verify.{RunsVerify}
 
 -- What a command does, whose settings are held in memory of a kind. `talk` has a plain store of 64 pages of 512 bytes. The
 -- commands `format`, `check` and `dump`, and what is no command, read nothing of the input; `serve` reads it until it is to stop.

@@ -4,6 +4,6 @@
 mod program;
 mod status;
 
-pub use fa_server::ServerHost;
+pub use fa_prog_serve::ServerHost;
 pub use program::{run, start};
 pub use status::Status;

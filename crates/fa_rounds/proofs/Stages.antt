@@ -5,18 +5,18 @@ use Rattle.fa_machine.specs.Step.{Act, Admit, EndBatch, Fold, Replan, Step}
 use Rattle.fa_machine.specs.declared.refusals.AdmitRefused.{AdmitRefused}
 use Rattle.fa_machine.specs.declared.refusals.AdmitRefused.TheVariants.{Lost as PageLost, CalendarFull, Spent as RoundsSpent}
 use Rattle.fa_machine.specs.declared.refusals.AdmitRefused.TheVariants.{NoMemory as AdmitNoMemory}
-use Rattle.fa_ops.specs.Founded.{IsFounded}
-use Rattle.fa_ops.specs.Moves.{Folded, Moved, Moves, Rested, Strayed, Strays, Turned}
-use Rattle.fa_stages.specs.Stages.{AfterPlanned, IsSorting, stopped}
-use Rattle.fa_ops.specs.Ops.{Prepares}
-use Rattle.fa_stages.specs.Prepared.{IsListed, SortsAnswer, after_batch, pages_between, until}
-use Rattle.fa_stages.specs.Ranges.{first_page, past_page}
-use Rattle.fa_stages.specs.declared.range.Range.{Range}
-use Rattle.fa_stages.specs.declared.request.Task.{Task}
-use Rattle.fa_stages.specs.declared.stage.Purpose.{Purpose}
-use Rattle.fa_stages.specs.declared.stage.Purpose.TheVariants.{Answer, Merge}
-use Rattle.fa_stages.specs.declared.stage.Stage.{Stage}
-use Rattle.fa_stages.specs.declared.stage.Stage.TheVariants.{Listing, Asking, Reading, Sorting, Ended}
+use Rattle.fa_shared_request.specs.Founded.{IsFounded}
+use Rattle.fa_shared_request.specs.Moves.{Folded, Moved, Moves, Rested, Strayed, Strays, Turned}
+use Rattle.fa_shared_steps.specs.Stages.{AfterPlanned, IsSorting, stopped}
+use Rattle.fa_shared_request.specs.Ops.{Prepares}
+use Rattle.fa_shared_steps.specs.Prepared.{IsListed, SortsAnswer, after_batch, pages_between, until}
+use Rattle.fa_shared_steps.specs.Ranges.{first_page, past_page}
+use Rattle.fa_shared_steps.specs.declared.range.Range.{Range}
+use Rattle.fa_shared_steps.specs.declared.request.Task.{Task}
+use Rattle.fa_shared_steps.specs.declared.stage.Purpose.{Purpose}
+use Rattle.fa_shared_steps.specs.declared.stage.Purpose.TheVariants.{Answer, Merge}
+use Rattle.fa_shared_steps.specs.declared.stage.Stage.{Stage}
+use Rattle.fa_shared_steps.specs.declared.stage.Stage.TheVariants.{Listing, Asking, Reading, Sorting, Ended}
 use Rattle.fa_rounds.proofs.Admitting.{admit_read}
 use Rattle.fa_rounds.proofs.Closed.{IsQuiet, Keeps, keeps_both, quiet_fold}
 use Rattle.fa_rounds.proofs.Ending.{end_read, never_torn}

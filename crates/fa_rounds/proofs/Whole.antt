@@ -1,5 +1,5 @@
 -- A call that reads, from its beginning to its end, over an array that is at rest as it begins.
-use Rattle.fa_headers.specs.declared.judging.Standing.{Standing}
+use Rattle.fa_mount_headers.specs.declared.judging.Standing.{Standing}
 use Rattle.fa_image.specs.Image.{ImageAnswer, ImageCall}
 use Rattle.fa_machine.specs.Looks.{wants_window}
 use Rattle.fa_machine.specs.Placement.{is_thin}
@@ -7,17 +7,17 @@ use Rattle.fa_machine.specs.State.{Core, MapState}
 use Rattle.fa_machine.specs.Step.{Act, Admit, Advance, CommitCopy, Done, EndBatch, Fold, ReserveCopy, SpareIn, Step, Take, Window}
 use Rattle.fa_machine.specs.declared.refusals.CommitCopyRefused.TheVariants.{Pending}
 use Rattle.fa_machine.specs.declared.refusals.SpareRefused.TheVariants.{NotSpare}
-use Rattle.fa_ops.specs.Ops.{ended, stage_of, task_in}
-use Rattle.fa_stages.specs.Stages.{beginning}
-use Rattle.fa_stages.specs.Ranges.{first_page, past_page}
-use Rattle.fa_stages.specs.Tasks.{bytes_from, task_of}
-use Rattle.fa_ops.specs.Waiting.{awaits_flush, waits, without_room}
-use Rattle.fa_stages.specs.declared.range.Range.{Range}
-use Rattle.fa_stages.specs.declared.request.Request.TheVariants.{Read as ReadRequest}
-use Rattle.fa_stages.specs.declared.request.Task.{Task}
-use Rattle.fa_stages.specs.declared.stage.Purpose.TheVariants.{Answer as ForAnswer}
-use Rattle.fa_stages.specs.declared.stage.Stage.{Stage}
-use Rattle.fa_stages.specs.declared.stage.Stage.TheVariants.{Asking, Ended, Listing, Reading, Reserving, Sorting}
+use Rattle.fa_shared_request.specs.Ops.{ended, stage_of, task_in}
+use Rattle.fa_shared_steps.specs.Stages.{beginning}
+use Rattle.fa_shared_steps.specs.Ranges.{first_page, past_page}
+use Rattle.fa_shared_steps.specs.Tasks.{bytes_from, task_of}
+use Rattle.fa_shared_request.specs.Waiting.{awaits_flush, waits, without_room}
+use Rattle.fa_shared_steps.specs.declared.range.Range.{Range}
+use Rattle.fa_shared_steps.specs.declared.request.Request.TheVariants.{Read as ReadRequest}
+use Rattle.fa_shared_steps.specs.declared.request.Task.{Task}
+use Rattle.fa_shared_steps.specs.declared.stage.Purpose.TheVariants.{Answer as ForAnswer}
+use Rattle.fa_shared_steps.specs.declared.stage.Stage.{Stage}
+use Rattle.fa_shared_steps.specs.declared.stage.Stage.TheVariants.{Asking, Ended, Listing, Reading, Reserving, Sorting}
 use Rattle.fa_rounds.proofs.Closed.{IsQuiet, Keeps, keeps_same, no_end, no_step_waits, nothing_waits, quiet_fold, quiet_job, quiet_no_job}
 use Rattle.fa_rounds.proofs.Closed.{quiet_still}
 use Rattle.fa_rounds.proofs.Epochs.{From, epoch_rises, from_step}

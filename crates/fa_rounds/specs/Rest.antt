@@ -10,9 +10,9 @@ use Rattle.fa_machine.specs.Placement.{is_thin}
 use Rattle.fa_machine.specs.Reading.{entries_for, to_read}
 use Rattle.fa_machine.specs.Rounds.{is_closed}
 use Rattle.fa_machine.specs.State.{Core, is_live}
-use Rattle.fa_stages.specs.Ranges.{first_page, past_page}
-use Rattle.fa_stages.specs.Tasks.{bytes_from}
-use Rattle.fa_stages.specs.declared.range.Range.{Range}
+use Rattle.fa_shared_steps.specs.Ranges.{first_page, past_page}
+use Rattle.fa_shared_steps.specs.Tasks.{bytes_from}
+use Rattle.fa_shared_steps.specs.declared.range.Range.{Range}
 
 -- no job and no batch is open
 pub record IsIdle (core : Core) : Type 0 where

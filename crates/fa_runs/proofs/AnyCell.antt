@@ -1,7 +1,7 @@
 -- Any bytes are a cell of the array's machine.
 use Rattle.byteorder.specs.Endian.{big_number}
 use Rattle.fa_machine.specs.Cells.{Broken, Cell, Empty, Sealed}
-use Rattle.fa_scan.specs.ContentCells.{IsCellOf}
+use Rattle.fa_mount_scan.specs.ContentCells.{IsCellOf}
 use Rattle.fa_tag.proofs.Slots.{ReadsTag, cut_slot, letters_of, reads_tag, same_tag}
 use Rattle.fa_tag.specs.SlotGrammar.{IsPayloadOf, IsSlot, IsTag, kind_number, payload_of, slot_1, slot_2}
 use Rattle.fa_tag.specs.declared.tag.Tag.{Tag}

@@ -1,6 +1,6 @@
 -- An array that was closed behind a drive is one that was closed in the world to which the drive leads.
 use Rattle.fa_closing.specs.Closed.{WasClosed}
-use Rattle.fa_headers.specs.declared.judging.Standing.{Standing}
+use Rattle.fa_mount_headers.specs.declared.judging.Standing.{Standing}
 use Rattle.fa_image.specs.Image.{ImageAnswer, ImageCall, ImageState}
 use Rattle.fa_machine.specs.State.{Core, is_live}
 use Rattle.fa_machine.specs.World.{World}

@@ -17,8 +17,8 @@ use Rattle.fa_runs.specs.Drives.{AreHonest, AreImages, Drive, Driven, Drives, Ha
 use Rattle.fa_runs.specs.Drives.{MakesNext, OnlyMade, RefusesCall, RefusesNext}
 use Rattle.fa_runs.specs.Drives.{acts_of, beginning, events_of, told_by, works_after}
 use Rattle.fa_runs.specs.Images.{IsImageOf, OnlyCalled}
-use Rattle.fa_scan.specs.ContentCells.{IsCellOf}
-use Rattle.fa_takes.specs.Fits.{IsJobFor}
+use Rattle.fa_mount_scan.specs.ContentCells.{IsCellOf}
+use Rattle.fa_core_dispatch.specs.Fits.{IsJobFor}
 use Rattle.fa_types.specs.declared.geometry.Geometry.{Geometry}
 use Rattle.fa_workers.specs.Made.{MakesCall as MakesJobCall, MakesCalls, Ran}
 use Rattle.std.proofs.Common.{Bool, IsTrue, List, Option, Some, [], ap, false, inl, inr, map, refl, subst, suc, sym, true, ℕ, ◌*◌, ◌++◌, ◌<◌}

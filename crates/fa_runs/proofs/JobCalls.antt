@@ -14,9 +14,9 @@ use Rattle.fa_machine.specs.declared.jobs.Flight.TheVariants.{Erase, Header, Mov
 use Rattle.fa_machine.specs.declared.places.Version.{Version}
 use Rattle.fa_runs.proofs.OneCall.{IsSomeCell, IsWritable, call_leads}
 use Rattle.fa_runs.specs.Images.{IsImageOf, OnlyCalled}
-use Rattle.fa_scan.specs.ContentCells.{IsCellOf}
+use Rattle.fa_mount_scan.specs.ContentCells.{IsCellOf}
 use Rattle.fa_tag.specs.SlotGrammar.{IsPayloadOf}
-use Rattle.fa_takes.specs.Fits.{IsJobFor}
+use Rattle.fa_core_dispatch.specs.Fits.{IsJobFor}
 use Rattle.fa_types.specs.declared.geometry.Geometry.{Geometry}
 use Rattle.fa_types.specs.declared.kind.Kind.{Kind}
 use Rattle.fa_types.specs.declared.kind.Kind.TheVariants.{Data, Hole}

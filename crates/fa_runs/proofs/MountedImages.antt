@@ -1,13 +1,13 @@
 -- The images of an array that was mounted are those of the world over it.
-use Rattle.fa_headers.proofs.Images.{images_of}
-use Rattle.fa_headers.specs.Found.{AreOnlyRead, IsOnlyRead, ReadsHeaders}
-use Rattle.fa_headers.specs.Judged.{HasImage, IsImageOf as HasHeaderOf}
-use Rattle.fa_headers.specs.Rules.{seen_from}
-use Rattle.fa_headers.specs.declared.found.Found.{Found}
-use Rattle.fa_headers.specs.declared.found.HeaderFound.{HeaderFound}
-use Rattle.fa_headers.specs.declared.found.HeaderFound.TheVariants.{Good}
-use Rattle.fa_headers.specs.declared.judging.Standing.{Standing}
-use Rattle.fa_headers.specs.declared.judging.Standing.TheVariants.{Live, Missing, Out, Spare}
+use Rattle.fa_mount_headers.proofs.Images.{images_of}
+use Rattle.fa_mount_headers.specs.Found.{AreOnlyRead, IsOnlyRead, ReadsHeaders}
+use Rattle.fa_mount_headers.specs.Judged.{HasImage, IsImageOf as HasHeaderOf}
+use Rattle.fa_mount_headers.specs.Rules.{seen_from}
+use Rattle.fa_mount_headers.specs.declared.found.Found.{Found}
+use Rattle.fa_mount_headers.specs.declared.found.HeaderFound.{HeaderFound}
+use Rattle.fa_mount_headers.specs.declared.found.HeaderFound.TheVariants.{Good}
+use Rattle.fa_mount_headers.specs.declared.judging.Standing.{Standing}
+use Rattle.fa_mount_headers.specs.declared.judging.Standing.TheVariants.{Live, Missing, Out, Spare}
 use Rattle.fa_image.specs.Image.{ImageAnswer, ImageCall, ImageMeets, ImageState, IsImage, slot_at}
 use Rattle.fa_machine.specs.Beginning.{IsBeginning}
 use Rattle.fa_machine.specs.Run.{Happening, Run}
@@ -20,14 +20,14 @@ use Rattle.fa_mount.specs.Standings.{AreApart, place_of, place_on}
 use Rattle.fa_runs.proofs.DrivenRuns.{drives_run}
 use Rattle.fa_runs.specs.Drives.{AreHonest, AreImages, Drive, Driven, Drives, acts_of, beginning, events_of}
 use Rattle.fa_runs.specs.Mounted.{images_on}
-use Rattle.fa_scan.proofs.OnlyReading.{die_only_read}
-use Rattle.fa_scan.proofs.Readable.{are_readable}
-use Rattle.fa_scan.specs.ContentCells.{IsCellOf}
-use Rattle.fa_scan.specs.ContentReading.{AreReadable, HasOutcome, ReadsAt, image_read}
-use Rattle.fa_scan.specs.MountedWorld.{CopiesAgree, IsMountedWorld, bytes_of, is_spare_of}
-use Rattle.fa_scan.specs.Reported.{is_spare}
-use Rattle.fa_scan.specs.Scanned.{Outcome, is_erased, mounted_of, settled}
-use Rattle.fa_scan.specs.declared.slots.content.SlotContent.{SlotContent}
+use Rattle.fa_mount_scan.proofs.OnlyReading.{die_only_read}
+use Rattle.fa_mount_scan.proofs.Readable.{are_readable}
+use Rattle.fa_mount_scan.specs.ContentCells.{IsCellOf}
+use Rattle.fa_mount_scan.specs.ContentReading.{AreReadable, HasOutcome, ReadsAt, image_read}
+use Rattle.fa_mount_scan.specs.MountedWorld.{CopiesAgree, IsMountedWorld, bytes_of, is_spare_of}
+use Rattle.fa_mount_scan.specs.Reported.{is_spare}
+use Rattle.fa_mount_scan.specs.Scanned.{Outcome, is_erased, mounted_of, settled}
+use Rattle.fa_mount_scan.specs.declared.slots.content.SlotContent.{SlotContent}
 use Rattle.fa_types.specs.declared.geometry.Geometry.{Geometry}
 use Rattle.std.proofs.Common.{Bool, Err, IsTrue, List, None, Ok, Option, Some, [], ap, arith, cond, false, get_or, inl, inr, length, map, refl, slice_get, subst, sym}
 use Rattle.std.proofs.Common.{suc, true, unwrap_or, zero, ℕ, ◌<◌, ◌∙◌, ◌∷◌, ◌≡◌, ◌⊎◌, ◌||◌}

@@ -8,14 +8,14 @@ use Rattle.fa_machine.specs.State.{MapState}
 use Rattle.fa_machine.specs.World.{Accepted, Calls, DieImage, ErasesBlock, Gave, GaveCell, JobCall, ProgramsSlot, ReadsSlot, Refused}
 use Rattle.fa_machine.specs.World.{Syncs, WritesHeader, with_cell}
 use Rattle.fa_runs.proofs.AnyCell.{any_cell}
-use Rattle.fa_found.proofs.Cells.{one_cell}
-use Rattle.fa_scan.specs.ContentCells.{IsCellOf, tag_of}
-use Rattle.fa_ends.specs.Outcomes.{cell_of}
+use Rattle.fa_mount_laws.proofs.Cells.{one_cell}
+use Rattle.fa_mount_scan.specs.ContentCells.{IsCellOf, tag_of}
+use Rattle.fa_core_complete.specs.Outcomes.{cell_of}
 use Rattle.fa_tag.specs.HeaderGrammar.{header_bytes}
 use Rattle.fa_tag.specs.SlotGrammar.{IsErased, IsOpened, IsPayloadOf, IsTag, payload_of, slot_2}
 use Rattle.fa_tag.specs.declared.tag.Opened.{Opened}
 use Rattle.fa_tag.specs.declared.tag.Opened.TheVariants.{Bad, Erased, Good}
-use Rattle.fa_takes.specs.Fits.{header_of}
+use Rattle.fa_core_dispatch.specs.Fits.{header_of}
 use Rattle.fa_types.specs.declared.geometry.Geometry.{Geometry}
 use Rattle.fa_workers.specs.Made.{IsGivenBy, IsMadeBy, IsSeen}
 use Rattle.std.proofs.Common.{Bool, IsTrue, List, None, Some, [], ap, arith, false, inl, inr, length, refl, replicate, slice_index_or, subst, sym, true}

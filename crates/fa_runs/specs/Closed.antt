@@ -2,7 +2,7 @@
 use Rattle.std.specs.Prelude.{◌≡◌, ℕ, ◌+◌, ◌^◌, ◌≤◌, List, Ok, Some, length, true}
 use Rattle.std.specs.FinMap.{len}
 use Rattle.fa_closing.specs.Closed.{IsImageAt}
-use Rattle.fa_headers.specs.declared.judging.Standing.{Standing}
+use Rattle.fa_mount_headers.specs.declared.judging.Standing.{Standing}
 use Rattle.fa_image.specs.Image.{ImageAnswer, ImageCall}
 use Rattle.fa_machine.specs.State.{is_live}
 use Rattle.fa_mount.specs.Closing.{Closes}

@@ -2,7 +2,7 @@
 use Rattle.std.specs.Prelude.{◌≡◌, ℕ, ◌*◌, ◌<◌}
 use Rattle.fa_image.specs.Image.{ImageState, slot_at}
 use Rattle.fa_machine.specs.World.{World}
-use Rattle.fa_scan.specs.ContentCells.{IsCellOf}
+use Rattle.fa_mount_scan.specs.ContentCells.{IsCellOf}
 
 module _ {I : Type 0} (view : I → ImageState) where
   -- The image is made for the array's geometry, and the bytes in its slots are what the world sees on the die.

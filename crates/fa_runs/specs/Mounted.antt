@@ -1,7 +1,7 @@
 -- The images of an array that was mounted.
 use Rattle.std.specs.Prelude.{ℕ, List, Option, option_and_then, slice_get}
-use Rattle.fa_headers.specs.declared.judging.Standing.{Standing}
-use Rattle.fa_scan.specs.ContentReading.{image_read}
+use Rattle.fa_mount_headers.specs.declared.judging.Standing.{Standing}
+use Rattle.fa_mount_scan.specs.ContentReading.{image_read}
 
 -- the image of each die that is live or a spare
 abbrev pub images_on : {I : Type 0} → List Standing → List I → ℕ → Option I

@@ -3,7 +3,7 @@ ghost use Rattle.std.specs.Prelude.{◌≡◌, ℕ, Bool, IsTrue, List, None, Op
 ghost use Rattle.std.specs.List.{AllByRecursion};
 ghost use Rattle.fa_closing.specs.Closed.{AreOfMask};
 ghost use Rattle.fa_closing.specs.Mounted.{LastCopiesAgree};
-ghost use Rattle.fa_headers.specs.declared.judging.Standing.{Standing};
+ghost use Rattle.fa_mount_headers.specs.declared.judging.Standing.{Standing};
 ghost use Rattle.fa_machine.specs.Beginning.{IsBeginning};
 ghost use Rattle.fa_machine.specs.Cells.{Cell, Outcome};
 ghost use Rattle.fa_machine.specs.Run.{Happening, ImageCall, Run};
@@ -17,9 +17,9 @@ ghost use Rattle.fa_runs.specs.Drives.{OnlyMade, acts_of, beginning, events_of};
 ghost use Rattle.fa_mount.specs.MountsArray.{MountsArray};
 ghost use Rattle.fa_runs.specs.Images.{IsImageOf, OnlyCalled};
 ghost use Rattle.fa_runs.specs.Mounted.{images_on};
-ghost use Rattle.fa_scan.specs.ContentCells.{IsCellOf};
-ghost use Rattle.fa_scan.specs.MountedWorld.{CopiesAgree, IsMountedWorld, bytes_of, is_spare_of};
-ghost use Rattle.fa_takes.specs.Fits.{IsJobFor};
+ghost use Rattle.fa_mount_scan.specs.ContentCells.{IsCellOf};
+ghost use Rattle.fa_mount_scan.specs.MountedWorld.{CopiesAgree, IsMountedWorld, bytes_of, is_spare_of};
+ghost use Rattle.fa_core_dispatch.specs.Fits.{IsJobFor};
 ghost use Rattle.fa_workers.specs.Made.{Ran};
 
 use fa_closing::laws::{a_closed_array_is_mounted_again, a_mounted_world_has_no_newer_cell};

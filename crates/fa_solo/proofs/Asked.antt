@@ -1,20 +1,20 @@
 -- Requests that go on, step by step.
 use Rattle.std.proofs.Common.{◌≡◌, ◌∙◌, ◌+◌, ◌≤◌, ℕ, Bool, List, true, false, ap, arith, refl, subst, sym}
 use Rattle.std.proofs.lemmas.Bool.{false≢true}
-use Rattle.fa_blocks.proofs.Counts.{goes_further, prepared_on, turned_on}
-use Rattle.fa_blocks.specs.Counts.{Counts, GoesOn, IsMade}
-use Rattle.fa_headers.specs.declared.judging.Standing.{Standing}
+use Rattle.fa_shared_store.proofs.Counts.{goes_further, prepared_on, turned_on}
+use Rattle.fa_shared_store.specs.Counts.{Counts, GoesOn, IsMade}
+use Rattle.fa_mount_headers.specs.declared.judging.Standing.{Standing}
 use Rattle.fa_image.specs.Image.{ImageAnswer, ImageCall}
-use Rattle.fa_ops.specs.Accounts.{IsAccounted}
-use Rattle.fa_ops.specs.Moves.{Turned}
-use Rattle.fa_ops.specs.Ops.{OpView, Prepares, answer_of, stage_of, task_in}
-use Rattle.fa_ops.specs.Tallies.{Tally, pages_in, tally_at, tally_of}
-use Rattle.fa_stages.specs.Tasks.{task_of}
-use Rattle.fa_stages.specs.declared.request.Request.{Request}
-use Rattle.fa_ops.specs.Waiting.{HasNoWindow, awaits_flush, waits, without_room}
-use Rattle.fa_stages.specs.declared.request.Task.{Task}
-use Rattle.fa_stages.specs.declared.stage.Stage.{Stage}
-use Rattle.fa_stages.specs.declared.stage.Stage.TheVariants.{Reserving}
+use Rattle.fa_shared_request.specs.Accounts.{IsAccounted}
+use Rattle.fa_shared_request.specs.Moves.{Turned}
+use Rattle.fa_shared_request.specs.Ops.{OpView, Prepares, answer_of, stage_of, task_in}
+use Rattle.fa_shared_request.specs.Tallies.{Tally, pages_in, tally_at, tally_of}
+use Rattle.fa_shared_steps.specs.Tasks.{task_of}
+use Rattle.fa_shared_steps.specs.declared.request.Request.{Request}
+use Rattle.fa_shared_request.specs.Waiting.{HasNoWindow, awaits_flush, waits, without_room}
+use Rattle.fa_shared_steps.specs.declared.request.Task.{Task}
+use Rattle.fa_shared_steps.specs.declared.stage.Stage.{Stage}
+use Rattle.fa_shared_steps.specs.declared.stage.Stage.TheVariants.{Reserving}
 use Rattle.fa_shared.specs.Locked.{LockedState}
 use Rattle.fa_shared.specs.Seats.{commits_with, number_of}
 use Rattle.fa_shared.specs.declared.seat.Seat.{Seat}

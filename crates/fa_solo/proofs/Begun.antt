@@ -3,12 +3,12 @@ use Rattle.std.proofs.Common.{◌≡◌, ◌∙◌, ◌⊎◌, ◌-◌, ◌^◌,
 use Rattle.std.proofs.Common.{arith, inl, inr}
 use Rattle.std.specs.Prelude.{IfOk, IfErr, OnOk}
 use Rattle.fa_image.specs.Image.{ImageAnswer, ImageCall}
-use Rattle.fa_ops.specs.Ops.{OpView, answer_of, ended, stage_of, task_in}
-use Rattle.fa_stages.specs.Stages.{beginning}
-use Rattle.fa_stages.specs.Tasks.{answered, task_of}
-use Rattle.fa_stages.specs.declared.request.Request.{Request}
-use Rattle.fa_stages.specs.declared.request.Request.TheVariants.{Flush, Read}
-use Rattle.fa_stages.specs.declared.request.Task.{Task}
+use Rattle.fa_shared_request.specs.Ops.{OpView, answer_of, ended, stage_of, task_in}
+use Rattle.fa_shared_steps.specs.Stages.{beginning}
+use Rattle.fa_shared_steps.specs.Tasks.{answered, task_of}
+use Rattle.fa_shared_steps.specs.declared.request.Request.{Request}
+use Rattle.fa_shared_steps.specs.declared.request.Request.TheVariants.{Flush, Read}
+use Rattle.fa_shared_steps.specs.declared.request.Task.{Task}
 use Rattle.fa_solo.specs.Calls.{Ended, EndsBy, answer_by, IsOfFlush, IsOfRead, IsRefused, Made, MakesRequest, MakesWhole, OfOtherLength, WithoutMemory, WithoutRoom}
 use Rattle.fa_solo.specs.Calls.{Endless, NoMemory as NoMemoryFor}
 use Rattle.fa_solo.specs.Deeds.{IsForRequests}

@@ -1,6 +1,6 @@
 -- Deeds one after the other.
 use Rattle.std.proofs.Common.{◌≡◌, ◌∙◌, ℕ, Bool, true, false, List, Option, Some, None, Ok, Result, IfNone, IfSome, ap, refl, sym, subst}
-use Rattle.fa_headers.specs.declared.judging.Standing.{Standing}
+use Rattle.fa_mount_headers.specs.declared.judging.Standing.{Standing}
 use Rattle.fa_image.specs.Image.{ImageAnswer, ImageCall}
 use Rattle.fa_machine.specs.Looks.{wants_window}
 use Rattle.fa_machine.specs.State.{Core}

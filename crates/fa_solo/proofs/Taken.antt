@@ -3,8 +3,8 @@ use Rattle.std.proofs.Common.{◌≡◌, ◌∙◌, ℕ, Bool, true, false, List
 use Rattle.std.specs.Option.{option_map_or}
 use Rattle.std.proofs.lemmas.Option.{none-some, same_Some}
 use Rattle.std.specs.FinMap.{get}
-use Rattle.fa_ends.specs.Outcomes.{outcome_of}
-use Rattle.fa_ends.specs.declared.outcome.Outcome.{Outcome as JobOutcome}
+use Rattle.fa_core_complete.specs.Outcomes.{outcome_of}
+use Rattle.fa_core_complete.specs.declared.outcome.Outcome.{Outcome as JobOutcome}
 use Rattle.fa_image.specs.Image.{ImageAnswer, ImageCall}
 use Rattle.fa_machine.proofs.Maps.{get-insert_same}
 use Rattle.fa_machine.specs.Cells.{Outcome, is_of_kind}
@@ -19,7 +19,7 @@ use Rattle.fa_solo.proofs.Chains.{join_rest}
 use Rattle.fa_solo.specs.Deeds.{IsForDies, Runs, Stays}
 use Rattle.fa_solo.specs.Rigs.{Does, EndsAt, house_of}
 use Rattle.fa_solo.specs.declared.rig.Rig.{Rig}
-use Rattle.fa_takes.specs.Fits.{IsJobFor}
+use Rattle.fa_core_dispatch.specs.Fits.{IsJobFor}
 use Rattle.fa_types.specs.declared.geometry.Geometry.{Geometry}
 use Rattle.fa_workers.specs.Held.{LeavesRest}
 use Rattle.fa_workers.specs.Made.{Ran}

@@ -2,7 +2,7 @@
 -- way at once, and each Done tells what the job's own calls of its image gave.
 use Rattle.std.specs.FinMap.{contains_key}
 use Rattle.std.specs.Prelude.{◌≡◌, ℕ, Bool, true, false, is_some, List, [], ◌∷◌, Some, None, Ok, Err, slice_get, slice_set}
-use Rattle.fa_headers.specs.declared.judging.Standing.{Standing}
+use Rattle.fa_mount_headers.specs.declared.judging.Standing.{Standing}
 use Rattle.fa_image.specs.Image.{ImageAnswer, ImageCall}
 use Rattle.fa_machine.specs.Cells.{Outcome}
 use Rattle.fa_machine.specs.Collecting.{victim}
@@ -15,7 +15,7 @@ use Rattle.fa_machine.specs.Taking.{Handed}
 use Rattle.fa_machine.specs.declared.answers.ReadState.TheVariants.{Waiting}
 use Rattle.fa_mount.specs.Standings.{place_on}
 use Rattle.fa_solo.specs.House.{House}
-use Rattle.fa_takes.specs.Fits.{IsJobFor}
+use Rattle.fa_core_dispatch.specs.Fits.{IsJobFor}
 use Rattle.fa_workers.specs.Made.{Ran}
 use Rattle.fa_workers.specs.Spares.{wants_spare}
 

@@ -1,7 +1,7 @@
 -- What is done for the array's order: deeds, and pages that get one more copy of what was read of them.
 use Rattle.std.specs.Prelude.{◌≡◌, ℕ, ◌+◌, ◌-◌, ◌^◌, ◌≤◌, true, List, [], ◌∷◌, ◌++◌, Some, None, Result, Ok, Err}
 use Rattle.std.specs.FinMap.{get}
-use Rattle.fa_headers.specs.declared.judging.Standing.{Standing}
+use Rattle.fa_mount_headers.specs.declared.judging.Standing.{Standing}
 use Rattle.fa_image.specs.Image.{ImageAnswer, ImageCall}
 use Rattle.fa_machine.specs.Placement.{is_thin}
 use Rattle.fa_machine.specs.Reading.{Admitted, results}

@@ -1,6 +1,6 @@
 -- A call of the store of one thread.
 use Rattle.std.specs.Prelude.{◌≡◌, ℕ}
-use Rattle.fa_blocks.specs.Counts.{IsMade, is_accepted, pages_of}
+use Rattle.fa_shared_store.specs.Counts.{IsMade, is_accepted, pages_of}
 use Rattle.fa_image.specs.Image.{ImageAnswer, ImageCall}
 use Rattle.fa_solo.specs.Calls.{MakesCall}
 use Rattle.fa_solo.specs.declared.rig.Rig.{Rig}

@@ -1,13 +1,13 @@
 -- A request from its beginning to its end, by one thread: its turns, what it prepares, and what is done for dies while it waits.
 use Rattle.std.specs.Prelude.{◌≡◌, ℕ, ◌+◌, IsTrue, List}
-use Rattle.fa_blocks.specs.Counts.{GoesOn}
-use Rattle.fa_headers.specs.declared.judging.Standing.{Standing}
+use Rattle.fa_shared_store.specs.Counts.{GoesOn}
+use Rattle.fa_mount_headers.specs.declared.judging.Standing.{Standing}
 use Rattle.fa_image.specs.Image.{ImageAnswer, ImageCall}
-use Rattle.fa_ops.specs.Moves.{Turned}
-use Rattle.fa_ops.specs.Ops.{OpView, Prepares, answer_of, stage_of, task_in}
-use Rattle.fa_ops.specs.Waiting.{HasNoWindow, awaits_flush, waits, without_room}
-use Rattle.fa_stages.specs.declared.request.Task.{Task}
-use Rattle.fa_stages.specs.declared.stage.Stage.{Stage}
+use Rattle.fa_shared_request.specs.Moves.{Turned}
+use Rattle.fa_shared_request.specs.Ops.{OpView, Prepares, answer_of, stage_of, task_in}
+use Rattle.fa_shared_request.specs.Waiting.{HasNoWindow, awaits_flush, waits, without_room}
+use Rattle.fa_shared_steps.specs.declared.request.Task.{Task}
+use Rattle.fa_shared_steps.specs.declared.stage.Stage.{Stage}
 use Rattle.fa_shared.specs.Seats.{commits_with, number_of}
 use Rattle.fa_shared.specs.declared.seat.Seat.{Seat}
 use Rattle.fa_solo.specs.Deeds.{Goes, IsMeanwhile}

@@ -3,28 +3,28 @@ ghost use Rattle.std.specs.Option.{option_map_or};
 ghost use Rattle.std.specs.Prelude.{◌≡◌, ◌<◌, ◌∷◌, [], true, false, map, option_map, IfNone, IfSome};
 ghost use Rattle.std.specs.FinMap.{get};
 ghost use Rattle.fa_core.specs.Calls.{FitsAnswer, Makes};
-ghost use Rattle.fa_ends.specs.Outcomes.{outcome_of};
+ghost use Rattle.fa_core_complete.specs.Outcomes.{outcome_of};
 ghost use Rattle.fa_machine.specs.Cells.{is_of_kind};
 ghost use Rattle.fa_machine.specs.Conditions.{copy_open, history_full};
 ghost use Rattle.fa_machine.specs.Step.{Step, is_die, is_sized};
 ghost use Rattle.fa_machine.specs.Step.{Admit, Advance, CommitCopy, Done, EndBatch, Release, ReserveCopy, Take, Window};
-ghost use Rattle.fa_reads.specs.Answers.{admit_answer};
+ghost use Rattle.fa_core_read.specs.Answers.{admit_answer};
 ghost use Rattle.fa_shared.specs.Seats.{number_of};
-ghost use Rattle.fa_takes.specs.Fits.{IsJobFor};
-ghost use Rattle.fa_takes.specs.Handed.{handed_of};
+ghost use Rattle.fa_core_dispatch.specs.Fits.{IsJobFor};
+ghost use Rattle.fa_core_dispatch.specs.Handed.{handed_of};
 ghost use Rattle.fa_workers.specs.Held.{Folds, IsNoCommit, LeavesRest};
 
 use fa_core::{Answer, Call};
-use fa_ends::Outcome;
+use fa_core_complete::Outcome;
 use fa_machine::{
     AdmitRefused, AdvanceRefused, BatchId, ClaimId, CommitCopyRefused, Copied, ReserveCopyRefused,
     WindowRefused,
 };
 use fa_map::Map;
-use fa_reads::Admitted;
+use fa_core_read::Admitted;
 use fa_shared::{Locked, Seat, plain};
 use fa_tag::Payload;
-use fa_takes::Job;
+use fa_core_dispatch::Job;
 use fa_types::{Die, Page, Round, Seq};
 use std::alloc::Allocator;
 use std::sync::ledger::Ledger;

@@ -4,7 +4,7 @@ ghost use Rattle.std.specs.FinMap.{get};
 ghost use Rattle.fa_machine.specs.Placement.{is_thin};
 ghost use Rattle.fa_machine.specs.Reading.{Planned, results as rule_results};
 ghost use Rattle.fa_machine.specs.Step.{Admit, EndBatch, ReserveCopy};
-ghost use Rattle.fa_reads.specs.Answers.{admit_answer};
+ghost use Rattle.fa_core_read.specs.Answers.{admit_answer};
 ghost use Rattle.fa_solo.specs.Deeds.{IsForDies, IsForOrder};
 ghost use Rattle.fa_solo.specs.Rigs.{Does, DoesOne, ReservesCopy, SettlesCopy, Tidies, TriesCopy};
 
@@ -15,7 +15,7 @@ use crate::rig::Rig;
 use fa_image::Image;
 use fa_machine::{AdmitRefused, BatchId, CommitCopyRefused, Copied, ReadState};
 use fa_map::Map;
-use fa_reads::Admitted;
+use fa_core_read::Admitted;
 use fa_shared::Locked;
 use fa_tag::Payload;
 use fa_types::{Page, Seq};

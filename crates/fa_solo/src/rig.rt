@@ -3,7 +3,7 @@ ghost use Rattle.std.specs.Prelude.{◌≡◌, ◌+◌, true, IfErr, IfOk, lengt
 ghost use Rattle.fa_core.specs.Array.{IsWhole, number_of as array_number, state_of};
 ghost use Rattle.fa_mount.specs.Standings.{place_on};
 
-use fa_headers::Standing;
+use fa_mount_headers::Standing;
 use fa_image::Image;
 use fa_map::Map;
 use fa_mount::{MountedArray, place_of};

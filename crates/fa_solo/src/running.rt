@@ -1,21 +1,21 @@
 //! One job of a die, from its Take to its Done.
 ghost use Rattle.std.specs.FinMap.{get};
 ghost use Rattle.std.specs.Prelude.{◌≡◌, ◌+◌, true, false, Some, length};
-ghost use Rattle.fa_ends.specs.Outcomes.{outcome_of};
+ghost use Rattle.fa_core_complete.specs.Outcomes.{outcome_of};
 ghost use Rattle.fa_machine.specs.Conditions.{history_full};
 ghost use Rattle.fa_machine.specs.Step.{is_die};
 ghost use Rattle.fa_solo.specs.Deeds.{IsForDies};
 ghost use Rattle.fa_solo.specs.Rigs.{Does, EndsAt, HasMemory, IsPlaced, RanAt};
-ghost use Rattle.fa_takes.specs.Fits.{IsJobFor};
-ghost use Rattle.fa_takes.specs.Handed.{handed_of};
+ghost use Rattle.fa_core_dispatch.specs.Fits.{IsJobFor};
+ghost use Rattle.fa_core_dispatch.specs.Handed.{handed_of};
 
 use crate::events::{done, make_room, take};
 use crate::rig::Rig;
-use fa_ends::Outcome;
+use fa_core_complete::Outcome;
 use fa_image::Image;
 use fa_laws::steps::the_geometry_is_kept;
 use fa_map::Map;
-use fa_takes::Job;
+use fa_core_dispatch::Job;
 use fa_types::{Die, TAG_BYTES};
 use fa_workers::{Open, run_job};
 use std::alloc::Allocator;

@@ -7,7 +7,7 @@ use crate::rig::{Parts, Rig};
 use crate::whole::{call, call_flush, call_read};
 use fa_image::Image;
 use fa_map::Map;
-use fa_stages::Request;
+use fa_shared_steps::Request;
 use fa_types::{BlockFault, Blocks, Geometry, Round};
 use std::alloc::{Allocator, Global};
 use std::sync::ledger::{Blank, Ledger};
@@ -88,7 +88,7 @@ fn store_bytes(geometry: Geometry) -> (u64, u32)
 }
 
 impl<L: Ledger, M: Map + Drop, I: Image, A: Allocator + Copy> Blocks for Solo<L, M, I, A> {
-    ghost use Rattle.fa_blocks.specs.SharedStore.{shared_meets, shared_view, shared_whole};
+    ghost use Rattle.fa_shared_store.specs.SharedStore.{shared_meets, shared_view, shared_whole};
     ghost use Rattle.fa_solo.specs.Stores.{StoreMakes};
 
     ghost view = { λ store. shared_view store.bytes store.page_bytes };

@@ -1,9 +1,9 @@
 //! Whole calls: what is for dies before a request, the request, and what the array wants behind it.
 ghost use Rattle.std.specs.Prelude.{◌≡◌, ◌+◌, ◌^◌, ◌≤◌, [], length, is_ok, true, false, IfOk, IfErr, OnOk};
-ghost use Rattle.fa_blocks.specs.Counts.{IsMade};
-ghost use Rattle.fa_ops.specs.Tallies.{pages_in};
-ghost use Rattle.fa_stages.specs.Tasks.{end_of, task_of};
-ghost use Rattle.fa_stages.specs.declared.request.Request.TheVariants.{Flush, Read};
+ghost use Rattle.fa_shared_store.specs.Counts.{IsMade};
+ghost use Rattle.fa_shared_request.specs.Tallies.{pages_in};
+ghost use Rattle.fa_shared_steps.specs.Tasks.{end_of, task_of};
+ghost use Rattle.fa_shared_steps.specs.declared.request.Request.TheVariants.{Flush, Read};
 ghost use Rattle.fa_solo.specs.Calls.{IsOfFlush, MakesWhole, answer_by};
 ghost use Rattle.fa_solo.specs.Rigs.{Tidies};
 ghost use Rattle.fa_types.specs.Store.{Done, Gave, Refused};
@@ -15,7 +15,7 @@ use crate::requests::{run, run_read};
 use crate::rig::Rig;
 use fa_image::Image;
 use fa_map::Map;
-use fa_stages::Request;
+use fa_shared_steps::Request;
 use fa_types::BlockFault;
 use std::alloc::Allocator;
 use std::sync::ledger::Ledger;

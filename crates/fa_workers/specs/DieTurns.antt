@@ -2,9 +2,9 @@
 use Rattle.std.specs.Prelude.{◌≡◌, ◌⊎◌, ℕ, Bool, ◌&&◌, not, false, if◌then◌else◌, List, Option, Some, None, Result, Ok, Err}
 use Rattle.std.specs.FinMap.{get}
 use Rattle.std.specs.Option.{option_map_or}
-use Rattle.fa_ends.specs.Outcomes.{outcome_of}
-use Rattle.fa_ends.specs.declared.outcome.Outcome.{Outcome}
-use Rattle.fa_ends.specs.declared.outcome.Outcome.TheVariants.{Fault as WasFault}
+use Rattle.fa_core_complete.specs.Outcomes.{outcome_of}
+use Rattle.fa_core_complete.specs.declared.outcome.Outcome.{Outcome}
+use Rattle.fa_core_complete.specs.declared.outcome.Outcome.TheVariants.{Fault as WasFault}
 use Rattle.fa_machine.specs.Cells.{is_of_kind}
 use Rattle.fa_machine.specs.State.{Core, is_live}
 use Rattle.fa_machine.specs.Step.{Advance, Done, Step, Take, is_die, is_sized}
@@ -13,7 +13,7 @@ use Rattle.fa_machine.specs.declared.refusals.AdvanceRefused.TheVariants.{Pendin
 use Rattle.fa_shared.specs.declared.faults.Cause.{Cause}
 use Rattle.fa_shared.specs.declared.faults.Cause.TheVariants.{Image, Wrong}
 use Rattle.fa_shared.specs.declared.faults.Fault.{Fault}
-use Rattle.fa_takes.specs.Handed.{handed_of}
+use Rattle.fa_core_dispatch.specs.Handed.{handed_of}
 use Rattle.fa_types.specs.declared.numbers.Die.{Die}
 use Rattle.fa_types.specs.declared.numbers.Round.{Round}
 use Rattle.fa_workers.specs.Held.{MakesFolded}

@@ -1,7 +1,7 @@
 -- The calls that a job makes of its die's image, as the array's machine has them.
 use Rattle.std.specs.Prelude.{◌≡◌, ℕ, List, [], ◌∷◌, ◌++◌, Some}
-use Rattle.fa_ends.specs.Outcomes.{cell_of, outcome_of as end_of}
-use Rattle.fa_ends.specs.declared.outcome.Outcome.{Outcome as JobOutcome}
+use Rattle.fa_core_complete.specs.Outcomes.{cell_of, outcome_of as end_of}
+use Rattle.fa_core_complete.specs.declared.outcome.Outcome.{Outcome as JobOutcome}
 use Rattle.fa_image.specs.Image.{ImageAnswer, ImageCall, Programming, ReadingSlot, Erasing, WritingHeader, Syncing}
 use Rattle.fa_image.specs.Image.{Gave as GaveBytes, Done, Refused as RefusedBy}
 use Rattle.fa_machine.specs.Cells.{Cell, Sealed, Outcome}
@@ -13,7 +13,7 @@ use Rattle.fa_machine.specs.declared.places.Version.{Version}
 use Rattle.fa_tag.specs.HeaderGrammar.{header_bytes}
 use Rattle.fa_tag.specs.SlotGrammar.{IsOpened, payload_of, slot_2}
 use Rattle.fa_tag.specs.declared.tag.Opened.{Opened}
-use Rattle.fa_takes.specs.Fits.{header_of, tag_of}
+use Rattle.fa_core_dispatch.specs.Fits.{header_of, tag_of}
 use Rattle.fa_types.specs.declared.geometry.Geometry.{Geometry}
 
 -- What bytes of a slot are to the machine. A slot that was sealed is its page, write and place with its payload.

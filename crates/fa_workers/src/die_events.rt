@@ -3,7 +3,7 @@ ghost use Rattle.std.specs.Prelude.{◌≡◌, true, false, IfErr, IfOk, IfSome,
 ghost use Rattle.fa_machine.specs.Conditions.{history_full};
 ghost use Rattle.fa_machine.specs.Step.{Advance, Step, Take, is_die};
 ghost use Rattle.fa_shared.specs.Seats.{number_of};
-ghost use Rattle.fa_takes.specs.Handed.{handed_of};
+ghost use Rattle.fa_core_dispatch.specs.Handed.{handed_of};
 ghost use Rattle.fa_workers.specs.DieTurns.{Ends, Rests, TakesNext, Turns};
 ghost use Rattle.fa_workers.specs.DieTurns.{after_look as rule_look, cause_of as rule_cause, fault_of, noted};
 ghost use Rattle.fa_workers.specs.Held.{LeavesRest};
@@ -11,7 +11,7 @@ ghost use Rattle.fa_workers.specs.Held.{LeavesRest};
 use crate::events::{make, make_room};
 use crate::order::{Order, order_of};
 use fa_core::{Answer, Array, Call};
-use fa_ends::Outcome;
+use fa_core_complete::Outcome;
 use fa_machine::AdvanceRefused;
 use fa_map::Map;
 use fa_shared::{Cause, Fault, Locked, Seat, plain};

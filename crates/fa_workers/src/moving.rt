@@ -1,15 +1,15 @@
 //! The job that moves a copy.
 ghost use Rattle.std.specs.Prelude.{◌≡◌, ◌<◌, ℕ, List, is_some, length};
-ghost use Rattle.fa_ends.specs.Outcomes.{cell_of, outcome_of};
+ghost use Rattle.fa_core_complete.specs.Outcomes.{cell_of, outcome_of};
 ghost use Rattle.fa_image.specs.Image.{slot_bytes, slot_count};
 ghost use Rattle.fa_machine.specs.declared.jobs.Flight.TheVariants.{Move};
 ghost use Rattle.fa_machine.specs.Cells.{moved_payload};
 ghost use Rattle.fa_tag.specs.SlotGrammar.{IsPayloadOf, IsTag, payload_of};
 ghost use Rattle.fa_workers.specs.Made.{ProgramsMoved, Ran};
-ghost use Rattle.fa_takes.specs.Fits.{tag_of};
+ghost use Rattle.fa_core_dispatch.specs.Fits.{tag_of};
 
 use crate::gate::{Gate, ImageCallKind};
-use fa_ends::Outcome;
+use fa_core_complete::Outcome;
 use fa_image::Image;
 use fa_machine::Version;
 use fa_tag::{Opened, PayloadDigest, Tag, open_begun, reseal};

@@ -2,7 +2,7 @@
 ghost use Rattle.std.specs.Prelude.{◌≡◌, false, map, IfNone, IfSome};
 ghost use Rattle.fa_machine.specs.Conditions.{batch_open, copy_open};
 ghost use Rattle.fa_machine.specs.Step.{CommitCopy, EndBatch, Step};
-ghost use Rattle.fa_reads.specs.Answers.{admit_answer};
+ghost use Rattle.fa_core_read.specs.Answers.{admit_answer};
 ghost use Rattle.fa_workers.specs.Held.{LeavesRest};
 ghost use Rattle.fa_workers.specs.Rebuilding.{AfterBatch, IsNumbered, Rebuilds, after_admit, after_commit as rule_commit, after_reserve};
 ghost use Rattle.fa_workers.specs.declared.rebuild_stage.Stage.TheVariants.{Looking, Pausing, Reading, Reserving, Copying};

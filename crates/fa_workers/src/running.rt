@@ -1,20 +1,20 @@
 //! A job's calls of its die's image.
 ghost use Rattle.std.specs.Prelude.{◌≡◌, length};
-ghost use Rattle.fa_ends.specs.Outcomes.{outcome_of};
+ghost use Rattle.fa_core_complete.specs.Outcomes.{outcome_of};
 ghost use Rattle.fa_image.specs.Image.{slot_bytes};
-ghost use Rattle.fa_takes.specs.Handed.{handed_of};
+ghost use Rattle.fa_core_dispatch.specs.Handed.{handed_of};
 ghost use Rattle.fa_workers.specs.Made.{Ran};
-ghost use Rattle.fa_takes.specs.Fits.{IsJobFor};
+ghost use Rattle.fa_core_dispatch.specs.Fits.{IsJobFor};
 
 use crate::gate::Gate;
 use crate::header::run_header;
 use crate::moving::run_move;
 use crate::reading::run_read;
 use crate::writing::{run_erase, run_program, run_sync};
-use fa_ends::Outcome;
+use fa_core_complete::Outcome;
 use fa_image::Image;
 use fa_machine::Flight;
-use fa_takes::Job;
+use fa_core_dispatch::Job;
 use fa_types::Die;
 use std::alloc::Allocator;
 

@@ -1,6 +1,6 @@
 //! New images, and what headers say. The bytes of headers were made by another program.
 use crate::mounting::{ARRAY, formatted, shape};
-use fa_headers::{
+use fa_mount_headers::{
     FormatFault, Judged, MountFault, MountRefused, Standing, expect, judge, read_headers,
 };
 use fa_image::{Image, ImageFault};

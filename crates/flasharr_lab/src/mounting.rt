@@ -18,7 +18,7 @@ use crate::told::Told;
 use crate::unmounted::unmounted;
 use crate::words::number_at;
 use fa_core::Array;
-use fa_headers::MountRefused;
+use fa_mount_headers::MountRefused;
 use fa_image::Image;
 use fa_map::{Map, PageMap};
 use fa_mount::{MountedArray, mount};

@@ -1,6 +1,6 @@
 //! A job that a die has taken, with all that its calls want.
-ghost use Rattle.fa_takes.specs.Fits.{IsJobFor};
-ghost use Rattle.fa_takes.specs.Handed.{handed_of};
+ghost use Rattle.fa_core_dispatch.specs.Fits.{IsJobFor};
+ghost use Rattle.fa_core_dispatch.specs.Handed.{handed_of};
 ghost use Rattle.fa_workers.specs.Orders.{IsJobFor-prop};
 
 use crate::heap::Heap;

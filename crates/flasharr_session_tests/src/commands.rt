@@ -1,5 +1,5 @@
 //! The commands that work on text where memory is refused, or their input or their output fails.
-use fa_commands::{run_talk, run_verify};
+use fa_prog_text::{run_talk, run_verify};
 use fa_io::faulty::{Failing, Piecewise};
 use flasharr_tests::ensure;
 use linked_list_allocator::LocalHeap;

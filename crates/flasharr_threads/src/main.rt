@@ -16,7 +16,7 @@ mod wire;
 mod wrong;
 
 use crate::scenarios::{NAMES, play};
-use fa_server::ServerHost;
+use fa_prog_serve::ServerHost;
 use std::net::{TcpListener, TcpStream};
 use std::process::ExitCode;
 use std::{env, io};

@@ -8,7 +8,7 @@ use crate::loopback::{Served, serve_client};
 use crate::pages::{Pages, Step};
 use crate::turns::{Desk, InTurn};
 use crate::wrong::{Came, Wrong};
-use fa_server::ServerHost;
+use fa_prog_serve::ServerHost;
 use fa_shared::Cause;
 use fa_types::Die;
 use std::alloc::{AllocError, Global};

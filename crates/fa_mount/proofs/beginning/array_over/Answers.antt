@@ -2,7 +2,7 @@ use Rattle.fa_mount.proofs.Few.{few_below}
 use Rattle.fa_mount.proofs.Greatest.{last_fits}
 use Rattle.fa_mount.proofs.Spares.{spare_within}
 use Rattle.fa_types.specs.declared.geometry.Geometry.{Geometry}
-use Rattle.fa_headers.specs.declared.judging.Standing.{Standing}
+use Rattle.fa_mount_headers.specs.declared.judging.Standing.{Standing}
 use Rattle.fa_mount.specs.Begins.{AreSpares}
 use Rattle.fa_set.specs.Members.{members}
 use Rattle.std.proofs.Common.{List, ap, arith, length, subst, sym, ◌∙◌}

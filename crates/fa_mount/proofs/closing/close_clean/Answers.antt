@@ -1,7 +1,7 @@
 use Rattle.std.proofs.Common.{length, List, subst, sym}
 use Rattle.fa_core.specs.Array.{number_of, state_of}
 use Rattle.fa_mount.proofs.Same.{ended_leaves, sync_honest, sync_slots, write_honest, write_slots}
-use Rattle.fa_headers.specs.declared.judging.Standing.{Standing}
+use Rattle.fa_mount_headers.specs.declared.judging.Standing.{Standing}
 use Rattle.fa_machine.specs.State.{is_live}
 use Rattle.fa_mount.specs.Standings.{AreApart, HaveImages}
 use Rattle.fa_mount.proofs.closing.close_clean.Goals as goal

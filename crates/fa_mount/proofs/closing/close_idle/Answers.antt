@@ -1,7 +1,7 @@
 use Rattle.std.proofs.Common.{◌≡◌, ◌<◌, ◌^◌, ◌==◌, ◌&&◌, not, ℕ, ap, arith, length, rules, subst, sym, ◌∙◌}
 use Rattle.std.specs.FinMap.{len}
 use Rattle.fa_core.specs.Array.{number_of, state_of}
-use Rattle.fa_headers.specs.Rules.{is_in}
+use Rattle.fa_mount_headers.specs.Rules.{is_in}
 use Rattle.fa_machine.specs.State.{is_live}
 use Rattle.fa_mount.proofs.Bits.{count_less, fits_below, in_below}
 use Rattle.fa_mount.proofs.Ended.{called_at_first, called_then, closed_clean, epoch_fits, have_still, left_at_first, left_then, lost_at, none_live}

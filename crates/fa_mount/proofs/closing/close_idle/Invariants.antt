@@ -1,6 +1,6 @@
 use Rattle.std.proofs.Common.{◌≡◌}
 use Rattle.fa_core.specs.Array.{number_of, state_of}
-use Rattle.fa_headers.specs.Rules.{is_in}
+use Rattle.fa_mount_headers.specs.Rules.{is_in}
 use Rattle.fa_mount.proofs.Ended.{AreCalled}
 use Rattle.fa_mount.specs.Closing.{AreLeft, how_many}
 use Rattle.fa_mount.specs.Told.{IsTold}

@@ -1,6 +1,6 @@
 use Rattle.std.proofs.Common.{◌&&◌, ap, arith, below_more, sym, ◌∙◌}
 use Rattle.fa_core.specs.Array.{state_of}
-use Rattle.fa_headers.specs.Rules.{is_in}
+use Rattle.fa_mount_headers.specs.Rules.{is_in}
 use Rattle.fa_machine.specs.Copies.{holds_page}
 use Rattle.fa_types.specs.declared.geometry.Geometry.{Geometry}
 use Rattle.fa_mount.proofs.Lost.{none_below, some_below}

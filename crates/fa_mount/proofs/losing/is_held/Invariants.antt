@@ -1,6 +1,6 @@
 use Rattle.std.proofs.Common.{◌≡◌, ◌<◌, ◌&&◌, ℕ, false}
 use Rattle.fa_core.specs.Array.{state_of}
-use Rattle.fa_headers.specs.Rules.{is_in}
+use Rattle.fa_mount_headers.specs.Rules.{is_in}
 use Rattle.fa_machine.specs.Copies.{holds_page}
 use Rattle.fa_mount.proofs.losing.is_held.Given as goal
 

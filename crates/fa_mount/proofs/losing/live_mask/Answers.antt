@@ -1,6 +1,6 @@
 use Rattle.std.proofs.Common.{ap, arith, sym, ◌∙◌, ◌<◌, ◌≡◌, ℕ, true}
 use Rattle.fa_core.specs.Array.{state_of}
-use Rattle.fa_headers.specs.Rules.{is_in}
+use Rattle.fa_mount_headers.specs.Rules.{is_in}
 use Rattle.fa_machine.specs.State.{is_live}
 use Rattle.fa_mount.proofs.Bits.{live_all, live_more, live_same}
 use Rattle.fa_types.specs.declared.geometry.Geometry.{Geometry}

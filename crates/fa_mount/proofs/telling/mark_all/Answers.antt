@@ -1,5 +1,5 @@
 use Rattle.std.proofs.Common.{◌+◌, ap, arith, sym, subst, true, ◌∙◌, ℕ}
-use Rattle.fa_headers.specs.Rules.{is_in}
+use Rattle.fa_mount_headers.specs.Rules.{is_in}
 use Rattle.fa_image.specs.Image.{ImageCall}
 use Rattle.fa_mount.proofs.Bits.{in_below}
 use Rattle.fa_mount.proofs.Called.{made_all, made_more, made_past, made_refused, marks_all, marks_more, marks_past}

@@ -1,5 +1,5 @@
 use Rattle.std.proofs.Common.{◌≡◌, ◌||◌, ℕ, true}
-use Rattle.fa_headers.specs.Rules.{is_in}
+use Rattle.fa_mount_headers.specs.Rules.{is_in}
 use Rattle.fa_mount.specs.Phases.{AreMade, called_below, is_accepted}
 use Rattle.fa_mount.specs.Told.{writing}
 use Rattle.fa_mount.proofs.telling.mark_all.Given as goal

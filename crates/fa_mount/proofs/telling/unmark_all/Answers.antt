@@ -1,6 +1,6 @@
 use Rattle.std.proofs.Common.{◌&&◌, ◌+◌, ◌≡◌, arith, false, subst, sym, ◌∙◌, ℕ, Bool}
 use Rattle.std.proofs.lemmas.Bool.{and_from, and_left, and_parts, and_right}
-use Rattle.fa_headers.specs.Rules.{is_in}
+use Rattle.fa_mount_headers.specs.Rules.{is_in}
 use Rattle.fa_image.specs.Image.{ImageCall}
 use Rattle.fa_mount.proofs.Bits.{in_below}
 use Rattle.fa_mount.proofs.Tried.{Tried, tried_all, tried_below, tried_more, tried_past}

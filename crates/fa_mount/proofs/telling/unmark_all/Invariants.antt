@@ -1,5 +1,5 @@
 use Rattle.std.proofs.Common.{◌&&◌, false}
-use Rattle.fa_headers.specs.Rules.{is_in}
+use Rattle.fa_mount_headers.specs.Rules.{is_in}
 use Rattle.fa_mount.proofs.Tried.{Tried, tried_below}
 use Rattle.fa_mount.specs.Phases.{ByDie}
 use Rattle.fa_mount.specs.Told.{writing}

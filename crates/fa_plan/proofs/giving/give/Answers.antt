@@ -1,7 +1,7 @@
 use Rattle.std.proofs.Common.{◌<◌, ◌≤◌, length, subst, arith, rules}
 use Rattle.std.proofs.lemmas.List.{get_or_read}
-use Rattle.fa_walk.specs.Reading.{no_die}
-use Rattle.fa_walk.specs.Search.{HasFound}
+use Rattle.fa_plan_search.specs.Reading.{no_die}
+use Rattle.fa_plan_search.specs.Search.{HasFound}
 use Rattle.fa_plan.proofs.Handing.{given_more, handed}
 use Rattle.fa_plan.proofs.giving.give.Goals as goal
 

@@ -1,5 +1,5 @@
 use Rattle.fa_plan.specs.Giving.{IsHandingOn}
-use Rattle.fa_walk.specs.Search.{rank_of}
+use Rattle.fa_plan_search.specs.Search.{rank_of}
 use Rattle.fa_plan.proofs.giving.give.Given as goal
 
 abbrev pub invariant-hand_on : goal.invariant-hand_on

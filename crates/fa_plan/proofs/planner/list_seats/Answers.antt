@@ -1,6 +1,6 @@
 use Rattle.std.proofs.Common.{◌+◌, take, get_or, refl, sym, subst, arith}
 use Rattle.fa_batch.proofs.Batches.{page_at}
-use Rattle.fa_walk.specs.Reading.{no_die, no_entry}
+use Rattle.fa_plan_search.specs.Reading.{no_die, no_entry}
 use Rattle.fa_plan.specs.Progress.{AreSeats}
 use Rattle.fa_plan.proofs.Seats.{seats_more}
 use Rattle.fa_plan.proofs.planner.list_seats.Goals as goal

@@ -1,6 +1,6 @@
 use Rattle.std.proofs.Common.{sym, ◌∙◌, subst}
 use Rattle.fa_batch.specs.Certificate.{AreNamed}
-use Rattle.fa_walk.specs.Pages.{AreReached}
+use Rattle.fa_plan_search.specs.Pages.{AreReached}
 use Rattle.fa_plan.specs.Shortage.{AreTooFew, IsRaised}
 use Rattle.fa_plan.proofs.Making.{given_one, raised, reached_are_few}
 use Rattle.fa_plan.proofs.Reached.{reached_are_named, reached_are_too_many}

@@ -8,11 +8,11 @@ use Rattle.std.specs.Borrow.{Bor}
 use Rattle.fa_types.specs.declared.numbers.Die.{Die}
 use Rattle.fa_settings.specs.CommandLine.{Wanted, Formats, Checks, Dumps, Serves, Plans, Talks, Verifies, IsWanted, found_instead, wanted_in}
 use Rattle.fa_settings.specs.declared.command_line.Subcommand.TheVariants.{Format, Check, Dump, Serve}
-use Rattle.fa_admin.specs.Array.{TellsLook}
-use Rattle.fa_format.specs.Formatting.{TellsFormat}
-use Rattle.fa_admin.specs.declared.look.Asked.TheVariants.{Check as CheckAsked, Dump as DumpAsked}
-use Rattle.fa_host.specs.Printing.{TellsNoMemory}
-use Rattle.fa_server.specs.Serving.{TellsServe}
+use Rattle.fa_prog_inspect.specs.Array.{TellsLook}
+use Rattle.fa_prog_format.specs.Formatting.{TellsFormat}
+use Rattle.fa_prog_inspect.specs.declared.look.Asked.TheVariants.{Check as CheckAsked, Dump as DumpAsked}
+use Rattle.fa_prog_host.specs.Printing.{TellsNoMemory}
+use Rattle.fa_prog_serve.specs.Serving.{TellsServe}
 use Rattle.fa_prog.specs.Output.{ShowsText}
 use Rattle.fa_prog.specs.Program.{Runs, RunsCommand}
 use Rattle.fa_prog.proofs.program.run.Goals as goal

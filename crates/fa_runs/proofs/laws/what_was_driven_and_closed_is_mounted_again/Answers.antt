@@ -3,7 +3,7 @@ use Rattle.fa_machine.specs.State.{Core}
 use Rattle.fa_runs.proofs.ClosedAgain.{was_closed}
 use Rattle.fa_runs.proofs.MountedImages.{mounted_runs}
 use Rattle.fa_runs.proofs.laws.what_was_driven_and_closed_is_mounted_again.Goals as goal
-use Rattle.fa_scan.specs.MountedWorld.{bytes_of, is_spare_of}
+use Rattle.fa_mount_scan.specs.MountedWorld.{bytes_of, is_spare_of}
 use Rattle.std.proofs.Common.{map, subst, sym}
 
 pub returns : goal.returns

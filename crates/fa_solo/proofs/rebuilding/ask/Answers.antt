@@ -1,6 +1,6 @@
 use Rattle.std.proofs.Common.{[], ◌∷◌, refl}
 use Rattle.fa_machine.specs.Step.{Admit}
-use Rattle.fa_reads.specs.Answers.{admit_answer}
+use Rattle.fa_core_read.specs.Answers.{admit_answer}
 use Rattle.fa_solo.proofs.Chains.{does_event, does_same}
 use Rattle.fa_solo.proofs.Orders.{asked_for, if_none}
 use Rattle.fa_solo.specs.Deeds.{IsForOrder}

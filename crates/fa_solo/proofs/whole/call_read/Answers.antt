@@ -1,6 +1,6 @@
 use Rattle.std.proofs.Common.{◌≡◌}
-use Rattle.fa_stages.specs.declared.request.Request.TheVariants.{Read}
-use Rattle.fa_stages.specs.Tasks.{task_of}
+use Rattle.fa_shared_steps.specs.declared.request.Request.TheVariants.{Read}
+use Rattle.fa_shared_steps.specs.Tasks.{task_of}
 use Rattle.fa_solo.proofs.Begun.{whole_err, whole_ok}
 use Rattle.fa_types.specs.Store.{Gave, Refused}
 use Rattle.fa_types.specs.declared.blocks.BlockFault.TheVariants.{NoRoom}

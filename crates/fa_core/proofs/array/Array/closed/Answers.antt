@@ -2,7 +2,7 @@ use Rattle.fa_batch.specs.Closed.{is_closed}
 use Rattle.fa_core.specs.Array.{state_of}
 use Rattle.fa_machine.specs.Rounds.{is_taken}
 use Rattle.fa_machine.specs.State.{CalendarState}
-use Rattle.fa_reads.proofs.Released.{without_none}
+use Rattle.fa_core_read.proofs.Released.{without_none}
 use Rattle.std.proofs.Common.{subst, ℕ, ◌≡◌, ◌≤◌}
 use Rattle.std.specs.Prelude.{IfOk}
 use Rattle.fa_core.proofs.array.Array.closed.Goals as goal

@@ -2,7 +2,7 @@ use Rattle.std.proofs.Common.{List, subst, sym, ◌∙◌}
 use Rattle.std.specs.Prelude.{IsTrue, ◌↔◌}
 use Rattle.std.proofs.lemmas.Bool.{false≢true}
 use Rattle.fa_core.specs.Array.{state_of}
-use Rattle.fa_headers.specs.declared.judging.Standing.{Standing}
+use Rattle.fa_mount_headers.specs.declared.judging.Standing.{Standing}
 use Rattle.fa_machine.specs.State.{is_live}
 use Rattle.fa_mount.specs.Standings.{AreApart, HaveImages}
 use Rattle.fa_mount.proofs.array.MountedArray.has_images.Goals as goal

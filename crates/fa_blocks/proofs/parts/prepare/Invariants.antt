@@ -1,6 +1,0 @@
-use Rattle.std.proofs.Common.{ℕ}
-use Rattle.fa_blocks.specs.Counts.{Counts, tally_of_parts}
-use Rattle.fa_blocks.proofs.parts.prepare.Given as goal
-
-abbrev pub invariant-loop-part : goal.invariant-loop-part
-invariant-loop-part g l = (commits : ℕ) → Counts (tally_of_parts commits l.initial.part-items) (tally_of_parts commits l.part-items)

@@ -1,5 +1,0 @@
-use Rattle.fa_blocks.specs.Counts.{PartsGoOn}
-use Rattle.fa_blocks.proofs.parts.turn_all.Given as goal
-
-abbrev pub invariant-loop-part : goal.invariant-loop-part
-invariant-loop-part g l = PartsGoOn l.initial.seat l.initial.part-items l.seat l.part-items

@@ -1,4 +1,0 @@
-use Rattle.fa_bookings.proofs.table.put.Goals as goal
-
-pub returns-in-Ok-clause-now : goal.returns-in-Ok-clause-now
-returns-in-Ok-clause-now g c d r = c.in-Ok.ensures.updates.0 (d, r)

@@ -1,0 +1,10 @@
+use Rattle.fa_core_batches.specs.Batches.{state_of}
+use Rattle.fa_core_read.proofs.asking.booked_places.Given as goal
+use Rattle.fa_core_read.specs.Left.{places_among}
+use Rattle.fa_types.specs.declared.numbers.Page.{Page}
+use Rattle.std.proofs.Common.{map, ◌≡◌}
+use Rattle.std.specs.Prelude.{take}
+
+abbrev pub invariant-loop-page : goal.invariant-loop-page
+invariant-loop-page g l = l.places.items
+    ≡ places_among (state_of l.batches l.batch.0) (map (λ (page : Page). page.0) (take l.page-index l.pages))

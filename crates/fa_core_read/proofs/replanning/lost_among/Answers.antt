@@ -1,0 +1,38 @@
+use Rattle.fa_core_batches.specs.Batches.{state_of}
+use Rattle.fa_machine.specs.Copies.{is_lost}
+use Rattle.fa_core_read.proofs.Finds.{find_filtered, find_mapped, next_fails, next_passes, none_at_end}
+use Rattle.fa_core_read.proofs.replanning.lost_among.Goals as goal
+use Rattle.fa_core_read.specs.Left.{is_left}
+use Rattle.fa_types.specs.declared.numbers.Page.{Page}
+use Rattle.std.proofs.Common.{Bool, ap, arith, map, rules, suc, sym, ℕ, ◌+◌, ◌∙◌, ◌≡◌}
+use Rattle.std.specs.Prelude.{find, option_map, take, ◌&&◌}
+
+plus_one : (n : ℕ) → n + 1 ≡ suc n
+plus_one n = omega arith
+
+pub returns-then-is_left_lost : goal.returns-then-is_left_lost
+returns-then-is_left_lost g c =
+    let left : ℕ → Bool = λ p. is_left (state_of c.args.batches.now c.args.batch.0 p) in
+    let lost : ℕ → Bool = λ p. is_lost (g.M.Map.view c.args.page_map.now) p in
+    sym (ap (option_map (λ (page : Page). page.0))
+    (next_passes (λ (page : Page). left page.0 && lost page.0) c.args.pages.now c.loop-page.page-index (record { 0 = 0 })
+    (search rules) c.loop-page.invariant (search rules)))
+    ∙ find_mapped (λ (page : Page). page.0) (λ p. left p && lost p) c.args.pages.now
+    ∙ sym (find_filtered left lost (map (λ (page : Page). page.0) c.args.pages.now))
+
+pub loop-page-preserved : goal.loop-page-preserved
+loop-page-preserved g c =
+    let left : ℕ → Bool = λ p. is_left (state_of c.args.batches.now c.args.batch.0 p) in
+    let lost : ℕ → Bool = λ p. is_lost (g.M.Map.view c.args.page_map.now) p in
+    ap (λ n. find (λ (page : Page). left page.0 && lost page.0) (take n c.args.pages.now)) (plus_one c.loop-page.page-index)
+    ∙ next_fails (λ (page : Page). left page.0 && lost page.0) c.args.pages.now c.loop-page.page-index (record { 0 = 0 })
+    (search rules) c.loop-page.invariant (search rules)
+
+pub returns : goal.returns
+returns g c =
+    let left : ℕ → Bool = λ p. is_left (state_of c.args.batches.now c.args.batch.0 p) in
+    let lost : ℕ → Bool = λ p. is_lost (g.M.Map.view c.args.page_map.now) p in
+    ap (option_map (λ (page : Page). page.0)) (sym (none_at_end (λ (page : Page). left page.0 && lost page.0) c.args.pages.now
+    c.loop-page.page-index (search rules) c.loop-page.invariant))
+    ∙ find_mapped (λ (page : Page). page.0) (λ p. left p && lost p) c.args.pages.now
+    ∙ sym (find_filtered left lost (map (λ (page : Page). page.0) c.args.pages.now))

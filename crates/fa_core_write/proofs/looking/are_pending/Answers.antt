@@ -1,0 +1,7 @@
+use Rattle.std.proofs.Common.{◌∙◌, not}
+use Rattle.fa_machine.specs.declared.places.Target.{Target}
+use Rattle.fa_core_write.proofs.Live.{any_live}
+use Rattle.fa_core_write.proofs.looking.are_pending.Goals as goal
+
+pub returns : goal.returns
+returns g c = c.is_any_pending.ensures ∙ any_live (g.M.Map.view c.args.page_map.now) (λ (t : Target). not t.programmed) c.args.slots.now

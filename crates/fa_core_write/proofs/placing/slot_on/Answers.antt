@@ -1,0 +1,11 @@
+use Rattle.std.proofs.Common.{sym, ◌∙◌}
+use Rattle.fa_core_write.proofs.Placed.{lowest_fits, writers_lowest}
+use Rattle.fa_core_write.proofs.placing.slot_on.Goals as goal
+
+pub returns-in-Some-clause-free : goal.returns-in-Some-clause-free
+returns-in-Some-clause-free g c = record {
+  inside = c.requires.inside;
+  live = c.requires.live;
+  fits = lowest_fits (g.M.Map.view c.args.page_map.now) c.args.die.0 c.in-Some.slot.0
+      (sym (writers_lowest (g.M.Map.view c.args.page_map.now) c.args.die.0 c.requires.room) ∙ sym c.in-Some.ensures);
+}

@@ -1,0 +1,58 @@
+//! The one who accepts clients.
+use crate::host::Networked;
+use crate::lobby::{Guest, Lobby};
+use fa_prog_host::tell;
+use std::net::{SocketAddr, TcpListener, TcpStream};
+use std::thread;
+use std::time::Duration;
+
+/// How long a client may wait for a session, in seconds.
+const WAIT_SECONDS: u64 = 5;
+
+/// How long accepting rests after an error, in milliseconds.
+const REST_MILLISECONDS: u64 = 100;
+
+/// Accepts clients one by one until the lobby is closed: it looks at the lobby each time that the listener has given it a client or an error.
+/// One for whom no session is free within five seconds is sent away, and that is told on standard error, as is the first of some errors in a
+/// row.
+pub fn accept_clients<R: Networked>(rt: &R, listener: &TcpListener, lobby: &Lobby) {
+    let mut is_refused = false;
+    for _ in rt.forever() {
+        let accepted = listener.accept();
+        if lobby.is_closing(rt) {
+            break;
+        }
+        match accepted {
+            Ok((stream, address)) => {
+                is_refused = false;
+                let_in(rt, lobby, stream, address);
+            }
+            Err(refused) => {
+                if !is_refused {
+                    tell(rt, format_args!("a client cannot be accepted: {refused}"));
+                }
+                is_refused = true;
+                thread::sleep(rt, Duration::from_millis(REST_MILLISECONDS));
+            }
+        }
+    }
+}
+
+/// Lets a client wait for a session. One that is sent away for want of one is told of, but at the stop.
+fn let_in<R: Networked>(rt: &R, lobby: &Lobby, stream: TcpStream, address: SocketAddr) {
+    match Guest::new(stream) {
+        Ok(guest) => {
+            let is_taken = lobby.offer(rt, guest, Duration::from_secs(WAIT_SECONDS));
+            if !is_taken && !lobby.is_closing(rt) {
+                tell(
+                    rt,
+                    format_args!("{address}: no session is free for this client"),
+                );
+            }
+        }
+        Err(refused) => tell(
+            rt,
+            format_args!("{address}: this client cannot be served: {refused}"),
+        ),
+    }
+}

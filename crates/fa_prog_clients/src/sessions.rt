@@ -1,0 +1,166 @@
+//! A session of the server: it serves one client after another.
+use crate::connection::{Connection, ConnectionRoom};
+use crate::export::Export;
+use crate::host::Networked;
+use crate::lobby::Lobby;
+use crate::socket::prepare;
+use fa_shared_store::ArrayBlocks;
+use fa_prog_host::tell;
+use fa_image::Image;
+use fa_map::Map;
+use fa_session::{SessionEnd, serve_stream};
+use fa_shared::{Hands, Seat, Shared};
+use fa_types::Blocks;
+use fa_workers::{Bench, Helper, HelperRoom, Open};
+use std::alloc::{AllocError, Global};
+use std::io::Write;
+use std::net::{SocketAddr, TcpStream};
+use std::sync::ledger::Ledger;
+
+/// What a session has of its own. It is made before the session's thread is started.
+#[derive(Drop)]
+pub struct Session<'a, L: Ledger + Send> {
+    service: Service<'a>,
+    seat: Seat<L>,
+    // Memory for the jobs that it makes of dies while its requests wait.
+    room: HelperRoom,
+    // Memory for what its clients say and are told.
+    connection: ConnectionRoom,
+}
+
+impl<'a, L: Ledger + Send> Session<'a, L> {
+    /// A session that serves clients so, from this seat at an array whose pages have so many bytes. It takes memory for eight jobs of dies,
+    /// and for what a client says and is told. The error is out of memory.
+    pub fn new(
+        global: Global,
+        service: Service<'a>,
+        seat: Seat<L>,
+        page_bytes: u32,
+    ) -> Result<Session<'a, L>, AllocError> {
+        let room = HelperRoom::new(global, page_bytes)?;
+        let connection = ConnectionRoom::new(global)?;
+        Ok(Session {
+            service,
+            seat,
+            room,
+            connection,
+        })
+    }
+}
+
+/// How a session serves clients.
+#[derive(Clone, Copy)]
+pub struct Service<'a> {
+    /// The session's number, from 0 and below the number of sessions that the lobby is for. No two sessions of a lobby share it.
+    pub number: usize,
+    /// The export's name. A name that is too long for the protocol is served to nobody: each client is closed at once.
+    pub name: &'a str,
+    /// Clients that come and go are told on standard error.
+    pub verbose: bool,
+}
+
+/// Serves an array to one client after another until the lobby is closed, and hands the session's seat back. It blocks its thread: while its
+/// clients' requests wait it makes jobs of the dies whose images are at this bench.
+pub fn serve_clients<R: Networked, L: Ledger + Send, M: Map + Drop, I: Image + Send + Drop>(
+    rt: &R,
+    lobby: &Lobby,
+    shared: &Shared<L, M>,
+    bench: &Bench<I>,
+    session: Session<'_, L>,
+) -> Seat<L> {
+    let Session {
+        service,
+        seat,
+        room,
+        connection,
+    } = session;
+    let helper = Helper::new(rt, rt.alloc(), shared, bench, &Open, room);
+    serve_with(rt, lobby, shared, service, connection, seat, helper)
+}
+
+/// The same over the shared array, with somebody who makes jobs of its dies while a request waits. It is a function of its own, so that no
+/// type is written that has the helper's inside of the store's.
+fn serve_with<R: Networked, L: Ledger + Send, M: Map + Drop, H: Hands<L, M, Global> + Drop>(
+    rt: &R,
+    lobby: &Lobby,
+    shared: &Shared<L, M>,
+    service: Service<'_>,
+    connection: ConnectionRoom,
+    seat: Seat<L>,
+    hands: H,
+) -> Seat<L> {
+    let mut connection = Connection::new(connection);
+    let mut blocks = ArrayBlocks::new(rt, rt.alloc(), shared, seat, hands);
+    serve_each(rt, lobby, service, &mut connection, &mut blocks);
+    blocks.into_seat()
+}
+
+/// Serves a store to one client after another until the lobby is closed.
+fn serve_each<R: Networked, B: Blocks>(
+    rt: &R,
+    lobby: &Lobby,
+    service: Service<'_>,
+    connection: &mut Connection,
+    blocks: &mut B,
+) {
+    for _ in rt.forever() {
+        let Some(stream) = lobby.next_client(rt, service.number) else {
+            break;
+        };
+        if let Some(export) = Export::of(service.name) {
+            serve_client(
+                rt,
+                lobby,
+                &stream,
+                connection,
+                blocks,
+                export,
+                service.verbose,
+            );
+        }
+        lobby.leave(rt, service.number);
+    }
+}
+
+/// Serves a client to the end of its connection.
+fn serve_client<R: Networked, B: Blocks>(
+    rt: &R,
+    lobby: &Lobby,
+    stream: &TcpStream,
+    connection: &mut Connection,
+    blocks: &mut B,
+    export: Export<'_>,
+    verbose: bool,
+) {
+    prepare(stream);
+    let address = stream.peer_addr().ok();
+    tell_of_client(rt, address, verbose, "a client has come");
+    let (mut reader, mut writer) = connection.sides(rt, lobby, stream);
+    let end = serve_stream(rt.alloc(), &mut reader, &mut writer, blocks, export.name);
+    let _ = writer.flush();
+    tell_of_client(rt, address, verbose, words_of(end));
+}
+
+/// Tells of a client on standard error, where that is wanted.
+fn tell_of_client<R: Networked>(rt: &R, address: Option<SocketAddr>, verbose: bool, words: &str) {
+    if !verbose {
+        return;
+    }
+    match address {
+        Some(address) => tell(rt, format_args!("{address}: {words}")),
+        None => tell(rt, words),
+    }
+}
+
+/// How a connection ended, in words.
+fn words_of(end: SessionEnd) -> &'static str {
+    match end {
+        SessionEnd::Disconnected => "the client has disconnected",
+        SessionEnd::Aborted => "the client has aborted the negotiation",
+        SessionEnd::Closed => "the connection was closed for a message that is none",
+        SessionEnd::InputEnded => "the connection has ended",
+        SessionEnd::ReadFailed => "reading from the client has failed",
+        SessionEnd::WriteFailed => "writing to the client has failed",
+        SessionEnd::NoMemory => "the connection was closed for want of memory",
+    }
+}

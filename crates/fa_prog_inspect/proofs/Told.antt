@@ -1,0 +1,61 @@
+-- What is told of an array whose images were opened, and why nothing is.
+use Rattle.std.proofs.Common.{◌≡◌, ℕ, Bool, true, false, List, map, length, refl, sym, subst, inl, inr}
+use Rattle.fa_image.specs.FileMade.{file_view, FileMade}
+use Rattle.fa_image.specs.declared.file_image.FileImage.{FileImage}
+use Rattle.fa_mount_headers.specs.declared.fault.MountRefused.{MountRefused}
+use Rattle.fa_mount_headers.specs.declared.found.Found.{Found}
+use Rattle.fa_settings.specs.declared.settings.Settings.{Settings}
+use Rattle.fa_prog_inspect.specs.Array.{IsTold, IsText, IsLines, IsDocument, IsNotTold, not_told_of}
+use Rattle.fa_prog_inspect.specs.Mount.{Array, MountsArray, RefusesArray}
+use Rattle.fa_prog_host.specs.Opened.{AreOpened}
+use Rattle.fa_prog_host.specs.declared.images.NotOpened.{NotOpened}
+use Rattle.fa_prog_host.specs.declared.images.NotOpened.TheVariants.{Image, NoMemory}
+use Rattle.fa_prog_inspect.specs.declared.look.Asked.{Asked}
+use Rattle.fa_prog_inspect.specs.declared.look.NotTold.{NotTold}
+use Rattle.fa_prog_inspect.specs.declared.look.NotTold.TheVariants as told
+
+module _ {A W : Type 0} (f : W → FileImage) (settings : Settings A) (unclean : Bool) where
+  -- images that were not opened
+  pub opening_told : (refused : NotOpened) (t : NotTold) → t ≡ not_told_of refused → (unclean ≡ true → refused ≡ NoMemory) → IsNotTold settings unclean t
+  opening_told NoMemory t is only = subst (IsNotTold settings unclean) (sym is) tt
+  opening_told Image t is only =
+      let closed : unclean ≡ false = elim unclean as (λ b. (b ≡ true → Image ≡ NoMemory) → b ≡ false) [
+        | true ↦ λ h. absurd (let e : Image ≡ NoMemory = h refl in cc)
+        | false ↦ λ h. refl
+      ] only in
+      subst (IsNotTold settings unclean) (sym is) (inl (refl, closed))
+
+  module _ (places : List ℕ) (opened now new : List W) (is : now ≡ opened)
+      (are : AreOpened settings.geometry (length settings.images.items) unclean places (map f opened)) where
+    are_now : AreOpened settings.geometry (length settings.images.items) unclean places (map f now)
+    are_now = subst (λ images. AreOpened settings.geometry (length settings.images.items) unclean places (map f images)) (sym is) are
+
+    -- images that were not mounted
+    pub mounting_told : (refusal : MountRefused) (t : NotTold) → t ≡ told.Mount refusal.fault
+        → RefusesArray file_view FileMade settings unclean (map f now) (map f new) refusal → IsNotTold settings unclean t
+    mounting_told refusal t same refuses =
+        subst (IsNotTold settings unclean) (sym same) (inr (places, map f now, map f new, refusal, are_now, refuses, refl))
+
+    module _ (founds : List Found) (mounted : Array)
+        (mounts : MountsArray file_view FileMade settings unclean (map f now) (map f new) founds mounted) (asked : Asked) (json : Bool)
+        (text : List ℕ) where
+      told_so : IsText settings asked json places founds mounted text → IsTold settings asked unclean json text
+      told_so says = record {
+        places = places;
+        before = map f now;
+        after = map f new;
+        founds = founds;
+        mounted = mounted;
+        opened = are_now;
+        mounts = mounts;
+        says = says;
+      }
+
+      pub lines_told : json ≡ false → IsLines settings.copies.number asked mounted text → IsTold settings asked unclean json text
+      lines_told plain lines = told_so (subst (λ b. IsText settings asked b places founds mounted text) (sym plain) lines)
+
+      pub document_told : json ≡ true → (seen : List ℕ) → seen ≡ places → IsDocument settings asked seen founds mounted text
+          → IsTold settings asked unclean json text
+      document_told wanted seen same document =
+          told_so (subst (λ b. IsText settings asked b places founds mounted text) (sym wanted)
+          (subst (λ p. IsDocument settings asked p founds mounted text) same document))

@@ -1,0 +1,39 @@
+-- The images of the settings' array, mounted.
+use Rattle.std.specs.Prelude.{◌≡◌, ◌⊎◌, Bool, List, Ok, Err}
+use Rattle.std.specs.declared.alloc.Global.{Global}
+use Rattle.fa_image.specs.Image.{ImageState, ImageCall, ImageAnswer}
+use Rattle.fa_map.specs.PageView.{page_view}
+use Rattle.fa_map.specs.declared.page_map.PageMap.{PageMap}
+use Rattle.fa_mount_headers.specs.Expected.{IsExpected}
+use Rattle.fa_mount_headers.specs.Found.{IsReadOf}
+use Rattle.fa_mount_headers.specs.Rules.{refused}
+use Rattle.fa_mount_headers.specs.declared.fault.MountFault.TheVariants.{NoMemory}
+use Rattle.fa_mount_headers.specs.declared.found.Found.{Found}
+use Rattle.fa_mount_scan.specs.Mounting.{Mounts, RefusesMount}
+use Rattle.fa_mount_headers.specs.declared.fault.MountRefused.{MountRefused}
+use Rattle.fa_mount_scan.specs.declared.mounted.Mounted.{Mounted}
+use Rattle.fa_settings.specs.declared.settings.Settings.{Settings}
+
+-- an array that was mounted
+abbrev pub Array : Type 0
+Array = Mounted (PageMap Global) Global
+
+module _ {I : Type 0} (view : I → ImageState) (made : I → ImageCall → ImageAnswer → I → Type 0) {A : Type 0} (settings : Settings A)
+    (unclean : Bool) where
+  -- The header of each image was read once, and this was found. By it the images are those of the settings' array, and by it they
+  -- were mounted, for its copies.
+  pub record MountsArray (before after : List I) (founds : List Found) (mounted : Array) : Type 0 where
+    pub expected : IsExpected settings.geometry settings.array unclean founds (Ok tt)
+    pub mounts : Mounts Global view made settings.copies.number unclean before after
+        mounted.array mounted.epoch mounted.clean mounted.dies.items (page_view mounted.map)
+    pub by_these : mounts.headers.founds ≡ founds
+
+  -- why they were not: memory was refused, or it is by the settings, or by the array
+  abbrev pub RefusesArray : List I → List I → MountRefused → Type 0
+  RefusesArray before after refusal =
+      (refusal ≡ refused NoMemory)
+      ⊎ ((founds : List Found) × IsReadOf view made before after founds
+      × IsExpected settings.geometry settings.array unclean founds (Err refusal))
+      ⊎ ((founds : List Found) × (between : List I) × IsReadOf view made before between founds
+      × IsExpected settings.geometry settings.array unclean founds (Ok tt)
+      × RefusesMount Global view made settings.copies.number unclean before after refusal)

@@ -1,0 +1,319 @@
+//! The commands `check` and `dump`, which look at the images of an array.
+ghost use Rattle.std.specs.Prelude.{◌≡◌, List, map, string_bytes, IfOk, IfErr, MatchResult};
+ghost use Rattle.fa_image.specs.FileMade.{file_view, FileMade};
+ghost use Rattle.fa_prog_inspect.specs.Array.{IsTold, IsLines, IsDocument, IsDocumentWith, IsNotTold, TellsLook, TellsArray, mount_line as line_of, not_told_of};
+ghost use Rattle.fa_mount_headers.specs.Found.{AreFound, IsReadOf};
+ghost use Rattle.fa_prog_inspect.specs.Mount.{MountsArray, RefusesArray};
+
+use fa_prog_report::{DieRow, check_json, check_text, dump_json, dump_text, path_of, rows_of};
+use fa_mount_headers::{Found, MountFault, MountRefused, expect, read_headers};
+use fa_prog_host::printing::{DONE, REFUSED, print, refuse_for_memory};
+use fa_prog_host::{
+    Host, NotOpened, OpenImages, Watched, clear, complain, open_images, refuse_settings,
+    settings_at, tell,
+};
+use fa_image::{FileImage, Image};
+use fa_map::PageMap;
+use fa_mount_scan::{Mounted, scan_found_side_by_side};
+use fa_settings::Settings;
+use fa_types::Copies;
+use std::alloc::{AllocError, Allocator};
+use std::io::{Eprint, Write};
+
+/// What is to be told of an array.
+#[derive(Clone, Copy)]
+pub enum Asked {
+    /// How its dies are, and how many pages were written.
+    Check,
+    /// Where its pages are.
+    Dump,
+}
+
+/// How a command looks at an array.
+#[derive(Clone, Copy)]
+pub struct Look {
+    /// What is to be told.
+    pub asked: Asked,
+    /// The array may be one that was not closed, and images may be missing.
+    pub unclean: bool,
+    /// One JSON document is printed.
+    pub json: bool,
+    /// How far it is is told on standard error.
+    pub watched: bool,
+}
+
+/// The commands `check` and `dump`. Nothing is written to the images.
+pub fn run_look<R: Host, W: Write, A: Allocator + Copy>(
+    rt: &R,
+    alloc: A,
+    path: &str,
+    look: Look,
+    output: &mut W,
+) -> u8
+    ensures { TellsLook A look.asked look.unclean look.json (W.contents output.old) (W.contents output.new) result }
+{
+    match settings_at(rt, alloc, path) {
+        Ok(settings) => tell_array(rt, &settings, look, output),
+        Err(refused) => refuse_settings(alloc, refused, output),
+    }
+}
+
+/// Why nothing is told of an array.
+#[derive(Clone, Copy)]
+pub(crate) enum NotTold {
+    /// Its images are not mounted.
+    Mount(MountFault),
+    /// Memory was refused.
+    NoMemory,
+}
+
+impl From<AllocError> for NotTold {
+    ghost use Rattle.std.specs.Prelude.{◌≡◌};
+    ghost use Rattle.fa_prog_inspect.specs.declared.look.NotTold.TheVariants.{NoMemory};
+
+    ghost from_gives = { λ _ e. e ≡ NoMemory };
+
+    fn from(_error: AllocError) -> NotTold {
+        NotTold::NoMemory
+    }
+}
+
+/// Prints what is to be told of the array of these settings.
+fn tell_array<R: Host, W: Write, A: Allocator>(
+    rt: &R,
+    settings: &Settings<A>,
+    look: Look,
+    output: &mut W,
+) -> u8
+    ensures { TellsArray settings.now look.asked look.unclean look.json (W.contents output.old) (W.contents output.new) result }
+{
+    match text_of(rt, settings, look) {
+        Ok(text) => print(output, DONE, text.as_bytes()),
+        Err(NotTold::Mount(fault)) => print(output, REFUSED, mount_line(fault)),
+        Err(NotTold::NoMemory) => refuse_for_memory(output),
+    }
+}
+
+/// What is to be told of the array of these settings.
+fn text_of<R: Host, A: Allocator>(
+    rt: &R,
+    settings: &Settings<A>,
+    look: Look,
+) -> Result<String, NotTold>
+    ensures text { IfOk result (λ text. IsTold settings.now look.asked look.unclean look.json (string_bytes text)) }
+    ensures refused { IfErr result (IsNotTold settings.now look.unclean) }
+{
+    let OpenImages { mut images, places } = match open_images(
+        rt,
+        settings,
+        look.unclean,
+        look.watched,
+    ) {
+        Ok(opened) => opened,
+        Err(refused) => return Err(not_told(refused)),
+    };
+    let images = images.as_mut_slice();
+    let array = match mounted_of(rt, settings, look, images, &places) {
+        Ok(array) => array,
+        Err(refused) => return Err(refused),
+    };
+    if look.json {
+        json_of(rt, settings, look.asked, &places, &array)
+    } else {
+        lines_of(rt, settings, look.asked, &array.mounted)
+    }
+}
+
+/// Why nothing is told where the images were not opened.
+fn not_told(refused: NotOpened) -> NotTold
+    ensures { result ≡ not_told_of refused }
+{
+    match refused {
+        NotOpened::Image => NotTold::Mount(MountFault::ImageFault),
+        NotOpened::NoMemory => NotTold::NoMemory,
+    }
+}
+
+/// An array that was mounted, with what was found of the headers of its images.
+#[derive(Drop)]
+pub(crate) struct MountedArray {
+    /// What was found of each image, in their order.
+    pub(crate) founds: Vec<Found>,
+    /// What was mounted by it.
+    pub(crate) mounted: Mounted<PageMap>,
+}
+
+/// Mounts the images that were opened. Why they are not mounted is told on standard error.
+fn mounted_of<R: Host, A: Allocator>(
+    rt: &R,
+    settings: &Settings<A>,
+    look: Look,
+    images: &mut [Watched<'_, R, FileImage>],
+    places: &[usize],
+) -> Result<MountedArray, NotTold>
+    ensures mounted { IfOk result (λ array. MountsArray file_view FileMade settings.now look.unclean
+        (map (λ watched. watched.image) images.old) (map (λ watched. watched.image) images.new) array.founds.items array.mounted) }
+    ensures refused { IfErr result (λ refused. (refusal : MountRefused) × (refused ≡ NotTold.Mount refusal.fault)
+        × RefusesArray file_view FileMade settings.now look.unclean
+        (map (λ watched. watched.image) images.old) (map (λ watched. watched.image) images.new) refusal) }
+{
+    let result = mount(rt, settings, look.unclean, images);
+    clear(rt, look.watched);
+    match result {
+        Ok(array) => Ok(array),
+        Err(refused) => {
+            explain(rt, settings, places, &refused);
+            Err(NotTold::Mount(refused.fault))
+        }
+    }
+}
+
+/// Mounts the images, which are to be those of the settings' array. The header of each is read once.
+fn mount<R: Host, I: Image + Send, A: Allocator>(
+    rt: &R,
+    settings: &Settings<A>,
+    unclean: bool,
+    images: &mut [I],
+) -> Result<MountedArray, MountRefused>
+    ensures { MatchResult result
+        (λ array. MountsArray I.view I.made settings.now unclean images.old images.new array.founds.items array.mounted)
+        (RefusesArray I.view I.made settings.now unclean images.old images.new) }
+{
+    let Ok(founds) = read_headers(rt.alloc(), images) else {
+        return Err(MountRefused::of_nobody(MountFault::NoMemory));
+    };
+    match mount_found(rt, settings, unclean, images, founds.as_slice()) {
+        Ok(mounted) => Ok(MountedArray { founds, mounted }),
+        Err(refused) => Err(refused),
+    }
+}
+
+/// Mounts images whose headers were read.
+fn mount_found<R: Host, I: Image + Send, A: Allocator>(
+    rt: &R,
+    settings: &Settings<A>,
+    unclean: bool,
+    images: &mut [I],
+    founds: &[Found],
+) -> Result<Mounted<PageMap>, MountRefused>
+    requires { AreFound I.view I.made images.old founds.now }
+    ensures { (before : List I) → IsReadOf I.view I.made before images.old founds.now → MatchResult result
+        (MountsArray I.view I.made settings.now unclean before images.new founds.now)
+        (RefusesArray I.view I.made settings.now unclean before images.new) }
+{
+    let (geometry, array) = (settings.geometry, settings.array);
+    expect(rt.alloc(), founds, geometry, array, unclean)?;
+    scan_found_side_by_side(rt, rt.alloc(), images, founds, settings.copies, unclean)
+}
+
+/// What is to be told, in lines.
+fn lines_of<R: Host, A: Allocator>(
+    rt: &R,
+    settings: &Settings<A>,
+    asked: Asked,
+    mounted: &Mounted<PageMap>,
+) -> Result<String, NotTold>
+    ensures lines { IfOk result (λ text. IsLines settings.now.copies.number asked mounted.now (string_bytes text)) }
+    ensures refused { IfErr result (λ refused. refused ≡ NotTold.NoMemory) }
+{
+    let text = match asked {
+        Asked::Check => check_text(rt.alloc(), &mounted.report(settings.copies))?,
+        Asked::Dump => dump_text(rt.alloc(), mounted)?,
+    };
+    Ok(text)
+}
+
+/// What is to be told, as one JSON document.
+fn json_of<R: Host, A: Allocator>(
+    rt: &R,
+    settings: &Settings<A>,
+    asked: Asked,
+    places: &[usize],
+    array: &MountedArray,
+) -> Result<String, NotTold>
+    ensures document { IfOk result (λ text. IsDocument settings.now asked places.now array.now.founds.items array.now.mounted
+        (string_bytes text)) }
+    ensures refused { IfErr result (λ refused. refused ≡ NotTold.NoMemory) }
+{
+    let paths = settings.images.as_slice();
+    let rows = rows_of(rt.alloc(), paths, places, &array.founds, &array.mounted)?;
+    let text = document_of(rt, settings.copies, asked, &array.mounted, &rows)?;
+    Ok(text)
+}
+
+/// The document with this table of the dies.
+fn document_of<R: Host>(
+    rt: &R,
+    copies: Copies,
+    asked: Asked,
+    mounted: &Mounted<PageMap>,
+    rows: &[DieRow<'_>],
+) -> Result<String, AllocError>
+    ensures { IfOk result (λ text. IsDocumentWith copies.number asked mounted.now rows.now (string_bytes text)) }
+{
+    match asked {
+        Asked::Check => check_json(rt.alloc(), &mounted.report(copies), rows),
+        Asked::Dump => dump_json(rt.alloc(), mounted, rows),
+    }
+}
+
+/// Tells on standard error which image or die is at fault, and what to do next.
+pub fn explain<R: Eprint, A: Allocator>(
+    rt: &R,
+    settings: &Settings<A>,
+    places: &[usize],
+    refused: &MountRefused,
+) {
+    let words = words_of(refused.fault);
+    match (
+        path_of(&settings.images, places, refused.image),
+        refused.die,
+    ) {
+        (Some(path), _) => complain(rt, path, &words),
+        (None, Some(die)) => {
+            let die = die.0;
+            tell(rt, format_args!("die {die}: {words}"));
+        }
+        (None, None) => tell(rt, words),
+    }
+}
+
+/// Why images are not mounted, and what to do next.
+fn words_of(fault: MountFault) -> &'static str {
+    match fault {
+        MountFault::HeaderBad => {
+            "header bad: this is no image: correct its path, or take it out until its die is replaced"
+        }
+        MountFault::ArraysDiffer => {
+            "arrays differ: correct the number of the array in the settings, or take out the images of others"
+        }
+        MountFault::GeometryDiffers => {
+            "geometry differs: correct the sizes in the settings, or take out the images of other arrays"
+        }
+        MountFault::DieTwice => "die twice: take out the older of the two images of this die",
+        MountFault::Unclean => {
+            "the array was not closed, or lacks this die: look with check --unclean, then serve --unclean"
+        }
+        MountFault::NoDieLive => "no die live: bring back the images of dies that were in use",
+        MountFault::ImageFault => {
+            "image fault: look at the disk, and take the path out until its die is replaced"
+        }
+        MountFault::NoMemory => "no memory: give the program more, and start it again",
+    }
+}
+
+/// What is printed of images that are not mounted.
+pub fn mount_line(fault: MountFault) -> &'static [u8]
+    ensures { result.now ≡ line_of fault }
+{
+    match fault {
+        MountFault::HeaderBad => b"mount: 1 header bad\n",
+        MountFault::ArraysDiffer => b"mount: 2 arrays differ\n",
+        MountFault::GeometryDiffers => b"mount: 3 geometry differs\n",
+        MountFault::DieTwice => b"mount: 4 die twice\n",
+        MountFault::Unclean => b"mount: 5 unclean\n",
+        MountFault::NoDieLive => b"mount: 6 no die live\n",
+        MountFault::ImageFault => b"mount: 7 image fault\n",
+        MountFault::NoMemory => b"mount: 8 no memory\n",
+    }
+}

@@ -1,0 +1,64 @@
+-- What `serve` prints.
+use Rattle.std.specs.Prelude.{◌≡◌, ◌⊎◌, ℕ, List, [], ◌∷◌, ◌++◌, codes, Option, Result, Ok, Err}
+use Rattle.std.specs.Fmt.{decimal}
+use Rattle.std.specs.List.{flat_map}
+use Rattle.fa_mount_headers.specs.declared.fault.MountFault.{MountFault}
+use Rattle.fa_mount.specs.Closing.{close_fault_number}
+use Rattle.fa_mount.specs.declared.closing.CloseFault.{CloseFault}
+use Rattle.fa_shared.specs.Causes.{cause_number}
+use Rattle.fa_shared.specs.declared.faults.Fault.{Fault}
+use Rattle.fa_prog_inspect.specs.Array.{mount_line}
+use Rattle.fa_prog_host.specs.Printing.{Prints, TellsNoMemory}
+use Rattle.fa_prog_host.specs.SettingsRefused.{RefusesSettings}
+
+-- where clients can connect
+abbrev pub address_line : List ℕ → List ℕ
+address_line address = codes "listening " ++ address ++ 10 ∷ []
+
+-- a die that went out
+abbrev pub fault_line : Fault → List ℕ
+fault_line fault =
+    codes "fault die " ++ decimal fault.die.0 ++ codes " cause " ++ decimal (cause_number fault.cause) ++ codes " round "
+    ++ decimal fault.round.0 ++ 10 ∷ []
+
+abbrev pub fault_lines : List Fault → List ℕ
+fault_lines faults = flat_map fault_line faults
+
+-- how the array was closed, and the status with which that ends
+abbrev pub closed_line : Result ℕ CloseFault → List ℕ
+closed_line (Ok mask) = codes "closed clean" ++ 10 ∷ []
+closed_line (Err fault) = codes "closed unclean: " ++ decimal (close_fault_number fault) ++ 10 ∷ []
+
+abbrev pub closed_status : Result ℕ CloseFault → ℕ
+closed_status (Ok mask) = 0
+closed_status (Err fault) = 1
+
+-- What is printed at the end: the faults that were kept, the oldest first, and how the array was closed. Or memory was refused.
+abbrev pub TellsEnd : Option (List ℕ) → Option (List ℕ) → ℕ → Type 0
+TellsEnd old new status =
+    ((faults : List Fault) × (closed : Result ℕ CloseFault)
+    × Prints (fault_lines faults ++ closed_line closed) (closed_status closed) old new status)
+    ⊎ TellsNoMemory old new status
+
+-- Where clients can connect is printed.
+abbrev pub Listens : Option (List ℕ) → Option (List ℕ) → Type 0
+Listens old new = (address : List ℕ) × (status : ℕ) × Prints (address_line address) 0 old new status
+
+-- Clients were served: first the address is printed, and at the end what there is to tell then, with its status.
+pub record Serves (old new : Option (List ℕ)) (status : ℕ) : Type 0 where
+  pub between : Option (List ℕ)
+  pub listens : Listens old between
+  pub ends : TellsEnd between new status
+
+-- What is printed of an array whose settings were read: that nobody can connect; or the line of the fault for which its images are not
+-- mounted; or what is printed of an array that was served. Or memory was refused.
+abbrev pub TellsOn : Option (List ℕ) → Option (List ℕ) → ℕ → Type 0
+TellsOn old new status =
+    Prints (codes "listen: failed" ++ 10 ∷ []) 1 old new status
+    ⊎ ((fault : MountFault) × Prints (mount_line fault) 1 old new status)
+    ⊎ Serves old new status
+    ⊎ TellsNoMemory old new status
+
+-- What `serve` prints, whose settings are held in memory of a kind: why there are no settings, or what is printed of their array.
+abbrev pub TellsServe : Type 0 → Option (List ℕ) → Option (List ℕ) → ℕ → Type 0
+TellsServe A old new status = RefusesSettings A old new status ⊎ TellsOn old new status

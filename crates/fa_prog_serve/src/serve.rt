@@ -1,0 +1,339 @@
+//! The command `serve`.
+ghost use Rattle.std.specs.Prelude.{◌≡◌, IfOk, IfSome, None};
+ghost use Rattle.fa_core.specs.Array.{IsWhole};
+ghost use Rattle.fa_map.specs.PageView.{page_view};
+ghost use Rattle.fa_prog_inspect.specs.Array.{mount_line as line_of};
+ghost use Rattle.fa_prog_host.specs.Printing.{Prints};
+ghost use Rattle.fa_prog_serve.specs.Serving.{Listens, TellsEnd, TellsOn, TellsServe};
+
+use crate::closing::{close, print_end};
+use crate::host::ServerHost;
+use crate::ready::{listening_text, ready_of};
+use crate::serving::{Ended, serve_ready};
+use fa_prog_inspect::{explain, mount_line};
+use fa_prog_clients::Networked;
+use fa_core::Array;
+use fa_mount_headers::{MountFault, MountRefused, Standing, expect, read_headers};
+use fa_prog_host::printing::{DONE, REFUSED, print, refuse_for_memory};
+use fa_prog_host::{NotOpened, OpenImages, open_images, refuse_settings, settings_at, tell};
+use fa_image::Image;
+use fa_map::{Map, PageMap};
+use fa_mount::{MountedArray, mount_found_side_by_side};
+use fa_settings::Settings;
+use fa_shared::{Fault, Shared};
+use std::alloc::{AllocError, Allocator, Global};
+use std::io::{Read, Write};
+use std::marker::Brand;
+use std::net::TcpListener;
+use std::sync::ledger::{Blank, Ledger};
+
+/// How an array is served.
+#[derive(Clone, Copy)]
+pub struct Serve {
+    /// The array may be one that was not closed, and images may be missing.
+    pub unclean: bool,
+    /// Clients that come and go are told on standard error.
+    pub verbose: bool,
+}
+
+/// The command `serve`: serves the array of the settings in the file of this path until the input has the line `stop`, ends or fails.
+///
+/// It prints where clients can connect, and at the end the last 64 faults that took dies out and how the array was closed. What else an
+/// admin wants to know is told on standard error. The status is 0 where the array was closed clean, 2 where the settings cannot be had, and
+/// else 1.
+pub fn run_serve<R: ServerHost, N: Read, W: Write, A: Allocator + Copy>(
+    rt: &R,
+    alloc: A,
+    path: &str,
+    serve: Serve,
+    input: &mut N,
+    output: &mut W,
+) -> u8
+    ensures { TellsServe A (W.contents output.old) (W.contents output.new) result }
+{
+    match settings_at(rt, alloc, path) {
+        Ok(settings) => listen(rt, &settings, serve, input, output),
+        Err(refused) => refuse_settings(alloc, refused, output),
+    }
+}
+
+/// Serves the array of these settings at their address.
+fn listen<R: ServerHost, N: Read, W: Write, A: Allocator>(
+    rt: &R,
+    settings: &Settings<A>,
+    serve: Serve,
+    input: &mut N,
+    output: &mut W,
+) -> u8
+    ensures { TellsOn (W.contents output.old) (W.contents output.new) result }
+{
+    match TcpListener::bind(rt, settings.listen) {
+        Ok(listener) => open(rt, &listener, settings, serve, input, output),
+        Err(refused) => {
+            let address = settings.listen;
+            tell(
+                rt,
+                format_args!(
+                    "{address}: {refused}: choose another address for listen, or end who has this one"
+                ),
+            );
+            print(output, REFUSED, b"listen: failed\n")
+        }
+    }
+}
+
+/// Serves the array of these settings over the images that they name.
+fn open<R: ServerHost, N: Read, W: Write, A: Allocator>(
+    rt: &R,
+    listener: &TcpListener,
+    settings: &Settings<A>,
+    serve: Serve,
+    input: &mut N,
+    output: &mut W,
+) -> u8
+    ensures { TellsOn (W.contents output.old) (W.contents output.new) result }
+{
+    match open_images(rt, settings, serve.unclean, false) {
+        Ok(OpenImages { images, places }) => {
+            let places = places.as_slice();
+            serve_on(rt, listener, images, places, settings, serve, input, output)
+        }
+        Err(NotOpened::Image) => refuse_mount(MountFault::ImageFault, output),
+        Err(NotOpened::NoMemory) => refuse_for_memory(output),
+    }
+}
+
+/// Serves the array of these images to those who connect to the listener. The images are at these places of the settings' paths.
+pub fn serve_on<R: ServerHost, I: Image + Send + Drop, N: Read, W: Write, A: Allocator>(
+    rt: &R,
+    listener: &TcpListener,
+    images: Vec<I>,
+    places: &[usize],
+    settings: &Settings<A>,
+    serve: Serve,
+    input: &mut N,
+    output: &mut W,
+) -> u8
+    ensures { TellsOn (W.contents output.old) (W.contents output.new) result }
+{
+    let mut images = images;
+    match mount(rt, settings, serve.unclean, images.as_mut_slice()) {
+        Ok(mounted) => serve_mounted::<Brand, R, I, N, W, A>(
+            rt,
+            Blank::new(257),
+            listener,
+            mounted,
+            images,
+            places,
+            settings,
+            serve,
+            input,
+            output,
+        ),
+        Err(refused) => {
+            explain(rt, settings, places, &refused);
+            refuse_mount(refused.fault, output)
+        }
+    }
+}
+
+/// Prints why images are not mounted.
+fn refuse_mount<W: Write>(fault: MountFault, output: &mut W) -> u8
+    ensures { Prints (line_of fault) 1 (W.contents output.old) (W.contents output.new) result }
+{
+    print(output, REFUSED, mount_line(fault))
+}
+
+/// Mounts the images, which are to be those of the settings' array.
+fn mount<R: ServerHost, I: Image + Send, A: Allocator>(
+    rt: &R,
+    settings: &Settings<A>,
+    unclean: bool,
+    images: &mut [I],
+) -> Result<MountedArray<PageMap>, MountRefused>
+    ensures { IfOk result (λ mounted. IsWhole page_view mounted.array) }
+{
+    let Ok(founds) = read_headers(rt.alloc(), images) else {
+        return Err(MountRefused::of_nobody(MountFault::NoMemory));
+    };
+    let founds = founds.as_slice();
+    expect(
+        rt.alloc(),
+        founds,
+        settings.geometry,
+        settings.array,
+        unclean,
+    )?;
+    mount_found_side_by_side(rt, rt.alloc(), images, founds, settings.copies, unclean)
+}
+
+/// How the threads of an array ended, and the faults that took its dies out.
+type Served<I> = (Result<Ended<I>, AllocError>, Result<Vec<Fault>, AllocError>);
+
+/// Serves an array that was mounted, over a ledger of 257 parts that nothing else names.
+fn serve_mounted<
+    L: Ledger + Send,
+    R: ServerHost,
+    I: Image + Send + Drop,
+    N: Read,
+    W: Write,
+    A: Allocator,
+>(
+    rt: &R,
+    blank: Blank,
+    listener: &TcpListener,
+    mounted: MountedArray<PageMap>,
+    images: Vec<I>,
+    places: &[usize],
+    settings: &Settings<A>,
+    serve: Serve,
+    input: &mut N,
+    output: &mut W,
+) -> u8
+    requires name { blank.name ≡ L.name }
+    requires parts { (blank.parts ≡ L.parts) × (blank.parts ≡ 257) }
+    requires whole { IsWhole page_view mounted.array }
+    ensures { TellsOn (W.contents output.old) (W.contents output.new) result }
+{
+    let MountedArray { array, dies } = mounted;
+    match share::<L, PageMap>(rt.alloc(), blank, array) {
+        Some(shared) => serve_over(
+            rt, shared, dies, listener, images, places, settings, serve, input, output,
+        ),
+        None => refuse_for_memory(output),
+    }
+}
+
+/// An array that was just mounted, to be shared over a ledger of 257 parts that nothing else names. None where memory is refused.
+fn share<L: Ledger, M: Map + Drop>(
+    alloc: Global,
+    blank: Blank,
+    array: Array<M>,
+) -> Option<Shared<L, M>>
+    requires name { blank.name ≡ L.name }
+    requires parts { (blank.parts ≡ L.parts) × (blank.parts ≡ 257) }
+    requires whole { IsWhole M.view array }
+{
+    // No event was made of an array that was just mounted.
+    if array.counts().0 != 0 {
+        return None;
+    }
+    Shared::<L, M>::new(alloc, blank, array).ok()
+}
+
+/// Serves a shared array, and closes it.
+fn serve_over<
+    L: Ledger + Send,
+    R: ServerHost,
+    I: Image + Send + Drop,
+    N: Read,
+    W: Write,
+    A: Allocator,
+>(
+    rt: &R,
+    shared: Shared<L, PageMap>,
+    dies: Vec<Standing>,
+    listener: &TcpListener,
+    images: Vec<I>,
+    places: &[usize],
+    settings: &Settings<A>,
+    serve: Serve,
+    input: &mut N,
+    output: &mut W,
+) -> u8
+    requires { L.parts ≡ 257 }
+    ensures { TellsOn (W.contents output.old) (W.contents output.new) result }
+{
+    let served = serve_lent(
+        rt,
+        &shared,
+        dies.as_slice(),
+        listener,
+        images,
+        places,
+        settings,
+        serve,
+        input,
+        output,
+    );
+    match served {
+        Some((ended, faults)) => end(rt, shared, dies, ended, faults, output),
+        None => refuse_for_memory(output),
+    }
+}
+
+/// Serves a shared array until the input says so. How its threads ended, and the faults that took dies out; none where memory is refused
+/// before anybody can connect. It stands apart from whoever owns the array, so that no exit of it drops one.
+fn serve_lent<
+    L: Ledger + Send,
+    R: ServerHost,
+    I: Image + Send + Drop,
+    N: Read,
+    W: Write,
+    A: Allocator,
+>(
+    rt: &R,
+    shared: &Shared<L, PageMap>,
+    dies: &[Standing],
+    listener: &TcpListener,
+    images: Vec<I>,
+    places: &[usize],
+    settings: &Settings<A>,
+    serve: Serve,
+    input: &mut N,
+    output: &mut W,
+) -> Option<Served<I>>
+    requires { L.parts ≡ 257 }
+    ensures listens { IfSome result (λ _. Listens (W.contents output.old) (W.contents output.new)) }
+    ensures refused { result ≡ None → W.contents output.new ≡ W.contents output.old }
+{
+    let Ok(line) = listening_text(rt.alloc(), listener, settings.listen) else {
+        return None;
+    };
+    let Ok(ready) = ready_of(rt, shared, dies, images, places, settings, serve) else {
+        return None;
+    };
+    let _ = print(output, DONE, line.as_bytes());
+    let ended = serve_ready(rt, shared, listener, ready, input);
+    Some((ended, shared.faults(rt, rt.alloc())))
+}
+
+/// Closes an array that was served, and tells how.
+fn end<R: Networked, L: Ledger, M: Map + Drop, I: Image + Drop, W: Write>(
+    rt: &R,
+    shared: Shared<L, M>,
+    dies: Vec<Standing>,
+    ended: Result<Ended<I>, AllocError>,
+    faults: Result<Vec<Fault>, AllocError>,
+    output: &mut W,
+) -> u8
+    ensures { TellsEnd (W.contents output.old) (W.contents output.new) result }
+{
+    let mounted = MountedArray {
+        array: shared.into_array(),
+        dies,
+    };
+    end_lent(rt, &mounted, ended, faults, output)
+}
+
+/// The same of an array that is lent.
+fn end_lent<R: Networked, M: Map + Drop, I: Image + Drop, W: Write>(
+    rt: &R,
+    mounted: &MountedArray<M>,
+    ended: Result<Ended<I>, AllocError>,
+    faults: Result<Vec<Fault>, AllocError>,
+    output: &mut W,
+) -> u8
+    requires { IsWhole M.view mounted.now.array }
+    ensures { TellsEnd (W.contents output.old) (W.contents output.new) result }
+{
+    let Ok(Ended { images, is_served }) = ended else {
+        return refuse_for_memory(output);
+    };
+    let mut images = images;
+    let closed = close(mounted, images.as_mut_slice());
+    match faults {
+        Ok(faults) if is_served => print_end(rt.alloc(), faults, closed, output),
+        _ => refuse_for_memory(output),
+    }
+}

@@ -1,7 +1,0 @@
-use Rattle.std.proofs.Common.{◌≡◌, ◌+◌}
-use Rattle.fa_batch.specs.Certificate.{open_places}
-use Rattle.fa_room.specs.Rooms.{marked}
-use Rattle.fa_room.proofs.are_more.Given as goal
-
-abbrev pub invariant-loop-die : goal.invariant-loop-die
-invariant-loop-die g l = l.left + open_places (g.R.Rounds.current l.calendar) (g.R.Rounds.closed l.calendar) (marked l.marks l.die) l.rounds ≡ l.pages

@@ -1,4 +1,0 @@
-use Rattle.fa_scan.proofs.slots.die.+read_ahead.Given as goal
-
-abbrev pub decreases-read_ahead : goal.decreases-read_ahead
-decreases-read_ahead g l = l.count

@@ -1,6 +1,0 @@
-use Rattle.std.proofs.Common.{inl, inr}
-use Rattle.fa_headers.specs.declared.fault.MountFault.TheVariants.{ImageFault}
-use Rattle.fa_server.proofs.serve.open.Goals as goal
-
-pub returns-in-Err-Image : goal.returns-in-Err-Image
-returns-in-Err-Image g c = inr (inl (ImageFault, c.refuse_mount.ensures))

@@ -1,0 +1,5 @@
+use Rattle.fa_shared_store.specs.Counts.{PartsGoOn}
+use Rattle.fa_shared_store.proofs.parts.finish_parts.Given as goal
+
+abbrev pub invariant-loop : goal.invariant-loop
+invariant-loop g l = PartsGoOn l.initial.seat l.initial.parts l.seat l.parts

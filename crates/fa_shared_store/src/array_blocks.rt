@@ -1,0 +1,217 @@
+//! The store that an array is to one of those who share it.
+ghost use Rattle.std.specs.Prelude.{◌≤◌};
+
+use crate::running::{finish, run, run_read, store_bytes};
+use fa_map::Map;
+use fa_shared_request::Op;
+use fa_shared::{Hands, Seat, Shared};
+use fa_shared_steps::Request;
+use fa_types::{BlockFault, Blocks};
+use std::alloc::Allocator;
+use std::sync::Wait;
+use std::sync::ledger::Ledger;
+use std::time::Clock;
+
+/// A block store over an array that others use too, each by a store of their own. Its calls wait for the dies; meanwhile its hands work for
+/// them, and others do.
+#[derive(Drop)]
+pub struct ArrayBlocks<
+    'a,
+    R: Wait + Clock,
+    L: Ledger,
+    M: Map + Drop,
+    A: Allocator + Copy,
+    H: Hands<L, M, A> + Drop,
+> {
+    rt: &'a R,
+    alloc: A,
+    shared: &'a Shared<L, M, A>,
+    seat: Seat<L>,
+    hands: H,
+    bytes: u64,
+    page_bytes: u32,
+    ghost some_bytes: { 1 ≤ page_bytes },
+    ghost small_pages: { page_bytes ≤ 4096 },
+    ghost few_bytes: { bytes ≤ 4294967296 },
+}
+
+impl<
+    'a,
+    R: Wait + Clock,
+    L: Ledger,
+    M: Map + Drop,
+    A: Allocator + Copy,
+    H: Hands<L, M, A> + Drop,
+> ArrayBlocks<'a, R, L, M, A, H> {
+    ghost use Rattle.std.specs.Prelude.{◌≡◌, true, is_none, is_some, unwrap_or};
+    ghost use Rattle.fa_shared_store.specs.Counts.{IsMade, is_served};
+    ghost use Rattle.fa_shared_request.specs.Ops.{ended, stage_of, task_in};
+    ghost use Rattle.fa_shared_steps.specs.Stages.{beginning};
+    ghost use Rattle.fa_shared_request.specs.Tallies.{pages_in};
+
+    /// The store of a seat. While it waits for dies it makes jobs by these hands.
+    pub fn new(
+        rt: &'a R,
+        alloc: A,
+        shared: &'a Shared<L, M, A>,
+        seat: Seat<L>,
+        hands: H,
+    ) -> ArrayBlocks<'a, R, L, M, A, H>
+        ensures { result.seat ≡ seat }
+    {
+        let (bytes, page_bytes) = store_bytes(shared.lock(rt).array().geometry());
+        ArrayBlocks {
+            rt,
+            alloc,
+            shared,
+            seat,
+            hands,
+            bytes,
+            page_bytes,
+        }
+    }
+
+    /// Goes on with a request until it has ended, and hands it back. No turn of it was made before. The bytes are those of a write. Each
+    /// page that it writes is committed with the seat, once, if it isn't refused.
+    pub fn run(&mut self, op: Op<A, A>, bytes: &[u8]) -> Op<A, A>
+        requires { stage_of op ≡ beginning (task_in op) }
+        ensures task { task_in result ≡ task_in op }
+        ensures ended { is_some (ended (stage_of result)) ≡ true }
+        ensures made { IsMade (pages_in (task_in op)) self.old.seat (is_served (stage_of result)) self.new.seat }
+    {
+        let mut op = op;
+        let _end = finish(
+            self.rt,
+            self.shared,
+            &mut self.seat,
+            &mut self.hands,
+            &mut op,
+            bytes,
+        );
+        op
+    }
+
+    /// The seat, to be gathered.
+    pub fn into_seat(self) -> Seat<L>
+        ensures { result ≡ self.entry.seat }
+    {
+        let ArrayBlocks { seat, .. } = self;
+        seat
+    }
+}
+
+impl<
+    'a,
+    R: Wait + Clock,
+    L: Ledger,
+    M: Map + Drop,
+    A: Allocator + Copy,
+    H: Hands<L, M, A> + Drop,
+> Blocks for ArrayBlocks<'a, R, L, M, A, H> {
+    ghost use Rattle.std.specs.Prelude.{◌≡◌};
+    ghost use Rattle.fa_shared_store.specs.Counts.{IsMade, is_accepted, pages_of};
+    ghost use Rattle.fa_shared_store.specs.SharedStore.{shared_meets, shared_view, shared_whole};
+    ghost use Rattle.fa_types.specs.Store.{IsAnswer};
+
+    ghost view = { λ store. shared_view store.bytes store.page_bytes };
+
+    ghost made = { λ before call answer after. (after.bytes ≡ before.bytes) × (after.page_bytes ≡ before.page_bytes) × IsAnswer call answer
+        × IsMade (pages_of before.page_bytes call) before.seat (is_accepted answer) after.seat };
+
+    ghost meets = { λ before after call answer made.
+        shared_meets before.bytes before.page_bytes after.bytes after.page_bytes call answer made.0 made.1 made.2 };
+
+    ghost whole = { λ store. shared_whole store.bytes store.page_bytes store.some_bytes };
+
+    fn size(&self) -> u64 {
+        self.bytes
+    }
+
+    fn page_bytes(&self) -> u32 {
+        self.page_bytes
+    }
+
+    fn read<B: Allocator>(
+        &mut self,
+        alloc: B,
+        offset: u64,
+        len: u64,
+    ) -> Result<Vec<u8, B>, BlockFault> {
+        run_read(
+            self.rt,
+            self.alloc,
+            self.shared,
+            &mut self.seat,
+            &mut self.hands,
+            self.page_bytes,
+            offset,
+            len,
+            alloc,
+        )
+    }
+
+    fn write(&mut self, offset: u64, bytes: &[u8], fua: bool) -> Result<(), BlockFault> {
+        let len = bytes.len() as u64;
+        let request = Request::Write { offset, len, fua };
+        run(
+            self.rt,
+            self.alloc,
+            self.shared,
+            &mut self.seat,
+            &mut self.hands,
+            self.page_bytes,
+            request,
+            bytes,
+        )
+    }
+
+    fn zero(&mut self, offset: u64, len: u64, fua: bool, hole: bool) -> Result<(), BlockFault> {
+        let request = Request::Zero {
+            offset,
+            len,
+            fua,
+            hole,
+        };
+        run(
+            self.rt,
+            self.alloc,
+            self.shared,
+            &mut self.seat,
+            &mut self.hands,
+            self.page_bytes,
+            request,
+            &[],
+        )
+    }
+
+    fn trim(&mut self, offset: u64, len: u64, fua: bool) -> Result<(), BlockFault> {
+        let request = Request::Trim { offset, len, fua };
+        run(
+            self.rt,
+            self.alloc,
+            self.shared,
+            &mut self.seat,
+            &mut self.hands,
+            self.page_bytes,
+            request,
+            &[],
+        )
+    }
+
+    fn flush(&mut self) -> Result<(), BlockFault> {
+        let answer = run(
+            self.rt,
+            self.alloc,
+            self.shared,
+            &mut self.seat,
+            &mut self.hands,
+            self.page_bytes,
+            Request::Flush,
+            &[],
+        );
+        match answer {
+            Err(BlockFault::NoRoom | BlockFault::NoMemory) => Err(BlockFault::Lost),
+            answer => answer,
+        }
+    }
+}

@@ -1,0 +1,281 @@
+//! Requests over an array that is shared, from their beginning to their end.
+ghost use Rattle.std.specs.Prelude.{◌≡◌, ◌+◌, ◌*◌, ◌^◌, ◌≤◌, length, is_ok, IfOk, IfErr};
+ghost use Rattle.fa_shared_store.specs.Counts.{GoesOn, IsMade};
+ghost use Rattle.fa_shared_request.specs.Ops.{ended, stage_of};
+ghost use Rattle.fa_shared_request.specs.Tallies.{pages_in};
+ghost use Rattle.fa_shared_steps.specs.Tasks.{end_of, task_of};
+ghost use Rattle.fa_shared.specs.Seats.{commits_with, number_of};
+ghost use Rattle.fa_types.specs.declared.blocks.BlockFault.TheVariants.{NoRoom};
+
+use crate::parts::run_parts;
+use fa_map::Map;
+use fa_shared_request::{Op, Turn};
+use fa_shared::{Awaits, Hands, Locked, Seat, Shared};
+use fa_shared_steps::Request;
+use fa_types::{BlockFault, Geometry};
+use std::alloc::Allocator;
+use std::sync::ledger::Ledger;
+use std::sync::{MutexGuard, Wait};
+use std::time::Clock;
+
+/// How many bytes the store of an array has, and how many a page of it.
+pub(crate) fn store_bytes(geometry: Geometry) -> (u64, u32)
+    ensures bytes { result.0 ≡ geometry.pages * geometry.page_bytes }
+    ensures most { result.0 ≤ 2 ^ 32 }
+    ensures page { result.1 ≡ geometry.page_bytes }
+    ensures some { 1 ≤ result.1 }
+    ensures small { result.1 ≤ 4096 }
+{
+    let bytes = geometry.pages * u64::from(geometry.page_bytes);
+    (bytes, geometry.page_bytes)
+}
+
+/// A request that answers no bytes, done page by page.
+fn run_whole<R: Wait + Clock, L: Ledger, M: Map + Drop, A: Allocator + Copy, H: Hands<L, M, A>>(
+    rt: &R,
+    alloc: A,
+    shared: &Shared<L, M, A>,
+    seat: &mut Seat<L>,
+    hands: &mut H,
+    page_bytes: u32,
+    request: Request,
+    bytes: &[u8],
+) -> Result<(), BlockFault>
+    requires some { 1 ≤ page_bytes }
+    requires small { page_bytes ≤ 4096 }
+    requires inside { end_of request ≤ 2 ^ 32 }
+    ensures { IsMade (pages_in (task_of page_bytes request)) seat.old (is_ok result) seat.new }
+{
+    let mut op = match Op::new(alloc, alloc, request, u64::from(page_bytes)) {
+        Ok(op) => op,
+        Err(_) => return Err(BlockFault::NoMemory),
+    };
+    match finish(rt, shared, seat, hands, &mut op, bytes) {
+        None => Ok(()),
+        Some(fault) => Err(fault),
+    }
+}
+
+/// A request that answers no bytes. One on several pages is done in parts, side by side, and then flushed, if it is to be.
+pub(crate) fn run<
+    R: Wait + Clock,
+    L: Ledger,
+    M: Map + Drop,
+    A: Allocator + Copy,
+    H: Hands<L, M, A>,
+>(
+    rt: &R,
+    alloc: A,
+    shared: &Shared<L, M, A>,
+    seat: &mut Seat<L>,
+    hands: &mut H,
+    page_bytes: u32,
+    request: Request,
+    bytes: &[u8],
+) -> Result<(), BlockFault>
+    requires some { 1 ≤ page_bytes }
+    requires small { page_bytes ≤ 4096 }
+    requires inside { end_of request ≤ 2 ^ 32 }
+    ensures { IsMade (pages_in (task_of page_bytes request)) seat.old (is_ok result) seat.new }
+{
+    if request.extent().1 <= u64::from(page_bytes) {
+        return run_whole(rt, alloc, shared, seat, hands, page_bytes, request, bytes);
+    }
+    run_parts(rt, alloc, shared, seat, hands, page_bytes, request, bytes)?;
+    if request.has_flush() {
+        return run_whole(
+            rt,
+            alloc,
+            shared,
+            seat,
+            hands,
+            page_bytes,
+            Request::Flush,
+            &[],
+        );
+    }
+    Ok(())
+}
+
+/// A read. It is never refused for want of room.
+pub(crate) fn run_read<
+    R: Wait + Clock,
+    L: Ledger,
+    M: Map + Drop,
+    A: Allocator + Copy,
+    H: Hands<L, M, A>,
+    B: Allocator,
+>(
+    rt: &R,
+    alloc: A,
+    shared: &Shared<L, M, A>,
+    seat: &mut Seat<L>,
+    hands: &mut H,
+    page_bytes: u32,
+    offset: u64,
+    len: u64,
+    into: B,
+) -> Result<Vec<u8, B>, BlockFault>
+    requires some { 1 ≤ page_bytes }
+    requires small { page_bytes ≤ 4096 }
+    requires inside { offset + len ≤ 2 ^ 32 }
+    ensures length { IfOk result (λ answer. length answer.items ≡ len) }
+    ensures room { IfErr result (λ fault. fault ≡ NoRoom → ⊥) }
+    ensures made { IsMade 0 seat.old (is_ok result) seat.new }
+{
+    let request = Request::Read { offset, len };
+    let mut op = match Op::new(alloc, into, request, u64::from(page_bytes)) {
+        Ok(op) => op,
+        Err(_) => return Err(BlockFault::NoMemory),
+    };
+    match finish(rt, shared, seat, hands, &mut op, &[]) {
+        None => handed_out(op, len),
+        Some(fault) => Err(of_read(fault)),
+    }
+}
+
+/// The answer of a read, if it has so many bytes.
+fn handed_out<A: Allocator + Copy, B: Allocator>(
+    op: Op<A, B>,
+    len: u64,
+) -> Result<Vec<u8, B>, BlockFault>
+    ensures length { IfOk result (λ answer. length answer.items ≡ len) }
+    ensures room { IfErr result (λ fault. fault ≡ NoRoom → ⊥) }
+{
+    let answer = op.into_answer();
+    if answer.len() as u64 != len {
+        return Err(BlockFault::Lost);
+    }
+    Ok(answer)
+}
+
+/// Why a read was refused. No read wants room.
+fn of_read(fault: BlockFault) -> BlockFault
+    ensures { result ≡ NoRoom → ⊥ }
+{
+    match fault {
+        BlockFault::NoRoom => BlockFault::Lost,
+        fault => fault,
+    }
+}
+
+/// Goes on with a request until it has ended, and tells how.
+pub(crate) fn finish<
+    R: Wait + Clock,
+    L: Ledger,
+    M: Map + Drop,
+    A: Allocator + Copy,
+    B: Allocator,
+    H: Hands<L, M, A>,
+>(
+    rt: &R,
+    shared: &Shared<L, M, A>,
+    seat: &mut Seat<L>,
+    hands: &mut H,
+    op: &mut Op<A, B>,
+    bytes: &[u8],
+) -> Option<BlockFault>
+    ensures goes_on { GoesOn seat.old op.old seat.new op.new }
+    ensures ended { ended (stage_of op.new) ≡ Some result }
+{
+    for _ in rt.forever() {
+        if let Some(end) = op.ended() {
+            return end;
+        }
+        op.prepare(bytes);
+        make_turns(rt, shared, seat, hands, op);
+    }
+    unreachable!()
+}
+
+/// Makes turns until the request has something to prepare, or has ended. The lock is free while it waits, and behind. What it waits for is
+/// made by these hands, as far as they can.
+fn make_turns<
+    R: Wait + Clock,
+    L: Ledger,
+    M: Map + Drop,
+    A: Allocator + Copy,
+    B: Allocator,
+    H: Hands<L, M, A>,
+>(rt: &R, shared: &Shared<L, M, A>, seat: &mut Seat<L>, hands: &mut H, op: &mut Op<A, B>)
+    ensures { GoesOn seat.old op.old seat.new op.new }
+{
+    let mut guard = shared.lock(rt);
+    for _ in rt.forever() {
+        if !matches!(turn_on(rt, op, &mut guard, seat), Turn::Wait) {
+            break;
+        }
+        let awaits = op.awaits(&guard);
+        guard = pass_time(rt, shared, seat, hands, awaits, guard);
+    }
+    shared.release(seat, guard);
+    hands.note();
+}
+
+/// Does what there is to be done for others, or else sleeps until what is awaited has come.
+pub(crate) fn pass_time<
+    'a,
+    R: Wait + Clock,
+    L: Ledger,
+    M: Map + Drop,
+    A: Allocator + Copy,
+    H: Hands<L, M, A>,
+>(
+    rt: &R,
+    shared: &'a Shared<L, M, A>,
+    seat: &mut Seat<L>,
+    hands: &mut H,
+    awaits: Awaits,
+    guard: MutexGuard<'a, Locked<L, M, A>>,
+) -> MutexGuard<'a, Locked<L, M, A>>
+    ensures commits { commits_with seat.new ≡ commits_with seat.old }
+    ensures number { number_of seat.new ≡ number_of seat.old }
+{
+    let mut guard = guard;
+    if !hands.take(&mut guard, seat) {
+        return shared.sleep(rt, seat, awaits, guard);
+    }
+    shared.release(seat, guard);
+    hands.work();
+    let mut guard = shared.lock(rt);
+    hands.end(&mut guard, seat);
+    guard
+}
+
+/// Gives back what a batch of the request handed out, and makes its turns while each leads to the next.
+pub(crate) fn turn_on<R: Wait, L: Ledger, M: Map + Drop, A: Allocator + Copy, B: Allocator>(
+    rt: &R,
+    op: &mut Op<A, B>,
+    locked: &mut Locked<L, M, A>,
+    seat: &mut Seat<L>,
+) -> Turn
+    ensures { GoesOn seat.old op.old seat.new op.new }
+{
+    op.give_back(locked);
+    turn_further(rt, op, locked, seat)
+}
+
+/// Makes turns of a request while each leads to the next.
+fn turn_further<R: Wait, L: Ledger, M: Map + Drop, A: Allocator + Copy, B: Allocator>(
+    rt: &R,
+    op: &mut Op<A, B>,
+    locked: &mut Locked<L, M, A>,
+    seat: &mut Seat<L>,
+) -> Turn
+    ensures { GoesOn seat.old op.old seat.new op.new }
+{
+    if op.ended().is_some() {
+        return Turn::End;
+    }
+    for _ in rt.forever() {
+        let turn = op.turn(locked, seat);
+        if matches!(turn, Turn::Wait) {
+            return turn;
+        }
+        locked.note_change();
+        if !matches!(turn, Turn::More) {
+            return turn;
+        }
+    }
+    unreachable!()
+}

@@ -1,5 +1,0 @@
-use Rattle.fa_takes.proofs.Fitting.{handed_fits}
-use Rattle.fa_takes.proofs.laws.what_is_handed_out_fits.Goals as goal
-
-pub returns : goal.returns
-returns c core new die seat job array sound ready limits sixteen takes = handed_fits core sound ready limits array sixteen die seat job new takes
