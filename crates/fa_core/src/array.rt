@@ -8,10 +8,10 @@ ghost use Rattle.fa_machine.specs.declared.places.Version.{Version};
 ghost use Rattle.fa_set.specs.Members.{bound_of, members};
 
 use crate::mounting::begin;
-use fa_map::Map;
 use fa_core_read::Planner;
-use fa_set::NumberSet;
 use fa_core_state::State;
+use fa_map::Map;
+use fa_set::NumberSet;
 use fa_tag::Payload;
 use fa_types::{Copies, Seq};
 use std::alloc::{AllocError, Allocator, Global};

@@ -1,12 +1,12 @@
 //! An event as one value, and its answer.
 use crate::{Job, Outcome};
+use fa_core_read::Admitted;
 use fa_machine::{
     AbandonRefused, AdmitRefused, AdvanceRefused, BatchId, ClaimId, ClaimRefused,
     CommitCopyRefused, CommitRefused, Copied, Flush, FlushRefused, FlushState, ReserveCopyRefused,
     ReserveRefused, SpareRefused, WindowRefused,
 };
 use fa_plan::Planned;
-use fa_core_read::Admitted;
 use fa_tag::Payload;
 use fa_types::{Die, Page, Round, Seq};
 use std::alloc::{Allocator, Global};

@@ -12,9 +12,9 @@ ghost use Rattle.fa_core_dispatch.specs.Handed.{handed_of};
 use crate::array::Array;
 use crate::keeping::{an_event_keeps, is_a_number};
 use fa_core_complete::Outcome;
-use fa_map::Map;
 use fa_core_dispatch::Job;
 use fa_core_dispatch::laws::what_is_handed_out_fits;
+use fa_map::Map;
 use fa_types::Die;
 use std::alloc::Allocator;
 

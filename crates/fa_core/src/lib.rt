@@ -22,6 +22,6 @@ mod writers;
 pub use array::Array;
 pub use call::{Answer, Call};
 pub use fa_core_complete::Outcome;
-pub use fa_plan::Planned;
-pub use fa_core_read::Admitted;
 pub use fa_core_dispatch::Job;
+pub use fa_core_read::Admitted;
+pub use fa_plan::Planned;

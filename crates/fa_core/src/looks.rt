@@ -9,7 +9,7 @@ ghost use Rattle.fa_machine.specs.Looks.{counts as rule_counts, is_busy as rule_
 ghost use Rattle.fa_machine.specs.Looks.{next_thin as rule_thin, wants_window as rule_window};
 ghost use Rattle.fa_machine.specs.Placement.{room as rule_room};
 ghost use Rattle.fa_machine.specs.State.{is_live as rule_live};
-ghost use Rattle.fa_parts.specs.Counted.{capped};
+ghost use Rattle.fa_core_tables.specs.Counted.{capped};
 
 use crate::array::Array;
 use fa_machine::{BatchId, Block, ClaimId, HistoryEntry, JobKind, Version};

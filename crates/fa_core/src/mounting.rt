@@ -2,19 +2,18 @@
 ghost use Rattle.std.specs.Prelude.{◌≡◌, ◌+◌, ◌*◌, ◌<◌, ◌^◌, [], IfOk};
 ghost use Rattle.std.specs.FinMap.{len};
 ghost use Rattle.fa_core.specs.Begun.{begun, numbers_of};
-ghost use Rattle.fa_parts.specs.Logs.{base_of, history_of};
-ghost use Rattle.fa_parts.specs.Counted.{new_base};
+ghost use Rattle.fa_core_tables.specs.Logs.{base_of, history_of};
+ghost use Rattle.fa_core_tables.specs.Counted.{new_base};
 ghost use Rattle.fa_set.specs.Members.{bound_of, members};
 ghost use Rattle.fa_core_state.specs.Core.{core_of};
 ghost use Rattle.fa_core_state.specs.Fitted.{IsFitted};
 
 use fa_core_batches::Batches;
 use fa_core_bookings::Bookings;
-use fa_claims::Claims;
-use fa_map::Map;
-use fa_parts::{ByDie, Log, Waiting};
-use fa_set::NumberSet;
 use fa_core_state::{State, mark_live};
+use fa_core_tables::{ByDie, Claims, Log, Waiting};
+use fa_map::Map;
+use fa_set::NumberSet;
 use fa_types::{Copies, Round, Seq};
 use std::alloc::{AllocError, Allocator};
 

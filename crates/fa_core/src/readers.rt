@@ -11,10 +11,10 @@ ghost use Rattle.fa_core_read.specs.Answers.{admit_answer, plan_answer};
 use crate::array::Array;
 use crate::keeping::an_event_keeps;
 use fa_batch::Closed;
+use fa_core_read::Admitted;
 use fa_machine::{AdmitRefused, BatchId, ReadState};
 use fa_map::Map;
 use fa_plan::Planned;
-use fa_core_read::Admitted;
 use fa_types::Page;
 use std::alloc::{AllocError, Allocator};
 

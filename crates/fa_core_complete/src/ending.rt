@@ -15,8 +15,8 @@ use crate::outcome::Outcome;
 use crate::programming::program_done;
 use crate::reading::read_done;
 use crate::telling::{header_done, sync_done};
-use fa_map::Map;
 use fa_core_state::State;
+use fa_map::Map;
 use fa_types::Die;
 use std::alloc::Allocator;
 

@@ -9,9 +9,9 @@ ghost use Rattle.fa_core_state.specs.Core.{core_of};
 ghost use Rattle.fa_core_state.specs.Fitted.{IsFitted};
 
 use crate::dropping::end_job;
+use fa_core_state::State;
 use fa_machine::{Copying, Flight, Target};
 use fa_map::Map;
-use fa_core_state::State;
 use fa_types::{Die, Page, Slot};
 use std::alloc::Allocator;
 

@@ -11,9 +11,9 @@ ghost use Rattle.fa_core_state.specs.Core.{core_of};
 ghost use Rattle.fa_core_state.specs.Fitted.{IsFitted};
 
 use crate::dropping::lose_die;
+use fa_core_state::State;
 use fa_machine::{BatchId, Flight, Version};
 use fa_map::Map;
-use fa_core_state::State;
 use fa_tag::Opened;
 use fa_types::{Die, Page, Slot};
 use std::alloc::Allocator;

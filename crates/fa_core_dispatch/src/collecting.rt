@@ -4,7 +4,7 @@ ghost use Rattle.std.specs.FinMap.{contains_key, get};
 ghost use Rattle.fa_machine.specs.State.{is_live, used_at};
 ghost use Rattle.fa_machine.specs.Taking.{begun, flight_of as rule_flight, move_from as rule_move, step_job as rule_step};
 ghost use Rattle.fa_machine.specs.declared.jobs.Flight.TheVariants.{Move};
-ghost use Rattle.fa_parts.specs.Dies.{by_die};
+ghost use Rattle.fa_core_tables.specs.Dies.{by_die};
 ghost use Rattle.fa_set.specs.Members.{members};
 ghost use Rattle.fa_core_state.specs.Core.{core_of};
 ghost use Rattle.fa_core_state.specs.Fitted.{IsFitted};
@@ -12,9 +12,9 @@ ghost use Rattle.fa_core_dispatch.specs.Begins.{IsOfCollector, MayBegin};
 ghost use Rattle.fa_types.specs.Windows.{is_in_window};
 
 use fa_collect::next_step;
+use fa_core_state::State;
 use fa_machine::{Block, CollectorStep, Flight, Version};
 use fa_map::Map;
-use fa_core_state::State;
 use fa_types::{Die, Page, Slot, Window};
 use std::alloc::Allocator;
 

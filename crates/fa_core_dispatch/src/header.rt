@@ -5,9 +5,9 @@ ghost use Rattle.fa_machine.specs.Taking.{header_job as rule_header, mask_of as 
 ghost use Rattle.fa_core_state.specs.Core.{core_of};
 ghost use Rattle.fa_core_dispatch.specs.Begins.{MayBegin};
 
+use fa_core_state::State;
 use fa_machine::Flight;
 use fa_map::Map;
-use fa_core_state::State;
 use fa_types::Die;
 use std::alloc::Allocator;
 

@@ -1,14 +1,14 @@
 //! What a die is at.
 ghost use Rattle.std.specs.Prelude.{◌≡◌, ◌<◌, false, None};
 ghost use Rattle.std.specs.FinMap.{get, insert};
-ghost use Rattle.fa_parts.specs.Dies.{by_die};
+ghost use Rattle.fa_core_tables.specs.Dies.{by_die};
 ghost use Rattle.fa_core_state.specs.Core.{core_of};
 ghost use Rattle.fa_core_state.specs.Fitted.{IsFitted};
 ghost use Rattle.fa_core_dispatch.specs.Begins.{is_read};
 
+use fa_core_state::State;
 use fa_machine::Flight;
 use fa_map::Map;
-use fa_core_state::State;
 use fa_types::Die;
 use std::alloc::Allocator;
 

@@ -2,17 +2,17 @@
 ghost use Rattle.std.specs.Prelude.{◌≡◌, ◌<◌, None, option_map, unwrap_or};
 ghost use Rattle.std.specs.FinMap.{get};
 ghost use Rattle.fa_machine.specs.Taking.{begins, handed, other_job as rule_other, sync_job as rule_sync};
-ghost use Rattle.fa_parts.specs.Dies.{by_die};
+ghost use Rattle.fa_core_tables.specs.Dies.{by_die};
 ghost use Rattle.fa_core_state.specs.Core.{core_of};
 ghost use Rattle.fa_core_state.specs.Fitted.{IsFitted};
 ghost use Rattle.fa_core_dispatch.specs.Handed.{handed_of};
 
 use crate::job::Job;
 use crate::jobs::set_job;
+use fa_core_state::State;
+use fa_core_tables::ByDie;
 use fa_machine::Flight;
 use fa_map::Map;
-use fa_parts::ByDie;
-use fa_core_state::State;
 use fa_types::Die;
 use std::alloc::Allocator;
 

@@ -5,16 +5,16 @@ ghost use Rattle.fa_core_bookings.specs.Bookings.{calendar_of};
 ghost use Rattle.fa_machine.specs.Conditions.{history_full};
 ghost use Rattle.fa_machine.specs.Taking.{begun, read_job as rule_read, read_of as rule_read_of, without_stale_booking};
 ghost use Rattle.fa_machine.specs.declared.jobs.Flight.TheVariants.{Read};
-ghost use Rattle.fa_parts.specs.Dies.{by_die};
+ghost use Rattle.fa_core_tables.specs.Dies.{by_die};
 ghost use Rattle.fa_core_state.specs.Core.{core_of};
 ghost use Rattle.fa_core_state.specs.Fitted.{IsFitted};
 ghost use Rattle.fa_core_state.specs.Tracked.{unstarted};
 ghost use Rattle.fa_core_dispatch.specs.Begins.{IsReadOf, MayBegin};
 
 use fa_core_batches::PageState;
+use fa_core_state::State;
 use fa_machine::{BatchId, Booking, Flight, Version};
 use fa_map::Map;
-use fa_core_state::State;
 use fa_types::{Die, Page, Round, Slot};
 use std::alloc::Allocator;
 

@@ -4,14 +4,14 @@ ghost use Rattle.std.specs.FinMap.{insert, keys};
 ghost use Rattle.fa_machine.specs.Flushing.{BeginsFlush};
 ghost use Rattle.fa_machine.specs.Maps.{below, insert_all};
 ghost use Rattle.fa_machine.specs.State.{is_live};
-ghost use Rattle.fa_parts.specs.Dies.{bound_of, by_die};
+ghost use Rattle.fa_core_tables.specs.Dies.{bound_of, by_die};
 ghost use Rattle.fa_core_state.specs.Core.{core_of};
 ghost use Rattle.fa_core_state.specs.Fitted.{IsFitted};
 
+use fa_core_state::State;
+use fa_core_tables::ByDie;
 use fa_machine::{Flush, FlushRefused};
 use fa_map::Map;
-use fa_parts::ByDie;
-use fa_core_state::State;
 use fa_types::Die;
 use std::alloc::Allocator;
 

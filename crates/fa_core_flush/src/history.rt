@@ -3,12 +3,12 @@ ghost use Rattle.std.specs.Prelude.{◌≡◌};
 ghost use Rattle.fa_machine.specs.Conditions.{history_full as rule_full};
 ghost use Rattle.fa_machine.specs.Flushing.{Folds};
 ghost use Rattle.fa_machine.specs.Looks.{counts as rule_counts};
-ghost use Rattle.fa_parts.specs.Counted.{capped};
+ghost use Rattle.fa_core_tables.specs.Counted.{capped};
 ghost use Rattle.fa_core_state.specs.Core.{core_of};
 ghost use Rattle.fa_core_state.specs.Fitted.{IsFitted};
 
-use fa_map::Map;
 use fa_core_state::State;
+use fa_map::Map;
 use std::alloc::Allocator;
 
 /// The history is taken into its base, and none is left.

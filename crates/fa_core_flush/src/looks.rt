@@ -5,9 +5,9 @@ ghost use Rattle.fa_machine.specs.Conditions.{is_reserved as rule_reserved};
 ghost use Rattle.fa_machine.specs.Looks.{is_busy as rule_busy, job_kind as rule_job, kind_of as rule_kind};
 ghost use Rattle.fa_core_state.specs.Core.{core_of};
 
+use fa_core_state::State;
 use fa_machine::{BatchId, ClaimId, Flight, JobKind};
 use fa_map::Map;
-use fa_core_state::State;
 use fa_types::Die;
 use std::alloc::Allocator;
 

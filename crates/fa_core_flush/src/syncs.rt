@@ -5,9 +5,9 @@ ghost use Rattle.fa_machine.specs.Flushing.{flush_state as rule_state, has_synce
 ghost use Rattle.fa_machine.specs.State.{dies_of, is_live};
 ghost use Rattle.fa_core_state.specs.Core.{core_of};
 
+use fa_core_state::State;
 use fa_machine::{Flush, FlushState};
 use fa_map::Map;
-use fa_core_state::State;
 use fa_types::Die;
 use std::alloc::Allocator;
 

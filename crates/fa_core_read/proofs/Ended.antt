@@ -11,7 +11,7 @@ use Rattle.fa_machine.specs.Reading.{released}
 use Rattle.fa_machine.specs.State.{CalendarState, MapState}
 use Rattle.fa_machine.specs.declared.jobs.Flight.{Flight}
 use Rattle.fa_machine.specs.declared.places.Booking.{Booking}
-use Rattle.fa_parts.specs.Dies.{bound_of, by_die}
+use Rattle.fa_core_tables.specs.Dies.{bound_of, by_die}
 use Rattle.fa_core_read.proofs.Others.{AreInside, each_removed, open_still}
 use Rattle.fa_core_state.specs.Fitted.{IsFitted}
 use Rattle.fa_core_state.specs.Tracked.{AreTracked, unstarted}

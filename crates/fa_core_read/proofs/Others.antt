@@ -14,7 +14,7 @@ use Rattle.fa_machine.specs.declared.jobs.Flight.{Flight}
 use Rattle.fa_machine.specs.declared.jobs.Flight.TheVariants.{Erase, Header, Move, Program, Read, Sync}
 use Rattle.fa_machine.specs.declared.places.Booking.{Booking}
 use Rattle.fa_machine.specs.declared.places.Version.{Version}
-use Rattle.fa_parts.specs.Dies.{by_die}
+use Rattle.fa_core_tables.specs.Dies.{by_die}
 use Rattle.fa_core_read.proofs.Exchanged.{among_all}
 use Rattle.fa_core_read.proofs.Newly.{among_one, is_placed_in, one_among}
 use Rattle.fa_core_read.proofs.Opening.{opened_inserted, remove_inserted, remove_none}

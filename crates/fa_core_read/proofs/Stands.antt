@@ -11,7 +11,7 @@ use Rattle.fa_machine.specs.Maps.{is_one_of, place_cmp}
 use Rattle.fa_core_bookings.specs.Bookings.{calendar_of}
 use Rattle.fa_machine.specs.Reading.{is_booked, is_read_for, left_of}
 use Rattle.fa_machine.specs.State.{MapState}
-use Rattle.fa_parts.specs.Dies.{by_die}
+use Rattle.fa_core_tables.specs.Dies.{by_die}
 use Rattle.fa_core_state.specs.Core.{core_of}
 use Rattle.fa_core_state.specs.Fitted.{IsFitted}
 use Rattle.fa_core_state.specs.declared.state.State.{State}

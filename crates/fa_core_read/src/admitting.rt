@@ -23,10 +23,10 @@ use crate::planner::Planner;
 use crate::planning::{is_late, plan_written};
 use fa_batch::Place;
 use fa_calendar::CalendarRefused;
+use fa_core_state::State;
 use fa_machine::{AdmitRefused, BatchId};
 use fa_map::Map;
 use fa_plan::Planned;
-use fa_core_state::State;
 use fa_types::Page;
 use std::alloc::{AllocError, Allocator, Global};
 

@@ -22,11 +22,11 @@ ghost use Rattle.fa_types.specs.Windows.{IsFull};
 
 use crate::asking::has_data;
 use fa_batch::Place;
-use fa_core_batches::{Batches, PageState};
 use fa_calendar::CalendarRefused;
+use fa_core_batches::{Batches, PageState};
+use fa_core_state::State;
 use fa_machine::BatchId;
 use fa_map::Map;
-use fa_core_state::State;
 use fa_types::Page;
 use std::alloc::{AllocError, Allocator};
 

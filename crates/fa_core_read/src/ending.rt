@@ -16,9 +16,9 @@ use crate::asking::place_in;
 use fa_batch::Place;
 use fa_core_batches::{Batches, PageState};
 use fa_core_bookings::Bookings;
+use fa_core_state::State;
 use fa_machine::BatchId;
 use fa_map::Map;
-use fa_core_state::State;
 use fa_types::Page;
 use std::alloc::Allocator;
 

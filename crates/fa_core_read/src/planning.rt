@@ -10,9 +10,9 @@ ghost use Rattle.fa_core_read.specs.Answers.{planned_of};
 use crate::asking::list_written;
 use crate::planner::Planner;
 use fa_core_bookings::Bookings;
+use fa_core_state::State;
 use fa_map::Map;
 use fa_plan::{Planned, plan_in};
-use fa_core_state::State;
 use fa_types::Page;
 use std::alloc::{AllocError, Allocator};
 

@@ -26,12 +26,12 @@ use crate::lost::is_lost;
 use crate::planner::Planner;
 use crate::planning::is_late;
 use fa_batch::{Batch, Closed, Place};
-use fa_core_batches::Batches;
 use fa_calendar::CalendarRefused;
+use fa_core_batches::Batches;
+use fa_core_state::State;
 use fa_machine::{AdmitRefused, BatchId};
 use fa_map::Map;
 use fa_plan::{Planned, plan_in};
-use fa_core_state::State;
 use fa_types::Page;
 use std::alloc::{AllocError, Allocator};
 

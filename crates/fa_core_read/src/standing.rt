@@ -5,9 +5,9 @@ ghost use Rattle.fa_machine.specs.Reading.{results as rule_results};
 ghost use Rattle.fa_core_state.specs.Core.{core_of};
 ghost use Rattle.fa_core_state.specs.Fitted.{IsFitted};
 
+use fa_core_state::State;
 use fa_machine::{BatchId, ReadState};
 use fa_map::Map;
-use fa_core_state::State;
 use std::alloc::Allocator;
 
 /// How the batch stands: torn where no such batch is open, or where a page has no answer and no read that is booked or in flight;

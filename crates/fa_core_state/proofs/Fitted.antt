@@ -4,7 +4,7 @@ use Rattle.fa_core_bookings.specs.declared.bookings.Bookings.{Bookings}
 use Rattle.fa_machine.specs.Maps.{place_cmp}
 use Rattle.fa_machine.specs.State.{MapState}
 use Rattle.fa_machine.specs.declared.places.Booking.{Booking}
-use Rattle.fa_parts.specs.Dies.{bound_of, by_die}
+use Rattle.fa_core_tables.specs.Dies.{bound_of, by_die}
 use Rattle.fa_core_state.specs.Fitted.{IsFitted}
 use Rattle.fa_core_state.specs.Tracked.{AreTracked}
 use Rattle.fa_core_state.specs.declared.state.State.{State}

@@ -1,11 +1,11 @@
 -- What contracts see of the array's state: the machine's own.
 use Rattle.fa_core_batches.specs.Batches.{batches_of}
 use Rattle.fa_core_bookings.specs.Bookings.{calendar_of}
-use Rattle.fa_claims.specs.Claims.{claims_of}
+use Rattle.fa_core_tables.specs.Claims.{claims_of}
 use Rattle.fa_machine.specs.State.{Core, MapState}
-use Rattle.fa_parts.specs.Dies.{by_die}
-use Rattle.fa_parts.specs.Logs.{base_of, history_of}
-use Rattle.fa_parts.specs.Waits.{waiting_of}
+use Rattle.fa_core_tables.specs.Dies.{by_die}
+use Rattle.fa_core_tables.specs.Logs.{base_of, history_of}
+use Rattle.fa_core_tables.specs.Waits.{waiting_of}
 use Rattle.fa_set.specs.Members.{members}
 use Rattle.fa_core_state.specs.declared.state.State.{State}
 

@@ -7,8 +7,8 @@ use Rattle.fa_core_batches.specs.Pages.{opened}
 use Rattle.fa_core_bookings.specs.Bookings.{calendar_of}
 use Rattle.fa_machine.specs.Maps.{is_one_of}
 use Rattle.fa_machine.specs.State.{MapState}
-use Rattle.fa_parts.specs.Dies.{bound_of, by_die}
-use Rattle.fa_parts.specs.Waits.{dies_of}
+use Rattle.fa_core_tables.specs.Dies.{bound_of, by_die}
+use Rattle.fa_core_tables.specs.Waits.{dies_of}
 use Rattle.fa_set.specs.Members.{bound_of as numbers_of, members}
 use Rattle.fa_core_state.specs.Tracked.{AreTracked}
 use Rattle.fa_core_state.specs.declared.state.State.{State}

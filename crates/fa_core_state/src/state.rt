@@ -1,9 +1,8 @@
 //! The array's state.
 use fa_core_batches::Batches;
 use fa_core_bookings::Bookings;
-use fa_claims::Claims;
+use fa_core_tables::{ByDie, Claims, Log, Waiting};
 use fa_machine::{Copying, Flight};
-use fa_parts::{ByDie, Log, Waiting};
 use fa_set::NumberSet;
 use fa_types::Copies;
 use std::alloc::{Allocator, Global};

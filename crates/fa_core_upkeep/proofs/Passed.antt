@@ -9,7 +9,7 @@ use Rattle.fa_machine.specs.State.{Core, MapState, dies_of}
 use Rattle.fa_machine.specs.Turning.{advance_refusal, is_read_pending, is_reading, is_round_pending, is_step_pending}
 use Rattle.fa_machine.specs.declared.places.Booking.{Booking}
 use Rattle.fa_machine.specs.declared.refusals.AdvanceRefused.TheVariants.{Idle, Pending, Spent}
-use Rattle.fa_parts.specs.Dies.{bound_of, by_die}
+use Rattle.fa_core_tables.specs.Dies.{bound_of, by_die}
 use Rattle.fa_core_state.specs.Core.{core_of}
 use Rattle.fa_core_state.specs.Fitted.{IsFitted}
 use Rattle.fa_core_state.specs.Tracked.{AreTracked, unstarted}

@@ -14,11 +14,11 @@ ghost use Rattle.fa_core_state.specs.Fitted.{IsFitted};
 ghost use Rattle.fa_core_upkeep.specs.Copied.{MayReserve, copying_on};
 
 use crate::settling::is_last;
+use fa_core_state::State;
+use fa_core_tables::QueuedProgram;
 use fa_machine::{Copying, ReserveCopyRefused, Target, Version};
 use fa_map::Map;
 use fa_mirror::{copy_place, is_thin};
-use fa_parts::QueuedProgram;
-use fa_core_state::State;
 use fa_tag::Payload;
 use fa_types::{Copies, Die, Kind, Page, Seq, Slot};
 use std::alloc::{AllocError, Allocator};

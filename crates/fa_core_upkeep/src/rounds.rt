@@ -11,12 +11,12 @@ ghost use Rattle.fa_core_state.specs.Core.{core_of};
 ghost use Rattle.fa_core_state.specs.Fitted.{IsFitted};
 ghost use Rattle.fa_types.specs.Windows.{is_in_window as rule_window};
 
-use fa_core_bookings::Bookings;
 use fa_collect::victim;
+use fa_core_bookings::Bookings;
+use fa_core_state::State;
 use fa_machine::{AdvanceRefused, Booking, Flight};
 use fa_map::Map;
 use fa_set::NumberSet;
-use fa_core_state::State;
 use fa_types::{Die, Round, Window};
 use std::alloc::Allocator;
 

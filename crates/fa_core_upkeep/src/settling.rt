@@ -10,9 +10,9 @@ ghost use Rattle.fa_sound.specs.Sound.{IsSound};
 ghost use Rattle.fa_core_state.specs.Core.{core_of};
 ghost use Rattle.fa_core_state.specs.Fitted.{IsFitted};
 
+use fa_core_state::State;
 use fa_machine::{CommitCopyRefused, Copied, Copying, Target};
 use fa_map::Map;
-use fa_core_state::State;
 use fa_types::{Page, Seq};
 use std::alloc::Allocator;
 

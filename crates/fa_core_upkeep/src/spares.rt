@@ -9,9 +9,9 @@ ghost use Rattle.fa_sound.specs.Sound.{IsSound};
 ghost use Rattle.fa_core_state.specs.Core.{core_of};
 ghost use Rattle.fa_core_state.specs.Fitted.{IsFitted};
 
+use fa_core_state::{State, mark_live};
 use fa_machine::SpareRefused;
 use fa_map::Map;
-use fa_core_state::{State, mark_live};
 use fa_types::Die;
 use std::alloc::Allocator;
 

@@ -9,11 +9,11 @@ ghost use Rattle.fa_machine.specs.Turning.{TakesWindow};
 ghost use Rattle.fa_core_state.specs.Core.{core_of};
 ghost use Rattle.fa_core_state.specs.Fitted.{IsFitted};
 
-use fa_core_bookings::Bookings;
 use fa_calendar::CalendarRefused;
+use fa_core_bookings::Bookings;
+use fa_core_state::State;
 use fa_machine::WindowRefused;
 use fa_map::Map;
-use fa_core_state::State;
 use fa_types::{Die, Round};
 use std::alloc::Allocator;
 

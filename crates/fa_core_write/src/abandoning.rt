@@ -7,18 +7,18 @@ ghost use Rattle.fa_machine.specs.State.{is_live};
 ghost use Rattle.fa_machine.specs.Writing.{Abandons, is_programming as rule_programming, live_targets, with_reserved, with_targets};
 ghost use Rattle.fa_machine.specs.declared.refusals.AbandonRefused.TheVariants.{Pending, Programmed};
 ghost use Rattle.fa_machine.specs.declared.places.Used.TheVariants.{Stale};
-ghost use Rattle.fa_parts.specs.Dies.{by_die};
-ghost use Rattle.fa_parts.specs.Waits.{dies_of, waiting_of};
+ghost use Rattle.fa_core_tables.specs.Dies.{by_die};
+ghost use Rattle.fa_core_tables.specs.Waits.{dies_of, waiting_of};
 ghost use Rattle.fa_sound.specs.Sound.{IsSound};
 ghost use Rattle.fa_core_state.specs.Core.{core_of};
 ghost use Rattle.fa_core_state.specs.Fitted.{IsFitted};
 ghost use Rattle.fa_core_write.specs.Placed.{FitsLive};
 
 use crate::looking::are_programmed;
+use fa_core_state::State;
+use fa_core_tables::{ByDie, Waiting};
 use fa_machine::{AbandonRefused, ClaimId, Flight, Target};
 use fa_map::Map;
-use fa_parts::{ByDie, Waiting};
-use fa_core_state::State;
 use fa_types::Slot;
 use std::alloc::Allocator;
 

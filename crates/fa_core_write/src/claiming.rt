@@ -7,9 +7,9 @@ ghost use Rattle.fa_machine.specs.Writing.{Claims};
 ghost use Rattle.fa_core_state.specs.Core.{core_of};
 ghost use Rattle.fa_core_state.specs.Fitted.{IsFitted};
 
+use fa_core_state::State;
 use fa_machine::{ClaimId, ClaimRefused};
 use fa_map::Map;
-use fa_core_state::State;
 use fa_types::Page;
 use std::alloc::Allocator;
 

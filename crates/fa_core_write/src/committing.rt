@@ -2,25 +2,25 @@
 ghost use Rattle.std.specs.Prelude.{◌≡◌, ◌<◌, ◌^◌, ◌++◌, [], ◌∷◌, not, true, false, filter, length, None};
 ghost use Rattle.std.specs.List.{list_any};
 ghost use Rattle.std.specs.Option.{option_map_or};
-ghost use Rattle.fa_claims.specs.Claims.{reservation_of};
+ghost use Rattle.fa_core_tables.specs.Claims.{reservation_of};
 ghost use Rattle.fa_machine.specs.Conditions.{claim_open, first_that, history_full, is_reserved, reserved_under};
 ghost use Rattle.fa_machine.specs.State.{is_live};
 ghost use Rattle.fa_machine.specs.Writing.{Commits, claimed_page, committed, with_targets};
 ghost use Rattle.fa_machine.specs.declared.places.Used.TheVariants.{Held};
 ghost use Rattle.fa_machine.specs.declared.refusals.CommitRefused.TheVariants.{Pending, Failed};
 ghost use Rattle.fa_map.specs.Changes.{renewed};
-ghost use Rattle.fa_parts.specs.Logs.{history_of};
-ghost use Rattle.fa_parts.specs.declared.log.TheConstants.{MAX_ENTRIES};
+ghost use Rattle.fa_core_tables.specs.Logs.{history_of};
+ghost use Rattle.fa_core_tables.specs.declared.log.TheConstants.{MAX_ENTRIES};
 ghost use Rattle.fa_sound.specs.Sound.{IsSound};
 ghost use Rattle.fa_core_state.specs.Core.{core_of};
 ghost use Rattle.fa_core_state.specs.Fitted.{IsFitted};
 ghost use Rattle.fa_core_write.specs.Holding.{MayHoldAll};
 
 use crate::looking::{are_pending, are_programmed};
-use fa_claims::Reservation;
+use fa_core_state::State;
+use fa_core_tables::Reservation;
 use fa_machine::{ClaimId, CommitRefused, Target, Version};
 use fa_map::Map;
-use fa_core_state::State;
 use fa_types::{Page, Seq};
 use std::alloc::Allocator;
 

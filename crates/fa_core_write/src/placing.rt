@@ -1,14 +1,14 @@
 //! The slots that a write takes.
 ghost use Rattle.std.specs.Prelude.{◌≡◌, ◌<◌, map};
 ghost use Rattle.std.specs.List.{All};
-ghost use Rattle.fa_claims.specs.Claims.{targets_of};
+ghost use Rattle.fa_core_tables.specs.Claims.{targets_of};
 ghost use Rattle.fa_machine.specs.Placement.{targets as rule_targets};
 ghost use Rattle.fa_machine.specs.Writing.{target_on, with_targets};
 ghost use Rattle.fa_machine.specs.declared.places.Used.TheVariants.{Reserved};
 ghost use Rattle.fa_mirror.specs.Chosen.{TakesWrites};
 ghost use Rattle.fa_core_write.specs.Placed.{MayReserve};
 
-use fa_claims::Targets;
+use fa_core_tables::Targets;
 use fa_machine::Target;
 use fa_map::Map;
 use fa_mirror::targets;

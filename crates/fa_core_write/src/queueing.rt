@@ -2,10 +2,10 @@
 ghost use Rattle.std.specs.Prelude.{◌≡◌, ◌+◌, ◌<◌, ◌≤◌, ◌++◌, drop, length, map, take, OnErr, OnOk};
 ghost use Rattle.std.specs.List.{All};
 ghost use Rattle.fa_machine.specs.Writing.{program_at};
-ghost use Rattle.fa_parts.specs.Waits.{dies_of, room_of, waiting_of};
+ghost use Rattle.fa_core_tables.specs.Waits.{dies_of, room_of, waiting_of};
 
+use fa_core_tables::{QueuedProgram, Waiting};
 use fa_machine::{Target, Version};
-use fa_parts::{QueuedProgram, Waiting};
 use fa_tag::Payload;
 use fa_types::Page;
 use std::alloc::{AllocError, Allocator};

@@ -2,7 +2,7 @@
 ghost use Rattle.std.specs.Prelude.{◌≡◌, ◌+◌, ◌-◌, ◌<◌, ◌^◌, ◌==◌, [], ◌∷◌, map, nat_lt, true, false, IfOk, OnErr, OnOk};
 ghost use Rattle.fa_machine.specs.Conditions.{claim_open, first_that, is_reserved};
 ghost use Rattle.std.specs.List.{All};
-ghost use Rattle.fa_claims.specs.Claims.{targets_of};
+ghost use Rattle.fa_core_tables.specs.Claims.{targets_of};
 ghost use Rattle.fa_machine.specs.Placement.{targets};
 ghost use Rattle.fa_machine.specs.Writing.{Reserves, claimed_page, reserved, target_on};
 ghost use Rattle.fa_core_write.specs.Placed.{MayReserve};
@@ -12,11 +12,11 @@ ghost use Rattle.fa_core_state.specs.Fitted.{IsFitted};
 
 use crate::placing::{reserve_slots, slots_for};
 use crate::queueing::queue;
-use fa_claims::{Reservation, Targets};
+use fa_core_state::State;
+use fa_core_tables::{Reservation, Targets};
 use fa_machine::{ClaimId, ReserveRefused, Version};
 use fa_map::Map;
 use fa_mirror::copies_asked;
-use fa_core_state::State;
 use fa_tag::Payload;
 use fa_types::{Kind, Page, Seq};
 use std::alloc::{AllocError, Allocator};

@@ -7,9 +7,9 @@ ghost use Rattle.fa_mount.specs.MountsArray.{MountsArray, MountsArrayBy, Refuses
 
 use crate::array::MountedArray;
 use crate::beginning::begin;
-use fa_mount_headers::{Found, MountRefused};
 use fa_image::Image;
 use fa_map::PageMap;
+use fa_mount_headers::{Found, MountRefused};
 use fa_mount_scan::{scan, scan_found, scan_found_side_by_side};
 use fa_types::Copies;
 use std::alloc::Allocator;

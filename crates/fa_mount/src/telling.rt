@@ -8,8 +8,8 @@ ghost use Rattle.fa_mount.specs.Told.{IsTold, writing};
 
 use crate::masks::{is_in, with};
 use crate::standings::place_at;
-use fa_mount_headers::Standing;
 use fa_image::{Image, ImageFault};
+use fa_mount_headers::Standing;
 use fa_tag::{Header, seal_header};
 use fa_types::{Die, Geometry};
 

@@ -6,9 +6,9 @@ ghost use Rattle.fa_mount_scan.specs.Mounting.{Mounts, MountsBy, RefusesMount};
 
 use crate::mounted::Mounted;
 use crate::slots::scan::scan_slots_side_by_side;
-use fa_mount_headers::{Found, MountFault, MountRefused, judge, read_headers};
 use fa_image::Image;
 use fa_map::PageMap;
+use fa_mount_headers::{Found, MountFault, MountRefused, judge, read_headers};
 use fa_types::Copies;
 use std::alloc::Allocator;
 use std::thread::Threads;

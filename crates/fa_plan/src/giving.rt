@@ -4,8 +4,8 @@ ghost use Rattle.fa_plan.specs.Giving.{AreGiven};
 ghost use Rattle.fa_plan_search.specs.Search.{IsAtItsEnd, IsWalk};
 
 use fa_batch::Batch;
-use fa_types::Die;
 use fa_plan_search::{Tables, Walk, search};
+use fa_types::Die;
 use std::alloc::{AllocError, Allocator};
 
 /// Searches for a die for the first page that has none. Where the walk finds one with room, each page on

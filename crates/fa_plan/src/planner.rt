@@ -16,8 +16,8 @@ use crate::shortage::rounds_for;
 use crate::workspace::Workspace;
 use fa_batch::{Batch, Plan, Shortage};
 use fa_cert_places::count_rooms;
-use fa_types::{Die, Rounds};
 use fa_plan_search::{Tables, Walk, all_pages, reached_pages};
+use fa_types::{Die, Rounds};
 use std::alloc::{AllocError, Allocator, Global};
 
 /// A plan that no plan beats, with what shows it.

@@ -6,10 +6,10 @@ ghost use Rattle.fa_prog_format.specs.Formatting.{CameOf, FormatsSpare, HasImage
 ghost use Rattle.fa_prog_format.specs.Formatting.{failure_of as failure_by, formatted_line, image_line};
 ghost use Rattle.fa_prog_host.specs.Printing.{TellsNoMemory};
 
+use fa_image::{FileImage, Image, ImageFault};
 use fa_mount_headers::FormatFault;
 use fa_prog_host::printing::{DONE, FAULTY, REFUSED, print, refuse_for_memory};
 use fa_prog_host::{Host, refuse_settings, settings_at, tell, tell_refused};
-use fa_image::{FileImage, Image, ImageFault};
 use fa_settings::Settings;
 use fa_tag::open_header;
 use fa_types::{Die, HEADER_BYTES};

@@ -5,16 +5,16 @@ ghost use Rattle.fa_prog_inspect.specs.Array.{IsTold, IsLines, IsDocument, IsDoc
 ghost use Rattle.fa_mount_headers.specs.Found.{AreFound, IsReadOf};
 ghost use Rattle.fa_prog_inspect.specs.Mount.{MountsArray, RefusesArray};
 
-use fa_prog_report::{DieRow, check_json, check_text, dump_json, dump_text, path_of, rows_of};
+use fa_image::{FileImage, Image};
+use fa_map::PageMap;
 use fa_mount_headers::{Found, MountFault, MountRefused, expect, read_headers};
+use fa_mount_scan::{Mounted, scan_found_side_by_side};
 use fa_prog_host::printing::{DONE, REFUSED, print, refuse_for_memory};
 use fa_prog_host::{
     Host, NotOpened, OpenImages, Watched, clear, complain, open_images, refuse_settings,
     settings_at, tell,
 };
-use fa_image::{FileImage, Image};
-use fa_map::PageMap;
-use fa_mount_scan::{Mounted, scan_found_side_by_side};
+use fa_prog_report::{DieRow, check_json, check_text, dump_json, dump_text, path_of, rows_of};
 use fa_settings::Settings;
 use fa_types::Copies;
 use std::alloc::{AllocError, Allocator};

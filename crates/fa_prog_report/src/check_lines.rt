@@ -2,8 +2,8 @@
 ghost use Rattle.std.specs.Prelude.{◌≡◌, ◌++◌, IfOk, OnOk, string_bytes};
 ghost use Rattle.fa_prog_report.specs.Lines.{check_text as text_of, dies_line, epoch_line, pages_line};
 
-use fa_prog_host::printing::push_number;
 use fa_mount_scan::Report;
+use fa_prog_host::printing::push_number;
 use std::alloc::{AllocError, Allocator};
 
 /// What `check` prints of an array.

@@ -4,10 +4,10 @@ ghost use Rattle.fa_core.specs.Array.{IsWhole};
 ghost use Rattle.fa_prog_serve.specs.Serving.{TellsEnd, closed_line, closed_status, fault_line, fault_lines};
 ghost use Rattle.std.specs.Fmt.{decimal};
 
-use fa_prog_host::printing::{DONE, REFUSED, print, push_number, refuse_for_memory};
 use fa_image::Image;
 use fa_map::Map;
 use fa_mount::{CloseFault, MountedArray, close_clean};
+use fa_prog_host::printing::{DONE, REFUSED, print, push_number, refuse_for_memory};
 use fa_shared::Fault;
 use std::alloc::{AllocError, Global};
 use std::io::Write;

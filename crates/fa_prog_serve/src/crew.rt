@@ -1,9 +1,9 @@
 //! Those who work for the dies of the array.
-use fa_prog_clients::Networked;
-use fa_mount_headers::Standing;
 use fa_image::Image;
 use fa_map::Map;
 use fa_mount::place_of;
+use fa_mount_headers::Standing;
+use fa_prog_clients::Networked;
 use fa_shared::{Seat, Shared};
 use fa_types::Die;
 use fa_workers::{Bench, Open, Room, collector_worker, die_worker, rebuild_worker};

@@ -1,8 +1,8 @@
 //! What is told of the array while it is served.
-use fa_prog_clients::Networked;
 use fa_core::Array;
-use fa_prog_host::tell;
 use fa_map::Map;
+use fa_prog_clients::Networked;
+use fa_prog_host::tell;
 use fa_shared::{Cause, Fault, Shared};
 use fa_types::{Die, Page};
 use log::kv::Source;

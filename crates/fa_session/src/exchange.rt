@@ -7,9 +7,9 @@ ghost use Rattle.fa_cmds.specs.declared.decision.Decision.TheVariants.{Do};
 
 use crate::replies::{code_of, reply, reply_with_data};
 use crate::stream_end::StreamEnd;
-use fa_session_ask::ask;
 use fa_cmds::{Command, ReplyCode, Request, body_len};
 use fa_io::{Calls, SendFailed, WriteBoth};
+use fa_session_ask::ask;
 use fa_session_buffer::{DataMemory, Received};
 use fa_types::Blocks;
 use std::alloc::Allocator;

@@ -1,7 +1,7 @@
 //! The array under its lock.
 ghost use Rattle.std.specs.Prelude.{◌≡◌, ℕ, ◌+◌, ◌<◌, ◌≤◌, true, false, IfOk, IfErr, IfSome, IfNone, length};
 ghost use Rattle.fa_machine.specs.Looks.{counts as rule_counts};
-ghost use Rattle.fa_parts.specs.Counted.{capped};
+ghost use Rattle.fa_core_tables.specs.Counted.{capped};
 ghost use Rattle.fa_core.specs.Calls.{commits_of_answer};
 ghost use Rattle.fa_shared.specs.Seats.{commits_together};
 

@@ -11,12 +11,12 @@ ghost use Rattle.fa_core_read.specs.Answers.{admit_answer, plan_answer};
 ghost use Rattle.fa_shared.specs.Seats.{commits_with, number_of};
 
 use fa_core::{Answer, Call, Planned};
+use fa_core_read::Admitted;
 use fa_machine::{
     AbandonRefused, AdmitRefused, BatchId, ClaimId, ClaimRefused, CommitRefused, Flush,
     FlushRefused, FlushState, ReserveRefused,
 };
 use fa_map::Map;
-use fa_core_read::Admitted;
 use fa_shared::{Locked, Seat, plain};
 use fa_tag::Payload;
 use fa_types::{Page, Seq};

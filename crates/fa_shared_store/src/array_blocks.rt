@@ -3,8 +3,8 @@ ghost use Rattle.std.specs.Prelude.{◌≤◌};
 
 use crate::running::{finish, run, run_read, store_bytes};
 use fa_map::Map;
-use fa_shared_request::Op;
 use fa_shared::{Hands, Seat, Shared};
+use fa_shared_request::Op;
 use fa_shared_steps::Request;
 use fa_types::{BlockFault, Blocks};
 use std::alloc::Allocator;

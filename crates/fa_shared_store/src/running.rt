@@ -9,8 +9,8 @@ ghost use Rattle.fa_types.specs.declared.blocks.BlockFault.TheVariants.{NoRoom};
 
 use crate::parts::run_parts;
 use fa_map::Map;
-use fa_shared_request::{Op, Turn};
 use fa_shared::{Awaits, Hands, Locked, Seat, Shared};
+use fa_shared_request::{Op, Turn};
 use fa_shared_steps::Request;
 use fa_types::{BlockFault, Geometry};
 use std::alloc::Allocator;

@@ -16,15 +16,15 @@ ghost use Rattle.fa_workers.specs.Held.{Folds, IsNoCommit, LeavesRest};
 
 use fa_core::{Answer, Call};
 use fa_core_complete::Outcome;
+use fa_core_dispatch::Job;
+use fa_core_read::Admitted;
 use fa_machine::{
     AdmitRefused, AdvanceRefused, BatchId, ClaimId, CommitCopyRefused, Copied, ReserveCopyRefused,
     WindowRefused,
 };
 use fa_map::Map;
-use fa_core_read::Admitted;
 use fa_shared::{Locked, Seat, plain};
 use fa_tag::Payload;
-use fa_core_dispatch::Job;
 use fa_types::{Die, Page, Round, Seq};
 use std::alloc::Allocator;
 use std::sync::ledger::Ledger;

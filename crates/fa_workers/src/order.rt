@@ -9,10 +9,10 @@ ghost use Rattle.fa_workers.specs.Orders.{IsJobFor-prop};
 use crate::gate::{Gate, ImageCallKind};
 use crate::running::run_job;
 use fa_core_complete::Outcome;
+use fa_core_dispatch::Job;
 use fa_image::{Image, ImageFault};
 use fa_machine::Flight;
 use fa_tag::Opened;
-use fa_core_dispatch::Job;
 use fa_types::{Die, Geometry, TAG_BYTES};
 use std::alloc::{Allocator, Global};
 

@@ -12,9 +12,9 @@ use crate::moving::run_move;
 use crate::reading::run_read;
 use crate::writing::{run_erase, run_program, run_sync};
 use fa_core_complete::Outcome;
+use fa_core_dispatch::Job;
 use fa_image::Image;
 use fa_machine::Flight;
-use fa_core_dispatch::Job;
 use fa_types::Die;
 use std::alloc::Allocator;
 

@@ -1,4 +1,5 @@
-//! The tests of page maps and of mounting, over their public calls: what no clause says and no process shows.
+//! The tests of the containers of the array's core, of page maps and of mounting, over their public calls: what no clause says and no
+//! process shows.
 #![tactic(auto)]
 
 #[cfg(test)]
@@ -9,5 +10,7 @@ mod mount_headers;
 mod mount_refusals;
 #[cfg(test)]
 mod mounting;
+#[cfg(test)]
+mod parts;
 #[cfg(test)]
 mod slots;

@@ -1,9 +1,9 @@
 //! New images, and what headers say. The bytes of headers were made by another program.
 use crate::mounting::{ARRAY, formatted, shape};
+use fa_image::{Image, ImageFault};
 use fa_mount_headers::{
     FormatFault, Judged, MountFault, MountRefused, Standing, expect, judge, read_headers,
 };
-use fa_image::{Image, ImageFault};
 use fa_types::{Copies, Die, Geometry, HEADER_BYTES};
 use flasharr_tests::ensure;
 use flasharr_tests::spelling::spelled;

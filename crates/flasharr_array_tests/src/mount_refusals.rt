@@ -2,8 +2,8 @@
 //! images in two formats side by side.
 use crate::mounting::{Fused, formatted, new_array};
 use crate::slots::{put, tag};
-use fa_mount_headers::{MountFault, MountRefused};
 use fa_image::Image;
+use fa_mount_headers::{MountFault, MountRefused};
 use fa_mount_scan::{Report, scan, scan_side_by_side};
 use fa_types::{Copies, Geometry, HEADER_BYTES, Kind, Slot};
 use flasharr_tests::ensure;

@@ -5,10 +5,10 @@ ghost use Rattle.fa_image.specs.Fuse.{fused_view};
 ghost use Rattle.fa_image.specs.Memory.{mem_image_view};
 
 use crate::slots::{put, tag};
-use fa_mount_headers::{FormatFault, MountFault, MountRefused, Standing, format, format_1};
 use fa_image::{FuseImage, Image, MemImage};
 use fa_machine::Version;
 use fa_map::{Map, PageMap, SlotState};
+use fa_mount_headers::{FormatFault, MountFault, MountRefused, Standing, format, format_1};
 use fa_mount_scan::{Mounted, scan};
 use fa_types::{Copies, Die, Geometry, Kind, Page, Seq, Slot};
 use flasharr_tests::ensure;

@@ -3,8 +3,8 @@ ghost use Rattle.std.specs.Prelude.{◌≡◌, IfOk, length};
 ghost use Rattle.std.specs.List.{AllByRecursion};
 
 use crate::heap::Heap;
-use fa_mount_headers::{format, format_1};
 use fa_image::{FileImage, FuseImage, Image, MemImage, WrongImage};
+use fa_mount_headers::{format, format_1};
 use fa_types::Geometry;
 use std::alloc::AllocError;
 use std::io;

@@ -2,9 +2,9 @@
 use crate::lab::Lab;
 use crate::mounting::{copies_of, tell_unmounted};
 use crate::told::Told;
-use fa_mount_headers::MountRefused;
 use fa_image::Image;
 use fa_map::{Map, PageMap};
+use fa_mount_headers::MountRefused;
 use fa_mount_scan::{Mounted, scan, scan_side_by_side};
 use fa_types::Copies;
 use std::alloc::{Allocator, Global};

@@ -1,7 +1,7 @@
 //! The texts of all faults, once.
 use fa_cmds::WrongMagic;
-use fa_mount_headers::{FormatFault, MountFault, MountRefused};
 use fa_image::ImageFault;
+use fa_mount_headers::{FormatFault, MountFault, MountRefused};
 use fa_texts::TextError;
 use fa_types::{BlockFault, Die, GeometryFault};
 use std::alloc::Global;

@@ -8,13 +8,13 @@ ghost use Rattle.fa_map.specs.PageView.{page_view};
 use crate::arrays::{DieImage, Start, close_array, mounted};
 use crate::host::Machine;
 use crate::users::User;
-use fa_shared_store::ArrayBlocks;
 use fa_core::Array;
-use fa_mount_headers::Standing;
 use fa_image::Image;
 use fa_map::{Map, PageMap};
 use fa_mount::{CloseFault, MountedArray};
+use fa_mount_headers::Standing;
 use fa_shared::{Fault, Hands, NoHands, Seat, Shared};
+use fa_shared_store::ArrayBlocks;
 use fa_types::Die;
 use fa_workers::{
     Bench, Gate, Helper, HelperRoom, Room, collector_worker, die_worker, rebuild_worker,

@@ -5,8 +5,8 @@ ghost use Rattle.fa_mount_scan.specs.ContentReading.{EachOnlyRead, AreOutcomes, 
 
 use crate::slots::content::{DieContents, SlotContent};
 use crate::slots::die::{AHEAD, read_die};
-use fa_mount_headers::Standing;
 use fa_image::{Image, ImageFault};
+use fa_mount_headers::Standing;
 use fa_types::{Die, Geometry, TAG_BYTES};
 use std::alloc::{AllocError, Allocator};
 

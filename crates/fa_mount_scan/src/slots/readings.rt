@@ -7,8 +7,8 @@ ghost use Rattle.fa_mount_headers.specs.declared.judging.Standing.{Standing};
 use crate::slots::content::{DieContents, SlotContent};
 use crate::slots::die::AHEAD;
 use crate::slots::dies::{DieRead, index_read};
-use fa_mount_headers::Standing;
 use fa_image::ImageFault;
+use fa_mount_headers::Standing;
 use fa_types::{Die, Geometry, TAG_BYTES};
 use std::alloc::{AllocError, Allocator};
 

@@ -13,9 +13,9 @@ use crate::slots::dies::{DieRead, read_dies};
 use crate::slots::map::mount_content;
 use crate::slots::settle::{Settled, any_live, image_refusal, settle};
 use crate::slots::side_by_side::read_dies_side_by_side;
-use fa_mount_headers::{Judged, MountFault, MountRefused};
 use fa_image::Image;
 use fa_map::Map;
+use fa_mount_headers::{Judged, MountFault, MountRefused};
 use std::alloc::Allocator;
 use std::thread::Threads;
 

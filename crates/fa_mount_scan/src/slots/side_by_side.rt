@@ -7,8 +7,8 @@ ghost use Rattle.fa_mount_scan.specs.Readings.{AreImagesRead, AreReady, IsImageR
 use crate::slots::die::read_die;
 use crate::slots::dies::DieRead;
 use crate::slots::readings::{Reading, readings_of, take_outcomes};
-use fa_mount_headers::Standing;
 use fa_image::Image;
+use fa_mount_headers::Standing;
 use fa_types::Geometry;
 use std::alloc::{AllocError, Allocator};
 use std::thread::{Threads, join_mut};

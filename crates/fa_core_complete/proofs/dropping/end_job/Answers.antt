@@ -2,7 +2,7 @@ use Rattle.fa_core_bookings.specs.Bookings.{calendar_of}
 use Rattle.fa_core_complete.proofs.Tracked.{tracked_over}
 use Rattle.fa_core_complete.proofs.dropping.end_job.Goals as goal
 use Rattle.fa_machine.specs.declared.jobs.Flight.{Flight}
-use Rattle.fa_parts.specs.Dies.{by_die}
+use Rattle.fa_core_tables.specs.Dies.{by_die}
 use Rattle.fa_core_state.specs.Tracked.{AreTracked}
 use Rattle.std.proofs.Common.{subst, sym, ◌<◌, ◌∙◌}
 use Rattle.std.specs.FinMap.{FinMap}

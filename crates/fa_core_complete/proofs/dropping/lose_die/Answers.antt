@@ -5,7 +5,7 @@ use Rattle.fa_machine.specs.State.{CalendarState, MapState, OpenBatch}
 use Rattle.fa_machine.specs.declared.jobs.Flight.{Flight}
 use Rattle.fa_core_batches.specs.Pages.{opened}
 use Rattle.fa_machine.specs.Maps.{is_one_of}
-use Rattle.fa_parts.specs.Dies.{by_die}
+use Rattle.fa_core_tables.specs.Dies.{by_die}
 use Rattle.fa_core_state.proofs.Numbers.{len_less}
 use Rattle.fa_core_state.specs.Tracked.{AreTracked}
 use Rattle.std.proofs.Common.{ap, arith, length, subst, sym, ◌<◌, ◌∙◌, ◌≤◌}

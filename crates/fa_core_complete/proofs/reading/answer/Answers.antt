@@ -8,7 +8,7 @@ use Rattle.fa_core_complete.proofs.reading.answer.Goals as goal
 use Rattle.fa_machine.specs.Maps.{is_one_of}
 use Rattle.fa_machine.specs.State.{OpenBatch}
 use Rattle.fa_machine.specs.declared.jobs.Flight.{Flight}
-use Rattle.fa_parts.specs.Dies.{by_die}
+use Rattle.fa_core_tables.specs.Dies.{by_die}
 use Rattle.fa_core_state.specs.Core.{core_of}
 use Rattle.fa_core_state.specs.Tracked.{AreTracked}
 use Rattle.std.proofs.Common.{List, ap, length, subst, sym, true, ℕ, ◌<◌, ◌∙◌, ◌≡◌, ◌≤◌}

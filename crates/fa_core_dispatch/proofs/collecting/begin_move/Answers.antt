@@ -1,7 +1,7 @@
 use Rattle.fa_core_bookings.specs.Bookings.{calendar_of}
 use Rattle.fa_machine.specs.State.{MapState}
 use Rattle.fa_machine.specs.declared.jobs.Flight.TheVariants.{Move}
-use Rattle.fa_parts.specs.Dies.{by_die}
+use Rattle.fa_core_tables.specs.Dies.{by_die}
 use Rattle.fa_core_state.specs.Tracked.{AreTracked}
 use Rattle.fa_core_dispatch.proofs.Flights.{tracked_other}
 use Rattle.std.proofs.Common.{ap, arith, refl, subst, sym, ◌∙◌}

@@ -1,5 +1,5 @@
 use Rattle.fa_core_bookings.specs.Bookings.{calendar_of}
-use Rattle.fa_parts.specs.Dies.{by_die}
+use Rattle.fa_core_tables.specs.Dies.{by_die}
 use Rattle.fa_core_state.specs.Tracked.{AreTracked}
 use Rattle.fa_core_dispatch.proofs.Flights.{tracked_other}
 use Rattle.std.proofs.Common.{arith, subst, sym, ◌∙◌}

@@ -3,7 +3,7 @@ use Rattle.fa_machine.proofs.Maps.{get-place_other, get-place_same}
 use Rattle.fa_machine.specs.State.{CalendarState}
 use Rattle.fa_machine.specs.declared.places.Booking.{Booking}
 use Rattle.fa_core_batches.specs.declared.page.PageState.TheVariants.{InFlight}
-use Rattle.fa_parts.specs.Dies.{by_die}
+use Rattle.fa_core_tables.specs.Dies.{by_die}
 use Rattle.fa_core_state.specs.Tracked.{AreTracked}
 use Rattle.fa_core_dispatch.proofs.Flights.{tracked_read, was_booked}
 use Rattle.fa_core_batches.specs.Pages.{opened}

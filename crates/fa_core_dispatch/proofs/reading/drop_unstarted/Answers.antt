@@ -4,7 +4,7 @@ use Rattle.fa_core_bookings.specs.Bookings.{calendar_of}
 use Rattle.fa_machine.specs.Maps.{is_one_of}
 use Rattle.fa_machine.specs.State.{CalendarState}
 use Rattle.fa_machine.specs.declared.places.Booking.{Booking}
-use Rattle.fa_parts.specs.Dies.{by_die}
+use Rattle.fa_core_tables.specs.Dies.{by_die}
 use Rattle.fa_core_state.specs.Core.{core_of}
 use Rattle.fa_core_state.specs.Tracked.{unstarted}
 use Rattle.fa_core_dispatch.proofs.Dropped.{dropped, left_alone, not_there, others_there}

@@ -2,7 +2,7 @@ use Rattle.fa_batch.proofs.Counting.{get_or-replicate_default}
 use Rattle.fa_core_flush.proofs.Dies.{asked_more, inserted_all, marked_all, marked_more}
 use Rattle.fa_core_flush.proofs.flushing.ask_live_dies.Goals as goal
 use Rattle.fa_machine.specs.State.{is_live}
-use Rattle.fa_parts.specs.Dies.{by_die}
+use Rattle.fa_core_tables.specs.Dies.{by_die}
 use Rattle.fa_types.specs.declared.geometry.Geometry.{Geometry}
 use Rattle.std.proofs.Common.{◌≡◌, ◌∙◌, ap, arith, false, refl}
 

@@ -1,6 +1,6 @@
 use Rattle.fa_core_flush.proofs.flushing.ask_live_dies.Given as goal
 use Rattle.fa_machine.specs.State.{is_live}
-use Rattle.fa_parts.specs.Dies.{bound_of, by_die}
+use Rattle.fa_core_tables.specs.Dies.{bound_of, by_die}
 use Rattle.std.proofs.Common.{◌≡◌, ℕ, ◌<◌, ◌≤◌, Some, cond, false, get_or, length}
 use Rattle.std.specs.FinMap.{get}
 

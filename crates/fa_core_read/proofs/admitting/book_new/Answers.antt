@@ -6,7 +6,7 @@ use Rattle.fa_machine.proofs.Lists.{all_from_among}
 use Rattle.fa_machine.specs.Reading.{booked, to_read}
 use Rattle.fa_machine.specs.Rounds.{is_closed, is_taken, is_taken_with}
 use Rattle.fa_machine.specs.State.{CalendarState, is_live}
-use Rattle.fa_parts.specs.Dies.{by_die}
+use Rattle.fa_core_tables.specs.Dies.{by_die}
 use Rattle.fa_core_read.proofs.Newly.{all_there, is_placed_in, left_read, none_in_place, none_placed, read_left}
 use Rattle.fa_core_read.proofs.Others.{AreInside, each_removed, fitted_with, open_still, tracked_others}
 use Rattle.fa_core_read.proofs.Plans.{each_placed, placed_inside, placed_open, placed_page}

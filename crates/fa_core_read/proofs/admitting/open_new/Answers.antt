@@ -3,7 +3,7 @@ use Rattle.fa_core_batches.specs.Pages.{opened}
 use Rattle.fa_core_bookings.specs.Bookings.{calendar_of}
 use Rattle.fa_machine.proofs.Maps.{get-insert_other}
 use Rattle.fa_machine.specs.Reading.{is_fresh}
-use Rattle.fa_parts.specs.Dies.{by_die}
+use Rattle.fa_core_tables.specs.Dies.{by_die}
 use Rattle.fa_core_read.proofs.Newly.{none_in_place}
 use Rattle.fa_core_read.proofs.Others.{AreInside, each_inserted, fitted_with, listed_few, listed_inside, next_fresh, none_booked}
 use Rattle.fa_core_read.proofs.Others.{none_read, tracked_again, tracked_others}

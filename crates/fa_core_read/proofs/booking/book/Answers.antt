@@ -8,7 +8,7 @@ use Rattle.fa_machine.proofs.Maps.{passed}
 use Rattle.fa_machine.specs.Maps.{is_one_of}
 use Rattle.fa_machine.specs.Rounds.{is_taken}
 use Rattle.fa_machine.specs.State.{CalendarState}
-use Rattle.fa_parts.specs.Dies.{bound_of, by_die}
+use Rattle.fa_core_tables.specs.Dies.{bound_of, by_die}
 use Rattle.fa_core_read.proofs.Exchanged.{among_all, booked_inside, found_after, free_place, places_booked}
 use Rattle.fa_core_read.proofs.Tracked.{tracked_after}
 use Rattle.fa_core_read.proofs.booking.book.Goals as goal

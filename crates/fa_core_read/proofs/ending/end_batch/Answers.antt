@@ -1,7 +1,7 @@
 use Rattle.fa_core_batches.specs.Batches.{batches_of}
 use Rattle.fa_core_batches.specs.Pages.{opened}
 use Rattle.fa_core_bookings.specs.Bookings.{calendar_of}
-use Rattle.fa_parts.specs.Dies.{by_die}
+use Rattle.fa_core_tables.specs.Dies.{by_die}
 use Rattle.fa_core_read.proofs.Ended.{fitted_ended}
 use Rattle.fa_core_read.proofs.Released.{released_is}
 use Rattle.fa_core_read.proofs.ending.end_batch.Goals as goal

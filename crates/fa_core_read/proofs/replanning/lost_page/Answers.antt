@@ -1,7 +1,7 @@
 use Rattle.fa_core_batches.specs.Batches.{batches_of, state_of}
 use Rattle.fa_core_batches.specs.Pages.{opened}
 use Rattle.fa_core_bookings.specs.Bookings.{calendar_of}
-use Rattle.fa_parts.specs.Dies.{by_die}
+use Rattle.fa_core_tables.specs.Dies.{by_die}
 use Rattle.fa_core_read.proofs.LeftOf.{left_same}
 use Rattle.fa_machine.specs.Copies.{is_lost}
 use Rattle.fa_core_read.proofs.Others.{AreInside, pages_inside}

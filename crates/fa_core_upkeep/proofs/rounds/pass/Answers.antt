@@ -1,7 +1,7 @@
 use Rattle.fa_machine.specs.Maps.{place_cmp}
 use Rattle.fa_machine.specs.State.{CalendarState}
 use Rattle.fa_machine.specs.declared.places.Booking.{Booking}
-use Rattle.fa_parts.specs.Dies.{bound_of, by_die}
+use Rattle.fa_core_tables.specs.Dies.{bound_of, by_die}
 use Rattle.fa_core_state.specs.Core.{core_of}
 use Rattle.fa_core_state.specs.Tracked.{AreTracked}
 use Rattle.fa_core_upkeep.proofs.Passed.{below_end, inside_left, may_pass, tracked_left}

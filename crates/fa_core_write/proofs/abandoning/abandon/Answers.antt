@@ -1,5 +1,5 @@
 use Rattle.std.proofs.Common.{ap, subst, sym, ◌∙◌, Ok, None}
-use Rattle.fa_claims.specs.Claims.{reservation_of, targets_of}
+use Rattle.fa_core_tables.specs.Claims.{reservation_of, targets_of}
 use Rattle.fa_machine.specs.Writing.{Abandons, abandon_refusal, live_targets, with_reserved, with_targets}
 use Rattle.fa_machine.specs.declared.places.Used.TheVariants.{Stale}
 use Rattle.fa_core_state.specs.Core.{core_of}

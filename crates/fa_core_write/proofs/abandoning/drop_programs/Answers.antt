@@ -1,5 +1,5 @@
 use Rattle.std.proofs.Common.{refl, ap, sym, ◌∙◌}
-use Rattle.fa_parts.proofs.Filters.{filter_all}
+use Rattle.fa_core_tables.proofs.Filters.{filter_all}
 use Rattle.fa_core_write.proofs.Abandoned.{others_next}
 use Rattle.std.specs.Prelude.{filter}
 use Rattle.fa_core_write.proofs.abandoning.drop_programs.Goals as goal

@@ -1,7 +1,7 @@
 use Rattle.std.proofs.Common.{◌≡◌, not, take}
 use Rattle.fa_machine.specs.State.{WaitingProgram}
 use Rattle.fa_machine.specs.declared.places.Target.{Target}
-use Rattle.fa_parts.specs.Waits.{dies_of, waiting_of}
+use Rattle.fa_core_tables.specs.Waits.{dies_of, waiting_of}
 use Rattle.std.specs.List.{list_any}
 use Rattle.std.specs.Prelude.{filter, ◌&&◌, ◌==◌}
 use Rattle.fa_core_write.proofs.abandoning.drop_programs.Given as goal

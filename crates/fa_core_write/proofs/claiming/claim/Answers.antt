@@ -1,5 +1,5 @@
 use Rattle.std.proofs.Common.{ap, refl, sym, ◌∙◌, None}
-use Rattle.fa_claims.specs.Claims.{claims_of}
+use Rattle.fa_core_tables.specs.Claims.{claims_of}
 use Rattle.fa_core_state.specs.Core.{core_of}
 use Rattle.std.specs.FinMap.{contains_key, insert}
 use Rattle.fa_core_write.proofs.claiming.claim.Goals as goal

@@ -1,5 +1,5 @@
 use Rattle.std.proofs.Common.{ap, subst, sym, ◌∙◌, ◌<◌}
-use Rattle.fa_claims.specs.Claims.{reservation_of}
+use Rattle.fa_core_tables.specs.Claims.{reservation_of}
 use Rattle.fa_core_state.specs.Core.{core_of}
 use Rattle.fa_core_write.proofs.Holding.{ready}
 use Rattle.fa_core_write.proofs.Kept.{page_inside}

@@ -2,7 +2,7 @@ use Rattle.std.proofs.Common.{ap, sym, ◌∙◌, not, false, filter}
 use Rattle.std.specs.List.{list_any}
 use Rattle.std.specs.Option.{option_map_or}
 use Rattle.std.specs.Prelude.{option_map}
-use Rattle.fa_claims.specs.Claims.{reservation_of}
+use Rattle.fa_core_tables.specs.Claims.{reservation_of}
 use Rattle.fa_machine.specs.State.{is_live}
 use Rattle.fa_core_write.proofs.committing.is_pending.Goals as goal
 

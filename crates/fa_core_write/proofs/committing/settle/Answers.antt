@@ -1,10 +1,10 @@
 use Rattle.std.proofs.Common.{ap, sym, ◌∙◌, ◌++◌, ◌∷◌, [], None}
-use Rattle.fa_claims.specs.Claims.{claims_of, targets_of}
+use Rattle.fa_core_tables.specs.Claims.{claims_of, targets_of}
 use Rattle.fa_machine.specs.Writing.{with_targets}
 use Rattle.fa_machine.specs.declared.answers.HistoryEntry.TheVariants.{Commit}
 use Rattle.fa_machine.specs.declared.places.Used.TheVariants.{Held}
 use Rattle.fa_map.specs.Changes.{renewed}
-use Rattle.fa_parts.specs.Logs.{history_of}
+use Rattle.fa_core_tables.specs.Logs.{history_of}
 use Rattle.fa_core_state.specs.Core.{core_of}
 use Rattle.fa_core_write.proofs.Live.{live_of}
 use Rattle.std.specs.FinMap.{insert}

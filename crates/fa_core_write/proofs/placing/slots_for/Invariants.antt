@@ -1,5 +1,5 @@
 use Rattle.std.proofs.Common.{◌≡◌, length, map, take}
-use Rattle.fa_claims.specs.Claims.{targets_of}
+use Rattle.fa_core_tables.specs.Claims.{targets_of}
 use Rattle.fa_machine.specs.Writing.{target_on}
 use Rattle.fa_types.specs.declared.numbers.Die.{Die}
 use Rattle.fa_core_write.specs.Placed.{MayReserve}

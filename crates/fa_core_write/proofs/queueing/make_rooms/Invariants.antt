@@ -1,6 +1,6 @@
 use Rattle.std.proofs.Common.{◌≡◌, ℕ, ◌<◌, ◌≤◌, slice_index_or}
 use Rattle.fa_machine.specs.declared.places.Target.{Target}
-use Rattle.fa_parts.specs.Waits.{dies_of, room_of, waiting_of}
+use Rattle.fa_core_tables.specs.Waits.{dies_of, room_of, waiting_of}
 use Rattle.fa_core_write.proofs.queueing.make_rooms.Given as goal
 
 abbrev pub invariant-loop-index : goal.invariant-loop-index

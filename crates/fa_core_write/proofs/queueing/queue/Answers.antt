@@ -1,6 +1,6 @@
 use Rattle.fa_machine.specs.Writing.{program_at}
 use Rattle.std.proofs.Common.{ap, drop, map, take, ◌++◌, ◌∙◌}
-use Rattle.fa_parts.specs.Waits.{waiting_of}
+use Rattle.fa_core_tables.specs.Waits.{waiting_of}
 use Rattle.fa_core_write.proofs.Queued.{queued_each}
 use Rattle.fa_core_write.proofs.queueing.queue.Goals as goal
 

@@ -1,4 +1,0 @@
-pub mod Asked
-pub mod Begun
-pub mod Calls
-pub mod Shown

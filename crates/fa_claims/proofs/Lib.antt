@@ -1,3 +1,0 @@
-mod Entries
-pub mod Tables
-mod Three

@@ -1,8 +1,0 @@
-use Rattle.fa_claims.proofs.Tables.{none_in, no_entries}
-use Rattle.fa_claims.specs.Claims.{claim_of}
-use Rattle.fa_claims.proofs.claims.Claims.is_empty.Goals as goal
-
-pub returns : goal.returns
-returns g c =
-    let es = c.args.self.now.reservations.entries in
-    (λ is. none_in claim_of es (c.is_empty.ensures.0 is), λ none. c.is_empty.ensures.1 (no_entries claim_of es none))

@@ -1,5 +1,0 @@
-use Rattle.fa_closing.proofs.Beginnings.{mounted_of_last}
-use Rattle.fa_closing.proofs.laws.a_mounted_world_has_no_newer_cell.Goals as goal
-
-pub returns : goal.returns
-returns c = mounted_of_last

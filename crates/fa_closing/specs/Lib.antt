@@ -1,3 +1,0 @@
-pub mod LastCells
-pub mod Mounted
-pub mod Closed

@@ -1,0 +1,6 @@
+pub mod Filters
+pub mod Queues
+pub mod Tables
+mod Entries
+pub mod ClaimTables
+mod Three

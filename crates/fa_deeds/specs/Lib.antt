@@ -1,3 +1,0 @@
-pub mod Driving
-pub mod Standing
-pub mod Sessions

@@ -1,3 +1,0 @@
-pub mod Filters
-pub mod Queues
-pub mod Tables

@@ -1,5 +1,0 @@
-use Rattle.fa_parts.specs.Counted.{new_base}
-use Rattle.fa_parts.proofs.log.Log.new.Given as goal
-
-abbrev pub ghost-begin : goal.ghost-begin
-ghost-begin g a = λ mounted. new_base (g.numbers mounted)

@@ -1,5 +1,0 @@
-use Rattle.std.specs.Prelude.{◌==◌, not, filter}
-use Rattle.fa_parts.proofs.waiting.Waiting.drop_die.Given as goal
-
-abbrev pub ghost-note : goal.ghost-note
-ghost-note g a = λ die waiting. filter (λ p. not (p.die == die.0)) waiting

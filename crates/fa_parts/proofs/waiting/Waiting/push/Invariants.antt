@@ -1,6 +1,0 @@
-use Rattle.std.proofs.Common.{[], ◌∷◌, ◌++◌}
-use Rattle.fa_parts.specs.Queues.{program_of}
-use Rattle.fa_parts.proofs.waiting.Waiting.push.Given as goal
-
-abbrev pub ghost-note : goal.ghost-note
-ghost-note g a = λ program waiting. waiting ++ program_of program ∷ []

@@ -1,5 +1,0 @@
-use Rattle.fa_rounds.proofs.Epochs.{counts_dies}
-use Rattle.fa_rounds.proofs.the_epoch_counts_dies.Goals as goal
-
-pub returns : goal.returns
-returns c old new act step = counts_dies old act new step.does

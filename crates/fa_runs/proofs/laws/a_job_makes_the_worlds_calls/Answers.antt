@@ -1,5 +1,0 @@
-use Rattle.fa_runs.proofs.JobCalls.{job_runs}
-use Rattle.fa_runs.proofs.laws.a_job_makes_the_worlds_calls.Goals as goal
-
-pub returns : goal.returns
-returns g c w array die job = job_runs g.I.Image.view g.I.Image.honest g.I.Image.made g.met.I.Image.whole g.met.I.Image.meets array die job w

@@ -1,4 +1,0 @@
-pub mod Images
-pub mod Drives
-pub mod Mounted
-pub mod Closed

@@ -1,0 +1,10 @@
+pub mod Claimed
+pub mod Unwritten
+pub mod Asked
+pub mod Begun
+pub mod Calls
+pub mod Shown
+pub mod Driving
+pub mod Standing
+pub mod Sessions
+pub mod Rest

@@ -1,0 +1,39 @@
+-- A world that the store of one thread stands for, and how many turns its request had.
+use Rattle.std.specs.Prelude.{◌≡◌, ℕ, ◌-◌, ◌^◌, ◌<◌, List, None}
+use Rattle.fa_solo_laws.specs.Driving.{image_on}
+use Rattle.fa_image.specs.Image.{ImageAnswer, ImageCall, ImageState}
+use Rattle.fa_laws.specs.Reached.{IsReached}
+use Rattle.fa_machine.specs.World.{World}
+use Rattle.fa_shared_steps.specs.declared.request.Task.{Task}
+use Rattle.fa_mount_close_laws.specs.Drives.{AreImages}
+use Rattle.fa_shared.specs.Seats.{number_of}
+use Rattle.fa_solo.specs.Calls.{Made, MakesRequest, MakesWhole, NoMemory}
+use Rattle.fa_solo.specs.Orders.{looks_in}
+use Rattle.fa_solo.specs.Rigs.{house_of}
+use Rattle.fa_solo.specs.declared.rig.Rig.{Rig}
+use Rattle.fa_types.specs.Store.{Answer}
+
+module _ {L M I A : Type 0} where
+  -- Runs lead to the world, its state is the store's, it sees what stands in the slots of the store's images, and no job is in flight.
+  pub record IsWorldOf (view : I → ImageState) (rig : Rig L M I A) (w : World) : Type 0 where
+    pub reached : IsReached w
+    pub core : w.core ≡ rig.locked.core
+    pub images : AreImages view w (image_on rig.dies.items rig.images.items)
+    pub idle : (die : ℕ) → w.works die ≡ None
+
+  module _ (made : I → ImageCall → ImageAnswer → I → Type 0) (task : Task) (bytes : List ℕ) (answer : Answer) (old new : Rig L M I A) where
+    abbrev pub turns_in : MakesRequest made task bytes answer old new → ℕ
+    turns_in (NoMemory is some same) = 0
+    turns_in (Made op next its_task stage none runs end) = runs.turns
+
+  module _ (made : I → ImageCall → ImageAnswer → I → Type 0) (task : Task) (bytes : List ℕ) (answer : Answer) (old new : Rig L M I A)
+      (call : MakesWhole made task bytes answer old new) where
+    -- how often copies of pages were looked at in vain behind its request
+    abbrev pub vain_looks : ℕ
+    vain_looks =
+        looks_in made call.done.locked.number call.done.dies.items (number_of call.done.seat) (house_of call.done) (house_of new)
+        call.behind.orders
+
+    -- Its request had fewer turns than one is given up behind, and copies were looked at in vain fewer times.
+    abbrev pub IsTimely : Type 0
+    IsTimely = (turns_in made task bytes answer call.begun call.done call.request < 2 ^ 64 - 1) × (vain_looks < 2 ^ 64 - 1)
