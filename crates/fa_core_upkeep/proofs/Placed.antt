@@ -1,12 +1,10 @@
--- The die that one more copy goes to, and the slot that it takes there.
-use Rattle.fa_map.proofs.Ranges.{find_below}
-use Rattle.fa_map.specs.Changes.{writers_slot}
+-- The die that one more copy goes to.
 use Rattle.fa_map.specs.Slots.{IsPageMap}
 use Rattle.fa_machine.specs.Copies.{holds_page}
-use Rattle.fa_machine.specs.Placement.{copy_place, has_room, is_erased_slot, lowest_erased, order_of, room}
+use Rattle.fa_machine.specs.Placement.{copy_place, has_room, order_of, room}
 use Rattle.fa_machine.specs.State.{MapState, is_live}
 use Rattle.fa_mirror.specs.Chosen.{TakesWrites}
-use Rattle.std.proofs.Common.{Bool, List, None, Some, [], ap, arith, cond, false, refl, sym, true, ℕ, ◌*◌, ◌<◌, ◌∙◌, ◌∷◌, ◌≡◌}
+use Rattle.std.proofs.Common.{Bool, List, None, Some, [], ap, cond, false, refl, sym, true, ℕ, ◌∙◌, ◌∷◌, ◌≡◌}
 use Rattle.std.proofs.lemmas.Bool.{and_parts}
 use Rattle.std.proofs.lemmas.Option.{none-some, same_Some}
 use Rattle.std.specs.Prelude.{find, nat_lt, not, ◌&&◌}
@@ -26,13 +24,3 @@ takes_writes m whole copies page die is =
     (find_is (λ d. has_room m d && not (holds_page m page d)) (order_of copies m page) die is)).0 in
     let live = (and_parts (is_live m die) (nat_lt 0 (room m die)) has).0 in
     record { inside = whole.live die live; live = live; room = has }
-
--- the slot that a writer takes is the lowest that is erased, where there is room
-pub writers_lowest : (m : MapState) (die : ℕ) → has_room m die ≡ true → writers_slot m die ≡ lowest_erased m die
-writers_lowest m die room_is =
-    ap (λ b. cond b (lowest_erased m die) None) (and_parts (is_live m die) (nat_lt 0 (room m die)) room_is).1
-
--- such a slot is the die's
-pub lowest_fits : (m : MapState) (die slot : ℕ) → lowest_erased m die ≡ Some slot → slot < m.geometry.blocks * m.geometry.slots
-lowest_fits m die slot is =
-    let below_all = find_below (λ k. is_erased_slot m die k) 0 (m.geometry.blocks * m.geometry.slots) slot is in omega (arith, below_all)

@@ -1,15 +1,9 @@
 -- A copy that begins.
-use Rattle.std.specs.Prelude.{◌≡◌, ℕ, ◌*◌, ◌<◌, List, [], ◌∷◌, ◌++◌, Some, true}
-use Rattle.fa_machine.specs.State.{Core, MapState, is_live}
+use Rattle.std.specs.Prelude.{ℕ, List, [], ◌∷◌, ◌++◌, Some}
+use Rattle.fa_machine.specs.State.{Core}
 use Rattle.fa_machine.specs.Writing.{program_at, target_on, with_targets}
-use Rattle.fa_machine.specs.declared.places.Target.{Target}
 use Rattle.fa_machine.specs.declared.places.Used.TheVariants.{Reserved}
 use Rattle.fa_machine.specs.declared.places.Version.{Version}
-
--- a slot of a live die
-pub record MayReserve (m : MapState) (target : Target) : Type 0 where
-  pub live : is_live m target.die.0 ≡ true
-  pub fits : target.slot.0 < m.geometry.blocks * m.geometry.slots
 
 -- the state in which these bytes are under way to a die, as a copy of a write of the page
 abbrev pub copying_on : Core → ℕ → Version → List ℕ → ℕ → Core

@@ -11,14 +11,14 @@ ghost use Rattle.fa_machine.specs.declared.refusals.ReserveCopyRefused.TheVarian
 ghost use Rattle.fa_mirror.specs.Chosen.{TakesWrites};
 ghost use Rattle.fa_core_state.specs.Core.{core_of};
 ghost use Rattle.fa_core_state.specs.Fitted.{IsFitted};
-ghost use Rattle.fa_core_upkeep.specs.Copied.{MayReserve, copying_on};
+ghost use Rattle.fa_core_upkeep.specs.Copied.{copying_on};
 
 use crate::settling::is_last;
 use fa_core_state::State;
 use fa_core_tables::QueuedProgram;
 use fa_machine::{Copying, ReserveCopyRefused, Target, Version};
 use fa_map::Map;
-use fa_mirror::{copy_place, is_thin};
+use fa_mirror::{copy_place, is_thin, slot_on};
 use fa_tag::Payload;
 use fa_types::{Copies, Die, Kind, Page, Seq, Slot};
 use std::alloc::{AllocError, Allocator};
@@ -113,23 +113,6 @@ fn copy_to<M: Map, A: Allocator + Clone>(
         target,
     });
     Ok(())
-}
-
-/// The slot that a copy takes on a die that may be written to.
-fn slot_on<M: Map>(page_map: &M, die: Die) -> Target
-    requires { TakesWrites (M.view page_map.now) die.0 }
-    ensures slot { result ≡ target_on (M.view page_map.now) die.0 }
-    ensures free { MayReserve (M.view page_map.now) result }
-{
-    let slot = match page_map.writers_slot(die) {
-        Some(slot) => slot,
-        None => Slot(0),
-    };
-    Target {
-        die,
-        slot,
-        programmed: false,
-    }
 }
 
 /// Why no copy of the page is begun, as far as memory is not the matter.

@@ -1,23 +1,19 @@
 -- Slots that are looked up, and reserved one after the other.
-use Rattle.fa_map.proofs.Ranges.{find_below}
 use Rattle.fa_machine.specs.Maps.{insert_all}
-use Rattle.fa_machine.specs.Placement.{has_room, is_erased_slot, lowest_erased, room}
-use Rattle.fa_machine.specs.State.{MapState, is_live}
+use Rattle.fa_machine.specs.State.{MapState}
 use Rattle.fa_machine.specs.Writing.{with_targets}
 use Rattle.fa_machine.specs.declared.places.Target.{Target}
 use Rattle.fa_machine.specs.declared.places.Used.{Used}
-use Rattle.fa_map.specs.Changes.{with_used, writers_slot}
+use Rattle.fa_map.specs.Changes.{with_used}
 use Rattle.fa_mirror.specs.Order.{numbers_of}
 use Rattle.fa_types.specs.declared.numbers.Die.{Die}
-use Rattle.std.proofs.Common.{List, None, Some, [], ap, arith, cond, get_or, length, map, refl, suc, subst}
-use Rattle.std.proofs.Common.{sym, take, true, ℕ, ◌*◌, ◌+◌, ◌<◌}
+use Rattle.std.proofs.Common.{List, [], ap, arith, get_or, length, map, refl, suc, subst}
+use Rattle.std.proofs.Common.{sym, take, ℕ, ◌*◌, ◌+◌, ◌<◌}
 use Rattle.std.proofs.Common.{◌++◌, ◌∙◌, ◌∷◌, ◌≡◌}
-use Rattle.std.proofs.lemmas.Bool.{and_parts}
 use Rattle.std.proofs.Math.Seq.{take-suc}
 use Rattle.std.proofs.lemmas.List.{length-append, map-append}
 use Rattle.std.proofs.lemmas.List.Sums.{fold-append}
 use Rattle.std.specs.FinMap.{insert}
-use Rattle.std.specs.Prelude.{nat_lt}
 
 -- one slot more is reserved
 pub reserved_next : (used : Used) (ts : List Target) (t : Target) (m : MapState)
@@ -26,16 +22,6 @@ reserved_next used ts t m i = record m {
   used = (ap (λ ks. insert_all ks used m.used) (map-append (λ (x : Target). (x.die.0, x.slot.0)) ts (t ∷ []))
       ∙ fold-append (λ built k. insert built k used) m.used (map (λ (x : Target). (x.die.0, x.slot.0)) ts) ((t.die.0, t.slot.0) ∷ [])) i;
 }
-
--- the slot that a writer takes is the lowest that is erased, where there is room
-pub writers_lowest : (m : MapState) (die : ℕ) → has_room m die ≡ true → writers_slot m die ≡ lowest_erased m die
-writers_lowest m die room_is =
-    ap (λ b. cond b (lowest_erased m die) None) (and_parts (is_live m die) (nat_lt 0 (room m die)) room_is).1
-
--- such a slot is the die's
-pub lowest_fits : (m : MapState) (die slot : ℕ) → lowest_erased m die ≡ Some slot → slot < m.geometry.blocks * m.geometry.slots
-lowest_fits m die slot is =
-    let below_all = find_below (λ k. is_erased_slot m die k) 0 (m.geometry.blocks * m.geometry.slots) slot is in omega (arith, below_all)
 
 -- one element more
 pub take_more : {X : Type 0} (xs : List X) (n : ℕ) (d : X) → n < length xs → take (n + 1) xs ≡ take n xs ++ get_or xs n d ∷ []

@@ -5,14 +5,13 @@ ghost use Rattle.fa_core_tables.specs.Claims.{targets_of};
 ghost use Rattle.fa_machine.specs.Placement.{targets as rule_targets};
 ghost use Rattle.fa_machine.specs.Writing.{target_on, with_targets};
 ghost use Rattle.fa_machine.specs.declared.places.Used.TheVariants.{Reserved};
-ghost use Rattle.fa_mirror.specs.Chosen.{TakesWrites};
-ghost use Rattle.fa_core_write.specs.Placed.{MayReserve};
+ghost use Rattle.fa_mirror.specs.Chosen.{MayReserve};
 
 use fa_core_tables::Targets;
 use fa_machine::Target;
 use fa_map::Map;
-use fa_mirror::targets;
-use fa_types::{Copies, Die, Page, Slot};
+use fa_mirror::{slot_on, targets};
+use fa_types::{Copies, Page};
 
 /// A slot for a write of the page on each die that it goes to.
 pub fn slots_for<M: Map>(page_map: &M, copies: Copies, page: Page) -> Targets
@@ -28,23 +27,6 @@ pub fn slots_for<M: Map>(page_map: &M, copies: Copies, page: Page) -> Targets
         slots.push(slot_on(page_map, dies[index]));
     }
     slots
-}
-
-/// The slot that a copy takes on a die that may be written to.
-fn slot_on<M: Map>(page_map: &M, die: Die) -> Target
-    requires { TakesWrites (M.view page_map.now) die.0 }
-    ensures slot { result ≡ target_on (M.view page_map.now) die.0 }
-    ensures free { MayReserve (M.view page_map.now) result }
-{
-    let slot = match page_map.writers_slot(die) {
-        Some(slot) => slot,
-        None => Slot(0),
-    };
-    Target {
-        die,
-        slot,
-        programmed: false,
-    }
 }
 
 /// These slots are reserved.

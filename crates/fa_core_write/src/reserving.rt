@@ -5,7 +5,7 @@ ghost use Rattle.std.specs.List.{All};
 ghost use Rattle.fa_core_tables.specs.Claims.{targets_of};
 ghost use Rattle.fa_machine.specs.Placement.{targets};
 ghost use Rattle.fa_machine.specs.Writing.{Reserves, claimed_page, reserved, target_on};
-ghost use Rattle.fa_core_write.specs.Placed.{MayReserve};
+ghost use Rattle.fa_mirror.specs.Chosen.{MayReserve};
 ghost use Rattle.fa_machine.specs.declared.refusals.ReserveRefused.TheVariants.{NoRoom, NoDie, Spent};
 ghost use Rattle.fa_core_state.specs.Core.{core_of};
 ghost use Rattle.fa_core_state.specs.Fitted.{IsFitted};

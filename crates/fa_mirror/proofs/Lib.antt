@@ -2,3 +2,4 @@ mod Firsts
 pub mod Chosen
 pub mod Looks
 pub mod Past
+pub mod Slots

@@ -17,7 +17,7 @@ use fa_types::{Copies, Page, Seq};
 use std::alloc::{AllocError, Allocator};
 
 /// The greatest epoch of headers over which an array is made, so that its epoch can rise with each die that goes out or comes in.
-const MOST_EPOCH: u64 = (1 << 62) - 256;
+const MAX_EPOCH: u64 = (1 << 62) - 256;
 
 /// The array over what was mounted: its epoch is one more than the headers' greatest, its spares are the dies that stand as
 /// spares, and its last number is the greatest of a page. Refusal 1 where the headers' greatest epoch is above 2^62 - 256, and 8 out
@@ -37,7 +37,7 @@ pub(crate) fn begin<M: Map + Drop, A: Allocator + Copy>(
     ensures refused { IfErr result (λ refusal. (refusal ≡ rules.refused MountFault.NoMemory)
         ⊎ ((2 ^ 62 - 256 < scanned.epoch) × (refusal ≡ rules.refused MountFault.HeaderBad))) }
 {
-    if scanned.epoch > MOST_EPOCH {
+    if scanned.epoch > MAX_EPOCH {
         return Err(MountRefused::of_nobody(MountFault::HeaderBad));
     }
     match array_over(alloc, scanned, copies) {

@@ -5,6 +5,7 @@ ghost use Rattle.fa_machine.specs.Placement.{is_thin as is_thin_page};
 ghost use Rattle.fa_mount_scan.specs.Reported.{IsReportOf, is_spare as is_spare_die, is_written};
 
 use fa_map::Map;
+use fa_mirror::is_thin;
 use fa_mount_headers::Standing;
 use fa_types::{Copies, Page};
 use std::alloc::{Allocator, Global};
@@ -91,15 +92,6 @@ fn thin_pages<M: Map>(map: &M, copies: Copies) -> u64
         thin += one_if(is_thin(map, copies, Page(page)));
     }
     thin
-}
-
-/// Whether a page is thin.
-fn is_thin<M: Map>(map: &M, copies: Copies, page: Page) -> bool
-    requires { page.0 < (M.view map.now).geometry.pages }
-    ensures { result ≡ is_thin_page copies.number (M.view map.now) page.0 }
-{
-    let held = map.copies_of(page);
-    0 < held && held < copies.number.min(map.live_dies())
 }
 
 /// One where it is so, and nothing otherwise.

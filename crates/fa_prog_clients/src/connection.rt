@@ -17,7 +17,7 @@ const AHEAD_BYTES: usize = 8192;
 const LOOK_MICROSECONDS: u64 = 50;
 
 /// How often a socket is looked at before it is waited for, at most.
-const MOST_LOOKS: u32 = 1000;
+const MAX_LOOKS: u32 = 1000;
 
 /// How many bytes of replies are held at most.
 const HELD_BYTES: usize = 65_536;
@@ -120,7 +120,7 @@ impl Ahead {
         let Ok(start) = Instant::now(rt) else {
             return false;
         };
-        for _ in 0..MOST_LOOKS {
+        for _ in 0..MAX_LOOKS {
             if let Some(count) = receive(stream, self.bytes.as_mut_slice()) {
                 self.from = 0;
                 self.to = count;

@@ -4,7 +4,7 @@ use std::alloc::Global;
 use std::time::Instant;
 
 /// The most times that are kept of one line.
-pub(crate) const MOST_TIMES: u64 = 100_000;
+pub(crate) const MAX_TIMES: u64 = 100_000;
 
 /// The clock and the heap, around the calls that lines ask for.
 #[derive(Drop)]

@@ -1,5 +1,5 @@
 //! What a line asks for.
-use crate::meter::MOST_TIMES;
+use crate::meter::MAX_TIMES;
 use crate::naming::{TEXTS, wish_of};
 use crate::words::{Words, behind};
 use std::alloc::{AllocError, Global};
@@ -257,7 +257,7 @@ fn timed(alloc: Global, rest: &str) -> Result<Option<Order>, AllocError> {
         return Ok(None);
     };
     let times = match count.parse::<u64>() {
-        Ok(times) if 1 <= times && times <= MOST_TIMES => times,
+        Ok(times) if 1 <= times && times <= MAX_TIMES => times,
         _ => return Ok(None),
     };
     let Some(mut order) = Order::once(alloc, line)? else {

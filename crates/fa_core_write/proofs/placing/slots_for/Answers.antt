@@ -2,7 +2,7 @@ use Rattle.std.proofs.Common.{ap, length, map, subst, sym, ◌∙◌, ◌++◌, 
 use Rattle.fa_machine.specs.Writing.{target_on}
 use Rattle.fa_types.specs.declared.numbers.Die.{Die}
 use Rattle.fa_core_write.proofs.Placed.{map_more, of_numbers, one_longer}
-use Rattle.fa_core_write.specs.Placed.{MayReserve}
+use Rattle.fa_mirror.specs.Chosen.{MayReserve}
 use Rattle.std.proofs.lemmas.List.{take_all}
 use Rattle.std.proofs.lemmas.List.Elements.{All-push}
 use Rattle.std.specs.List.{All}

@@ -2,7 +2,7 @@ use Rattle.std.proofs.Common.{◌≡◌, length, map, take}
 use Rattle.fa_core_tables.specs.Claims.{targets_of}
 use Rattle.fa_machine.specs.Writing.{target_on}
 use Rattle.fa_types.specs.declared.numbers.Die.{Die}
-use Rattle.fa_core_write.specs.Placed.{MayReserve}
+use Rattle.fa_mirror.specs.Chosen.{MayReserve}
 use Rattle.std.specs.List.{All}
 use Rattle.fa_core_write.proofs.placing.slots_for.Given as goal
 

@@ -1,6 +1,6 @@
+use Rattle.fa_mirror.proofs.Slots.{lowest_fits, writers_lowest}
+use Rattle.fa_mirror.proofs.slot.slot_on.Goals as goal
 use Rattle.std.proofs.Common.{sym, ◌∙◌}
-use Rattle.fa_core_write.proofs.Placed.{lowest_fits, writers_lowest}
-use Rattle.fa_core_write.proofs.placing.slot_on.Goals as goal
 
 pub returns-in-Some-clause-free : goal.returns-in-Some-clause-free
 returns-in-Some-clause-free g c = record {
