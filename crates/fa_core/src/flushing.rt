@@ -1,10 +1,12 @@
-//! The calls of flushes and of the history.
-ghost use Rattle.std.specs.Prelude.{◌≡◌};
+//! The calls of flushes and of the history, each also with a test of its conditions.
+ghost use Rattle.std.specs.Prelude.{◌≡◌, ℕ, ◌+◌};
 ghost use Rattle.fa_machine.specs.Flushing.{flush_state as rule_state};
+ghost use Rattle.fa_machine.specs.Looks.{counts as rule_counts};
 ghost use Rattle.fa_machine.specs.Step.{FlushBegin, Fold, Step};
 
 use crate::array::Array;
-use crate::keeping::an_event_keeps;
+use crate::call::{Answer, Call};
+use crate::keeping::{an_event_counts, an_event_keeps};
 use fa_machine::{Flush, FlushRefused, FlushState};
 use fa_map::Map;
 use std::alloc::Allocator;
@@ -40,5 +42,48 @@ impl<M: Map, A: Allocator + Clone> Array<M, A> {
     {
         fa_core_flush::fold(&mut self.state);
         an_event_keeps();
+    }
+}
+
+impl<M: Map, A: Allocator + Copy> Array<M, A> {
+    ghost use Rattle.fa_core.specs.Array.{IsWhole, number_of, state_of};
+    ghost use Rattle.fa_core.specs.Calls.{Makes, commits_of_answer};
+
+    /// A FlushBegin.
+    pub(crate) fn make_flush_begin(&mut self) -> Answer<A>
+        requires { IsWhole M.view self.old }
+        ensures event { (seat : ℕ) → Makes (state_of M.view self.old) seat Call.FlushBegin result (state_of M.view self.new) }
+        ensures number { number_of self.new ≡ number_of self.old }
+        ensures whole { IsWhole M.view self.new }
+        ensures commits { (rule_counts (state_of M.view self.new)).0 ≡ (rule_counts (state_of M.view self.old)).0 + commits_of_answer result }
+    {
+        let answer = self.flush_begin();
+        an_event_counts();
+        Answer::FlushBegin(answer)
+    }
+
+    /// A FlushState.
+    pub(crate) fn make_flush_state(&mut self, flush: Flush) -> Answer<A>
+        requires { IsWhole M.view self.old }
+        ensures event { (seat : ℕ) → Makes (state_of M.view self.old) seat (Call.FlushState flush) result (state_of M.view self.new) }
+        ensures number { number_of self.new ≡ number_of self.old }
+        ensures whole { IsWhole M.view self.new }
+        ensures commits { (rule_counts (state_of M.view self.new)).0 ≡ (rule_counts (state_of M.view self.old)).0 + commits_of_answer result }
+    {
+        let answer = self.flush_state(&flush);
+        Answer::FlushState(answer)
+    }
+
+    /// A Fold.
+    pub(crate) fn make_fold(&mut self) -> Answer<A>
+        requires { IsWhole M.view self.old }
+        ensures event { (seat : ℕ) → Makes (state_of M.view self.old) seat Call.Fold result (state_of M.view self.new) }
+        ensures number { number_of self.new ≡ number_of self.old }
+        ensures whole { IsWhole M.view self.new }
+        ensures commits { (rule_counts (state_of M.view self.new)).0 ≡ (rule_counts (state_of M.view self.old)).0 + commits_of_answer result }
+    {
+        self.fold();
+        an_event_counts();
+        Answer::Fold
     }
 }

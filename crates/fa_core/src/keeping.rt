@@ -1,4 +1,4 @@
-//! What each event keeps.
+//! What each event keeps: laws with no code. A call of one gives the proof of its caller the law, and does nothing when the program runs.
 ghost use Rattle.std.specs.Prelude.{◌≡◌, ◌+◌, length};
 ghost use Rattle.fa_laws.specs.Counted.{HasHistory, commits_of};
 ghost use Rattle.fa_machine.specs.Looks.{counts};

@@ -12,10 +12,6 @@ mod looks;
 mod mounting;
 mod readers;
 mod step;
-mod step_dies;
-mod step_readers;
-mod step_turning;
-mod step_writers;
 mod turning;
 mod writers;
 
