@@ -1,5 +1,5 @@
 //! What may be asked of the array. Nothing of this is an event.
-ghost use Rattle.std.specs.Prelude.{◌≡◌, ◌<◌, is_some, option_map};
+ghost use Rattle.std.specs.Prelude.{◌≡◌, ◌<◌, ℕ, None, false, is_some, option_map};
 ghost use Rattle.std.specs.FinMap.{get};
 ghost use Rattle.fa_machine.specs.Collecting.{victim as rule_victim};
 ghost use Rattle.fa_machine.specs.Conditions.{batch_open as rule_batch, claim_open as rule_claim, copy_open as rule_copy};
@@ -9,6 +9,7 @@ ghost use Rattle.fa_machine.specs.Looks.{counts as rule_counts, is_busy as rule_
 ghost use Rattle.fa_machine.specs.Looks.{next_thin as rule_thin, wants_window as rule_window};
 ghost use Rattle.fa_machine.specs.Placement.{room as rule_room};
 ghost use Rattle.fa_machine.specs.State.{is_live as rule_live};
+ghost use Rattle.fa_machine.specs.Taking.{taken};
 ghost use Rattle.fa_core_tables.specs.Counted.{capped};
 
 use crate::array::Array;
@@ -169,10 +170,11 @@ impl<M: Map, A: Allocator + Clone> Array<M, A> {
         fa_core_flush::is_busy(&self.state)
     }
 
-    /// Whether a Take of the die would hand out a job, or drop a booking. Who looks for work goes by it; which answer it gives is in no
-    /// clause.
+    /// Whether a Take of the die would hand out a job, or drop a booking. Where it says no, a Take answers nothing and changes nothing,
+    /// whoever makes it.
     pub fn has_job(&self, die: Die) -> bool
         requires { die.0 < (state_of M.view self.now).page_map.geometry.dies }
+        ensures nothing { result ≡ false → (seat : ℕ) → taken (state_of M.view self.now) die.0 seat ≡ (None, state_of M.view self.now) }
     {
         fa_core_dispatch::has_job(&self.state, die)
     }

@@ -4,3 +4,4 @@ mod Flights
 mod Masks
 mod Others
 mod Steps
+pub mod Idle

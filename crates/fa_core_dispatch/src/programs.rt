@@ -1,5 +1,5 @@
 //! Programs and syncs as jobs.
-ghost use Rattle.std.specs.Prelude.{◌≡◌, ◌<◌, None, option_map, unwrap_or};
+ghost use Rattle.std.specs.Prelude.{◌≡◌, ◌<◌, false, None, option_map, unwrap_or};
 ghost use Rattle.std.specs.FinMap.{get};
 ghost use Rattle.fa_machine.specs.Taking.{begins, handed, other_job as rule_other, sync_job as rule_sync};
 ghost use Rattle.fa_core_tables.specs.Dies.{by_die};
@@ -46,6 +46,13 @@ pub fn begin_other<M: Map, A: Allocator + Clone>(
     }
 }
 
+/// Whether a program waits for the die, or a flush asked for a sync that was not taken since.
+pub fn has_other<M: Map, A: Allocator + Clone>(state: &State<M, A>, die: Die) -> bool
+    ensures none { result ≡ false → rule_other (core_of M.view state.now) die.0 ≡ None }
+{
+    state.waiting.has(die) || sync_job(state, die).is_some()
+}
+
 /// A sync that a flush asked for is what the die is at. None where no flush asked for one.
 fn begin_sync<M: Map, A: Allocator + Clone>(
     state: &mut State<M, A>,
@@ -72,7 +79,7 @@ fn begin_sync<M: Map, A: Allocator + Clone>(
 }
 
 /// A sync, where a flush asked for one that was not taken since.
-pub fn sync_job<M: Map, A: Allocator + Clone>(state: &State<M, A>, die: Die) -> Option<Flight>
+fn sync_job<M: Map, A: Allocator + Clone>(state: &State<M, A>, die: Die) -> Option<Flight>
     ensures { result ≡ rule_sync (core_of M.view state.now) die.0 }
 {
     if number_of(&state.synced, die) < number_of(&state.asked, die) {

@@ -1,10 +1,10 @@
 //! The next job of a die.
-ghost use Rattle.std.specs.Prelude.{◌≡◌, ◌<◌, true, false, option_map, IfSome, None};
+ghost use Rattle.std.specs.Prelude.{◌≡◌, ◌<◌, ℕ, true, false, option_map, IfSome, None};
 ghost use Rattle.std.specs.FinMap.{get};
 ghost use Rattle.fa_machine.specs.Conditions.{history_full};
 ghost use Rattle.fa_machine.specs.State.{is_live};
 ghost use Rattle.fa_machine.specs.Step.{is_die};
-ghost use Rattle.fa_machine.specs.Taking.{Takes, after_urgent, begun, is_idle as rule_idle, urgent_job as rule_urgent};
+ghost use Rattle.fa_machine.specs.Taking.{Takes, after_urgent, begun, is_idle as rule_idle, taken, urgent_job as rule_urgent, without_stale_booking};
 ghost use Rattle.fa_core_tables.specs.Dies.{by_die};
 ghost use Rattle.fa_core_state.specs.Core.{core_of};
 ghost use Rattle.fa_core_state.specs.Fitted.{IsFitted};
@@ -15,7 +15,7 @@ use crate::collecting::{begin_move, step_job};
 use crate::header::header_job;
 use crate::job::Job;
 use crate::jobs::set_job;
-use crate::programs::{begin_other, sync_job};
+use crate::programs::{begin_other, has_other};
 use crate::reading::{begin_read, drop_stale_booking, read_job};
 use fa_core_state::State;
 use fa_machine::Flight;
@@ -45,20 +45,25 @@ pub fn take<M: Map, A: Allocator + Clone>(
     }
 }
 
-/// Whether a Take of the die would hand out a job, or drop a booking. Who looks for work goes by it; which answer it gives is in no
-/// clause.
+/// Whether a Take of the die would hand out a job, or drop a booking. Where it says no, a Take answers nothing and changes nothing, whoever
+/// makes it.
 pub fn has_job<M: Map, A: Allocator + Clone>(state: &State<M, A>, die: Die) -> bool
     requires { die.0 < (M.view state.now.page_map).geometry.dies }
+    ensures nothing { result ≡ false → (seat : ℕ) → taken (core_of M.view state.now) die.0 seat ≡ (None, core_of M.view state.now) }
 {
-    is_idle(state, die)
-        && (urgent_job(state, die).is_some()
-            || is_booked(state, die)
-            || state.waiting.has(die)
-            || sync_job(state, die).is_some())
+    if !is_idle(state, die) {
+        return false;
+    }
+    match urgent_job(state, die) {
+        Some(_) => true,
+        None => is_booked(state, die) || has_other(state, die),
+    }
 }
 
 /// Whether a read is booked at the die in this round that was not started.
-fn is_booked<M: Map, A: Allocator + Clone>(state: &State<M, A>, die: Die) -> bool {
+fn is_booked<M: Map, A: Allocator + Clone>(state: &State<M, A>, die: Die) -> bool
+    ensures { result ≡ false → without_stale_booking die.0 (core_of M.view state.now) ≡ core_of M.view state.now }
+{
     match state.bookings.booking(die, state.bookings.now()) {
         Some(booking) => !booking.started,
         None => false,

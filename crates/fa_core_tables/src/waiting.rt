@@ -1,5 +1,5 @@
 //! Programs that wait for their dies.
-ghost use Rattle.std.specs.Prelude.{◌≡◌, ℕ, ◌+◌, ◌<◌, ◌≤◌, ◌==◌, ◌&&◌, not, if◌then◌else◌, [], ◌∷◌, ◌++◌, filter, find, option_map};
+ghost use Rattle.std.specs.Prelude.{◌≡◌, ℕ, ◌+◌, ◌<◌, ◌≤◌, ◌==◌, ◌&&◌, not, if◌then◌else◌, [], ◌∷◌, ◌++◌, filter, find, is_some, option_map};
 ghost use Rattle.std.specs.Prelude.{IfOk, OnOk};
 ghost use Rattle.std.specs.List.{after_first, before_first};
 ghost use Rattle.fa_machine.specs.Taking.{is_for};
@@ -84,7 +84,9 @@ impl<A: Allocator> Waiting<A> {
     }
 
     /// Whether a program waits for the die.
-    pub fn has(&self, die: Die) -> bool {
+    pub fn has(&self, die: Die) -> bool
+        ensures { result ≡ is_some (find (is_for die.0) (waiting_of self.now)) }
+    {
         match self.queues.get(die.0 as usize) {
             Some(queue) => !queue.is_empty(),
             None => false,
