@@ -8,6 +8,7 @@ pub mod Collected
 pub mod Collects
 pub mod Committing
 pub mod Copying
+pub mod DieLost
 pub mod Admitting
 pub mod EightBegin
 pub mod Ending

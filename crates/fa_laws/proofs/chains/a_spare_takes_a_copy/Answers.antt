@@ -1,3 +1,4 @@
+use Rattle.fa_laws.proofs.DieLost as lost
 use Rattle.fa_laws.proofs.SpareBegin.{begins}
 use Rattle.fa_laws.proofs.SpareTaken as taken
 use Rattle.fa_laws.proofs.Tabled.{at}
@@ -10,19 +11,19 @@ use Rattle.fa_laws.proofs.chains.a_spare_takes_a_copy.Goals as goal
 
 module _ (size : ℕ) (within : IsGeometry 5 1 4 4 size 8) (bytes : ℕ → List ℕ) (sized : (page : ℕ) → length (bytes page) ≡ size) where
   abbrev g : Geometry
-  g = taken.g size within bytes sized
+  g = lost.g size within bytes sized
 
   told : SpareTakesACopy g bytes
   told = record {
     begins = begins size within;
-    written = at g (taken.t25 size within bytes sized) (taken.v25 size within bytes sized);
-    writes = subst (λ w. Run w (writing_thrice bytes) (at g (taken.t25 size within bytes sized) (taken.v25 size within bytes sized)))
-        (sym (taken.as_listed size within bytes sized)) (taken.writing_it size within bytes sized);
-    three = taken.three size within bytes sized;
-    torn = at g (taken.t29 size within bytes sized) (taken.v29 size within bytes sized);
-    loses = taken.losing_it size within bytes sized;
-    two = taken.two size within bytes sized;
-    is_torn = taken.is_torn size within bytes sized;
+    written = at g (lost.t25 size within bytes sized) (lost.v25 size within bytes sized);
+    writes = subst (λ w. Run w (writing_thrice bytes) (at g (lost.t25 size within bytes sized) (lost.v25 size within bytes sized)))
+        (sym (lost.as_listed size within bytes sized)) (lost.writing_it size within bytes sized);
+    three = lost.three size within bytes sized;
+    torn = at g (lost.t29 size within bytes sized) (lost.v29 size within bytes sized);
+    loses = lost.losing_it size within bytes sized;
+    two = lost.two size within bytes sized;
+    is_torn = lost.is_torn size within bytes sized;
     mended = at g (taken.t42 size within bytes sized) (taken.v42 size within bytes sized);
     mends = taken.mending_it size within bytes sized;
     answered = at g (taken.t47 size within bytes sized) (taken.v47 size within bytes sized);
