@@ -1,8 +1,8 @@
 -- Lists that are filtered twice, and the first element that passes a test.
 use Rattle.std.proofs.Common.{◌≡◌, ℕ, ◌<◌, zero, suc, Bool, true, false, List, [], ◌∷◌, ◌++◌, Option, Some, None, ap, cond, inl}
 use Rattle.std.proofs.Common.{inr, length, map, refl, sym, ◌∙◌, arith}
-use Rattle.std.proofs.lemmas.Bool.{cases_Bool, false≢true}
-use Rattle.std.specs.Prelude.{IsSome, filter, find, if◌then◌else◌, option_map, option_to_list}
+use Rattle.std.proofs.lemmas.Bool.{cases_Bool, false≢true, ne_eqb}
+use Rattle.std.specs.Prelude.{◌==◌, IsSome, filter, find, if◌then◌else◌, is_some, not, option_map, option_to_list}
 use Rattle.fa_machine.proofs.Lists.{without_first}
 
 abbrev pub head_of : {X : Type 0} → List X → Option X
@@ -73,6 +73,11 @@ find_head p (x ∷ xs) = found (p x) (find_head p xs)
     found : (b : Bool) → find p xs ≡ head_of (filter p xs) → cond b (Some x) (find p xs) ≡ head_of (cond b (x ∷ filter p xs) (filter p xs))
     found true later = refl
     found false later = later
+
+-- a list that is not empty has a first
+pub is_there : {X Y : Type 0} (f : X → Y) (xs : List X) (empty : Bool) → empty ≡ (length xs == 0) → not empty ≡ is_some (head_of (map f xs))
+is_there f [] empty e = ap not e
+is_there f (x ∷ xs) empty e = ap not (e ∙ ne_eqb (length (x ∷ xs)) 0 (λ none. omega (arith, none)))
 
 pub filter_rest : {X : Type 0} (p : X → Bool) (xs : List X) → filter p (without_first p xs) ≡ tail_of (filter p xs)
 filter_rest p [] = refl

@@ -87,10 +87,8 @@ impl<A: Allocator> Waiting<A> {
     pub fn has(&self, die: Die) -> bool
         ensures { result ≡ is_some (find (is_for die.0) (waiting_of self.now)) }
     {
-        match self.queues.get(die.0 as usize) {
-            Some(queue) => !queue.is_empty(),
-            None => false,
-        }
+        let index = die.0 as usize;
+        index < self.queues.len() && !self.queues[index].is_empty()
     }
 
     /// No program waits for the die from now on.
