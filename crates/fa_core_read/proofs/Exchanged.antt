@@ -14,7 +14,7 @@ use Rattle.fa_machine.specs.State.{CalendarState}
 use Rattle.fa_machine.specs.declared.ids.BatchId.{BatchId}
 use Rattle.fa_machine.specs.declared.places.Booking.{Booking}
 use Rattle.fa_core_read.proofs.Last.{Found, NotFound, last_of}
-use Rattle.fa_core_read.specs.Left.{place_in, places_among}
+use Rattle.fa_core_read_pages.specs.Left.{place_in, places_among}
 use Rattle.fa_core_state.specs.Tracked.{unstarted}
 use Rattle.fa_types.specs.Open.{IsOpen}
 use Rattle.fa_types.specs.declared.numbers.Die.{Die}

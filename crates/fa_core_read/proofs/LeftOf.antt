@@ -15,7 +15,7 @@ use Rattle.fa_machine.specs.declared.jobs.Flight.TheVariants.{Erase, Header, Mov
 use Rattle.fa_machine.specs.declared.places.Booking.{Booking}
 use Rattle.fa_core_read.proofs.Newly.{among_one, one_among}
 use Rattle.fa_core_read.proofs.Placed.{left_there}
-use Rattle.fa_core_read.specs.Left.{is_left, left_among}
+use Rattle.fa_core_read_pages.specs.Left.{is_left, left_among}
 use Rattle.fa_core_state.specs.Tracked.{AreTracked, is_at_read}
 use Rattle.fa_types.specs.declared.numbers.Die.{Die}
 use Rattle.std.proofs.Common.{Bool, List, None, Option, Some, [], ap, cond, false, inl, inr, refl, sym, true, ℕ, ◌∙◌, ◌∷◌, ◌≡◌}

@@ -1,9 +1,6 @@
 pub mod Answered
-pub mod Chain
 pub mod Ended
-pub mod Entries
 pub mod Exchanged
-pub mod Finds
 pub mod GivenUp
 pub mod Last
 pub mod LeftOf

@@ -6,7 +6,7 @@ use Rattle.fa_machine.specs.Among.{Among}
 use Rattle.fa_machine.specs.Maps.{is_one_of}
 use Rattle.fa_machine.specs.Reading.{has_data, to_read}
 use Rattle.fa_machine.specs.State.{MapState}
-use Rattle.fa_core_read.specs.Left.{is_left, place_in, places_among}
+use Rattle.fa_core_read_pages.specs.Left.{is_left, place_in, places_among}
 use Rattle.fa_core_read.specs.Opened.{opened_state}
 use Rattle.std.proofs.Common.{Bool, List, None, Option, Some, [], ap, eq-eqb, false, inl, inr, refl, sym, true, ℕ, ◌∙◌, ◌∷◌, ◌≡◌}
 use Rattle.std.proofs.lemmas.Bool.{eqb-true, false≢true, or_cases}

@@ -3,7 +3,7 @@ use Rattle.fa_batch.specs.declared.plan.Place.{Place}
 use Rattle.fa_core_batches.specs.declared.page.PageState.{PageState}
 use Rattle.fa_core_batches.specs.declared.page.PageState.TheVariants.{Answered, Booked, InFlight, Torn}
 use Rattle.fa_core_batches.specs.Pages.{is_answered}
-use Rattle.fa_core_read.specs.Left.{is_left}
+use Rattle.fa_core_read_pages.specs.Left.{is_left}
 use Rattle.fa_core_read.specs.Opened.{placed_state}
 use Rattle.std.proofs.Common.{Bool, List, None, Option, Some, [], ap, cond, eq-eqb, false, refl, true, ℕ, ◌<◌, ◌∙◌, ◌∷◌}
 use Rattle.std.proofs.Common.{◌≡◌}

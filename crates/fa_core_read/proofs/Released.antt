@@ -11,7 +11,7 @@ use Rattle.fa_machine.specs.State.{CalendarState}
 use Rattle.fa_machine.specs.declared.jobs.Flight.{Flight}
 use Rattle.fa_machine.specs.declared.places.Booking.{Booking}
 use Rattle.fa_core_read.proofs.Tracked.{at_booked, booked_at}
-use Rattle.fa_core_read.specs.Left.{places_among}
+use Rattle.fa_core_read_pages.specs.Left.{places_among}
 use Rattle.fa_core_state.specs.Tracked.{AreTracked, unstarted}
 use Rattle.std.proofs.Common.{Bool, List, None, Option, Some, [], ap, cond, eq-eqb, false, refl, sym, true, ℕ, ◌∙◌, ◌≡◌}
 use Rattle.std.proofs.lemmas.Bool.{eqb-true, false≢true}

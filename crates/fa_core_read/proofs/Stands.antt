@@ -18,7 +18,7 @@ use Rattle.fa_core_state.specs.declared.state.State.{State}
 use Rattle.fa_machine.specs.declared.jobs.Flight.{Flight}
 use Rattle.fa_machine.specs.declared.places.Booking.{Booking}
 use Rattle.fa_core_read.proofs.LeftOf.{left_same}
-use Rattle.fa_core_read.specs.Left.{is_left}
+use Rattle.fa_core_read_pages.specs.Left.{is_left}
 use Rattle.fa_core_state.specs.Tracked.{AreTracked, unstarted}
 use Rattle.fa_types.specs.declared.numbers.Die.{Die}
 use Rattle.fa_types.specs.declared.numbers.Round.{Round}

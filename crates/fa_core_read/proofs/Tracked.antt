@@ -17,7 +17,7 @@ use Rattle.fa_machine.specs.declared.ids.BatchId.{BatchId}
 use Rattle.fa_machine.specs.declared.jobs.Flight.{Flight}
 use Rattle.fa_machine.specs.declared.places.Booking.{Booking}
 use Rattle.fa_core_read.proofs.Last.{Found, NotFound, last_of, only_one}
-use Rattle.fa_core_read.specs.Left.{is_left, place_in, places_among}
+use Rattle.fa_core_read_pages.specs.Left.{is_left, place_in, places_among}
 use Rattle.fa_core_read.specs.Opened.{placed_state}
 use Rattle.fa_core_state.specs.Tracked.{AreTracked, unstarted}
 use Rattle.fa_types.specs.declared.numbers.Die.{Die}

@@ -18,11 +18,11 @@ ghost use Rattle.fa_types.specs.Open.{FewClosed};
 ghost use Rattle.fa_types.specs.Windows.{IsFull};
 
 use crate::booking::{book, open};
-use crate::lost::first_lost;
 use crate::planner::Planner;
 use crate::planning::{is_late, plan_written};
 use fa_batch::Place;
 use fa_calendar::CalendarRefused;
+use fa_core_read_pages::first_lost;
 use fa_core_state::State;
 use fa_machine::{AdmitRefused, BatchId};
 use fa_map::Map;

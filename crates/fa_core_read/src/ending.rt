@@ -8,14 +8,14 @@ ghost use Rattle.fa_core_bookings.specs.Places.{without_places};
 ghost use Rattle.fa_machine.specs.Conditions.{batch_open};
 ghost use Rattle.fa_machine.specs.Maps.{is_one_of};
 ghost use Rattle.fa_machine.specs.Reading.{EndsBatch};
-ghost use Rattle.fa_core_read.specs.Left.{places_among};
+ghost use Rattle.fa_core_read_pages.specs.Left.{places_among};
 ghost use Rattle.fa_core_state.specs.Core.{core_of};
 ghost use Rattle.fa_core_state.specs.Fitted.{IsFitted};
 
-use crate::asking::place_in;
 use fa_batch::Place;
 use fa_core_batches::{Batches, PageState};
 use fa_core_bookings::Bookings;
+use fa_core_read_pages::place_in;
 use fa_core_state::State;
 use fa_machine::BatchId;
 use fa_map::Map;

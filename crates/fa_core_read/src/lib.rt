@@ -3,11 +3,8 @@
 #![tactic(auto)]
 
 mod admitting;
-mod asking;
 mod booking;
 mod ending;
-mod holding;
-mod lost;
 mod planner;
 mod planning;
 mod replanning;

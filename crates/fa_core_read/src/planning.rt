@@ -7,9 +7,9 @@ ghost use Rattle.fa_machine.specs.Reading.{IsPlanned, is_late as rule_late, to_r
 ghost use Rattle.fa_machine.specs.Step.{is_distinct};
 ghost use Rattle.fa_core_read.specs.Answers.{planned_of};
 
-use crate::asking::list_written;
 use crate::planner::Planner;
 use fa_core_bookings::Bookings;
+use fa_core_read_pages::list_written;
 use fa_core_state::State;
 use fa_map::Map;
 use fa_plan::{Planned, plan_in};

@@ -16,18 +16,17 @@ ghost use Rattle.fa_machine.specs.Rounds.{is_closed as is_closed_in, is_taken, i
 ghost use Rattle.fa_core_state.specs.Core.{core_of};
 ghost use Rattle.fa_core_state.specs.Fitted.{IsFitted};
 ghost use Rattle.fa_core_read.specs.Answers.{plan_answer, planned_of};
-ghost use Rattle.fa_core_read.specs.Left.{is_left as rule_left, left_among, places_among};
+ghost use Rattle.fa_core_read_pages.specs.Left.{is_left as rule_left, left_among, places_among};
 ghost use Rattle.fa_types.specs.Open.{FewClosed};
 ghost use Rattle.fa_types.specs.Windows.{IsFull};
 
-use crate::asking::{booked_places, is_left, list_left};
 use crate::booking::book;
-use crate::lost::is_lost;
 use crate::planner::Planner;
 use crate::planning::is_late;
 use fa_batch::{Batch, Closed, Place};
 use fa_calendar::CalendarRefused;
 use fa_core_batches::Batches;
+use fa_core_read_pages::{booked_places, is_left, is_lost, list_left};
 use fa_core_state::State;
 use fa_machine::{AdmitRefused, BatchId};
 use fa_map::Map;

@@ -12,7 +12,7 @@ use Rattle.fa_core_read.proofs.Others.{AreInside, each_removed, fitted_with, ope
 use Rattle.fa_core_read.proofs.Plans.{each_placed, placed_inside, placed_open, placed_page}
 use Rattle.fa_core_read.proofs.Released.{without_none}
 use Rattle.fa_core_read.proofs.admitting.book_new.Goals as goal
-use Rattle.fa_core_read.specs.Left.{is_left}
+use Rattle.fa_core_read_pages.specs.Left.{is_left}
 use Rattle.fa_core_state.specs.Core.{core_of}
 use Rattle.fa_types.specs.Open.{FewClosed, IsOpen}
 use Rattle.fa_types.specs.Windows.{IsFull}

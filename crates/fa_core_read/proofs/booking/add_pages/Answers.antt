@@ -1,7 +1,7 @@
 use Rattle.fa_core_batches.specs.Batches.{batches_of, bytes_of, state_of}
 use Rattle.fa_core_batches.specs.Pages.{opened}
 use Rattle.fa_core_read.proofs.Answered.{on_err_of}
-use Rattle.fa_core_read.proofs.Entries.{numbers_more}
+use Rattle.fa_core_read_pages.proofs.Entries.{numbers_more}
 use Rattle.fa_core_read.proofs.Opening.{all_more, batch_of, batches_more, contains_inserted, next_is_new, none_yet, not_yet, open_again}
 use Rattle.fa_core_read.proofs.Opening.{remove_inserted, with_page}
 use Rattle.fa_core_read.proofs.booking.add_pages.Goals as goal

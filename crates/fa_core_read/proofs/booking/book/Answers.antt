@@ -12,7 +12,7 @@ use Rattle.fa_core_tables.specs.Dies.{bound_of, by_die}
 use Rattle.fa_core_read.proofs.Exchanged.{among_all, booked_inside, found_after, free_place, places_booked}
 use Rattle.fa_core_read.proofs.Tracked.{tracked_after}
 use Rattle.fa_core_read.proofs.booking.book.Goals as goal
-use Rattle.fa_core_read.specs.Left.{is_left}
+use Rattle.fa_core_read_pages.specs.Left.{is_left}
 use Rattle.fa_types.specs.Open.{IsOpen}
 use Rattle.std.proofs.Common.{ap, length, subst, sym, true, ℕ, ◌<◌, ◌∙◌, ◌≡◌, ◌≤◌}
 use Rattle.std.specs.FinMap.{contains_key, get}

@@ -1,11 +1,11 @@
 use Rattle.fa_core_batches.specs.Batches.{state_of}
 use Rattle.fa_core_bookings.specs.Bookings.{calendar_of}
 use Rattle.fa_core_bookings.specs.Places.{without_places}
-use Rattle.fa_core_read.proofs.Entries.{numbers_more}
+use Rattle.fa_core_read_pages.proofs.Entries.{numbers_more}
 use Rattle.fa_core_read.proofs.GivenUp.{given_more}
 use Rattle.fa_core_read.proofs.Released.{without_none}
 use Rattle.fa_core_read.proofs.ending.release_pages.Goals as goal
-use Rattle.fa_core_read.specs.Left.{place_in, places_among}
+use Rattle.fa_core_read_pages.specs.Left.{place_in, places_among}
 use Rattle.fa_types.specs.declared.numbers.Page.{Page}
 use Rattle.std.proofs.Common.{[], List, ap, map, rules, sym, ◌∙◌, ◌∷◌}
 use Rattle.std.proofs.lemmas.List.{take_all}

@@ -11,7 +11,7 @@ use Rattle.fa_machine.specs.State.{CalendarState, is_live}
 use Rattle.fa_core_read.proofs.LeftOf.{among_left, left_among_them}
 use Rattle.fa_core_read.proofs.Plans.{each_placed, placed_inside, placed_open, placed_page}
 use Rattle.fa_core_read.proofs.replanning.book_again.Goals as goal
-use Rattle.fa_core_read.specs.Left.{is_left}
+use Rattle.fa_core_read_pages.specs.Left.{is_left}
 use Rattle.fa_core_state.specs.Core.{core_of}
 use Rattle.fa_types.specs.Open.{FewClosed, IsOpen}
 use Rattle.fa_types.specs.Windows.{IsFull}

@@ -1,8 +1,8 @@
 use Rattle.fa_core_batches.specs.Batches.{state_of}
 use Rattle.fa_machine.specs.Copies.{is_lost}
-use Rattle.fa_core_read.proofs.Finds.{find_filtered, find_mapped, next_fails, next_passes, none_at_end}
+use Rattle.fa_core_read_pages.proofs.Finds.{find_filtered, find_mapped, next_fails, next_passes, none_at_end}
 use Rattle.fa_core_read.proofs.replanning.lost_among.Goals as goal
-use Rattle.fa_core_read.specs.Left.{is_left}
+use Rattle.fa_core_read_pages.specs.Left.{is_left}
 use Rattle.fa_types.specs.declared.numbers.Page.{Page}
 use Rattle.std.proofs.Common.{Bool, ap, arith, map, rules, suc, sym, ℕ, ◌+◌, ◌∙◌, ◌≡◌}
 use Rattle.std.specs.Prelude.{find, option_map, take, ◌&&◌}

@@ -1,7 +1,7 @@
 use Rattle.fa_core_batches.specs.Batches.{state_of}
 use Rattle.fa_machine.specs.Copies.{is_lost}
 use Rattle.fa_core_read.proofs.replanning.lost_among.Given as goal
-use Rattle.fa_core_read.specs.Left.{is_left}
+use Rattle.fa_core_read_pages.specs.Left.{is_left}
 use Rattle.fa_types.specs.declared.numbers.Page.{Page}
 use Rattle.std.proofs.Common.{None, ◌≡◌}
 use Rattle.std.specs.Prelude.{find, take, ◌&&◌}

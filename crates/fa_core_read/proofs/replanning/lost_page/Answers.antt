@@ -5,7 +5,7 @@ use Rattle.fa_core_tables.specs.Dies.{by_die}
 use Rattle.fa_core_read.proofs.LeftOf.{left_same}
 use Rattle.fa_machine.specs.Copies.{is_lost}
 use Rattle.fa_core_read.proofs.Others.{AreInside, pages_inside}
-use Rattle.fa_core_read.specs.Left.{left_among}
+use Rattle.fa_core_read_pages.specs.Left.{left_among}
 use Rattle.std.proofs.Common.{ap, subst, sym, ◌∙◌}
 use Rattle.std.specs.Prelude.{find}
 use Rattle.fa_core_read.proofs.replanning.lost_page.Goals as goal

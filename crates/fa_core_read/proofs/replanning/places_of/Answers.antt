@@ -10,7 +10,7 @@ use Rattle.fa_core_read.proofs.Answered.{ok_one}
 use Rattle.fa_core_read.proofs.Exchanged.{places_booked}
 use Rattle.fa_core_read.proofs.Released.{released_is}
 use Rattle.fa_core_read.proofs.replanning.places_of.Goals as goal
-use Rattle.fa_core_read.specs.Left.{places_among}
+use Rattle.fa_core_read_pages.specs.Left.{places_among}
 use Rattle.fa_types.specs.declared.numbers.Page.{Page}
 use Rattle.std.proofs.Common.{ap, map, subst, sym, true, ◌∙◌, ◌≡◌}
 use Rattle.std.specs.FinMap.{contains_key}

@@ -1,6 +1,6 @@
 use Rattle.fa_core_batches.specs.Batches.{state_of}
-use Rattle.fa_core_read.proofs.asking.booked_places.Given as goal
-use Rattle.fa_core_read.specs.Left.{places_among}
+use Rattle.fa_core_read_pages.proofs.asking.booked_places.Given as goal
+use Rattle.fa_core_read_pages.specs.Left.{places_among}
 use Rattle.fa_types.specs.declared.numbers.Page.{Page}
 use Rattle.std.proofs.Common.{map, ◌≡◌}
 use Rattle.std.specs.Prelude.{take}

@@ -1,9 +1,9 @@
 use Rattle.fa_batch.proofs.Batches.{with_holder-push}
 use Rattle.fa_batch.specs.Batch.{with_holder}
 use Rattle.fa_machine.specs.Copies.{holders, holds_page}
-use Rattle.fa_core_read.proofs.Chain.{dies_left, fewer_left, left_from, one_taken}
-use Rattle.fa_core_read.proofs.Entries.{dies_again}
-use Rattle.fa_core_read.proofs.holding.add_page.Goals as goal
+use Rattle.fa_core_read_pages.proofs.Chain.{dies_left, fewer_left, left_from, one_taken}
+use Rattle.fa_core_read_pages.proofs.Entries.{dies_again}
+use Rattle.fa_core_read_pages.proofs.holding.add_page.Goals as goal
 use Rattle.fa_types.specs.declared.numbers.Die.{Die}
 use Rattle.std.proofs.Common.{List, None, [], ap, arith, length, map, refl, subst, sym, ℕ, ◌-◌, ◌<◌, ◌∙◌, ◌∷◌, ◌≡◌, ◌++◌}
 use Rattle.std.proofs.lemmas.List.{append-nil}

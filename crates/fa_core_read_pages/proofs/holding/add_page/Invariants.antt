@@ -1,7 +1,7 @@
 use Rattle.fa_batch.specs.Batch.{Entry}
 use Rattle.fa_machine.specs.Copies.{copy_on, holders}
-use Rattle.fa_core_read.proofs.Chain.{dies_left}
-use Rattle.fa_core_read.proofs.holding.add_page.Given as goal
+use Rattle.fa_core_read_pages.proofs.Chain.{dies_left}
+use Rattle.fa_core_read_pages.proofs.holding.add_page.Given as goal
 use Rattle.fa_types.specs.declared.numbers.Die.{Die}
 use Rattle.std.proofs.Common.{List, Some, [], length, map, ◌∷◌, ◌≡◌}
 use Rattle.std.specs.Prelude.{IfSome, ◌++◌}

@@ -1,7 +1,7 @@
 use Rattle.fa_core_batches.specs.Batches.{state_of}
 use Rattle.fa_machine.specs.Reading.{entries_for}
-use Rattle.fa_core_read.proofs.asking.list_left.Given as goal
-use Rattle.fa_core_read.specs.Left.{left_among}
+use Rattle.fa_core_read_pages.proofs.asking.list_left.Given as goal
+use Rattle.fa_core_read_pages.specs.Left.{left_among}
 use Rattle.fa_types.specs.declared.numbers.Page.{Page}
 use Rattle.std.proofs.Common.{map, ◌≡◌}
 use Rattle.std.specs.Prelude.{take}

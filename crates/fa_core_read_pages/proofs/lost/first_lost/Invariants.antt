@@ -1,5 +1,5 @@
 use Rattle.fa_machine.specs.Copies.{is_lost}
-use Rattle.fa_core_read.proofs.lost.first_lost.Given as goal
+use Rattle.fa_core_read_pages.proofs.lost.first_lost.Given as goal
 use Rattle.fa_types.specs.declared.numbers.Page.{Page}
 use Rattle.std.proofs.Common.{None, ◌≡◌}
 use Rattle.std.specs.Prelude.{find, take}

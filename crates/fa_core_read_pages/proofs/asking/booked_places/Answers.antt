@@ -1,7 +1,7 @@
 use Rattle.fa_core_batches.specs.Batches.{state_of}
-use Rattle.fa_core_read.proofs.Entries.{numbers_more}
-use Rattle.fa_core_read.proofs.asking.booked_places.Goals as goal
-use Rattle.fa_core_read.specs.Left.{place_in, places_among}
+use Rattle.fa_core_read_pages.proofs.Entries.{numbers_more}
+use Rattle.fa_core_read_pages.proofs.asking.booked_places.Goals as goal
+use Rattle.fa_core_read_pages.specs.Left.{place_in, places_among}
 use Rattle.fa_types.specs.declared.numbers.Page.{Page}
 use Rattle.std.proofs.Common.{[], ap, map, rules, sym, ◌∙◌, ◌∷◌}
 use Rattle.std.proofs.lemmas.List.Elements.{filter_map-append}

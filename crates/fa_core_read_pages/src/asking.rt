@@ -5,7 +5,7 @@ ghost use Rattle.std.specs.List.{All};
 ghost use Rattle.fa_core_batches.specs.Batches.{batches_of, state_of};
 ghost use Rattle.fa_core_batches.specs.Pages.{opened};
 ghost use Rattle.fa_machine.specs.Reading.{entries_for, has_data as rule_has_data, is_data as rule_data, to_read};
-ghost use Rattle.fa_core_read.specs.Left.{is_left as rule_left, left_among, place_in as rule_place, places_among};
+ghost use Rattle.fa_core_read_pages.specs.Left.{is_left as rule_left, left_among, place_in as rule_place, places_among};
 
 use crate::holding::add_page;
 use fa_batch::{Batch, Place};

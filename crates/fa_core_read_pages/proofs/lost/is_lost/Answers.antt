@@ -1,7 +1,7 @@
 use Rattle.fa_machine.specs.Copies.{holders, holds_page}
 use Rattle.fa_machine.specs.State.{dies_of}
-use Rattle.fa_core_read.proofs.Finds.{none_filtered}
-use Rattle.fa_core_read.proofs.lost.is_lost.Goals as goal
+use Rattle.fa_core_read_pages.proofs.Finds.{none_filtered}
+use Rattle.fa_core_read_pages.proofs.lost.is_lost.Goals as goal
 use Rattle.fa_types.specs.declared.numbers.Die.{Die}
 use Rattle.fa_types.specs.declared.numbers.Slot.{Slot}
 use Rattle.std.proofs.Common.{None, Option, Some, ap, arith, length, refl, rules, sym, true, ◌∙◌, ◌≡◌}

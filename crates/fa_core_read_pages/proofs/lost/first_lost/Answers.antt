@@ -1,6 +1,6 @@
 use Rattle.fa_machine.specs.Copies.{is_lost}
-use Rattle.fa_core_read.proofs.Finds.{find_mapped, next_fails, next_passes, none_at_end}
-use Rattle.fa_core_read.proofs.lost.first_lost.Goals as goal
+use Rattle.fa_core_read_pages.proofs.Finds.{find_mapped, next_fails, next_passes, none_at_end}
+use Rattle.fa_core_read_pages.proofs.lost.first_lost.Goals as goal
 use Rattle.fa_types.specs.declared.numbers.Page.{Page}
 use Rattle.std.proofs.Common.{ap, arith, rules, suc, sym, ℕ, ◌+◌, ◌∙◌, ◌≡◌}
 use Rattle.std.specs.Prelude.{find, option_map, take}

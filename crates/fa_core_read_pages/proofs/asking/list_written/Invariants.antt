@@ -1,5 +1,5 @@
 use Rattle.fa_machine.specs.Reading.{entries_for, to_read}
-use Rattle.fa_core_read.proofs.asking.list_written.Given as goal
+use Rattle.fa_core_read_pages.proofs.asking.list_written.Given as goal
 use Rattle.fa_types.specs.declared.numbers.Page.{Page}
 use Rattle.std.proofs.Common.{map, ◌≡◌}
 use Rattle.std.specs.Prelude.{take}

@@ -1,0 +1,3 @@
+pub mod Chain
+pub mod Entries
+pub mod Finds
