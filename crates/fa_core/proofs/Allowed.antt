@@ -1,7 +1,7 @@
 -- The conditions of events by what their callers keep.
-use Rattle.fa_core_complete.specs.Outcomes.{cell_of, outcome_of}
-use Rattle.fa_core_complete.specs.declared.outcome.Outcome.TheVariants.{Erased, Fault, HeaderWritten, Moved, Programmed, Read, Synced, Wrong}
-use Rattle.fa_core_complete.specs.declared.outcome.Outcome.{Outcome}
+use Rattle.fa_core_outcome.specs.Outcomes.{cell_of, outcome_of}
+use Rattle.fa_core_outcome.specs.declared.outcome.Outcome.TheVariants.{Erased, Fault, HeaderWritten, Moved, Programmed, Read, Synced, Wrong}
+use Rattle.fa_core_outcome.specs.declared.outcome.Outcome.{Outcome}
 use Rattle.fa_machine.specs.State.{Core}
 use Rattle.fa_machine.specs.Step.{is_distinct, is_page, is_sized_read}
 use Rattle.fa_tag.specs.declared.tag.Opened.TheVariants.{Bad, Erased as OpenedErased, Good}

@@ -15,7 +15,7 @@ use Rattle.fa_core.specs.declared.call.Call.{Call}
 use Rattle.fa_core.specs.declared.call.Call.TheVariants.{Claim, Release, Reserve, ReserveHole, ReserveFewer, Commit, Abandon, Admit}
 use Rattle.fa_core.specs.declared.call.Call.TheVariants.{Replan, EndBatch, Take, Done, Window, Advance, SpareIn, ReserveCopy, CommitCopy}
 use Rattle.fa_core.specs.declared.call.Call.TheVariants.{FlushBegin, FlushState, Fold}
-use Rattle.fa_core_complete.specs.Outcomes.{outcome_of}
+use Rattle.fa_core_outcome.specs.Outcomes.{outcome_of}
 use Rattle.fa_machine.specs.Cells.{is_of_kind}
 use Rattle.fa_machine.specs.Conditions.{batch_open, claim_open, copy_open, history_full, is_reserved}
 use Rattle.fa_machine.specs.State.{Core}

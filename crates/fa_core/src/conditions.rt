@@ -3,14 +3,14 @@ ghost use Rattle.std.specs.Prelude.{◌≡◌, ◌&&◌, ℕ, List, false, lengt
 ghost use Rattle.std.specs.FinMap.{get};
 ghost use Rattle.std.specs.List.{list_all};
 ghost use Rattle.std.specs.Option.{option_map_or};
-ghost use Rattle.fa_core_complete.specs.Outcomes.{outcome_of};
+ghost use Rattle.fa_core_outcome.specs.Outcomes.{outcome_of};
 ghost use Rattle.fa_machine.specs.Cells.{is_of_kind};
 ghost use Rattle.fa_machine.specs.Conditions.{claim_open as rule_claim, history_full as rule_full, is_reserved as rule_reserved};
 ghost use Rattle.fa_machine.specs.Step.{is_die as rule_die, is_distinct, is_page as rule_page, is_sized as rule_sized};
 
 use crate::array::Array;
 use crate::distinct::are_distinct;
-use fa_core_complete::Outcome;
+use fa_core_outcome::Outcome;
 use fa_machine::{ClaimId, Flight};
 use fa_map::Map;
 use fa_tag::Payload;

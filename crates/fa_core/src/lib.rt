@@ -17,7 +17,7 @@ mod writers;
 
 pub use array::Array;
 pub use call::{Answer, Call};
-pub use fa_core_complete::Outcome;
 pub use fa_core_dispatch::Job;
+pub use fa_core_outcome::Outcome;
 pub use fa_core_read::Admitted;
 pub use fa_plan::Planned;

@@ -1,7 +1,7 @@
 -- The state in which a job has ended, by the outcome.
-use Rattle.fa_core_complete.specs.Outcomes.{outcome_of}
-use Rattle.fa_core_complete.specs.declared.outcome.Outcome.{Outcome}
-use Rattle.fa_core_complete.specs.declared.outcome.Outcome.TheVariants.{Fault as FaultOutcome, Wrong as WrongOutcome}
+use Rattle.fa_core_outcome.specs.Outcomes.{outcome_of}
+use Rattle.fa_core_outcome.specs.declared.outcome.Outcome.{Outcome}
+use Rattle.fa_core_outcome.specs.declared.outcome.Outcome.TheVariants.{Fault as FaultOutcome, Wrong as WrongOutcome}
 use Rattle.fa_image.specs.Image.{fault_number}
 use Rattle.fa_image.specs.declared.fault.ImageFault.{ImageFault}
 use Rattle.fa_machine.specs.Cells.{Cell, DidRead, Fault, Outcome as JobOutcome, Wrong, is_of_kind, payload_of}

@@ -2,7 +2,7 @@
 ghost use Rattle.std.specs.Prelude.{◌≡◌, length, true, false};
 ghost use Rattle.std.specs.FinMap.{get};
 ghost use Rattle.std.specs.Option.{option_map_or};
-ghost use Rattle.fa_core_complete.specs.Outcomes.{outcome_of};
+ghost use Rattle.fa_core_outcome.specs.Outcomes.{outcome_of};
 ghost use Rattle.fa_machine.specs.Cells.{is_of_kind};
 ghost use Rattle.fa_machine.specs.Taking.{EndsJob};
 ghost use Rattle.fa_sound.specs.Sound.{IsSound};
@@ -11,10 +11,10 @@ ghost use Rattle.fa_core_state.specs.Fitted.{IsFitted};
 
 use crate::collecting::{erase_done, move_done};
 use crate::dropping::lose_die;
-use crate::outcome::Outcome;
 use crate::programming::program_done;
 use crate::reading::read_done;
 use crate::telling::{header_done, sync_done};
+use fa_core_outcome::Outcome;
 use fa_core_state::State;
 use fa_map::Map;
 use fa_types::Die;

@@ -4,10 +4,8 @@
 mod collecting;
 mod dropping;
 mod ending;
-mod outcome;
 mod programming;
 mod reading;
 mod telling;
 
 pub use ending::done;
-pub use outcome::Outcome;

@@ -2,7 +2,7 @@
 ghost use Rattle.std.specs.Prelude.{◌≡◌, ℕ, List, false, true, length, if◌then◌else◌, None, Some};
 ghost use Rattle.std.specs.FinMap.{get, remove};
 ghost use Rattle.std.specs.Option.{option_map_or};
-ghost use Rattle.fa_core_complete.specs.Outcomes.{cell_of};
+ghost use Rattle.fa_core_outcome.specs.Outcomes.{cell_of};
 ghost use Rattle.fa_machine.specs.Cells.{DidRead, is_of_kind, payload_of};
 ghost use Rattle.fa_machine.specs.Taking.{EndsJob, with_answer};
 ghost use Rattle.fa_machine.specs.declared.jobs.Flight.TheVariants.{Read};
@@ -11,6 +11,7 @@ ghost use Rattle.fa_core_state.specs.Core.{core_of};
 ghost use Rattle.fa_core_state.specs.Fitted.{IsFitted};
 
 use crate::dropping::lose_die;
+use fa_core_outcome::is_copy;
 use fa_core_state::State;
 use fa_machine::{BatchId, Flight, Version};
 use fa_map::Map;
@@ -53,22 +54,6 @@ pub fn read_done<M: Map, A: Allocator + Clone>(
             }
             _ => {}
         },
-    }
-}
-
-/// Whether what a slot gave is a copy of this write of the page, sealed for this slot. The kind is not looked at.
-fn is_copy(opened: Opened, page: Page, version: Version, die: Die, slot: Slot) -> bool
-    ensures { (payload : List ℕ) → payload_of page.0 version die.0 slot.0 (cell_of opened payload)
-        ≡ (if result then Some payload else None) }
-{
-    match opened {
-        Opened::Good(tag) => {
-            tag.page.0 == page.0
-                && tag.seq.0 == version.seq.0
-                && tag.die.0 == die.0
-                && tag.slot.0 == slot.0
-        }
-        _ => false,
     }
 }
 

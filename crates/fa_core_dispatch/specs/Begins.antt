@@ -4,7 +4,6 @@ use Rattle.std.specs.FinMap.{get}
 use Rattle.fa_machine.specs.State.{Core, MapState}
 use Rattle.fa_machine.specs.declared.jobs.Flight.{Flight}
 use Rattle.fa_machine.specs.declared.jobs.Flight.TheVariants.{Move, Erase, Read, Program}
-use Rattle.fa_machine.specs.declared.places.Booking.{Booking}
 use Rattle.fa_core_state.specs.Tracked.{unstarted}
 
 -- a job of the collector, of which a move goes to a slot of the die
@@ -26,8 +25,3 @@ MayBegin core die flight = Unit {0}
 abbrev pub is_read : Flight → Bool
 is_read (Read batch page version slot) = true
 is_read flight = false
-
--- a read of a booking that was not started
-abbrev pub IsReadOf : Booking → Flight → Type 0
-IsReadOf b (Read batch page version slot) = b ≡ unstarted batch.0 page.0
-IsReadOf b flight = ⊥

@@ -3,15 +3,16 @@ ghost use Rattle.std.specs.Prelude.{◌≡◌, ◌+◌, ◌<◌, ◌++◌, [], �
 ghost use Rattle.std.specs.FinMap.{get, insert};
 ghost use Rattle.fa_core_bookings.specs.Bookings.{calendar_of};
 ghost use Rattle.fa_machine.specs.Conditions.{history_full};
-ghost use Rattle.fa_machine.specs.Taking.{begun, read_job as rule_read, read_of as rule_read_of, without_stale_booking};
+ghost use Rattle.fa_machine.specs.Taking.{begun, read_job as rule_read, without_stale_booking};
 ghost use Rattle.fa_machine.specs.declared.jobs.Flight.TheVariants.{Read};
 ghost use Rattle.fa_core_tables.specs.Dies.{by_die};
 ghost use Rattle.fa_core_state.specs.Core.{core_of};
 ghost use Rattle.fa_core_state.specs.Fitted.{IsFitted};
 ghost use Rattle.fa_core_state.specs.Tracked.{unstarted};
-ghost use Rattle.fa_core_dispatch.specs.Begins.{IsReadOf, MayBegin};
+ghost use Rattle.fa_core_dispatch.specs.Begins.{MayBegin};
 
 use fa_core_batches::PageState;
+use fa_core_read_pages::read_of;
 use fa_core_state::State;
 use fa_machine::{BatchId, Booking, Flight, Version};
 use fa_map::Map;
@@ -27,33 +28,6 @@ pub fn read_job<M: Map, A: Allocator + Clone>(state: &State<M, A>, die: Die) -> 
     match state.bookings.booking(die, state.bookings.now()) {
         None => None,
         Some(booking) => read_of(&state.page_map, die, booking),
-    }
-}
-
-/// The read of a booking that was not started, from the slot that holds the page at this moment. A page that the array does not
-/// have was never written.
-fn read_of<M: Map>(page_map: &M, die: Die, booking: Booking) -> Option<Flight>
-    requires { die.0 < (M.view page_map.now).geometry.dies }
-    ensures job { result ≡ rule_read_of (M.view page_map.now) die.0 booking }
-    ensures fresh { IfSome result (λ flight. IsReadOf booking flight) }
-{
-    if booking.started {
-        return None;
-    }
-    if page_map.geometry().pages <= booking.page.0 {
-        return None;
-    }
-    match page_map.version(booking.page) {
-        None => None,
-        Some(version) => match page_map.copy_on(booking.page, die) {
-            None => None,
-            Some(slot) => Some(Flight::Read {
-                batch: booking.batch,
-                page: booking.page,
-                version,
-                slot,
-            }),
-        },
     }
 }
 

@@ -10,7 +10,7 @@ use Rattle.fa_machine.specs.World.{Syncs, WritesHeader, with_cell}
 use Rattle.fa_mount_close_laws.proofs.AnyCell.{any_cell}
 use Rattle.fa_mount_laws.proofs.Cells.{one_cell}
 use Rattle.fa_mount_scan.specs.ContentCells.{IsCellOf, tag_of}
-use Rattle.fa_core_complete.specs.Outcomes.{cell_of}
+use Rattle.fa_core_outcome.specs.Outcomes.{cell_of}
 use Rattle.fa_tag.specs.HeaderGrammar.{header_bytes}
 use Rattle.fa_tag.specs.SlotGrammar.{IsErased, IsOpened, IsPayloadOf, IsTag, payload_of, slot_2}
 use Rattle.fa_tag.specs.declared.tag.Opened.{Opened}

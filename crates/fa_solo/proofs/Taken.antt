@@ -3,8 +3,8 @@ use Rattle.std.proofs.Common.{◌≡◌, ◌∙◌, ℕ, Bool, true, false, List
 use Rattle.std.specs.Option.{option_map_or}
 use Rattle.std.proofs.lemmas.Option.{none-some, same_Some}
 use Rattle.std.specs.FinMap.{get}
-use Rattle.fa_core_complete.specs.Outcomes.{outcome_of}
-use Rattle.fa_core_complete.specs.declared.outcome.Outcome.{Outcome as JobOutcome}
+use Rattle.fa_core_outcome.specs.Outcomes.{outcome_of}
+use Rattle.fa_core_outcome.specs.declared.outcome.Outcome.{Outcome as JobOutcome}
 use Rattle.fa_image.specs.Image.{ImageAnswer, ImageCall}
 use Rattle.fa_machine.proofs.Maps.{get-insert_same}
 use Rattle.fa_machine.specs.Cells.{Outcome, is_of_kind}

@@ -3,7 +3,7 @@ ghost use Rattle.std.specs.Option.{option_map_or};
 ghost use Rattle.std.specs.Prelude.{◌≡◌, ◌<◌, ◌∷◌, [], true, false, map, option_map, IfNone, IfSome};
 ghost use Rattle.std.specs.FinMap.{get};
 ghost use Rattle.fa_core.specs.Calls.{FitsAnswer, Makes};
-ghost use Rattle.fa_core_complete.specs.Outcomes.{outcome_of};
+ghost use Rattle.fa_core_outcome.specs.Outcomes.{outcome_of};
 ghost use Rattle.fa_machine.specs.Cells.{is_of_kind};
 ghost use Rattle.fa_machine.specs.Conditions.{copy_open, history_full};
 ghost use Rattle.fa_machine.specs.Step.{Step, is_die, is_sized};
@@ -15,8 +15,8 @@ ghost use Rattle.fa_core_dispatch.specs.Handed.{handed_of};
 ghost use Rattle.fa_workers.specs.Held.{Folds, IsNoCommit, LeavesRest};
 
 use fa_core::{Answer, Call};
-use fa_core_complete::Outcome;
 use fa_core_dispatch::Job;
+use fa_core_outcome::Outcome;
 use fa_core_read::Admitted;
 use fa_machine::{
     AdmitRefused, AdvanceRefused, BatchId, ClaimId, CommitCopyRefused, Copied, ReserveCopyRefused,

@@ -1,7 +1,7 @@
 //! One job of a die, from its Take to its Done.
 ghost use Rattle.std.specs.FinMap.{get};
 ghost use Rattle.std.specs.Prelude.{◌≡◌, ◌+◌, true, false, Some, length};
-ghost use Rattle.fa_core_complete.specs.Outcomes.{outcome_of};
+ghost use Rattle.fa_core_outcome.specs.Outcomes.{outcome_of};
 ghost use Rattle.fa_machine.specs.Conditions.{history_full};
 ghost use Rattle.fa_machine.specs.Step.{is_die};
 ghost use Rattle.fa_solo.specs.Deeds.{IsForDies};
@@ -11,8 +11,8 @@ ghost use Rattle.fa_core_dispatch.specs.Handed.{handed_of};
 
 use crate::events::{done, make_room, take};
 use crate::rig::Rig;
-use fa_core_complete::Outcome;
 use fa_core_dispatch::Job;
+use fa_core_outcome::Outcome;
 use fa_image::Image;
 use fa_laws::steps::the_geometry_is_kept;
 use fa_map::Map;

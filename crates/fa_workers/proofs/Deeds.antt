@@ -2,7 +2,7 @@
 use Rattle.std.specs.Prelude.{◌≡◌, ℕ, ◌+◌, Bool, true, false, ◌==◌, ◌&&◌, cond, List, [], ◌∷◌, Some, None, is_some, length, take}
 use Rattle.std.proofs.Common.{ap, arith, refl, sym, ◌∙◌}
 use Rattle.std.proofs.lemmas.Bool.{true≢false}
-use Rattle.fa_core_complete.specs.Outcomes.{cell_of}
+use Rattle.fa_core_outcome.specs.Outcomes.{cell_of}
 use Rattle.fa_image.specs.Image.{ImageAnswer, ImageCall, IsAnswerTo, Refused as RefusedBy, fault_number, fault_of}
 use Rattle.fa_image.specs.Image.{ReadingSlot, Programming, Erasing, ReadingHeader, WritingHeader, Syncing}
 use Rattle.fa_image.specs.declared.fault.ImageFault.{ImageFault}

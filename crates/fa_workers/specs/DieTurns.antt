@@ -2,9 +2,9 @@
 use Rattle.std.specs.Prelude.{◌≡◌, ◌⊎◌, ℕ, Bool, ◌&&◌, not, false, if◌then◌else◌, List, Option, Some, None, Result, Ok, Err}
 use Rattle.std.specs.FinMap.{get}
 use Rattle.std.specs.Option.{option_map_or}
-use Rattle.fa_core_complete.specs.Outcomes.{outcome_of}
-use Rattle.fa_core_complete.specs.declared.outcome.Outcome.{Outcome}
-use Rattle.fa_core_complete.specs.declared.outcome.Outcome.TheVariants.{Fault as WasFault}
+use Rattle.fa_core_outcome.specs.Outcomes.{outcome_of}
+use Rattle.fa_core_outcome.specs.declared.outcome.Outcome.{Outcome}
+use Rattle.fa_core_outcome.specs.declared.outcome.Outcome.TheVariants.{Fault as WasFault}
 use Rattle.fa_machine.specs.Cells.{is_of_kind}
 use Rattle.fa_machine.specs.State.{Core, is_live}
 use Rattle.fa_machine.specs.Step.{Advance, Done, Step, Take, is_die, is_sized}

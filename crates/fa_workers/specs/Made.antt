@@ -1,7 +1,7 @@
 -- The calls that a job makes of its die's image, as the array's machine has them.
 use Rattle.std.specs.Prelude.{◌≡◌, ℕ, List, [], ◌∷◌, ◌++◌, Some}
-use Rattle.fa_core_complete.specs.Outcomes.{cell_of, outcome_of as end_of}
-use Rattle.fa_core_complete.specs.declared.outcome.Outcome.{Outcome as JobOutcome}
+use Rattle.fa_core_outcome.specs.Outcomes.{cell_of, outcome_of as end_of}
+use Rattle.fa_core_outcome.specs.declared.outcome.Outcome.{Outcome as JobOutcome}
 use Rattle.fa_image.specs.Image.{ImageAnswer, ImageCall, Programming, ReadingSlot, Erasing, WritingHeader, Syncing}
 use Rattle.fa_image.specs.Image.{Gave as GaveBytes, Done, Refused as RefusedBy}
 use Rattle.fa_machine.specs.Cells.{Cell, Sealed, Outcome}

@@ -2,7 +2,7 @@
 use crate::gate::Gate;
 use crate::order::Order;
 use crate::room::Room;
-use fa_core_complete::Outcome;
+use fa_core_outcome::Outcome;
 use fa_image::Image;
 use fa_types::Die;
 use std::alloc::{AllocError, Allocator, Global};

@@ -11,7 +11,7 @@ ghost use Rattle.fa_workers.specs.Held.{LeavesRest};
 use crate::events::{make, make_room};
 use crate::order::{Order, order_of};
 use fa_core::{Answer, Array, Call};
-use fa_core_complete::Outcome;
+use fa_core_outcome::Outcome;
 use fa_machine::AdvanceRefused;
 use fa_map::Map;
 use fa_shared::{Cause, Fault, Locked, Seat, plain};

@@ -1,6 +1,6 @@
 //! The job that writes a die's header.
 ghost use Rattle.std.specs.Prelude.{◌≡◌, ℕ, List, [], Some, length};
-ghost use Rattle.fa_core_complete.specs.Outcomes.{outcome_of};
+ghost use Rattle.fa_core_outcome.specs.Outcomes.{outcome_of};
 ghost use Rattle.fa_machine.specs.Taking.{Handed};
 ghost use Rattle.fa_machine.specs.declared.jobs.Flight.TheVariants.{Header as HeaderJob};
 ghost use Rattle.fa_tag.specs.HeaderGrammar.{IsHeader, header_bytes};
@@ -8,7 +8,7 @@ ghost use Rattle.fa_workers.specs.Made.{Ran};
 ghost use Rattle.fa_core_dispatch.specs.Fits.{header_of};
 
 use crate::gate::{Gate, ImageCallKind};
-use fa_core_complete::Outcome;
+use fa_core_outcome::Outcome;
 use fa_image::{Image, ImageFault};
 use fa_tag::{Header, seal_header};
 use fa_types::{Die, Geometry};

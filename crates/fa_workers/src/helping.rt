@@ -7,7 +7,7 @@ use crate::gate::Gate;
 use crate::handing::hand_over;
 use crate::order::Order;
 use crate::room::Room;
-use fa_core_complete::Outcome;
+use fa_core_outcome::Outcome;
 use fa_image::Image;
 use fa_map::Map;
 use fa_shared::{Fault, Hands, Locked, Seat, Shared};

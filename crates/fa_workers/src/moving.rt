@@ -1,6 +1,6 @@
 //! The job that moves a copy.
 ghost use Rattle.std.specs.Prelude.{◌≡◌, ◌<◌, ℕ, List, is_some, length};
-ghost use Rattle.fa_core_complete.specs.Outcomes.{cell_of, outcome_of};
+ghost use Rattle.fa_core_outcome.specs.Outcomes.{cell_of, outcome_of};
 ghost use Rattle.fa_image.specs.Image.{slot_bytes, slot_count};
 ghost use Rattle.fa_machine.specs.declared.jobs.Flight.TheVariants.{Move};
 ghost use Rattle.fa_machine.specs.Cells.{moved_payload};
@@ -9,7 +9,7 @@ ghost use Rattle.fa_workers.specs.Made.{ProgramsMoved, Ran};
 ghost use Rattle.fa_core_dispatch.specs.Fits.{tag_of};
 
 use crate::gate::{Gate, ImageCallKind};
-use fa_core_complete::Outcome;
+use fa_core_outcome::Outcome;
 use fa_image::Image;
 use fa_machine::Version;
 use fa_tag::{Opened, PayloadDigest, Tag, open_begun, reseal};

@@ -1,6 +1,6 @@
 //! A job with all that its calls want.
 ghost use Rattle.std.specs.Prelude.{◌≡◌, ◌+◌, IfSome, length, option_map};
-ghost use Rattle.fa_core_complete.specs.Outcomes.{outcome_of};
+ghost use Rattle.fa_core_outcome.specs.Outcomes.{outcome_of};
 ghost use Rattle.fa_core_dispatch.specs.Fits.{IsJobFor};
 ghost use Rattle.fa_core_dispatch.specs.Handed.{handed_of};
 ghost use Rattle.fa_workers.specs.Made.{Ran};
@@ -8,8 +8,8 @@ ghost use Rattle.fa_workers.specs.Orders.{IsJobFor-prop};
 
 use crate::gate::{Gate, ImageCallKind};
 use crate::running::run_job;
-use fa_core_complete::Outcome;
 use fa_core_dispatch::Job;
+use fa_core_outcome::Outcome;
 use fa_image::{Image, ImageFault};
 use fa_machine::Flight;
 use fa_tag::Opened;

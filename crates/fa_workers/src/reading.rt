@@ -1,13 +1,13 @@
 //! The job that reads a slot.
 ghost use Rattle.std.specs.Prelude.{◌≡◌, ◌<◌, ℕ, List, length};
-ghost use Rattle.fa_core_complete.specs.Outcomes.{outcome_of};
+ghost use Rattle.fa_core_outcome.specs.Outcomes.{outcome_of};
 ghost use Rattle.fa_image.specs.Image.{slot_bytes, slot_count};
 ghost use Rattle.fa_machine.specs.declared.jobs.Flight.TheVariants.{Read};
 ghost use Rattle.fa_workers.specs.Made.{Ran};
 
 use crate::gate::{Gate, ImageCallKind};
 use crate::handing::hand_over;
-use fa_core_complete::Outcome;
+use fa_core_outcome::Outcome;
 use fa_image::Image;
 use fa_machine::{BatchId, Version};
 use fa_tag::open;

@@ -4,7 +4,7 @@ use crate::die_events::{Ended, Next, end_job, turn};
 use crate::gate::Gate;
 use crate::order::Order;
 use crate::room::Room;
-use fa_core_complete::Outcome;
+use fa_core_outcome::Outcome;
 use fa_image::Image;
 use fa_map::Map;
 use fa_shared::{Awaits, Seat, Shared};

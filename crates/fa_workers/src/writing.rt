@@ -1,13 +1,13 @@
 //! The jobs that program, erase and sync.
 ghost use Rattle.std.specs.Prelude.{◌≡◌, ◌<◌, ℕ, List, length};
-ghost use Rattle.fa_core_complete.specs.Outcomes.{outcome_of};
+ghost use Rattle.fa_core_outcome.specs.Outcomes.{outcome_of};
 ghost use Rattle.fa_image.specs.Image.{slot_bytes};
 ghost use Rattle.fa_machine.specs.declared.jobs.Flight.TheVariants.{Program, Erase, Sync};
 ghost use Rattle.fa_workers.specs.Made.{Ran};
 ghost use Rattle.fa_core_dispatch.specs.Fits.{IsSlotFor};
 
 use crate::gate::{Gate, ImageCallKind};
-use fa_core_complete::Outcome;
+use fa_core_outcome::Outcome;
 use fa_image::Image;
 use fa_machine::{Block, Version};
 use fa_tag::{Payload, Tag};

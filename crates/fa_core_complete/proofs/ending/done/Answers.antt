@@ -1,7 +1,7 @@
 use Rattle.fa_core_complete.proofs.Ended.{busy, fault_ends, wrong_ends}
 use Rattle.fa_core_complete.proofs.ending.done.Goals as goal
-use Rattle.fa_core_complete.specs.Outcomes.{outcome_of}
-use Rattle.fa_core_complete.specs.declared.outcome.Outcome.{Outcome}
+use Rattle.fa_core_outcome.specs.Outcomes.{outcome_of}
+use Rattle.fa_core_outcome.specs.declared.outcome.Outcome.{Outcome}
 use Rattle.fa_machine.specs.Cells.{is_of_kind}
 use Rattle.fa_machine.specs.declared.jobs.Flight.{Flight}
 use Rattle.fa_core_state.specs.Core.{core_of}

@@ -1,6 +1,6 @@
 use Rattle.fa_core_complete.proofs.Ended.{at_job, read_answered, read_lost}
 use Rattle.fa_core_complete.proofs.reading.read_done.Goals as goal
-use Rattle.fa_core_complete.specs.Outcomes.{cell_of}
+use Rattle.fa_core_outcome.specs.Outcomes.{cell_of}
 use Rattle.fa_core_state.specs.Core.{core_of}
 use Rattle.std.proofs.Common.{None, Some, ap, cond, sym, ◌∙◌}
 

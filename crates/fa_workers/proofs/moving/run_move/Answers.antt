@@ -1,5 +1,5 @@
 use Rattle.std.proofs.Common.{ap, refl, sym, subst, Some, None, cond, option_map}
-use Rattle.fa_core_complete.specs.Outcomes.{cell_of}
+use Rattle.fa_core_outcome.specs.Outcomes.{cell_of}
 use Rattle.fa_image.specs.Image.{ReadingSlot, Gave, Refused as RefusedBy}
 use Rattle.fa_machine.specs.World.{ReadsSlot, ProgramsSlot, GaveCell, Refused}
 use Rattle.fa_machine.specs.Cells.{Fault, Sealed, Wrong}

@@ -1,6 +1,6 @@
 use Rattle.std.proofs.Common.{◌∙◌, ◌+◌, ◌++◌, ◌≡◌, ap, arith, drop, refl, subst, sym, take, length, Some}
 use Rattle.std.proofs.Math.Seq.{take-append_seam}
-use Rattle.fa_core_complete.specs.Outcomes.{cell_of}
+use Rattle.fa_core_outcome.specs.Outcomes.{cell_of}
 use Rattle.fa_image.specs.Image.{ReadingSlot, Gave, Refused as RefusedBy}
 use Rattle.fa_machine.specs.World.{ReadsSlot, GaveCell, Refused}
 use Rattle.fa_machine.specs.Cells.{Fault}

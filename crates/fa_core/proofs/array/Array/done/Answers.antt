@@ -1,7 +1,7 @@
 use Rattle.fa_core.proofs.Allowed.{is_whole_read}
 use Rattle.fa_core.proofs.Whole.{whole_after}
 use Rattle.fa_core.specs.Array.{state_of}
-use Rattle.fa_core_complete.specs.Outcomes.{outcome_of}
+use Rattle.fa_core_outcome.specs.Outcomes.{outcome_of}
 use Rattle.fa_machine.specs.Cells.{is_of_kind}
 use Rattle.fa_machine.specs.Step.{Done, is_sized_read}
 use Rattle.std.proofs.Common.{false, refl}

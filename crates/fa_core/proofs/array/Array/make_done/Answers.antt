@@ -1,5 +1,5 @@
 use Rattle.fa_core.specs.Array.{state_of}
-use Rattle.fa_core_complete.specs.Outcomes.{outcome_of}
+use Rattle.fa_core_outcome.specs.Outcomes.{outcome_of}
 use Rattle.fa_machine.specs.Cells.{is_of_kind}
 use Rattle.fa_machine.specs.Step.{Done, is_sized as rule_sized}
 use Rattle.std.proofs.Common.{List, ap, false, refl, sym, true, ℕ, ◌∙◌, ◌≡◌}

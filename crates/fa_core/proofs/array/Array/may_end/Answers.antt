@@ -1,6 +1,6 @@
 use Rattle.fa_core.proofs.Tests.{found_passes}
 use Rattle.fa_core.specs.Array.{state_of}
-use Rattle.fa_core_complete.specs.Outcomes.{outcome_of}
+use Rattle.fa_core_outcome.specs.Outcomes.{outcome_of}
 use Rattle.fa_machine.specs.Cells.{is_of_kind}
 use Rattle.fa_machine.specs.Step.{is_sized as rule_sized}
 use Rattle.std.proofs.Common.{false, sym, true, ◌∙◌}

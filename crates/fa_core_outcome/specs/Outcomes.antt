@@ -1,7 +1,7 @@
 -- What contracts see of how a job ended: the machine's own.
 use Rattle.std.specs.Prelude.{ℕ, List}
-use Rattle.fa_core_complete.specs.declared.outcome.Outcome.{Outcome}
-use Rattle.fa_core_complete.specs.declared.outcome.Outcome.TheVariants.{Read, Programmed, Moved, Erased, HeaderWritten, Synced, Fault, Wrong}
+use Rattle.fa_core_outcome.specs.declared.outcome.Outcome.{Outcome}
+use Rattle.fa_core_outcome.specs.declared.outcome.Outcome.TheVariants.{Read, Programmed, Moved, Erased, HeaderWritten, Synced, Fault, Wrong}
 use Rattle.fa_image.specs.Image.{fault_number}
 use Rattle.fa_machine.specs.Cells.{Cell, Empty, Sealed, Broken, Outcome as JobOutcome, DidRead, DidProgram, DidMove, DidErase}
 use Rattle.fa_machine.specs.Cells.{DidWriteHeader, DidSync, Fault as DidFault, Wrong as WasWrong}
