@@ -4,4 +4,3 @@ mod Flights
 mod Masks
 mod Others
 mod Steps
-pub mod Idle

@@ -225,13 +225,14 @@ fn share<L: Ledger, M: Map + Drop>(
 fn serve_over<
     L: Ledger + Send,
     R: ServerHost,
+    M: Map + Send + Drop,
     I: Image + Send + Drop,
     N: Read,
     W: Write,
     A: Allocator,
 >(
     rt: &R,
-    shared: Shared<L, PageMap>,
+    shared: Shared<L, M>,
     dies: Vec<Standing>,
     listener: &TcpListener,
     images: Vec<I>,
@@ -267,13 +268,14 @@ fn serve_over<
 fn serve_lent<
     L: Ledger + Send,
     R: ServerHost,
+    M: Map + Send + Drop,
     I: Image + Send + Drop,
     N: Read,
     W: Write,
     A: Allocator,
 >(
     rt: &R,
-    shared: &Shared<L, PageMap>,
+    shared: &Shared<L, M>,
     dies: &[Standing],
     listener: &TcpListener,
     images: Vec<I>,

@@ -8,7 +8,7 @@ use crate::stop_line::wait_for_stop;
 use crate::watching::{sight_of, watch};
 use fa_core::Array;
 use fa_image::Image;
-use fa_map::{Map, PageMap};
+use fa_map::Map;
 use fa_prog_clients::{Lobby, Networked, Session, accept_clients, serve_clients, stop_accepting};
 use fa_prog_host::tell;
 use fa_shared::{Seat, Shared};
@@ -78,9 +78,15 @@ pub(crate) struct Ended<I: Drop> {
 }
 
 /// Serves clients until the input says stop, ends all threads, and gathers their seats. The error is out of memory.
-pub(crate) fn serve_ready<R: Networked, L: Ledger + Send, I: Image + Send + Drop, N: Read>(
+pub(crate) fn serve_ready<
+    R: Networked,
+    L: Ledger + Send,
+    M: Map + Send + Drop,
+    I: Image + Send + Drop,
+    N: Read,
+>(
     rt: &R,
-    shared: &Shared<L, PageMap>,
+    shared: &Shared<L, M>,
     listener: &TcpListener,
     ready: Ready<'_, L, I>,
     input: &mut N,
@@ -140,9 +146,15 @@ impl<T: Drop> Work<T> {
 
 /// Serves clients until the input says stop, and then ends all threads. Where a thread cannot be started the array is stopped at once, and
 /// no client is served. The error is out of memory, before any thread was started.
-fn serve_shared<R: Networked, L: Ledger + Send, I: Image + Send + Drop, N: Read>(
+fn serve_shared<
+    R: Networked,
+    L: Ledger + Send,
+    M: Map + Send + Drop,
+    I: Image + Send + Drop,
+    N: Read,
+>(
     rt: &R,
-    shared: &Shared<L, PageMap>,
+    shared: &Shared<L, M>,
     hall: Hall<'_>,
     bench: &Bench<I>,
     tasks: Vec<DieTask<L>>,
@@ -168,7 +180,8 @@ fn serve_shared<R: Networked, L: Ledger + Send, I: Image + Send + Drop, N: Read>
         thread::scope_env(),
         rt,
         |scope| -> Back<L>
-            requires { IsSend I.row }
+            requires image { IsSend I.row }
+            requires map { IsSend M.row }
         {
             for task in tasks {
                 let work = match scope.spawn(move || work_die(rt, shared, bench, task)) {
@@ -227,9 +240,15 @@ fn seat_count(dies: usize, sessions: usize) -> usize {
 
 /// Serves clients until the input says stop, and then sends them away. The sessions' seats go to the others, for which there is room, as there
 /// is for their work. Whether each thread could be started: where one could not, no client is waited for.
-fn serve_sessions<R: Networked, L: Ledger + Send, I: Image + Send + Drop, N: Read>(
+fn serve_sessions<
+    R: Networked,
+    L: Ledger + Send,
+    M: Map + Send + Drop,
+    I: Image + Send + Drop,
+    N: Read,
+>(
     rt: &R,
-    shared: &Shared<L, PageMap>,
+    shared: &Shared<L, M>,
     hall: Hall<'_>,
     bench: &Bench<I>,
     sessions: Vec<Session<'_, L>>,
@@ -247,7 +266,8 @@ fn serve_sessions<R: Networked, L: Ledger + Send, I: Image + Send + Drop, N: Rea
         thread::scope_env(),
         rt,
         |scope| -> (Vec<Work<Seat<L>>>, bool)
-            requires { IsSend I.row }
+            requires image { IsSend I.row }
+            requires map { IsSend M.row }
         {
             for session in sessions {
                 let work = match scope.spawn(move || serve_clients(
