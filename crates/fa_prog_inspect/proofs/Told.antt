@@ -2,6 +2,7 @@
 use Rattle.std.proofs.Common.{◌≡◌, ℕ, Bool, true, false, List, map, length, refl, sym, subst, inl, inr}
 use Rattle.fa_image.specs.FileMade.{file_view, FileMade}
 use Rattle.fa_image.specs.declared.file_image.FileImage.{FileImage}
+use Rattle.fa_map.specs.PageView.{page_view}
 use Rattle.fa_mount_headers.specs.declared.fault.MountRefused.{MountRefused}
 use Rattle.fa_mount_headers.specs.declared.found.Found.{Found}
 use Rattle.fa_settings.specs.declared.settings.Settings.{Settings}
@@ -51,11 +52,12 @@ module _ {A W : Type 0} (f : W → FileImage) (settings : Settings A) (unclean :
         says = says;
       }
 
-      pub lines_told : json ≡ false → IsLines settings.copies.number asked mounted text → IsTold settings asked unclean json text
+      pub lines_told : json ≡ false → IsLines page_view settings.copies.number asked mounted text → IsTold settings asked unclean json text
       lines_told plain lines = told_so (subst (λ b. IsText settings asked b places founds mounted text) (sym plain) lines)
 
-      pub document_told : json ≡ true → (seen : List ℕ) → seen ≡ places → IsDocument settings asked seen founds mounted text
-          → IsTold settings asked unclean json text
-      document_told wanted seen same document =
+      pub document_told : json ≡ true → (seen : List ℕ) → seen ≡ places → (found : List Found) → found ≡ founds
+          → IsDocument page_view settings asked seen found mounted text → IsTold settings asked unclean json text
+      document_told wanted seen same found same_found document =
           told_so (subst (λ b. IsText settings asked b places founds mounted text) (sym wanted)
-          (subst (λ p. IsDocument settings asked p founds mounted text) same document))
+          (subst (λ p. IsDocument page_view settings asked p founds mounted text) same
+          (subst (λ fs. IsDocument page_view settings asked seen fs mounted text) same_found document)))

@@ -2,6 +2,7 @@
 use Rattle.std.specs.Prelude.{◌≡◌, ◌⊎◌, ℕ, Bool, true, false, List, [], ◌∷◌, ◌++◌, map, length, codes, string_bytes, Option}
 use Rattle.fa_image.specs.FileMade.{file_view, FileMade}
 use Rattle.fa_image.specs.declared.file_image.FileImage.{FileImage}
+use Rattle.fa_machine.specs.State.{MapState}
 use Rattle.fa_map.specs.PageView.{page_view}
 use Rattle.fa_mount_scan.specs.Pages.{written_pages}
 use Rattle.fa_mount_scan.specs.Reported.{IsReportOf}
@@ -10,7 +11,9 @@ use Rattle.fa_mount_headers.specs.declared.fault.MountFault.TheVariants.{HeaderB
 use Rattle.fa_mount_headers.specs.declared.fault.MountFault.TheVariants.{Unclean, NoDieLive, ImageFault, NoMemory}
 use Rattle.fa_mount_headers.specs.declared.fault.MountRefused.{MountRefused}
 use Rattle.fa_mount_headers.specs.declared.found.Found.{Found}
+use Rattle.fa_mount_scan.specs.declared.mounted.Mounted.{Mounted}
 use Rattle.fa_mount_scan.specs.declared.mounted.Report.{Report}
+use Rattle.std.specs.declared.alloc.Global.{Global}
 use Rattle.fa_settings.specs.Settings.{IsSettingsText}
 use Rattle.fa_settings.specs.declared.settings.Settings.{Settings}
 use Rattle.fa_prog_report.specs.Documents.{check_data, document_line, dump_data}
@@ -39,32 +42,34 @@ mount_line NoDieLive = codes "mount: 6 no die live" ++ 10 ∷ []
 mount_line ImageFault = codes "mount: 7 image fault" ++ 10 ∷ []
 mount_line NoMemory = codes "mount: 8 no memory" ++ 10 ∷ []
 
--- The lines that are told of a mounted array.
-abbrev pub IsLines : ℕ → Asked → Array → List ℕ → Type 0
-IsLines copies Check mounted text =
-    (report : Report) × IsReportOf copies (page_view mounted.map) mounted.dies.items report
-    × (report.epoch ≡ mounted.epoch) × (report.clean ≡ mounted.clean) × (text ≡ check_text report)
-IsLines copies Dump mounted text = text ≡ dump_text (page_view mounted.map)
+-- What is told of a mounted array, over what is seen of its map.
+module _ {M : Type 0} (view : M → MapState) where
+  -- the lines
+  abbrev pub IsLines : ℕ → Asked → Mounted M Global → List ℕ → Type 0
+  IsLines copies Check mounted text =
+      (report : Report) × IsReportOf copies (view mounted.map) mounted.dies.items report
+      × (report.epoch ≡ mounted.epoch) × (report.clean ≡ mounted.clean) × (text ≡ check_text report)
+  IsLines copies Dump mounted text = text ≡ dump_text (view mounted.map)
 
--- the document that is told of a mounted array, with this table of its dies
-abbrev pub IsDocumentWith : ℕ → Asked → Array → List DieRow → List ℕ → Type 0
-IsDocumentWith copies Check mounted rows text =
-    (report : Report) × IsReportOf copies (page_view mounted.map) mounted.dies.items report
-    × (report.epoch ≡ mounted.epoch) × (report.clean ≡ mounted.clean) × (text ≡ document_line (check_data report rows))
-IsDocumentWith copies Dump mounted rows text = text ≡ document_line (dump_data (written_pages (page_view mounted.map)) rows)
+  -- the document, with this table of its dies
+  abbrev pub IsDocumentWith : ℕ → Asked → Mounted M Global → List DieRow → List ℕ → Type 0
+  IsDocumentWith copies Check mounted rows text =
+      (report : Report) × IsReportOf copies (view mounted.map) mounted.dies.items report
+      × (report.epoch ≡ mounted.epoch) × (report.clean ≡ mounted.clean) × (text ≡ document_line (check_data report rows))
+  IsDocumentWith copies Dump mounted rows text = text ≡ document_line (dump_data (written_pages (view mounted.map)) rows)
+
+  -- the document: its table is that of the headers by which the array was mounted, and of the paths at their places
+  abbrev pub IsDocument : {A : Type 0} → Settings A → Asked → List ℕ → List Found → Mounted M Global → List ℕ → Type 0
+  IsDocument settings asked places founds mounted text =
+      (rows : List DieRow)
+      × AreRowsFrom (map string_bytes settings.images.items) places founds mounted.dies.items (view mounted.map) 0 rows
+      × (length rows ≡ (view mounted.map).geometry.dies) × IsDocumentWith settings.copies.number asked mounted rows text
 
 module _ {A : Type 0} (settings : Settings A) where
-  -- The document: its table is that of the headers by which the array was mounted, and of the paths at their places.
-  abbrev pub IsDocument : Asked → List ℕ → List Found → Array → List ℕ → Type 0
-  IsDocument asked places founds mounted text =
-      (rows : List DieRow)
-      × AreRowsFrom (map string_bytes settings.images.items) places founds mounted.dies.items (page_view mounted.map) 0 rows
-      × (length rows ≡ (page_view mounted.map).geometry.dies) × IsDocumentWith settings.copies.number asked mounted rows text
-
   -- what is told of a mounted array: lines, or a document
   abbrev pub IsText : Asked → Bool → List ℕ → List Found → Array → List ℕ → Type 0
-  IsText asked false places founds mounted text = IsLines settings.copies.number asked mounted text
-  IsText asked true places founds mounted text = IsDocument asked places founds mounted text
+  IsText asked false places founds mounted text = IsLines page_view settings.copies.number asked mounted text
+  IsText asked true places founds mounted text = IsDocument page_view settings asked places founds mounted text
 
   -- what is told of the settings' array: its images were opened and mounted, and the text is that of this map
   pub record IsTold (asked : Asked) (unclean json : Bool) (text : List ℕ) : Type 0 where

@@ -6,7 +6,7 @@ ghost use Rattle.fa_mount_headers.specs.Found.{AreFound, IsReadOf};
 ghost use Rattle.fa_prog_inspect.specs.Mount.{MountsArray, RefusesArray};
 
 use fa_image::{FileImage, Image};
-use fa_map::PageMap;
+use fa_map::{Map, PageMap};
 use fa_mount_headers::{Found, MountFault, MountRefused, expect, read_headers};
 use fa_mount_scan::{Mounted, scan_found_side_by_side};
 use fa_prog_host::printing::{DONE, REFUSED, print, refuse_for_memory};
@@ -118,7 +118,14 @@ fn text_of<R: Host, A: Allocator>(
         Err(refused) => return Err(refused),
     };
     if look.json {
-        json_of(rt, settings, look.asked, &places, &array)
+        json_of(
+            rt,
+            settings,
+            look.asked,
+            &places,
+            &array.founds,
+            &array.mounted,
+        )
     } else {
         lines_of(rt, settings, look.asked, &array.mounted)
     }
@@ -207,13 +214,13 @@ fn mount_found<R: Host, I: Image + Send, A: Allocator>(
 }
 
 /// What is to be told, in lines.
-fn lines_of<R: Host, A: Allocator>(
+fn lines_of<R: Host, M: Map + Drop, A: Allocator>(
     rt: &R,
     settings: &Settings<A>,
     asked: Asked,
-    mounted: &Mounted<PageMap>,
+    mounted: &Mounted<M>,
 ) -> Result<String, NotTold>
-    ensures lines { IfOk result (λ text. IsLines settings.now.copies.number asked mounted.now (string_bytes text)) }
+    ensures lines { IfOk result (λ text. IsLines M.view settings.now.copies.number asked mounted.now (string_bytes text)) }
     ensures refused { IfErr result (λ refused. refused ≡ NotTold.NoMemory) }
 {
     let text = match asked {
@@ -224,32 +231,32 @@ fn lines_of<R: Host, A: Allocator>(
 }
 
 /// What is to be told, as one JSON document.
-fn json_of<R: Host, A: Allocator>(
+fn json_of<R: Host, M: Map + Drop, A: Allocator>(
     rt: &R,
     settings: &Settings<A>,
     asked: Asked,
     places: &[usize],
-    array: &MountedArray,
+    founds: &[Found],
+    mounted: &Mounted<M>,
 ) -> Result<String, NotTold>
-    ensures document { IfOk result (λ text. IsDocument settings.now asked places.now array.now.founds.items array.now.mounted
-        (string_bytes text)) }
+    ensures document { IfOk result (λ text. IsDocument M.view settings.now asked places.now founds.now mounted.now (string_bytes text)) }
     ensures refused { IfErr result (λ refused. refused ≡ NotTold.NoMemory) }
 {
     let paths = settings.images.as_slice();
-    let rows = rows_of(rt.alloc(), paths, places, &array.founds, &array.mounted)?;
-    let text = document_of(rt, settings.copies, asked, &array.mounted, &rows)?;
+    let rows = rows_of(rt.alloc(), paths, places, founds, mounted)?;
+    let text = document_of(rt, settings.copies, asked, mounted, &rows)?;
     Ok(text)
 }
 
 /// The document with this table of the dies.
-fn document_of<R: Host>(
+fn document_of<R: Host, M: Map + Drop>(
     rt: &R,
     copies: Copies,
     asked: Asked,
-    mounted: &Mounted<PageMap>,
+    mounted: &Mounted<M>,
     rows: &[DieRow<'_>],
 ) -> Result<String, AllocError>
-    ensures { IfOk result (λ text. IsDocumentWith copies.number asked mounted.now rows.now (string_bytes text)) }
+    ensures { IfOk result (λ text. IsDocumentWith M.view copies.number asked mounted.now rows.now (string_bytes text)) }
 {
     match asked {
         Asked::Check => check_json(rt.alloc(), &mounted.report(copies), rows),

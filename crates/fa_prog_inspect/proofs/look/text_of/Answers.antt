@@ -18,7 +18,7 @@ returns-then-look-clause-text g c =
     IfOk-weaker c.json_of.result _ _ (λ text document. document_told (λ watched. watched.image) c.args.settings.now c.args.look.unclean
     c.in-Ok.opened.places.items c.in-Ok.opened.images.items c.as_mut_slice-images.result.now c.mounted_of.new.images
     c.as_mut_slice-images.ensures.value c.in-Ok.ensures.opened c.in-Ok-mounted_of.array.founds.items c.in-Ok-mounted_of.array.mounted c.in-Ok-mounted_of.ensures.mounted c.args.look.asked
-    c.args.look.json (string_bytes text) c.if-look.true c.deref-then-look.result.now c.deref-then-look.ensures.value document) c.json_of.ensures.document
+    c.args.look.json (string_bytes text) c.if-look.true c.deref-then-look.result.now c.deref-then-look.ensures.value c.deref-then-look-2.result.now c.deref-then-look-2.ensures.value document) c.json_of.ensures.document
 
 pub returns-clause-text : goal.returns-clause-text
 returns-clause-text g c =
