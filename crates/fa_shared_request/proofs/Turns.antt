@@ -8,7 +8,7 @@ use Rattle.fa_machine.specs.State.{Core}
 use Rattle.fa_machine.specs.Step.{Step, Abandon, EndBatch, Fold}
 use Rattle.fa_machine.specs.declared.ids.BatchId.{BatchId}
 use Rattle.fa_machine.specs.declared.refusals.AbandonRefused.{AbandonRefused}
-use Rattle.fa_shared_request.specs.Accounts.{IsAccounted}
+use Rattle.fa_shared_events.specs.Accounts.{IsAccounted}
 use Rattle.fa_shared_request.specs.Moves.{Turned, Moved, Rested, Strayed}
 use Rattle.fa_shared_request.specs.Ops.{OpView, stage_of, task_in}
 use Rattle.fa_shared_steps.specs.Stages.{stopped}

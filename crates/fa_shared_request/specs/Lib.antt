@@ -1,4 +1,3 @@
-pub mod Accounts
 pub mod Founded
 pub mod Moves
 pub mod Ops

@@ -1,9 +1,10 @@
 -- One turn of a request: at most one event of the array, and how far the request is behind it.
-use Rattle.std.specs.Prelude.{◌≡◌, ℕ, ◌+◌, true, false, map, Some, Ok}
+use Rattle.std.specs.Prelude.{◌≡◌, ℕ, ◌+◌, true, false, map, Some}
 use Rattle.fa_machine.specs.Conditions.{batch_open, claim_open, history_full, is_reserved}
 use Rattle.fa_machine.specs.State.{Core}
 use Rattle.fa_machine.specs.Step.{Act, Step, is_page, Claim, Release, Reserve, ReserveHole, ReserveFewer, Commit, Abandon}
 use Rattle.fa_machine.specs.Step.{Admit, Replan, EndBatch, FlushBegin, FlushState, Fold}
+use Rattle.fa_shared_events.specs.Accounts.{commits_in}
 use Rattle.fa_shared_request.specs.Founded.{IsBarred, IsFounded}
 use Rattle.fa_shared_steps.specs.Stages.{AfterAdmit, AfterPlanned, AfterReserve, IsSorting, after_abandon, after_begin, after_claim, after_commit, after_release}
 use Rattle.fa_shared_steps.specs.Stages.{after_state, stopped}
@@ -52,11 +53,6 @@ module _ {A : Type 0} where
   Strays old (Abandoning held wish) next = (is_reserved old held.claim.0 ≡ false) × (next ≡ Releasing held (Some Lost))
   Strays old (Releasing held fault) next = (claim_open old held.claim.0 ≡ false) × (next ≡ Ended (Some Lost))
   Strays old stage next = ⊥
-
--- How many Commits an event accepts: one, where it is a Commit and was accepted.
-abbrev pub commits_in : Act → ℕ
-commits_in (Commit claim seat (Ok seq)) = 1
-commits_in act = 0
 
 module _ {L A : Type 0} where
   -- A turn with a seat: the request waits; or it makes its event; or it makes it after a Fold, where the history is full; or no event can be

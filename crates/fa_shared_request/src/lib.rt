@@ -1,7 +1,6 @@
 //! A request of a block store, made event by event of an array under its lock.
 #![tactic(auto)]
 
-mod events;
 mod gathering;
 mod kinds;
 mod op;

@@ -51,7 +51,7 @@ impl<A: Allocator, B: Allocator> Model for Op<A, B> {
 
 impl<A: Allocator + Copy, B: Allocator> Op<A, B> {
     ghost use Rattle.std.specs.Prelude.{◌≡◌, ℕ, ◌^◌, ◌<◌, ◌≤◌, [], IfErr, IfOk};
-    ghost use Rattle.fa_shared_request.specs.Accounts.{IsAccounted};
+    ghost use Rattle.fa_shared_events.specs.Accounts.{IsAccounted};
     ghost use Rattle.fa_shared_request.specs.Moves.{Turned};
     ghost use Rattle.fa_shared_request.specs.Ops.{Prepares, answer_of, ended as rule_ended, stage_of, task_in};
     ghost use Rattle.fa_shared_steps.specs.Stages.{beginning};

@@ -1,6 +1,6 @@
 //! A turn at each stage, and what is prepared at each.
 ghost use Rattle.std.specs.Prelude.{◌≡◌, ◌<◌, [], IfErr, IfOk};
-ghost use Rattle.fa_shared_request.specs.Accounts.{IsAccounted};
+ghost use Rattle.fa_shared_events.specs.Accounts.{IsAccounted};
 ghost use Rattle.fa_shared_request.specs.Moves.{Turned};
 ghost use Rattle.fa_shared_request.specs.Ops.{Prepares};
 ghost use Rattle.fa_shared_steps.specs.Ranges.{IsRange};

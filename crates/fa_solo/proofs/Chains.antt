@@ -15,7 +15,7 @@ use Rattle.fa_solo.specs.House.{House}
 use Rattle.fa_solo.specs.Rigs.{Does, house_of}
 use Rattle.fa_solo.specs.declared.rig.Rig.{Rig}
 use Rattle.fa_types.specs.declared.numbers.Round.{Round}
-use Rattle.fa_workers.specs.Held.{Folded, Folds, HadRoom, LeavesRest}
+use Rattle.fa_shared_events.specs.Held.{Folded, Folds, HadRoom, LeavesRest}
 use Rattle.fa_workers.specs.Spares.{BringsIn, HasNone, Lowest, WantsNone}
 
 -- one after the other
@@ -92,15 +92,17 @@ module _ {L M I A : Type 0} (made : I → ImageCall → ImageAnswer → I → Ty
   }
 
   -- an event, if its condition held
-  pub does_option : {X : Type 0} (P : Act → Type 0) (a b : Rig L M I A) (result : Option X) (act : X → Act) → ((x : X) → P (act x))
-      → ((x : X) → IsDue a.locked.core (act x)) → IfSome result (λ x. Step a.locked.core (act x) b.locked.core) → IfNone result (b.locked.core ≡ a.locked.core)
+  pub does_option : {X C : Type 0} (P : Act → Type 0) (a b : Rig L M I A) (result : Option X) (act : X → Act) → ((x : X) → P (act x))
+      → ((x : X) → IsDue a.locked.core (act x)) → IfSome result (λ x. Step a.locked.core (act x) b.locked.core)
+      → IfNone result (C × (b.locked.core ≡ a.locked.core))
       → LeavesRest a.locked a.seat b.locked b.seat → b.images.items ≡ a.images.items → b.dies.items ≡ a.dies.items → Does made P a b
   does_option P a b (Some x) act may due some none left images dies = does_event P a b (act x) (may x) (due x) some left images dies
-  does_option P a b None act may due some none left images dies = does_same P a b none left images dies
+  does_option P a b None act may due some none left images dies = does_same P a b none.1 left images dies
 
   -- a window is asked for, for a die that wants one
-  pub does_window : (a b : Rig L M I A) (die rounds : ℕ) (result : Option (Result Round WindowRefused))
-      → IfSome result (λ answer. Step a.locked.core (Window die rounds answer) b.locked.core) → IfNone result (b.locked.core ≡ a.locked.core)
+  pub does_window : {C : Type 0} (a b : Rig L M I A) (die rounds : ℕ) (result : Option (Result Round WindowRefused))
+      → IfSome result (λ answer. Step a.locked.core (Window die rounds answer) b.locked.core)
+      → IfNone result (C × (b.locked.core ≡ a.locked.core))
       → LeavesRest a.locked a.seat b.locked b.seat → b.images.items ≡ a.images.items → b.dies.items ≡ a.dies.items
       → wants_window a.locked.core.page_map die ≡ true → Does made IsForDies a b
   does_window a b die rounds result some none left images dies wants =

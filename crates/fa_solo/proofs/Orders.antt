@@ -21,7 +21,7 @@ use Rattle.fa_solo.specs.Orders.{Copies, CopiesPage, Deals, Orders, Rests, Settl
 use Rattle.fa_solo.specs.Rigs.{Does, DoesOne, ReservesCopy, Tidies, TriesCopy, house_of}
 use Rattle.fa_solo.specs.declared.rig.Rig.{Rig}
 use Rattle.fa_types.specs.declared.numbers.Seq.{Seq}
-use Rattle.fa_workers.specs.Held.{LeavesRest}
+use Rattle.fa_shared_events.specs.Held.{LeavesRest}
 
 module _ {I : Type 0} (made : I → ImageCall → ImageAnswer → I → Type 0) (array : List ℕ) (dies : List Standing) (seat : ℕ) where
   orders_more : (a b c : House I) → Orders made array dies seat a b → Orders made array dies seat b c → Orders made array dies seat a c
@@ -94,11 +94,11 @@ module _ {L M I A : Type 0} (made : I → ImageCall → ImageAnswer → I → Ty
   reserved_no a b page seq bytes (Err refused) is one = one_does IsForOrder (ReserveCopy page seq bytes (Err refused)) a b tt tt one
 
   -- no event, if its condition did not hold
-  pub same_if_none : {X : Type 0} (a b : Rig L M I A) (result : Option X) → IfNone result (b.locked.core ≡ a.locked.core)
+  pub same_if_none : {X C : Type 0} (a b : Rig L M I A) (result : Option X) → IfNone result (C × (b.locked.core ≡ a.locked.core))
       → LeavesRest a.locked a.seat b.locked b.seat → b.images.items ≡ a.images.items → b.dies.items ≡ a.dies.items
       → IfNone result (Does made IsForOrder a b)
   same_if_none a b (Some x) same left images dies = tt
-  same_if_none a b None same left images dies = does_same made IsForOrder a b same left images dies
+  same_if_none a b None same left images dies = does_same made IsForOrder a b same.1 left images dies
 
   pub tidies_none : (a : Rig L M I A) → Tidies made a a
   tidies_none a = record { orders = Rests; left = rest_same _ _; dies = refl }

@@ -16,7 +16,7 @@ use Rattle.fa_solo.specs.House.{House}
 use Rattle.fa_solo.specs.Orders.{Commits, Endless, IsOver, Looks, NoLook, OneMore, Settles}
 use Rattle.fa_solo.specs.Rigs.{Does, DoesOne, SettlesCopy, house_of}
 use Rattle.fa_solo.specs.declared.rig.Rig.{Rig}
-use Rattle.fa_workers.specs.Held.{LeavesRest}
+use Rattle.fa_shared_events.specs.Held.{LeavesRest}
 
 none_open : (copying : Option Copying) → is_some copying ≡ false → copying ≡ None
 none_open None is_none = refl

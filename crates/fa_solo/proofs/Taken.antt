@@ -21,7 +21,7 @@ use Rattle.fa_solo.specs.Rigs.{Does, EndsAt, house_of}
 use Rattle.fa_solo.specs.declared.rig.Rig.{Rig}
 use Rattle.fa_core_dispatch.specs.Fits.{IsJobFor}
 use Rattle.fa_types.specs.declared.geometry.Geometry.{Geometry}
-use Rattle.fa_workers.specs.Held.{LeavesRest}
+use Rattle.fa_shared_events.specs.Held.{LeavesRest}
 use Rattle.fa_workers.specs.Made.{Ran}
 
 from_begins : (die seat : ℕ) (core : Core) (given : Option Handed) (job : Handed) (new : Core)

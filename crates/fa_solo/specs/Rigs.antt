@@ -13,7 +13,7 @@ use Rattle.fa_solo.specs.House.{House}
 use Rattle.fa_solo.specs.Orders.{Orders, Settles}
 use Rattle.fa_solo.specs.declared.rig.Parts.{Parts}
 use Rattle.fa_solo.specs.declared.rig.Rig.{Rig}
-use Rattle.fa_workers.specs.Held.{LeavesRest}
+use Rattle.fa_shared_events.specs.Held.{LeavesRest}
 use Rattle.fa_workers.specs.Made.{Ran}
 
 -- an array with its images that is not in use

@@ -4,12 +4,12 @@ ghost use Rattle.fa_machine.specs.Looks.{wants_window};
 ghost use Rattle.fa_solo.specs.Deeds.{IsForDies};
 ghost use Rattle.fa_solo.specs.Rigs.{Does};
 
-use crate::events::window;
 use crate::jobs::work_off;
 use crate::rig::Rig;
 use fa_image::Image;
 use fa_machine::WindowRefused;
 use fa_map::Map;
+use fa_shared_events::window;
 use fa_types::{Die, Round};
 use std::alloc::Allocator;
 use std::sync::ledger::Ledger;

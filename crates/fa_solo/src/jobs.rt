@@ -4,13 +4,13 @@ ghost use Rattle.fa_core.specs.Array.{IsWhole, state_of};
 ghost use Rattle.fa_solo.specs.Deeds.{IsAwaited, IsForDies, IsForRequests};
 ghost use Rattle.fa_solo.specs.Rigs.{Does};
 
-use crate::events::advance;
 use crate::rig::Rig;
 use crate::running::run_next;
 use fa_core::Array;
 use fa_image::Image;
 use fa_machine::{BatchId, ReadState};
 use fa_map::Map;
+use fa_shared_events::advance;
 use fa_types::Die;
 use fa_workers::bring_in_spare;
 use std::alloc::Allocator;

@@ -2,7 +2,6 @@
 #![tactic(auto)]
 
 mod collecting;
-mod events;
 mod jobs;
 mod rebuilding;
 mod requests;

@@ -9,7 +9,6 @@ ghost use Rattle.fa_solo.specs.Deeds.{IsForDies, IsForOrder};
 ghost use Rattle.fa_solo.specs.Rigs.{Does, DoesOne, ReservesCopy, SettlesCopy, Tidies, TriesCopy};
 
 use crate::collecting::collect;
-use crate::events::{admit, commit_copy, end_batch, reserve_copy};
 use crate::jobs::{bring_in, work, work_off};
 use crate::rig::Rig;
 use fa_core_read::Admitted;
@@ -17,6 +16,7 @@ use fa_image::Image;
 use fa_machine::{AdmitRefused, BatchId, CommitCopyRefused, Copied, ReadState};
 use fa_map::Map;
 use fa_shared::Locked;
+use fa_shared_events::{admit, commit_copy, end_batch, reserve_copy};
 use fa_tag::Payload;
 use fa_types::{Page, Seq};
 use std::alloc::Allocator;
@@ -88,7 +88,7 @@ fn ask<L: Ledger, M: Map + Drop, I: Image, A: Allocator + Copy>(
     ensures some { IfSome result (λ batch. (planned : Planned)
         × DoesOne (Admit (page.0 ∷ []) (Ok (record { batch = batch; planned = planned }))) rig.old rig.new) }
 {
-    match admit(&mut rig.locked, &mut rig.seat, page) {
+    match admit(&mut rig.locked, &mut rig.seat, &[page]) {
         Some(answer) => batch_of(answer),
         None => None,
     }

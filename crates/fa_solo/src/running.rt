@@ -9,13 +9,13 @@ ghost use Rattle.fa_solo.specs.Rigs.{Does, EndsAt, HasMemory, IsPlaced, RanAt};
 ghost use Rattle.fa_core_dispatch.specs.Fits.{IsJobFor};
 ghost use Rattle.fa_core_dispatch.specs.Handed.{handed_of};
 
-use crate::events::{done, make_room, take};
 use crate::rig::Rig;
 use fa_core_dispatch::Job;
 use fa_core_outcome::Outcome;
 use fa_image::Image;
 use fa_laws::steps::the_geometry_is_kept;
 use fa_map::Map;
+use fa_shared_events::{done, make_room, take};
 use fa_types::{Die, TAG_BYTES};
 use fa_workers::{Open, run_job};
 use std::alloc::Allocator;
@@ -116,7 +116,7 @@ fn run_taken<L: Ledger, M: Map + Drop, I: Image, A: Allocator + Copy>(
 {
     let outcome = call_image(rig, die, place, job);
     let buffer = replace(&mut rig.buffer, Vec::new(rig.alloc));
-    rig.buffer = done(
+    let ended = done(
         rig.alloc,
         &mut rig.locked,
         &mut rig.seat,
@@ -124,6 +124,8 @@ fn run_taken<L: Ledger, M: Map + Drop, I: Image, A: Allocator + Copy>(
         outcome,
         buffer,
     );
+    let Ok(left) = ended else { unreachable!() };
+    rig.buffer = left;
 }
 
 /// Makes the calls of a job on an image.

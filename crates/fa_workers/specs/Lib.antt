@@ -1,5 +1,4 @@
 pub mod DieTurns
-pub mod Held
 pub mod Made
 pub mod Orders
 pub mod Rebuilding

@@ -1,15 +1,12 @@
 //! The worker that gives dies their windows.
-ghost use Rattle.std.specs.Prelude.{◌≡◌, ◌<◌, ◌≤◌, false, IfNone, IfSome};
-ghost use Rattle.fa_machine.specs.Step.{Step, Window};
-ghost use Rattle.fa_workers.specs.Held.{LeavesRest};
+ghost use Rattle.std.specs.Prelude.{◌≡◌, ◌<◌, false};
+ghost use Rattle.fa_shared_events.specs.Held.{LeavesRest};
 ghost use Rattle.fa_workers.specs.Windows.{GivesWindow, GivesWindows};
 
-use crate::events::make;
-use fa_core::{Answer, Call};
-use fa_machine::WindowRefused;
 use fa_map::Map;
-use fa_shared::{Awaits, Locked, Seat, Shared, plain};
-use fa_types::{Die, Round};
+use fa_shared::{Awaits, Locked, Seat, Shared};
+use fa_shared_events::window;
+use fa_types::Die;
 use std::alloc::Allocator;
 use std::sync::Wait;
 use std::sync::ledger::Ledger;
@@ -74,23 +71,4 @@ fn give_window<L: Ledger, M: Map + Drop, A: Allocator + Copy>(
         None => false,
         Some(answer) => answer.is_ok(),
     }
-}
-
-/// A Window. None where no window has so many rounds.
-fn window<L: Ledger, M: Map + Drop, A: Allocator + Copy>(
-    alloc: A,
-    locked: &mut Locked<L, M, A>,
-    seat: &mut Seat<L>,
-    die: Die,
-    rounds: u64,
-) -> Option<Result<Round, WindowRefused>>
-    requires { die.0 < locked.old.core.page_map.geometry.dies }
-    ensures some { IfSome result (λ answer. Step locked.old.core (Window die.0 rounds answer) locked.new.core) }
-    ensures none { IfNone result (((1 ≤ rounds) × (rounds ≤ 64) → ⊥) × (locked.new.core ≡ locked.old.core)) }
-    ensures account { LeavesRest locked.old seat.old locked.new seat.new }
-{
-    let Answer::Window(answer) = make(locked, seat, plain(&alloc, Call::Window(die, rounds))) else {
-        return None;
-    };
-    Some(answer)
 }

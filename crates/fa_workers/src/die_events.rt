@@ -1,20 +1,20 @@
 //! What a die's worker does while it holds the array's lock.
-ghost use Rattle.std.specs.Prelude.{◌≡◌, true, false, IfErr, IfOk, IfSome, option_map};
+ghost use Rattle.std.specs.Prelude.{◌≡◌, true, false, IfSome, option_map};
 ghost use Rattle.fa_machine.specs.Conditions.{history_full};
-ghost use Rattle.fa_machine.specs.Step.{Advance, Step, Take, is_die};
+ghost use Rattle.fa_machine.specs.Step.{Step, Take, is_die};
 ghost use Rattle.fa_shared.specs.Seats.{number_of};
 ghost use Rattle.fa_core_dispatch.specs.Handed.{handed_of};
 ghost use Rattle.fa_workers.specs.DieTurns.{Ends, Rests, TakesNext, Turns};
 ghost use Rattle.fa_workers.specs.DieTurns.{after_look as rule_look, cause_of as rule_cause, fault_of, noted};
-ghost use Rattle.fa_workers.specs.Held.{LeavesRest};
+ghost use Rattle.fa_shared_events.specs.Held.{LeavesRest};
 
-use crate::events::{make, make_room};
 use crate::order::{Order, order_of};
-use fa_core::{Answer, Array, Call};
+use fa_core::Array;
 use fa_core_outcome::Outcome;
 use fa_machine::AdvanceRefused;
 use fa_map::Map;
-use fa_shared::{Cause, Fault, Locked, Seat, plain};
+use fa_shared::{Cause, Fault, Locked, Seat};
+use fa_shared_events::{advance, done, make_room, take};
 use fa_types::{Die, Round};
 use std::alloc::{Allocator, Global};
 use std::sync::ledger::Ledger;
@@ -100,7 +100,7 @@ fn take_next<L: Ledger, M: Map + Drop, A: Allocator + Copy>(
     ensures account { LeavesRest locked.old seat.old locked.new seat.new }
 {
     make_room(alloc, locked, seat);
-    match take(alloc, locked, seat, die) {
+    match take_order(alloc, locked, seat, die) {
         Some(order) => Next::Run(order),
         None => rest(alloc, locked, seat, refused),
     }
@@ -133,23 +133,8 @@ fn after_look<A: Allocator>(answer: Result<Round, AdvanceRefused>) -> Next<A>
     }
 }
 
-/// An Advance.
-fn advance<L: Ledger, M: Map + Drop, A: Allocator + Copy>(
-    alloc: A,
-    locked: &mut Locked<L, M, A>,
-    seat: &mut Seat<L>,
-) -> Result<Round, AdvanceRefused>
-    ensures event { Step locked.old.core (Advance result) locked.new.core }
-    ensures account { LeavesRest locked.old seat.old locked.new seat.new }
-{
-    let Answer::Advance(answer) = make(locked, seat, plain(&alloc, Call::Advance)) else {
-        unreachable!()
-    };
-    answer
-}
-
-/// A Take of a die of the array. The history has room for it.
-fn take<L: Ledger, M: Map + Drop, A: Allocator + Copy>(
+/// A Take of a die of the array, with all that its job's calls want. The history has room for it.
+fn take_order<L: Ledger, M: Map + Drop, A: Allocator + Copy>(
     alloc: A,
     locked: &mut Locked<L, M, A>,
     seat: &mut Seat<L>,
@@ -164,9 +149,7 @@ fn take<L: Ledger, M: Map + Drop, A: Allocator + Copy>(
 {
     let geometry = locked.array().geometry();
     let array = locked.array().array_id();
-    let Answer::Take(job) = make(locked, seat, plain(&alloc, Call::Take(die))) else {
-        unreachable!()
-    };
+    let job = take(alloc, locked, seat, die);
     order_of(die, geometry, array, job)
 }
 
@@ -184,7 +167,7 @@ pub(crate) fn end_job<L: Ledger, M: Map + Drop, A: Allocator + Copy>(
     ensures account { LeavesRest locked.old seat.old locked.new seat.new }
 {
     let was_live = locked.array().is_live(die);
-    let buffer = done(alloc, locked, seat, die, outcome, buffer);
+    let buffer = either(done(alloc, locked, seat, die, outcome, buffer));
     let is_live = locked.array().is_live(die);
     if changes_more(outcome) {
         locked.note_change();
@@ -213,26 +196,11 @@ fn note(was_live: bool, is_live: bool, die: Die, outcome: Outcome, round: Round)
     }
 }
 
-/// The event alone. The buffer is handed back, or the one that it changed places with.
-fn done<L: Ledger, M: Map + Drop, A: Allocator + Copy>(
-    alloc: A,
-    locked: &mut Locked<L, M, A>,
-    seat: &mut Seat<L>,
-    die: Die,
-    outcome: Outcome,
-    buffer: Vec<u8, A>,
-) -> Vec<u8, A>
-    ensures ends { Ends die.0 outcome buffer.items locked.old.core locked.new.core }
-    ensures account { LeavesRest locked.old seat.old locked.new seat.new }
-{
-    match make(
-        locked,
-        seat,
-        plain(&alloc, Call::Done(die, outcome, buffer)),
-    ) {
-        Answer::Done(left) => left,
-        Answer::Stranger(Some(back)) => back,
-        _ => Vec::new(alloc),
+/// The buffer of a Done, whether it was made or not.
+fn either<A: Allocator>(ended: Result<Vec<u8, A>, Vec<u8, A>>) -> Vec<u8, A> {
+    match ended {
+        Ok(left) => left,
+        Err(back) => back,
     }
 }
 

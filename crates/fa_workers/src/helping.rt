@@ -1,5 +1,5 @@
 //! Those who work for dies while they wait for something else.
-ghost use Rattle.fa_workers.specs.Held.{LeavesRest};
+ghost use Rattle.fa_shared_events.specs.Held.{LeavesRest};
 
 use crate::bench::Bench;
 use crate::die_events::{Ended, end_job, take_job};

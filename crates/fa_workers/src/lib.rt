@@ -4,7 +4,6 @@
 mod bench;
 mod collecting;
 mod die_events;
-mod events;
 mod gate;
 mod handing;
 mod header;

@@ -1,19 +1,17 @@
 //! What the rebuilder does while it holds the array's lock.
-ghost use Rattle.std.specs.Prelude.{◌≡◌, false, map, IfNone, IfSome};
-ghost use Rattle.fa_machine.specs.Conditions.{batch_open, copy_open};
-ghost use Rattle.fa_machine.specs.Step.{CommitCopy, EndBatch, Step};
+ghost use Rattle.std.specs.Prelude.{◌≡◌, false, map, IfSome};
 ghost use Rattle.fa_core_read.specs.Answers.{admit_answer};
-ghost use Rattle.fa_workers.specs.Held.{LeavesRest};
+ghost use Rattle.fa_shared_events.specs.Held.{LeavesRest};
 ghost use Rattle.fa_workers.specs.Rebuilding.{AfterBatch, IsNumbered, Rebuilds, after_admit, after_commit as rule_commit, after_reserve};
 ghost use Rattle.fa_workers.specs.declared.rebuild_stage.Stage.TheVariants.{Looking, Pausing, Reading, Reserving, Copying};
 
-use crate::events::make;
 use crate::rebuild_stage::{Stage, ThinPage};
 use crate::spares::bring_in_spare;
-use fa_core::{Admitted, Answer, Call};
+use fa_core::Admitted;
 use fa_machine::{AdmitRefused, BatchId, CommitCopyRefused, Copied, ReadState, ReserveCopyRefused};
 use fa_map::Map;
-use fa_shared::{Locked, Seat, plain};
+use fa_shared::{Locked, Seat};
+use fa_shared_events::{admit, commit_copy, end_batch, reserve_copy};
 use fa_tag::Payload;
 use fa_types::Page;
 use std::alloc::{Allocator, Global};
@@ -120,10 +118,10 @@ fn ask<L: Ledger, M: Map + Drop, A: Allocator + Copy>(
     ensures rebuilds { Rebuilds locked.old Looking locked.new.core result.stage }
     ensures account { LeavesRest locked.old seat.old locked.new seat.new }
 {
-    let Answer::Admit(answer) = make(locked, seat, Call::Admit(&[thin.page])) else {
-        return comes_to(Stage::Looking, Came::Wait);
-    };
-    asked(thin, answer)
+    match admit(locked, seat, &[thin.page]) {
+        None => comes_to(Stage::Looking, Came::Wait),
+        Some(answer) => asked(thin, answer),
+    }
 }
 
 /// What the rebuilder does behind its Admit.
@@ -176,24 +174,6 @@ fn after_batch<A: Allocator>(
     }
 }
 
-/// An EndBatch. None where the batch is not open.
-fn end_batch<L: Ledger, M: Map + Drop, A: Allocator + Copy>(
-    alloc: A,
-    locked: &mut Locked<L, M, A>,
-    seat: &mut Seat<L>,
-    batch: BatchId,
-) -> Option<Vec<(Page, Vec<u8, A>), A>>
-    ensures some { IfSome result (λ answers. Step locked.old.core (EndBatch batch.0 (map (λ e. (e.0.0, e.1.items)) answers.items))
-        locked.new.core) }
-    ensures none { IfNone result ((batch_open locked.old.core batch.0 ≡ false) × (locked.new.core ≡ locked.old.core)) }
-    ensures account { LeavesRest locked.old seat.old locked.new seat.new }
-{
-    let Answer::EndBatch(answers) = make(locked, seat, plain(&alloc, Call::EndBatch(batch))) else {
-        return None;
-    };
-    Some(answers)
-}
-
 /// A slot is reserved for the copy.
 fn reserve<L: Ledger, M: Map + Drop, A: Allocator + Copy>(
     locked: &mut Locked<L, M, A>,
@@ -207,11 +187,10 @@ fn reserve<L: Ledger, M: Map + Drop, A: Allocator + Copy>(
     if locked.is_stopping() {
         return comes_to(Stage::Ended, Came::More);
     }
-    let call = Call::ReserveCopy(thin.page, thin.seq, &payload);
-    let Answer::ReserveCopy(answer) = make(locked, seat, call) else {
-        return comes_to(Stage::Looking, Came::Wait);
-    };
-    reserved(thin, payload, answer)
+    match reserve_copy(locked, seat, thin.page, thin.seq, &payload) {
+        None => comes_to(Stage::Looking, Came::Wait),
+        Some(answer) => reserved(thin, payload, answer),
+    }
 }
 
 /// What the rebuilder does behind a ReserveCopy. Where the page wants no such copy, or there is no room for it, it looks for another.
@@ -246,22 +225,6 @@ fn copy<L: Ledger, M: Map + Drop, A: Allocator + Copy>(
         None => comes_to(Stage::Looking, Came::More),
         Some(answer) => after_commit(answer),
     }
-}
-
-/// A CommitCopy. None where no copy is under way.
-fn commit_copy<L: Ledger, M: Map + Drop, A: Allocator + Copy>(
-    alloc: A,
-    locked: &mut Locked<L, M, A>,
-    seat: &mut Seat<L>,
-) -> Option<Result<Copied, CommitCopyRefused>>
-    ensures some { IfSome result (λ answer. Step locked.old.core (CommitCopy answer) locked.new.core) }
-    ensures none { IfNone result ((copy_open locked.old.core ≡ false) × (locked.new.core ≡ locked.old.core)) }
-    ensures account { LeavesRest locked.old seat.old locked.new seat.new }
-{
-    let Answer::CommitCopy(answer) = make(locked, seat, plain(&alloc, Call::CommitCopy)) else {
-        return None;
-    };
-    Some(answer)
 }
 
 /// What the rebuilder does behind a CommitCopy.

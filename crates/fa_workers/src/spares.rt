@@ -1,15 +1,13 @@
 //! Spares that are brought in.
 ghost use Rattle.std.specs.Prelude.{◌≡◌, ◌<◌, true, false};
 ghost use Rattle.fa_core.specs.Array.{state_of};
-ghost use Rattle.fa_machine.specs.Step.{SpareIn, Step};
-ghost use Rattle.fa_workers.specs.Held.{LeavesRest};
+ghost use Rattle.fa_shared_events.specs.Held.{LeavesRest};
 ghost use Rattle.fa_workers.specs.Spares.{BringsIn, BringsInOne, live_below, wants_spare as rule_wants};
 
-use crate::events::make;
-use fa_core::{Answer, Array, Call};
-use fa_machine::SpareRefused;
+use fa_core::Array;
 use fa_map::Map;
-use fa_shared::{Locked, Seat, plain};
+use fa_shared::{Locked, Seat};
+use fa_shared_events::spare_in;
 use fa_types::Die;
 use std::alloc::Allocator;
 use std::sync::ledger::Ledger;
@@ -71,21 +69,4 @@ fn bring_in<L: Ledger, M: Map + Drop, A: Allocator + Copy>(
         return false;
     }
     spare_in(alloc, locked, seat, die).is_ok()
-}
-
-/// A SpareIn of a die of the array.
-fn spare_in<L: Ledger, M: Map + Drop, A: Allocator + Copy>(
-    alloc: A,
-    locked: &mut Locked<L, M, A>,
-    seat: &mut Seat<L>,
-    die: Die,
-) -> Result<(), SpareRefused>
-    requires { die.0 < locked.old.core.page_map.geometry.dies }
-    ensures event { Step locked.old.core (SpareIn die.0 result) locked.new.core }
-    ensures account { LeavesRest locked.old seat.old locked.new seat.new }
-{
-    let Answer::SpareIn(answer) = make(locked, seat, plain(&alloc, Call::SpareIn(die))) else {
-        unreachable!()
-    };
-    answer
 }

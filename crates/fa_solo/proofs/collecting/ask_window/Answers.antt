@@ -4,8 +4,8 @@ use Rattle.fa_solo.proofs.collecting.ask_window.Goals as goal
 
 pub returns-in-Some : goal.returns-in-Some
 returns-in-Some g c = does_window _ c.args.rig.now _ c.args.die.0 c.args.rig.now.window_rounds c.window.result c.window.ensures.some
-    c.window.ensures.none c.window.ensures.account refl refl c.requires.wanted
+    c.window.ensures.none c.window.ensures.rest refl refl c.requires.wanted
 
 pub returns-in-None : goal.returns-in-None
 returns-in-None g c = does_window _ c.args.rig.now _ c.args.die.0 c.args.rig.now.window_rounds c.window.result c.window.ensures.some
-    c.window.ensures.none c.window.ensures.account refl refl c.requires.wanted
+    c.window.ensures.none c.window.ensures.rest refl refl c.requires.wanted

@@ -5,4 +5,4 @@ use Rattle.fa_solo.specs.Deeds.{IsForDies}
 use Rattle.fa_solo.proofs.jobs.pass_round.Goals as goal
 
 pub returns : goal.returns
-returns g c = does_event _ IsForDies _ _ (Advance c.advance.result) tt c.requires c.advance.ensures.event c.advance.ensures.account refl refl
+returns g c = does_event _ IsForDies _ _ (Advance c.advance.result) tt c.requires c.advance.ensures.event c.advance.ensures.rest refl refl

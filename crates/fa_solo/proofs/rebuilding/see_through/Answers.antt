@@ -10,18 +10,18 @@ loop-looks-preserved g c = (
   c.loop-looks.invariant.0 + 1,
   omega (arith, c.loop-looks.invariant.1),
   looks_pending _ c.loop-looks.invariant.0 _ _ _ _ c.in-Some.answer c.loop-looks.invariant.2 (c.is_pending.ensures.yes c.if-not-is_pending.false)
-      (record { step = c.in-Some.ensures.some; left = c.commit_copy.ensures.account; images = refl; dies = refl }) c.work.ensures,
+      (record { step = c.in-Some.ensures.some; left = c.commit_copy.ensures.rest; images = refl; dies = refl }) c.work.ensures,
 )
 
 pub returns-in_default : goal.returns-in_default
 returns-in_default g c =
     settles_over _ c.loop-looks.invariant.0 _ _ _ c.loop-looks.invariant.2 c.in_default.ensures.none.0 c.in_default.ensures.none.1
-    c.commit_copy.ensures.account refl refl
+    c.commit_copy.ensures.rest refl refl
 
 pub returns-then-not-is_pending : goal.returns-then-not-is_pending
 returns-then-not-is_pending g c =
     settles_commit _ c.loop-looks.invariant.0 _ _ _ c.in-Some.answer c.loop-looks.invariant.2
-    (record { step = c.in-Some.ensures.some; left = c.commit_copy.ensures.account; images = refl; dies = refl })
+    (record { step = c.in-Some.ensures.some; left = c.commit_copy.ensures.rest; images = refl; dies = refl })
     (c.is_pending.ensures.no c.if-not-is_pending.true)
 
 pub returns : goal.returns

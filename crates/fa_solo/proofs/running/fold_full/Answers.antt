@@ -4,4 +4,4 @@ use Rattle.fa_solo.specs.Deeds.{IsForDies}
 use Rattle.fa_solo.proofs.running.fold_full.Goals as goal
 
 pub returns-clause-does : goal.returns-clause-does
-returns-clause-does g c = does_fold _ IsForDies _ _ tt c.make_room.ensures.folds c.make_room.ensures.account refl refl
+returns-clause-does g c = does_fold _ IsForDies _ _ tt c.make_room.ensures.folds c.make_room.ensures.rest refl refl

@@ -13,7 +13,7 @@ run_taken-requires-clause-flight g c = took_job _ _ _ _ _ c.in-Some.ensures.even
 
 pub run_taken-requires-clause-fits : goal.run_taken-requires-clause-fits
 run_taken-requires-clause-fits g c = fits_by _ _ _ _ _ _ (sym (c.the_geometry_is_kept.ensures _ _ _ c.in-Some.ensures.event))
-    (sym (ap (λ (l : LockedState). l.number) c.take.ensures.account.rest)) c.in-Some.ensures.fits
+    (sym (ap (λ (l : LockedState). l.number) c.take.ensures.rest.rest)) c.in-Some.ensures.fits
 
 pub run_taken-requires-clause-placed : goal.run_taken-requires-clause-placed
 run_taken-requires-clause-placed g c = let placed = c.requires.placed in record {
@@ -31,9 +31,9 @@ run_taken-requires-clause-memory g c = let shape = sym (c.the_geometry_is_kept.e
 }
 
 pub returns-in-Some : goal.returns-in-Some
-returns-in-Some g c = does_job _ _ _ _ _ _ _ c.in-Some.ensures.event c.take.ensures.account c.requires.placed.place_is c.in-Some.ensures.fits
+returns-in-Some g c = does_job _ _ _ _ _ _ _ c.in-Some.ensures.event c.take.ensures.rest c.requires.placed.place_is c.in-Some.ensures.fits
     (c.the_geometry_is_kept.ensures _ _ _ c.in-Some.ensures.event) refl refl c.run_taken.ensures
 
 pub returns-in-None : goal.returns-in-None
 returns-in-None g c = does_event _ IsForDies _ _ (Take c.args.die.0 (number_of c.args.rig.now.seat) None) tt tt c.in-None.ensures.event
-    c.take.ensures.account refl refl
+    c.take.ensures.rest refl refl

@@ -1,10 +1,12 @@
 use Rattle.std.proofs.Common.{rules}
+use Rattle.std.proofs.lemmas.Bool.{and_from, both_ways}
 use Rattle.fa_solo.proofs.Ended.{ran_kind}
 use Rattle.fa_solo.proofs.Taken.{kept_flight, kind_at}
 use Rattle.fa_solo.proofs.running.run_taken.Goals as goal
 
-pub done-requires-clause-kind : goal.done-requires-clause-kind
-done-requires-clause-kind g c =
-    kind_at _ c.args.job.now.flight c.call_image-outcome.result c.call_image-outcome.new.rig.buffer.items _
+pub unreachable-requires : goal.unreachable-requires
+unreachable-requires g c =
+    let kind = kind_at _ c.args.job.now.flight c.call_image-outcome.result c.call_image-outcome.new.rig.buffer.items _
     (kept_flight c.args.rig.now c.call_image-outcome.new.rig c.args.die.0 c.args.job.now.flight c.call_image-outcome.ensures.rest c.requires.flight)
-    (search rules) (ran_kind _ _ _ _ _ _ _ _ c.call_image-outcome.ensures.ran.ran)
+    (search rules) (ran_kind _ _ _ _ _ _ _ _ c.call_image-outcome.ensures.ran.ran) in
+    both_ways _ c.in_default.ensures.none.0 (and_from _ _ kind (search rules))

@@ -9,4 +9,4 @@ returns-in-Ok-clause-turns g c = Rose c.in-Ok.field-0 refl c.in-Ok.ensures.event
 pub returns-in-Err-clause-turns : goal.returns-in-Err-clause-turns
 returns-in-Err-clause-turns g c =
     Stayed c.in-Err.refused c.advance.new.locked.core c.in-Err.ensures.event
-    (same_seat c.advance.ensures.account.number c.take_next.ensures.takes)
+    (same_seat c.advance.ensures.rest.number c.take_next.ensures.takes)

@@ -1,4 +1,4 @@
--- What workers do while they hold the lock of an array that is shared.
+-- What is left of a locked array by whoever makes no Commit, and events behind a Fold.
 use Rattle.std.specs.Prelude.{◌≡◌, true}
 use Rattle.fa_core.specs.declared.call.Call.{Call}
 use Rattle.fa_core.specs.declared.call.Call.TheVariants.{Commit}
@@ -10,7 +10,7 @@ use Rattle.fa_shared.specs.Seats.{commits_with, number_of}
 use Rattle.fa_shared.specs.declared.seat.Seat.{Seat}
 
 module _ {L : Type 0} where
-  -- A worker commits nothing, and changes nothing of the locked array but its state.
+  -- Nothing is committed, and nothing of the locked array has changed but its state.
   pub record LeavesRest (old : LockedState) (before : Seat L) (new : LockedState) (after : Seat L) : Type 0 where
     pub rest : new ≡ record old { core = new.core }
     pub commits : commits_with after ≡ commits_with before
@@ -27,7 +27,7 @@ pub record MakesFolded (old : Core) (act : Act) (new : Core) : Type 0 where
   pub folds : Folds old between
   pub step : Step between act new
 
--- No worker commits a write.
+-- any call but a Commit
 abbrev pub IsNoCommit : {A : Type 0} → Call A → Type 0
 IsNoCommit (Commit claim) = ⊥
 IsNoCommit call = Unit {0}

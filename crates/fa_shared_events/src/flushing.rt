@@ -1,0 +1,82 @@
+//! The events of flushes, and those that fold the history.
+ghost use Rattle.std.specs.Prelude.{◌≡◌, false};
+ghost use Rattle.fa_machine.specs.Conditions.{history_full};
+ghost use Rattle.fa_machine.specs.Step.{FlushBegin, FlushState as StateFlush, Fold, Step};
+ghost use Rattle.fa_shared.specs.Seats.{commits_with};
+ghost use Rattle.fa_shared_events.specs.Accounts.{IsAccounted};
+ghost use Rattle.fa_shared_events.specs.Held.{Folds, LeavesRest};
+
+use crate::making::make;
+use fa_core::{Answer, Call};
+use fa_machine::{Flush, FlushRefused, FlushState};
+use fa_map::Map;
+use fa_shared::{Locked, Seat, plain};
+use std::alloc::Allocator;
+use std::sync::ledger::Ledger;
+
+/// A FlushBegin.
+pub fn flush_begin<L: Ledger, M: Map + Drop, A: Allocator + Copy>(
+    alloc: A,
+    locked: &mut Locked<L, M, A>,
+    seat: &mut Seat<L>,
+) -> Result<Flush, FlushRefused>
+    ensures event { Step locked.old.core (FlushBegin result) locked.new.core }
+    ensures commits { commits_with seat.new ≡ commits_with seat.old }
+    ensures account { IsAccounted locked.old seat.old locked.new seat.new }
+    ensures rest { LeavesRest locked.old seat.old locked.new seat.new }
+{
+    let Answer::FlushBegin(answer) = make(locked, seat, plain(&alloc, Call::FlushBegin)) else {
+        unreachable!()
+    };
+    answer
+}
+
+/// A FlushState.
+pub fn flush_state<L: Ledger, M: Map + Drop, A: Allocator + Copy>(
+    alloc: A,
+    locked: &mut Locked<L, M, A>,
+    seat: &mut Seat<L>,
+    flush: Flush,
+) -> FlushState
+    ensures event { Step locked.old.core (StateFlush flush result) locked.new.core }
+    ensures commits { commits_with seat.new ≡ commits_with seat.old }
+    ensures account { IsAccounted locked.old seat.old locked.new seat.new }
+    ensures rest { LeavesRest locked.old seat.old locked.new seat.new }
+{
+    let Answer::FlushState(answer) = make(locked, seat, plain(&alloc, Call::FlushState(flush)))
+    else {
+        unreachable!()
+    };
+    answer
+}
+
+/// A Fold.
+pub fn fold<L: Ledger, M: Map + Drop, A: Allocator + Copy>(
+    alloc: A,
+    locked: &mut Locked<L, M, A>,
+    seat: &mut Seat<L>,
+)
+    ensures event { Step locked.old.core Fold locked.new.core }
+    ensures commits { commits_with seat.new ≡ commits_with seat.old }
+    ensures account { IsAccounted locked.old seat.old locked.new seat.new }
+    ensures rest { LeavesRest locked.old seat.old locked.new seat.new }
+{
+    make(locked, seat, plain(&alloc, Call::Fold));
+}
+
+/// The history is folded, if it is full.
+pub fn make_room<L: Ledger, M: Map + Drop, A: Allocator + Copy>(
+    alloc: A,
+    locked: &mut Locked<L, M, A>,
+    seat: &mut Seat<L>,
+)
+    ensures folds { Folds locked.old.core locked.new.core }
+    ensures room { history_full locked.new.core ≡ false }
+    ensures commits { commits_with seat.new ≡ commits_with seat.old }
+    ensures account { IsAccounted locked.old seat.old locked.new seat.new }
+    ensures rest { LeavesRest locked.old seat.old locked.new seat.new }
+{
+    if locked.array().history_full() {
+        fold(alloc, locked, seat);
+    }
+}
