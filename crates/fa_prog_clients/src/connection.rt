@@ -1,7 +1,7 @@
 //! A client's connection as its session uses it: requests are read ahead, and replies are held until the client has nothing more to say.
 ghost use Rattle.std.specs.Prelude.{◌≤◌, length};
 
-use crate::lobby::Lobby;
+use crate::accept_queue::AcceptQueue;
 use crate::socket::receive;
 use fa_io::WriteBoth;
 use std::alloc::{AllocError, Global};
@@ -67,7 +67,7 @@ impl Connection {
     pub(crate) fn sides<'a, R: Clock>(
         &'a mut self,
         rt: &'a R,
-        lobby: &'a Lobby,
+        accept_queue: &'a AcceptQueue,
         stream: &'a TcpStream,
     ) -> (RequestReader<'a, R>, ReplyWriter<'a>) {
         let Connection { ahead, held } = self;
@@ -76,7 +76,7 @@ impl Connection {
         let held = &*held;
         let reader = RequestReader {
             rt,
-            lobby,
+            accept_queue,
             stream,
             ahead,
             held,
@@ -211,7 +211,7 @@ impl Held {
 #[derive(Drop)]
 pub(crate) struct RequestReader<'a, R: Clock> {
     rt: &'a R,
-    lobby: &'a Lobby,
+    accept_queue: &'a AcceptQueue,
     stream: &'a TcpStream,
     ahead: &'a mut Ahead,
     held: &'a Held,
@@ -222,7 +222,7 @@ pub(crate) struct RequestReader<'a, R: Clock> {
 impl<'a, R: Clock> RequestReader<'a, R> {
     /// Reads more of what the client says.
     fn fill(&mut self) -> io::Result<()> {
-        if self.lobby.has_few_clients() && self.ahead.look(self.rt, self.stream) {
+        if self.accept_queue.has_few_clients() && self.ahead.look(self.rt, self.stream) {
             return Ok(());
         }
         for _ in 0..u64::MAX {

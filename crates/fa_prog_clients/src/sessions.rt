@@ -1,8 +1,8 @@
 //! A session of the server: it serves one client after another.
+use crate::accept_queue::AcceptQueue;
 use crate::connection::{Connection, ConnectionRoom};
 use crate::export::Export;
 use crate::host::Networked;
-use crate::lobby::Lobby;
 use crate::socket::prepare;
 use fa_image::Image;
 use fa_map::Map;
@@ -11,7 +11,7 @@ use fa_session::{SessionEnd, serve_stream};
 use fa_shared::{Hands, Seat, Shared};
 use fa_shared_store::ArrayBlocks;
 use fa_types::Blocks;
-use fa_workers::{Bench, Helper, HelperRoom, Open};
+use fa_workers::{Helper, HelperRoom, ImageTable, Open};
 use std::alloc::{AllocError, Global};
 use std::io::Write;
 use std::net::{SocketAddr, TcpStream};
@@ -51,7 +51,7 @@ impl<'a, L: Ledger + Send> Session<'a, L> {
 /// How a session serves clients.
 #[derive(Clone, Copy)]
 pub struct Service<'a> {
-    /// The session's number, from 0 and below the number of sessions that the lobby is for. No two sessions of a lobby share it.
+    /// The session's number, from 0 and below the number of sessions that the accept queue is for. No two sessions of an accept queue share it.
     pub number: usize,
     /// The export's name. A name that is too long for the protocol is served to nobody: each client is closed at once.
     pub name: &'a str,
@@ -59,13 +59,13 @@ pub struct Service<'a> {
     pub verbose: bool,
 }
 
-/// Serves an array to one client after another until the lobby is closed, and hands the session's seat back. It blocks its thread: while its
-/// clients' requests wait it makes jobs of the dies whose images are at this bench.
+/// Serves an array to one client after another until the accept queue is closed, and hands the session's seat back. It blocks its thread: while its
+/// clients' requests wait it makes jobs of the dies whose images are in this table.
 pub fn serve_clients<R: Networked, L: Ledger + Send, M: Map + Drop, I: Image + Send + Drop>(
     rt: &R,
-    lobby: &Lobby,
+    accept_queue: &AcceptQueue,
     shared: &Shared<L, M>,
-    bench: &Bench<I>,
+    image_table: &ImageTable<I>,
     session: Session<'_, L>,
 ) -> Seat<L> {
     let Session {
@@ -74,15 +74,15 @@ pub fn serve_clients<R: Networked, L: Ledger + Send, M: Map + Drop, I: Image + S
         room,
         connection,
     } = session;
-    let helper = Helper::new(rt, rt.alloc(), shared, bench, &Open, room);
-    serve_with(rt, lobby, shared, service, connection, seat, helper)
+    let helper = Helper::new(rt, rt.alloc(), shared, image_table, &Open, room);
+    serve_with(rt, accept_queue, shared, service, connection, seat, helper)
 }
 
 /// The same over the shared array, with somebody who makes jobs of its dies while a request waits. It is a function of its own, so that no
 /// type is written that has the helper's inside of the store's.
 fn serve_with<R: Networked, L: Ledger + Send, M: Map + Drop, H: Hands<L, M, Global> + Drop>(
     rt: &R,
-    lobby: &Lobby,
+    accept_queue: &AcceptQueue,
     shared: &Shared<L, M>,
     service: Service<'_>,
     connection: ConnectionRoom,
@@ -91,26 +91,26 @@ fn serve_with<R: Networked, L: Ledger + Send, M: Map + Drop, H: Hands<L, M, Glob
 ) -> Seat<L> {
     let mut connection = Connection::new(connection);
     let mut blocks = ArrayBlocks::new(rt, rt.alloc(), shared, seat, hands);
-    serve_each(rt, lobby, service, &mut connection, &mut blocks);
+    serve_each(rt, accept_queue, service, &mut connection, &mut blocks);
     blocks.into_seat()
 }
 
-/// Serves a store to one client after another until the lobby is closed.
+/// Serves a store to one client after another until the accept queue is closed.
 fn serve_each<R: Networked, B: Blocks>(
     rt: &R,
-    lobby: &Lobby,
+    accept_queue: &AcceptQueue,
     service: Service<'_>,
     connection: &mut Connection,
     blocks: &mut B,
 ) {
     for _ in rt.forever() {
-        let Some(stream) = lobby.next_client(rt, service.number) else {
+        let Some(stream) = accept_queue.next_client(rt, service.number) else {
             break;
         };
         if let Some(export) = Export::of(service.name) {
             serve_client(
                 rt,
-                lobby,
+                accept_queue,
                 &stream,
                 connection,
                 blocks,
@@ -118,14 +118,14 @@ fn serve_each<R: Networked, B: Blocks>(
                 service.verbose,
             );
         }
-        lobby.leave(rt, service.number);
+        accept_queue.leave(rt, service.number);
     }
 }
 
 /// Serves a client to the end of its connection.
 fn serve_client<R: Networked, B: Blocks>(
     rt: &R,
-    lobby: &Lobby,
+    accept_queue: &AcceptQueue,
     stream: &TcpStream,
     connection: &mut Connection,
     blocks: &mut B,
@@ -135,7 +135,7 @@ fn serve_client<R: Networked, B: Blocks>(
     prepare(stream);
     let address = stream.peer_addr().ok();
     tell_of_client(rt, address, verbose, "a client has come");
-    let (mut reader, mut writer) = connection.sides(rt, lobby, stream);
+    let (mut reader, mut writer) = connection.sides(rt, accept_queue, stream);
     let end = serve_stream(rt.alloc(), &mut reader, &mut writer, blocks, export.name);
     let _ = writer.flush();
     tell_of_client(rt, address, verbose, words_of(end));

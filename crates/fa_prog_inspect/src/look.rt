@@ -143,7 +143,7 @@ fn not_told(refused: NotOpened) -> NotTold
 
 /// An array that was mounted, with what was found of the headers of its images.
 #[derive(Drop)]
-pub(crate) struct MountedArray {
+pub(crate) struct FoundArray {
     /// What was found of each image, in their order.
     pub(crate) founds: Vec<Found>,
     /// What was mounted by it.
@@ -157,7 +157,7 @@ fn mounted_of<R: Host, A: Allocator>(
     look: Look,
     images: &mut [Watched<'_, R, FileImage>],
     places: &[usize],
-) -> Result<MountedArray, NotTold>
+) -> Result<FoundArray, NotTold>
     ensures mounted { IfOk result (λ array. MountsArray file_view FileMade settings.now look.unclean
         (map (λ watched. watched.image) images.old) (map (λ watched. watched.image) images.new) array.founds.items array.mounted) }
     ensures refused { IfErr result (λ refused. (refusal : MountRefused) × (refused ≡ NotTold.Mount refusal.fault)
@@ -181,7 +181,7 @@ fn mount<R: Host, I: Image + Send, A: Allocator>(
     settings: &Settings<A>,
     unclean: bool,
     images: &mut [I],
-) -> Result<MountedArray, MountRefused>
+) -> Result<FoundArray, MountRefused>
     ensures { MatchResult result
         (λ array. MountsArray I.view I.made settings.now unclean images.old images.new array.founds.items array.mounted)
         (RefusesArray I.view I.made settings.now unclean images.old images.new) }
@@ -190,7 +190,7 @@ fn mount<R: Host, I: Image + Send, A: Allocator>(
         return Err(MountRefused::of_nobody(MountFault::NoMemory));
     };
     match mount_found(rt, settings, unclean, images, founds.as_slice()) {
-        Ok(mounted) => Ok(MountedArray { founds, mounted }),
+        Ok(mounted) => Ok(FoundArray { founds, mounted }),
         Err(refused) => Err(refused),
     }
 }

@@ -2,7 +2,7 @@
 #![tactic(auto)]
 
 mod closing;
-mod crew;
+mod die_workers;
 mod host;
 mod ready;
 mod serve;

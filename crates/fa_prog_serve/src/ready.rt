@@ -2,14 +2,14 @@
 ghost use Rattle.std.specs.Prelude.{◌≡◌, List, ℕ, IfOk, string_bytes};
 ghost use Rattle.fa_prog_serve.specs.Serving.{address_line};
 
-use crate::crew::{Crew, crew_of};
+use crate::die_workers::{DieWorkers, die_workers_of};
 use crate::serve::Serve;
 use crate::serving::Seats;
 use fa_image::Image;
 use fa_map::Map;
 use fa_mount::place_of;
 use fa_mount_headers::Standing;
-use fa_prog_clients::{Lobby, Networked, Service, Session};
+use fa_prog_clients::{AcceptQueue, Networked, Service, Session};
 use fa_settings::Settings;
 use fa_shared::Shared;
 use std::alloc::{AllocError, Allocator, Global};
@@ -20,11 +20,11 @@ use std::sync::ledger::Ledger;
 #[derive(Drop)]
 pub(crate) struct Ready<'a, L: Ledger + Send, I: Drop> {
     /// Where clients wait for a session.
-    pub(crate) lobby: Lobby,
+    pub(crate) accept_queue: AcceptQueue,
     /// The paths of the dies' images, by the dies' numbers.
     pub(crate) paths: Vec<&'a str>,
     /// The tasks of the dies' workers.
-    pub(crate) crew: Crew<L, I>,
+    pub(crate) die_workers: DieWorkers<L, I>,
     /// The seats of the others.
     pub(crate) seats: Seats<'a, L>,
     /// How many copies each page is to have.
@@ -50,14 +50,14 @@ pub(crate) fn ready_of<
     settings: &'a Settings<A>,
     serve: Serve,
 ) -> Result<Ready<'a, L, I>, AllocError> {
-    let lobby = Lobby::new(rt.alloc(), settings.sessions as usize)?;
+    let accept_queue = AcceptQueue::new(rt.alloc(), settings.sessions as usize)?;
     let paths = paths_of(rt.alloc(), dies, places, settings)?;
     let seats = seats_of(rt, shared, settings, serve)?;
-    let crew = crew_of(rt, shared, dies, images, settings.geometry.page_bytes)?;
+    let die_workers = die_workers_of(rt, shared, dies, images, settings.geometry.page_bytes)?;
     Ok(Ready {
-        lobby,
+        accept_queue,
         paths,
-        crew,
+        die_workers,
         seats,
         copies: settings.copies.number,
         window_rounds: u64::from(settings.window_rounds),

@@ -2,18 +2,20 @@
 ghost use Rattle.std.specs.Prelude.{◌≡◌};
 ghost use Rattle.std.specs.Thread.{IsSend};
 
-use crate::crew::{Crew, DieTask, collect, lay_back, rebuild, work_die};
+use crate::die_workers::{DieTask, DieWorkers, collect, lay_back, rebuild, work_die};
 use crate::ready::Ready;
 use crate::stop_line::wait_for_stop;
 use crate::watching::{sight_of, watch};
 use fa_core::Array;
 use fa_image::Image;
 use fa_map::Map;
-use fa_prog_clients::{Lobby, Networked, Session, accept_clients, serve_clients, stop_accepting};
+use fa_prog_clients::{
+    AcceptQueue, Networked, Session, accept_clients, serve_clients, stop_accepting,
+};
 use fa_prog_host::tell;
 use fa_shared::{Seat, Shared};
 use fa_types::Die;
-use fa_workers::Bench;
+use fa_workers::ImageTable;
 use std::alloc::AllocError;
 use std::io::Read;
 use std::net::{TcpListener, TcpStream};
@@ -35,11 +37,11 @@ const COLLECT_MILLISECONDS: u64 = 10;
 
 /// What the threads of a server share beside the array.
 #[derive(Clone, Copy)]
-pub(crate) struct Hall<'a> {
+pub(crate) struct Listening<'a> {
     /// Where clients connect.
     pub(crate) listener: &'a TcpListener,
     /// Where clients wait for a session.
-    pub(crate) lobby: &'a Lobby,
+    pub(crate) accept_queue: &'a AcceptQueue,
     /// The paths of the dies' images, by the dies' numbers.
     pub(crate) paths: &'a [&'a str],
     /// How many copies each page is to have.
@@ -94,31 +96,39 @@ pub(crate) fn serve_ready<
     requires { L.parts ≡ 257 }
 {
     let Ready {
-        lobby,
+        accept_queue,
         paths,
-        crew,
+        die_workers,
         seats,
         copies,
         window_rounds,
     } = ready;
-    let hall = Hall {
+    let listening = Listening {
         listener,
-        lobby: &lobby,
+        accept_queue: &accept_queue,
         paths: paths.as_slice(),
         copies,
         window_rounds,
     };
-    let Crew {
+    let DieWorkers {
         tasks,
-        bench,
+        image_table,
         indexes,
         mut places,
-    } = crew;
-    let Back { seats, is_served } = serve_shared(rt, shared, hall, &bench, tasks, seats, input)?;
+    } = die_workers;
+    let Back { seats, is_served } = serve_shared(
+        rt,
+        shared,
+        listening,
+        &image_table,
+        tasks,
+        seats,
+        input,
+    )?;
     if shared.gather(rt, seats).is_err() {
         tell(rt, "a seat of the array is missing");
     }
-    lay_back(bench, indexes.as_slice(), &mut places);
+    lay_back(image_table, indexes.as_slice(), &mut places);
     Ok(Ended {
         images: places.into_images(),
         is_served,
@@ -155,8 +165,8 @@ fn serve_shared<
 >(
     rt: &R,
     shared: &Shared<L, M>,
-    hall: Hall<'_>,
-    bench: &Bench<I>,
+    listening: Listening<'_>,
+    image_table: &ImageTable<I>,
     tasks: Vec<DieTask<L>>,
     seats: Seats<'_, L>,
     input: &mut N,
@@ -166,12 +176,12 @@ fn serve_shared<
         rebuilder,
         sessions,
     } = seats;
-    let Hall {
+    let Listening {
         paths,
         copies,
         window_rounds,
         ..
-    } = hall;
+    } = listening;
     let mut seats = Vec::with_capacity(rt.alloc(), seat_count(tasks.len(), sessions.len()))?;
     let mut workers = Vec::with_capacity(rt.alloc(), tasks.len())?;
     let works = Vec::with_capacity(rt.alloc(), sessions.len())?;
@@ -184,7 +194,7 @@ fn serve_shared<
             requires map { IsSend M.row }
         {
             for task in tasks {
-                let work = match scope.spawn(move || work_die(rt, shared, bench, task)) {
+                let work = match scope.spawn(move || work_die(rt, shared, image_table, task)) {
                     Ok(handle) => Work::Runs(handle),
                     Err(refused) => {
                         shared.stop(rt);
@@ -219,7 +229,14 @@ fn serve_shared<
                 shared.stop(rt);
             }
             let is_served = serve_sessions(
-                rt, shared, hall, bench, sessions, works, input, &mut seats,
+                rt,
+                shared,
+                listening,
+                image_table,
+                sessions,
+                works,
+                input,
+                &mut seats,
             );
             let_collect(rt, shared);
             shared.stop(rt);
@@ -249,18 +266,18 @@ fn serve_sessions<
 >(
     rt: &R,
     shared: &Shared<L, M>,
-    hall: Hall<'_>,
-    bench: &Bench<I>,
+    listening: Listening<'_>,
+    image_table: &ImageTable<I>,
     sessions: Vec<Session<'_, L>>,
     works: Vec<Work<Seat<L>>>,
     input: &mut N,
     seats: &mut Vec<Seat<L>>,
 ) -> bool {
-    let Hall {
+    let Listening {
         listener,
-        lobby,
+        accept_queue,
         ..
-    } = hall;
+    } = listening;
     let mut works = works;
     let (works, is_served) = thread::scope(
         thread::scope_env(),
@@ -271,24 +288,30 @@ fn serve_sessions<
         {
             for session in sessions {
                 let work = match scope.spawn(move || serve_clients(
-                    rt, lobby, shared, bench, session,
+                    rt,
+                    accept_queue,
+                    shared,
+                    image_table,
+                    session,
                 )) {
                     Ok(handle) => Work::Runs(handle),
                     Err(refused) => {
-                        lobby.close(rt);
+                        accept_queue.close(rt);
                         Work::Done((refused.value)())
                     }
                 };
                 let _ = works.push(work);
             }
-            let accepting = scope.spawn(move || accept_clients(rt, listener, lobby));
-            let is_served = accepting.is_ok() && !shared.stopped(rt) && !lobby.is_closing(rt);
+            let accepting = scope.spawn(move || accept_clients(rt, listener, accept_queue));
+            let is_served = accepting.is_ok()
+                && !shared.stopped(rt)
+                && !accept_queue.is_closing(rt);
             if is_served {
                 wait_for_stop(input);
             }
-            lobby.close(rt);
+            accept_queue.close(rt);
             wake(rt, listener);
-            lobby.clear(rt, Duration::from_secs(LEAVE_SECONDS));
+            accept_queue.clear(rt, Duration::from_secs(LEAVE_SECONDS));
             (works, is_served)
         },
     );

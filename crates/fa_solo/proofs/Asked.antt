@@ -19,9 +19,9 @@ use Rattle.fa_shared.specs.Locked.{LockedState}
 use Rattle.fa_shared.specs.Seats.{commits_with, number_of}
 use Rattle.fa_shared.specs.declared.seat.Seat.{Seat}
 use Rattle.fa_solo.specs.Deeds.{Goes, IsMeanwhile}
-use Rattle.fa_solo.specs.Rigs.{Does, house_of}
+use Rattle.fa_solo.specs.Inner.{Does, house_of}
 use Rattle.fa_solo.specs.Turns.{Asking, Asks, Begins, Readies, Refuses, RunsOn, Turns, Waits, asking_of}
-use Rattle.fa_solo.specs.declared.rig.Rig.{Rig}
+use Rattle.fa_solo.specs.declared.inner.Inner.{Inner}
 use Rattle.fa_types.specs.declared.blocks.BlockFault.{BlockFault}
 
 module _ {L I A : Type 0} (made : I → ImageCall → ImageAnswer → I → Type 0) (array : List ℕ) (dies : List Standing) (seat : ℕ) (task : Task)
@@ -115,10 +115,10 @@ none_made before after op next accepted begins goes =
     }
 
 module _ {L M I A : Type 0} (made : I → ImageCall → ImageAnswer → I → Type 0) (bytes : List ℕ) where
-  pub runs_none : (rig : Rig L M I A) (op : OpView A) → RunsOn made bytes rig op rig op
-  runs_none rig op = record { turns = 0; asks = Begins; counts = same_counts rig.seat rig.seat op refl refl; rest = refl; dies = refl }
+  pub runs_none : (inner : Inner L M I A) (op : OpView A) → RunsOn made bytes inner op inner op
+  runs_none inner op = record { turns = 0; asks = Begins; counts = same_counts inner.seat inner.seat op refl refl; rest = refl; dies = refl }
 
-  runs_both : (a b c : Rig L M I A) (x y z : OpView A) (one : RunsOn made bytes a x b y) (two : RunsOn made bytes b y c z)
+  runs_both : (a b c : Inner L M I A) (x y z : OpView A) (one : RunsOn made bytes a x b y) (two : RunsOn made bytes b y c z)
       → (all : RunsOn made bytes a x c z) × (all.turns ≡ one.turns + two.turns)
   runs_both a b c x y z one two = (
     record {
@@ -135,10 +135,10 @@ module _ {L M I A : Type 0} (made : I → ImageCall → ImageAnswer → I → Ty
     refl,
   )
 
-  pub runs_more : (a b c : Rig L M I A) (x y z : OpView A) → RunsOn made bytes a x b y → RunsOn made bytes b y c z → RunsOn made bytes a x c z
+  pub runs_more : (a b c : Inner L M I A) (x y z : OpView A) → RunsOn made bytes a x b y → RunsOn made bytes b y c z → RunsOn made bytes a x c z
   runs_more a b c x y z one two = (runs_both a b c x y z one two).0
 
-  pub runs_turn : (a b : Rig L M I A) (x y : OpView A)
+  pub runs_turn : (a b : Inner L M I A) (x y : OpView A)
       → Turned (task_in x) a.seat b.seat a.locked.core (stage_of x) b.locked.core (stage_of y) → task_in y ≡ task_in x
       → answer_of y ≡ answer_of x → IsAccounted a.locked a.seat b.locked b.seat → b.images.items ≡ a.images.items
       → b.dies.items ≡ a.dies.items → (runs : RunsOn made bytes a x b y) × (1 ≤ runs.turns)
@@ -155,7 +155,7 @@ module _ {L M I A : Type 0} (made : I → ImageCall → ImageAnswer → I → Ty
   )
 
   -- the same of a request and an array of which clauses see that they are these
-  pub runs_turn_seen : (a b : Rig L M I A) (x y op : OpView A) (locked : LockedState) → op ≡ x → locked ≡ a.locked
+  pub runs_turn_seen : (a b : Inner L M I A) (x y op : OpView A) (locked : LockedState) → op ≡ x → locked ≡ a.locked
       → Turned (task_in op) a.seat b.seat locked.core (stage_of op) b.locked.core (stage_of y) → task_in y ≡ task_in op
       → answer_of y ≡ answer_of op → IsAccounted locked a.seat b.locked b.seat → b.images.items ≡ a.images.items
       → b.dies.items ≡ a.dies.items → (runs : RunsOn made bytes a x b y) × (1 ≤ runs.turns)
@@ -166,7 +166,7 @@ module _ {L M I A : Type 0} (made : I → ImageCall → ImageAnswer → I → Ty
       (task ∙ ap task_in op_is) (answer ∙ ap answer_of op_is)
       (subst (λ (l : LockedState). IsAccounted l a.seat b.locked b.seat) locked_is account) images dies
 
-  pub runs_ready : (a : Rig L M I A) (x y : OpView A)
+  pub runs_ready : (a : Inner L M I A) (x y : OpView A)
       → Prepares (task_in x) bytes (stage_of x) (answer_of x) (stage_of y) (answer_of y) → task_in y ≡ task_in x → RunsOn made bytes a x a y
   runs_ready a x y prepares task = record {
     turns = 0;
@@ -176,7 +176,7 @@ module _ {L M I A : Type 0} (made : I → ImageCall → ImageAnswer → I → Ty
     dies = refl;
   }
 
-  pub runs_time : (a b : Rig L M I A) (x : OpView A) (flush : Bool) → waits (stage_of x) ≡ true → awaits_flush (stage_of x) ≡ flush
+  pub runs_time : (a b : Inner L M I A) (x : OpView A) (flush : Bool) → waits (stage_of x) ≡ true → awaits_flush (stage_of x) ≡ flush
       → Does made (IsMeanwhile flush) a b → RunsOn made bytes a x b x
   runs_time a b x flush in_time is does = record {
     turns = 0;
@@ -195,7 +195,7 @@ module _ {L M I A : Type 0} (made : I → ImageCall → ImageAnswer → I → Ty
     dies = does.dies;
   }
 
-  pub runs_refused : (a : Rig L M I A) (x y : OpView A) (fault : BlockFault)
+  pub runs_refused : (a : Inner L M I A) (x y : OpView A) (fault : BlockFault)
       → HasNoWindow a.locked.core fault → stage_of y ≡ without_room fault (stage_of x)
       → task_in y ≡ task_in x → answer_of y ≡ answer_of x → RunsOn made bytes a x a y
   runs_refused a x y fault cause stage task answer = record {
@@ -208,13 +208,13 @@ module _ {L M I A : Type 0} (made : I → ImageCall → ImageAnswer → I → Ty
   }
 
   -- one step more of a request, of which some are turns
-  pub runs_step : (a b c d : Rig L M I A) (x y z : OpView A) (n : ℕ) → (one : RunsOn made bytes a x b y) × (n ≤ one.turns)
+  pub runs_step : (a b c d : Inner L M I A) (x y z : OpView A) (n : ℕ) → (one : RunsOn made bytes a x b y) × (n ≤ one.turns)
       → RunsOn made bytes b y c z → (w : OpView A) → (two : RunsOn made bytes c z d w) × (1 ≤ two.turns)
       → (all : RunsOn made bytes a x d w) × (n + 1 ≤ all.turns)
   runs_step a b c d x y z n (one, some) ready w (two, turn) =
       let first = runs_both a b c x y z one ready in
       let all = runs_both a c d x z w first.0 two in (all.0, omega (arith, some, turn, first.1, all.1))
 
-  pub runs_behind : (a b c : Rig L M I A) (x y z : OpView A) → (one : RunsOn made bytes a x b y) × (1 ≤ one.turns) → RunsOn made bytes b y c z
+  pub runs_behind : (a b c : Inner L M I A) (x y z : OpView A) → (one : RunsOn made bytes a x b y) × (1 ≤ one.turns) → RunsOn made bytes b y c z
       → (all : RunsOn made bytes a x c z) × (1 ≤ all.turns)
   runs_behind a b c x y z (one, some) two = let all = runs_both a b c x y z one two in (all.0, omega (arith, some, all.1))

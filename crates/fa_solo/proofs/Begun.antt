@@ -12,9 +12,9 @@ use Rattle.fa_shared_steps.specs.declared.request.Task.{Task}
 use Rattle.fa_solo.specs.Calls.{Ended, EndsBy, answer_by, IsOfFlush, IsOfRead, IsRefused, Made, MakesRequest, MakesWhole, OfOtherLength, WithoutMemory, WithoutRoom}
 use Rattle.fa_solo.specs.Calls.{Endless, NoMemory as NoMemoryFor}
 use Rattle.fa_solo.specs.Deeds.{IsForRequests}
-use Rattle.fa_solo.specs.Rigs.{Does, Tidies}
+use Rattle.fa_solo.specs.Inner.{Does, Tidies}
 use Rattle.fa_solo.specs.Turns.{RunsOn}
-use Rattle.fa_solo.specs.declared.rig.Rig.{Rig}
+use Rattle.fa_solo.specs.declared.inner.Inner.{Inner}
 use Rattle.fa_types.specs.Store.{Answer, Done, Gave, Refused}
 use Rattle.fa_types.specs.declared.blocks.BlockFault.{BlockFault}
 use Rattle.fa_types.specs.declared.blocks.BlockFault.TheVariants.{Lost, NoMemory, NoRoom}
@@ -32,7 +32,7 @@ told own page_bytes turns y task why (WithoutMemory is fill flush end) = Without
 told own page_bytes turns y task why (Endless is most) = Endless refl most
 
 module _ {L M I A : Type 0} (made : I → ImageCall → ImageAnswer → I → Type 0) where
-  pub made_request : (a b : Rig L M I A) (x y : OpView A) (request : Request) (page_bytes same : ℕ) (bytes : List ℕ) (answer : Answer)
+  pub made_request : (a b : Inner L M I A) (x y : OpView A) (request : Request) (page_bytes same : ℕ) (bytes : List ℕ) (answer : Answer)
       → same ≡ page_bytes → task_in x ≡ task_of same request → stage_of x ≡ beginning (task_of same request) → answer_of x ≡ []
       → (runs : RunsOn made bytes a x b y) → EndsBy answer runs.turns y → MakesRequest made (task_of page_bytes request) bytes answer a b
   made_request a b x y request page_bytes same bytes answer e task stage none runs end =
@@ -40,14 +40,14 @@ module _ {L M I A : Type 0} (made : I → ImageCall → ImageAnswer → I → Ty
       subst P e (Made x y task stage none runs end)
 
   -- one for whose answer there is no memory
-  pub unmade_request : (a : Rig L M I A) (request : Request) (page_bytes same : ℕ) (bytes : List ℕ) → same ≡ page_bytes
+  pub unmade_request : (a : Inner L M I A) (request : Request) (page_bytes same : ℕ) (bytes : List ℕ) → same ≡ page_bytes
       → 0 < answered (task_of same request) → MakesRequest made (task_of page_bytes request) bytes (Refused NoMemory) a a
   unmade_request a request page_bytes same bytes e some =
       let P : ℕ → Type 0 = λ n. MakesRequest made (task_of n request) bytes (Refused NoMemory) a a in
       subst P e (NoMemoryFor refl some refl)
 
   -- a read whose answer was handed out, or not
-  module _ (a b : Rig L M I A) (x y : OpView A) (offset len page_bytes same : ℕ) (e : same ≡ page_bytes)
+  module _ (a b : Inner L M I A) (x y : OpView A) (offset len page_bytes same : ℕ) (e : same ≡ page_bytes)
       (task : task_in x ≡ task_of same (Read offset len)) (stage : stage_of x ≡ beginning (task_of same (Read offset len)))
       (none : answer_of x ≡ []) (runs : RunsOn made [] a x b y) where
     its_task : task_in y ≡ task_of same (Read offset len)
@@ -86,45 +86,45 @@ module _ {L M I A : Type 0} (made : I → ImageCall → ImageAnswer → I → Ty
     endless_request most = read_with (Refused Lost) (Endless refl most)
 
   -- what is done before a request and behind it
-  pub whole : (a b c d : Rig L M I A) (task : Task) (bytes : List ℕ) (answer : Answer) → Does made IsForRequests a b
+  pub whole : (a b c d : Inner L M I A) (task : Task) (bytes : List ℕ) (answer : Answer) → Does made IsForRequests a b
       → MakesRequest made task bytes answer b c → Tidies made c d → (answer ≡ Refused NoRoom → d ≡ c)
       → MakesWhole made task bytes answer a d
   whole a b c d task bytes answer before request behind full =
       record { begun = b; done = c; before = before; request = request; behind = behind; full = full }
 
-  pub whole_done : (a b c d : Rig L M I A) (task : Task) (bytes : List ℕ) (result : Result (Unit {0}) BlockFault)
+  pub whole_done : (a b c d : Inner L M I A) (task : Task) (bytes : List ℕ) (result : Result (Unit {0}) BlockFault)
       → Does made IsForRequests a b → MakesRequest made task bytes (answer_by result) b c → Tidies made c d
       → (answer_by result ≡ Refused NoRoom → d ≡ c) → OnOk result (MakesWhole made task bytes Done a d)
   whole_done a b c d task bytes (Ok x) before request behind full = whole a b c d task bytes Done before request behind full
   whole_done a b c d task bytes (Err fault) before request behind full = tt
 
-  pub whole_refused : (a b c d : Rig L M I A) (task : Task) (bytes : List ℕ) (result : Result (Unit {0}) BlockFault)
+  pub whole_refused : (a b c d : Inner L M I A) (task : Task) (bytes : List ℕ) (result : Result (Unit {0}) BlockFault)
       → Does made IsForRequests a b → MakesRequest made task bytes (answer_by result) b c → Tidies made c d
       → (answer_by result ≡ Refused NoRoom → d ≡ c) → IfErr result (λ fault. MakesWhole made task bytes (Refused fault) a d)
   whole_refused a b c d task bytes (Ok x) before request behind full = tt
   whole_refused a b c d task bytes (Err fault) before request behind full = whole a b c d task bytes (Refused fault) before request behind full
 
-  pub whole_ok : {X : Type 0} (a b c d : Rig L M I A) (task : Task) (bytes : List ℕ) (result : Result X BlockFault) (answer : X → Answer)
+  pub whole_ok : {X : Type 0} (a b c d : Inner L M I A) (task : Task) (bytes : List ℕ) (result : Result X BlockFault) (answer : X → Answer)
       → Does made IsForRequests a b → IfOk result (λ x. MakesRequest made task bytes (answer x) b c) → Tidies made c d
       → ((x : X) → answer x ≡ Refused NoRoom → ⊥) → IfOk result (λ x. MakesWhole made task bytes (answer x) a d)
   whole_ok a b c d task bytes (Ok x) answer before request behind gives =
       whole a b c d task bytes (answer x) before request behind (λ is. absurd (gives x is))
   whole_ok a b c d task bytes (Err fault) answer before request behind gives = tt
 
-  pub whole_err : {X : Type 0} (a b c d : Rig L M I A) (task : Task) (bytes : List ℕ) (result : Result X BlockFault)
+  pub whole_err : {X : Type 0} (a b c d : Inner L M I A) (task : Task) (bytes : List ℕ) (result : Result X BlockFault)
       → Does made IsForRequests a b → IfErr result (λ fault. MakesRequest made task bytes (Refused fault) b c) → Tidies made c d
       → IfErr result (λ fault. fault ≡ NoRoom → ⊥) → IfErr result (λ fault. MakesWhole made task bytes (Refused fault) a d)
   whole_err a b c d task bytes (Ok x) before request behind room = tt
   whole_err a b c d task bytes (Err fault) before request behind room =
       whole a b c d task bytes (Refused fault) before request behind (λ is. absurd (room (let e : Refused fault ≡ Refused NoRoom = is in cc)))
 
-  told_request : (a b : Rig L M I A) (own : BlockFault) (page_bytes : ℕ) → (own ≡ NoRoom) ⊎ (own ≡ NoMemory)
+  told_request : (a b : Inner L M I A) (own : BlockFault) (page_bytes : ℕ) → (own ≡ NoRoom) ⊎ (own ≡ NoMemory)
       → MakesRequest made (task_of page_bytes Flush) [] (Refused own) a b → MakesRequest made (task_of page_bytes Flush) [] (Refused Lost) a b
   told_request a b own page_bytes why (NoMemoryFor is some same) = absurd (omega (arith, some))
   told_request a b own page_bytes why (Made x y task stage none runs end) =
       Made x y task stage none runs (told own page_bytes runs.turns y (runs.counts.task ∙ task) why end)
 
-  told_whole : (a b : Rig L M I A) (own : BlockFault) (page_bytes : ℕ) → (own ≡ NoRoom) ⊎ (own ≡ NoMemory)
+  told_whole : (a b : Inner L M I A) (own : BlockFault) (page_bytes : ℕ) → (own ≡ NoRoom) ⊎ (own ≡ NoMemory)
       → MakesWhole made (task_of page_bytes Flush) [] (Refused own) a b → MakesWhole made (task_of page_bytes Flush) [] (Refused Lost) a b
   told_whole a b own page_bytes why call = record {
     begun = call.begun;
@@ -135,7 +135,7 @@ module _ {L M I A : Type 0} (made : I → ImageCall → ImageAnswer → I → Ty
     full = λ is. absurd (let e : Refused Lost ≡ Refused NoRoom = is in cc);
   }
 
-  pub flush_refused : (a b : Rig L M I A) (own fault : BlockFault) (page_bytes : ℕ) → IsOfFlush own fault
+  pub flush_refused : (a b : Inner L M I A) (own fault : BlockFault) (page_bytes : ℕ) → IsOfFlush own fault
       → MakesWhole made (task_of page_bytes Flush) [] (Refused own) a b → MakesWhole made (task_of page_bytes Flush) [] (Refused fault) a b
   flush_refused a b own fault page_bytes (room, memory, inl is) call =
       subst (λ (f : BlockFault). MakesWhole made (task_of page_bytes Flush) [] (Refused f) a b) (sym is) call

@@ -12,8 +12,8 @@ use Rattle.fa_shared.specs.Seats.{number_of}
 use Rattle.fa_shared.specs.declared.seat.Seat.{Seat}
 use Rattle.fa_solo.specs.Deeds.{Goes, IsDue, IsForDies, IsForOrder, IsForRequests, IsMeanwhile, Makes, Runs, Stays}
 use Rattle.fa_solo.specs.House.{House}
-use Rattle.fa_solo.specs.Rigs.{Does, house_of}
-use Rattle.fa_solo.specs.declared.rig.Rig.{Rig}
+use Rattle.fa_solo.specs.Inner.{Does, house_of}
+use Rattle.fa_solo.specs.declared.inner.Inner.{Inner}
 use Rattle.fa_types.specs.declared.numbers.Round.{Round}
 use Rattle.fa_shared_events.specs.Held.{Folded, Folds, HadRoom, LeavesRest}
 use Rattle.fa_workers.specs.Spares.{BringsIn, HasNone, Lowest, WantsNone}
@@ -53,10 +53,10 @@ goes_by made array other dies those seat same P a b number standing by goes =
     (subst (λ (x : List ℕ). Goes made x those same P a b) number goes))
 
 module _ {L M I A : Type 0} (made : I → ImageCall → ImageAnswer → I → Type 0) where
-  pub does_none : (P : Act → Type 0) (a : Rig L M I A) → Does made P a a
+  pub does_none : (P : Act → Type 0) (a : Inner L M I A) → Does made P a a
   does_none P a = record { goes = Stays; left = rest_same _ _; dies = refl }
 
-  pub does_more : (P : Act → Type 0) (a b c : Rig L M I A) → Does made P a b → Does made P b c → Does made P a c
+  pub does_more : (P : Act → Type 0) (a b c : Inner L M I A) → Does made P a b → Does made P b c → Does made P a c
   does_more P a b c one two = record {
     goes = goes_more made a.locked.number a.dies.items (number_of a.seat) P (house_of a) (house_of b) (house_of c) one.goes
         (goes_by made a.locked.number b.locked.number a.dies.items b.dies.items (number_of a.seat) (number_of b.seat) P (house_of b) (house_of c)
@@ -65,7 +65,7 @@ module _ {L M I A : Type 0} (made : I → ImageCall → ImageAnswer → I → Ty
     dies = two.dies ∙ one.dies;
   }
 
-  pub does_wider : (P Q : Act → Type 0) → ((act : Act) → P act → Q act) → (a b : Rig L M I A) → Does made P a b → Does made Q a b
+  pub does_wider : (P Q : Act → Type 0) → ((act : Act) → P act → Q act) → (a b : Inner L M I A) → Does made P a b → Does made Q a b
   does_wider P Q wider a b does = record {
     goes = goes_wider made a.locked.number a.dies.items (number_of a.seat) P Q wider (house_of a) (house_of b) does.goes;
     left = does.left;
@@ -73,7 +73,7 @@ module _ {L M I A : Type 0} (made : I → ImageCall → ImageAnswer → I → Ty
   }
 
   -- an event, which leaves the images
-  pub does_event : (P : Act → Type 0) (a b : Rig L M I A) (act : Act) → P act → IsDue a.locked.core act → Step a.locked.core act b.locked.core
+  pub does_event : (P : Act → Type 0) (a b : Inner L M I A) (act : Act) → P act → IsDue a.locked.core act → Step a.locked.core act b.locked.core
       → LeavesRest a.locked a.seat b.locked b.seat → b.images.items ≡ a.images.items → b.dies.items ≡ a.dies.items → Does made P a b
   does_event P a b act may due step left images dies = record {
     goes = Makes (house_of a) (house_of b) act Stays may due step images;
@@ -82,7 +82,7 @@ module _ {L M I A : Type 0} (made : I → ImageCall → ImageAnswer → I → Ty
   }
 
   -- no event
-  pub does_same : (P : Act → Type 0) (a b : Rig L M I A) → b.locked.core ≡ a.locked.core
+  pub does_same : (P : Act → Type 0) (a b : Inner L M I A) → b.locked.core ≡ a.locked.core
       → LeavesRest a.locked a.seat b.locked b.seat → b.images.items ≡ a.images.items → b.dies.items ≡ a.dies.items → Does made P a b
   does_same P a b same left images dies = record {
     goes = let house : House I → Type 0 = λ h. Goes made a.locked.number a.dies.items (number_of a.seat) P (house_of a) h in
@@ -92,7 +92,7 @@ module _ {L M I A : Type 0} (made : I → ImageCall → ImageAnswer → I → Ty
   }
 
   -- an event, if its condition held
-  pub does_option : {X C : Type 0} (P : Act → Type 0) (a b : Rig L M I A) (result : Option X) (act : X → Act) → ((x : X) → P (act x))
+  pub does_option : {X C : Type 0} (P : Act → Type 0) (a b : Inner L M I A) (result : Option X) (act : X → Act) → ((x : X) → P (act x))
       → ((x : X) → IsDue a.locked.core (act x)) → IfSome result (λ x. Step a.locked.core (act x) b.locked.core)
       → IfNone result (C × (b.locked.core ≡ a.locked.core))
       → LeavesRest a.locked a.seat b.locked b.seat → b.images.items ≡ a.images.items → b.dies.items ≡ a.dies.items → Does made P a b
@@ -100,7 +100,7 @@ module _ {L M I A : Type 0} (made : I → ImageCall → ImageAnswer → I → Ty
   does_option P a b None act may due some none left images dies = does_same P a b none.1 left images dies
 
   -- a window is asked for, for a die that wants one
-  pub does_window : {C : Type 0} (a b : Rig L M I A) (die rounds : ℕ) (result : Option (Result Round WindowRefused))
+  pub does_window : {C : Type 0} (a b : Inner L M I A) (die rounds : ℕ) (result : Option (Result Round WindowRefused))
       → IfSome result (λ answer. Step a.locked.core (Window die rounds answer) b.locked.core)
       → IfNone result (C × (b.locked.core ≡ a.locked.core))
       → LeavesRest a.locked a.seat b.locked b.seat → b.images.items ≡ a.images.items → b.dies.items ≡ a.dies.items
@@ -109,13 +109,13 @@ module _ {L M I A : Type 0} (made : I → ImageCall → ImageAnswer → I → Ty
       does_option IsForDies a b result (λ answer. Window die rounds answer) (λ _. tt) (λ _. wants) some none left images dies
 
   -- the history is folded, if it is full
-  pub does_fold : (P : Act → Type 0) (a b : Rig L M I A) → P Fold → Folds a.locked.core b.locked.core
+  pub does_fold : (P : Act → Type 0) (a b : Inner L M I A) → P Fold → Folds a.locked.core b.locked.core
       → LeavesRest a.locked a.seat b.locked b.seat → b.images.items ≡ a.images.items → b.dies.items ≡ a.dies.items → Does made P a b
   does_fold P a b may (Folded full step) left images dies = does_event P a b Fold may tt step left images dies
   does_fold P a b may (HadRoom same) left images dies = does_same P a b same left images dies
 
   -- a spare is brought in, or none
-  pub does_spare : (P : Act → Type 0) (a b : Rig L M I A) (brought : Bool)
+  pub does_spare : (P : Act → Type 0) (a b : Inner L M I A) (brought : Bool)
       → ((die : ℕ) (answer : Result (Unit {0}) SpareRefused) → P (SpareIn die answer)) → BringsIn a.locked.core brought b.locked.core
       → LeavesRest a.locked a.seat b.locked b.seat → b.images.items ≡ a.images.items → b.dies.items ≡ a.dies.items → Does made P a b
   does_spare P a b brought may (Lowest die is wants lower step) left images dies =

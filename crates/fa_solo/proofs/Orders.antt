@@ -18,8 +18,8 @@ use Rattle.fa_solo.proofs.Chains.{does_event, does_more, does_same, does_wider, 
 use Rattle.fa_solo.specs.Deeds.{IsDue, IsForDies, IsForOrder, IsForRequests}
 use Rattle.fa_solo.specs.House.{House}
 use Rattle.fa_solo.specs.Orders.{Copies, CopiesPage, Deals, Orders, Rests, Settles}
-use Rattle.fa_solo.specs.Rigs.{Does, DoesOne, ReservesCopy, Tidies, TriesCopy, house_of}
-use Rattle.fa_solo.specs.declared.rig.Rig.{Rig}
+use Rattle.fa_solo.specs.Inner.{Does, DoesOne, ReservesCopy, Tidies, TriesCopy, house_of}
+use Rattle.fa_solo.specs.declared.inner.Inner.{Inner}
 use Rattle.fa_types.specs.declared.numbers.Seq.{Seq}
 use Rattle.fa_shared_events.specs.Held.{LeavesRest}
 
@@ -53,14 +53,14 @@ if_none (Some x) t = tt
 
 module _ {L M I A : Type 0} where
   -- an event, if its condition held
-  pub one_if_some : {X : Type 0} (a b : Rig L M I A) (result : Option X) (act : X → Act)
+  pub one_if_some : {X : Type 0} (a b : Inner L M I A) (result : Option X) (act : X → Act)
       → IfSome result (λ x. Step a.locked.core (act x) b.locked.core) → LeavesRest a.locked a.seat b.locked b.seat
       → b.images.items ≡ a.images.items → b.dies.items ≡ a.dies.items → IfSome result (λ x. DoesOne (act x) a b)
   one_if_some a b (Some x) act step left images dies = record { step = step; left = left; images = images; dies = dies }
   one_if_some a b None act step left images dies = tt
 
   -- the batch that was admitted
-  pub asked_for : (a b : Rig L M I A) (page : ℕ) (result : Option BatchId) (answer : Result Admitted AdmitRefused)
+  pub asked_for : (a b : Inner L M I A) (page : ℕ) (result : Option BatchId) (answer : Result Admitted AdmitRefused)
       → IfSome result (λ batch. (planned : Planned) × (answer ≡ Ok (record { batch = batch; planned = planned })))
       → DoesOne (Admit (page ∷ []) answer) a b
       → IfSome result (λ batch. (planned : Planned) × DoesOne (Admit (page ∷ []) (Ok (record { batch = batch; planned = planned }))) a b)
@@ -69,7 +69,7 @@ module _ {L M I A : Type 0} where
   asked_for a b page None answer is one = tt
 
   -- a copy of what was answered last
-  pub reserved_last : {X : Type 0} (f : X → ℕ × List ℕ) (a b : Rig L M I A) (page seq : ℕ) (old new : List X) (x : X) (payload : List ℕ)
+  pub reserved_last : {X : Type 0} (f : X → ℕ × List ℕ) (a b : Inner L M I A) (page seq : ℕ) (old new : List X) (x : X) (payload : List ℕ)
       → old ≡ new ++ x ∷ [] → payload ≡ (f x).1 → DoesOne (ReserveCopy page seq payload (Ok tt)) a b → ReservesCopy page seq (map f old) a b
   reserved_last f a b page seq old new x payload is bytes one = record {
     others = map f new;
@@ -79,31 +79,31 @@ module _ {L M I A : Type 0} where
     reserves = subst (λ (l : List ℕ). DoesOne (ReserveCopy page seq l (Ok tt)) a b) bytes one;
   }
 
-  pub reserved_yes : (a b : Rig L M I A) (page seq : ℕ) (bytes : List ℕ) (answer : Result (Unit {0}) ReserveCopyRefused) → is_ok answer ≡ true
+  pub reserved_yes : (a b : Inner L M I A) (page seq : ℕ) (bytes : List ℕ) (answer : Result (Unit {0}) ReserveCopyRefused) → is_ok answer ≡ true
       → DoesOne (ReserveCopy page seq bytes answer) a b → DoesOne (ReserveCopy page seq bytes (Ok tt)) a b
   reserved_yes a b page seq bytes (Ok x) is one = one
   reserved_yes a b page seq bytes (Err refused) is one = absurd (let e : false ≡ true = is in cc)
 
 module _ {L M I A : Type 0} (made : I → ImageCall → ImageAnswer → I → Type 0) where
-  pub one_does : (P : Act → Type 0) (act : Act) (a b : Rig L M I A) → P act → IsDue a.locked.core act → DoesOne act a b → Does made P a b
+  pub one_does : (P : Act → Type 0) (act : Act) (a b : Inner L M I A) → P act → IsDue a.locked.core act → DoesOne act a b → Does made P a b
   one_does P act a b may due one = does_event made P a b act may due one.step one.left one.images one.dies
 
-  pub reserved_no : (a b : Rig L M I A) (page seq : ℕ) (bytes : List ℕ) (answer : Result (Unit {0}) ReserveCopyRefused) → is_ok answer ≡ false
+  pub reserved_no : (a b : Inner L M I A) (page seq : ℕ) (bytes : List ℕ) (answer : Result (Unit {0}) ReserveCopyRefused) → is_ok answer ≡ false
       → DoesOne (ReserveCopy page seq bytes answer) a b → Does made IsForOrder a b
   reserved_no a b page seq bytes (Ok x) is one = absurd (let e : true ≡ false = is in cc)
   reserved_no a b page seq bytes (Err refused) is one = one_does IsForOrder (ReserveCopy page seq bytes (Err refused)) a b tt tt one
 
   -- no event, if its condition did not hold
-  pub same_if_none : {X C : Type 0} (a b : Rig L M I A) (result : Option X) → IfNone result (C × (b.locked.core ≡ a.locked.core))
+  pub same_if_none : {X C : Type 0} (a b : Inner L M I A) (result : Option X) → IfNone result (C × (b.locked.core ≡ a.locked.core))
       → LeavesRest a.locked a.seat b.locked b.seat → b.images.items ≡ a.images.items → b.dies.items ≡ a.dies.items
       → IfNone result (Does made IsForOrder a b)
   same_if_none a b (Some x) same left images dies = tt
   same_if_none a b None same left images dies = does_same made IsForOrder a b same.1 left images dies
 
-  pub tidies_none : (a : Rig L M I A) → Tidies made a a
+  pub tidies_none : (a : Inner L M I A) → Tidies made a a
   tidies_none a = record { orders = Rests; left = rest_same _ _; dies = refl }
 
-  pub tidies_more : (a b c : Rig L M I A) → Tidies made a b → Tidies made b c → Tidies made a c
+  pub tidies_more : (a b c : Inner L M I A) → Tidies made a b → Tidies made b c → Tidies made a c
   tidies_more a b c one two = record {
     orders = orders_more made a.locked.number a.dies.items (number_of a.seat) (house_of a) (house_of b) (house_of c) one.orders
         (orders_by made a.locked.number b.locked.number a.dies.items b.dies.items (number_of a.seat) (number_of b.seat) (house_of b) (house_of c)
@@ -112,17 +112,17 @@ module _ {L M I A : Type 0} (made : I → ImageCall → ImageAnswer → I → Ty
     dies = two.dies ∙ one.dies;
   }
 
-  pub tidies_deeds : (a b : Rig L M I A) → Does made IsForOrder a b → Tidies made a b
+  pub tidies_deeds : (a b : Inner L M I A) → Does made IsForOrder a b → Tidies made a b
   tidies_deeds a b does = record { orders = Deals (house_of a) (house_of b) Rests does.goes; left = does.left; dies = does.dies }
 
-  pub tidies_for_dies : (a b : Rig L M I A) → Does made IsForDies a b → Tidies made a b
+  pub tidies_for_dies : (a b : Inner L M I A) → Does made IsForDies a b → Tidies made a b
   tidies_for_dies a b does = tidies_deeds a b (does_wider made IsForDies IsForOrder for_order a b does)
 
-  pub tidies_for_requests : (a b : Rig L M I A) → Does made IsForRequests a b → Tidies made a b
+  pub tidies_for_requests : (a b : Inner L M I A) → Does made IsForRequests a b → Tidies made a b
   tidies_for_requests a b does = tidies_deeds a b (does_wider made IsForRequests IsForOrder requests_for_order a b does)
 
   -- a batch of a page from its Admit to its end
-  module _ (a b c d : Rig L M I A) (page : ℕ) (admitted : Admitted) (answers : List (ℕ × List ℕ)) (due : is_thin a.locked.core.copies a.locked.core.page_map page ≡ true) (asks : DoesOne (Admit (page ∷ []) (Ok admitted)) a b)
+  module _ (a b c d : Inner L M I A) (page : ℕ) (admitted : Admitted) (answers : List (ℕ × List ℕ)) (due : is_thin a.locked.core.copies a.locked.core.page_map page ≡ true) (asks : DoesOne (Admit (page ∷ []) (Ok admitted)) a b)
       (waits : Does made IsForDies b c) where
     pub unanswered : Does made IsForOrder c d → Tidies made a d
     unanswered ends = tidies_deeds a d
@@ -133,7 +133,7 @@ module _ {L M I A : Type 0} (made : I → ImageCall → ImageAnswer → I → Ty
       pub answered : Tidies made a d
       answered = unanswered (one_does IsForOrder (EndBatch admitted.batch.0 answers) c d tt tt ends)
 
-      copied : (e : Rig L M I A) (seq : Seq) (o : Option Version) → get a.locked.core.page_map.versions page ≡ o
+      copied : (e : Inner L M I A) (seq : Seq) (o : Option Version) → get a.locked.core.page_map.versions page ≡ o
           → option_map (λ version. version.seq) o ≡ Some seq → results c.locked.core admitted.batch.0 ≡ Ready
           → ReservesCopy page seq.0 answers d e
           → CopiesPage made a.locked.number a.dies.items (number_of a.seat) (house_of a) (house_of e)
@@ -161,7 +161,7 @@ module _ {L M I A : Type 0} (made : I → ImageCall → ImageAnswer → I → Ty
             images = (asks.images, ends.images, copy.reserves.images);
           }
 
-      pub tried : (z : Rig L M I A) (seq : Seq) → option_map (λ version. version.seq) (get a.locked.core.page_map.versions page) ≡ Some seq
+      pub tried : (z : Inner L M I A) (seq : Seq) → option_map (λ version. version.seq) (get a.locked.core.page_map.versions page) ≡ Some seq
           → results c.locked.core admitted.batch.0 ≡ Ready → TriesCopy made page seq.0 answers d z → Tidies made a z
       tried z seq found ready (inl does) = tidies_more a d z answered (tidies_deeds d z does)
       tried z seq found ready (inr (e, copy, seen)) =

@@ -14,8 +14,8 @@ use Rattle.fa_solo.proofs.Chains.{goes_by, join_rest, rest_same}
 use Rattle.fa_solo.specs.Deeds.{IsForDies}
 use Rattle.fa_solo.specs.House.{House}
 use Rattle.fa_solo.specs.Orders.{Commits, Endless, IsOver, Looks, NoLook, OneMore, Settles}
-use Rattle.fa_solo.specs.Rigs.{Does, DoesOne, SettlesCopy, house_of}
-use Rattle.fa_solo.specs.declared.rig.Rig.{Rig}
+use Rattle.fa_solo.specs.Inner.{Does, DoesOne, SettlesCopy, house_of}
+use Rattle.fa_solo.specs.declared.inner.Inner.{Inner}
 use Rattle.fa_shared_events.specs.Held.{LeavesRest}
 
 none_open : (copying : Option Copying) → is_some copying ≡ false → copying ≡ None
@@ -24,15 +24,15 @@ none_open (Some c) is_none = absurd (false≢true (sym is_none))
 
 module _ {L M I A : Type 0} (made : I → ImageCall → ImageAnswer → I → Type 0) where
   -- looks at the copy, with what is done between them
-  pub record LooksOn (looks : ℕ) (old new : Rig L M I A) : Type 0 where
+  pub record LooksOn (looks : ℕ) (old new : Inner L M I A) : Type 0 where
     pub looked : Looks made old.locked.number old.dies.items (number_of old.seat) (house_of old) looks (house_of new)
     pub left : LeavesRest old.locked old.seat new.locked new.seat
     pub dies : new.dies.items ≡ old.dies.items
 
-  pub looks_none : (a : Rig L M I A) → LooksOn 0 a a
+  pub looks_none : (a : Inner L M I A) → LooksOn 0 a a
   looks_none a = record { looked = NoLook; left = rest_same _ _; dies = refl }
 
-  looks_more : (looks : ℕ) (a b c d : Rig L M I A) → LooksOn looks a b → DoesOne (CommitCopy (Err Pending)) b c → Does made IsForDies c d
+  looks_more : (looks : ℕ) (a b c d : Inner L M I A) → LooksOn looks a b → DoesOne (CommitCopy (Err Pending)) b c → Does made IsForDies c d
       → LooksOn (looks + 1) a d
   looks_more looks a b c d looked one does =
       let left : LeavesRest a.locked a.seat c.locked c.seat = join_rest looked.left one.left in
@@ -44,12 +44,12 @@ module _ {L M I A : Type 0} (made : I → ImageCall → ImageAnswer → I → Ty
         dies = does.dies ∙ dies;
       }
 
-  pub looks_pending : (looks : ℕ) (a b c d : Rig L M I A) (answer : Result Copied CommitCopyRefused) → LooksOn looks a b → answer ≡ Err Pending
+  pub looks_pending : (looks : ℕ) (a b c d : Inner L M I A) (answer : Result Copied CommitCopyRefused) → LooksOn looks a b → answer ≡ Err Pending
       → DoesOne (CommitCopy answer) b c → Does made IsForDies c d → LooksOn (looks + 1) a d
   looks_pending looks a b c d answer looked is one does =
       looks_more looks a b c d looked (subst (λ (r : Result Copied CommitCopyRefused). DoesOne (CommitCopy r) b c) is one) does
 
-  pub settles_commit : (looks : ℕ) (a b c : Rig L M I A) (answer : Result Copied CommitCopyRefused) → LooksOn looks a b
+  pub settles_commit : (looks : ℕ) (a b c : Inner L M I A) (answer : Result Copied CommitCopyRefused) → LooksOn looks a b
       → DoesOne (CommitCopy answer) b c → (answer ≡ Err Pending → ⊥) → SettlesCopy made a c
   settles_commit looks a b c answer looked one ends = record {
     settles = Commits looks (house_of b) (house_of c) answer looked.looked ends one.step one.images;
@@ -57,7 +57,7 @@ module _ {L M I A : Type 0} (made : I → ImageCall → ImageAnswer → I → Ty
     dies = one.dies ∙ looked.dies;
   }
 
-  pub settles_over : (looks : ℕ) (a b c : Rig L M I A) → LooksOn looks a b → copy_open b.locked.core ≡ false → c.locked.core ≡ b.locked.core
+  pub settles_over : (looks : ℕ) (a b c : Inner L M I A) → LooksOn looks a b → copy_open b.locked.core ≡ false → c.locked.core ≡ b.locked.core
       → LeavesRest b.locked b.seat c.locked c.seat → c.images.items ≡ b.images.items → c.dies.items ≡ b.dies.items → SettlesCopy made a c
   settles_over looks a b c looked is_none same left images dies = record {
     settles = let house : House I → Type 0 = λ h. Settles made a.locked.number a.dies.items (number_of a.seat) (house_of a) h in
@@ -67,7 +67,7 @@ module _ {L M I A : Type 0} (made : I → ImageCall → ImageAnswer → I → Ty
     dies = dies ∙ looked.dies;
   }
 
-  pub settles_endless : (looks : ℕ) (a b : Rig L M I A) → LooksOn looks a b → 2 ^ 64 - 1 ≤ looks → SettlesCopy made a b
+  pub settles_endless : (looks : ℕ) (a b : Inner L M I A) → LooksOn looks a b → 2 ^ 64 - 1 ≤ looks → SettlesCopy made a b
   settles_endless looks a b looked many = record {
     settles = Endless looks (house_of b) looked.looked many;
     left = looked.left;

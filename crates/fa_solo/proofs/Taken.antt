@@ -17,8 +17,8 @@ use Rattle.fa_shared.specs.Locked.{LockedState}
 use Rattle.fa_shared.specs.Seats.{number_of}
 use Rattle.fa_solo.proofs.Chains.{join_rest}
 use Rattle.fa_solo.specs.Deeds.{IsForDies, Runs, Stays}
-use Rattle.fa_solo.specs.Rigs.{Does, EndsAt, house_of}
-use Rattle.fa_solo.specs.declared.rig.Rig.{Rig}
+use Rattle.fa_solo.specs.Inner.{Does, EndsAt, house_of}
+use Rattle.fa_solo.specs.declared.inner.Inner.{Inner}
 use Rattle.fa_core_dispatch.specs.Fits.{IsJobFor}
 use Rattle.fa_types.specs.declared.geometry.Geometry.{Geometry}
 use Rattle.fa_shared_events.specs.Held.{LeavesRest}
@@ -73,14 +73,14 @@ kind_at jobs flight result bytes those is same kind =
     kind_in jobs flight (outcome_of result those) is (ap (λ (b : List ℕ). is_of_kind flight (outcome_of result b)) (sym same) ∙ kind)
 
 -- the calls of a job leave what is in flight
-pub kept_flight : {L M I A : Type 0} (a b : Rig L M I A) (die : ℕ) (flight : Flight)
+pub kept_flight : {L M I A : Type 0} (a b : Inner L M I A) (die : ℕ) (flight : Flight)
     → b ≡ record a { images = b.images; scratch = b.scratch; buffer = b.buffer } → get a.locked.core.jobs die ≡ Some flight
     → get b.locked.core.jobs die ≡ Some flight
-kept_flight {L} {M} {I} {A} a b die flight rest is = ap (λ (r : Rig L M I A). get r.locked.core.jobs die) rest ∙ is
+kept_flight {L} {M} {I} {A} a b die flight rest is = ap (λ (r : Inner L M I A). get r.locked.core.jobs die) rest ∙ is
 
 module _ {L M I A : Type 0} (made : I → ImageCall → ImageAnswer → I → Type 0) where
   -- a Take and what its job ran, up to its Done
-  pub does_job : (a t b : Rig L M I A) (die place : ℕ) (job : Handed) → Step a.locked.core (Take die (number_of a.seat) (Some job)) t.locked.core
+  pub does_job : (a t b : Inner L M I A) (die place : ℕ) (job : Handed) → Step a.locked.core (Take die (number_of a.seat) (Some job)) t.locked.core
       → LeavesRest a.locked a.seat t.locked t.seat → place_on a.dies.items die ≡ Some place
       → IsJobFor a.locked.core.page_map.geometry a.locked.number die job
       → t.locked.core.page_map.geometry ≡ a.locked.core.page_map.geometry → t.images.items ≡ a.images.items → t.dies.items ≡ a.dies.items

@@ -7,9 +7,9 @@ use Rattle.fa_shared_steps.specs.Stages.{beginning}
 use Rattle.fa_shared_steps.specs.Tasks.{answered, task_of}
 use Rattle.fa_shared_steps.specs.declared.request.Task.{Task}
 use Rattle.fa_solo.specs.Deeds.{IsForRequests}
-use Rattle.fa_solo.specs.Rigs.{Does, Tidies}
+use Rattle.fa_solo.specs.Inner.{Does, Tidies}
 use Rattle.fa_solo.specs.Turns.{RunsOn}
-use Rattle.fa_solo.specs.declared.rig.Rig.{Rig}
+use Rattle.fa_solo.specs.declared.inner.Inner.{Inner}
 use Rattle.fa_types.specs.Store.{Call, Writing, Answer, Gave, Done, Refused}
 use Rattle.fa_types.specs.declared.blocks.BlockFault.{BlockFault}
 use Rattle.fa_types.specs.declared.blocks.BlockFault.TheVariants.{Lost, NoMemory as OutOfMemory, NoRoom}
@@ -55,19 +55,19 @@ module _ {A : Type 0} where
 module _ {L M I A : Type 0} (made : I → ImageCall → ImageAnswer → I → Type 0) where
   -- A request of this task was made with these bytes, from its beginning on; or it was refused, since there was no memory for what it is to
   -- answer.
-  pub data MakesRequest (task : Task) (bytes : List ℕ) (answer : Answer) (old new : Rig L M I A) : Type 0 where
+  pub data MakesRequest (task : Task) (bytes : List ℕ) (answer : Answer) (old new : Inner L M I A) : Type 0 where
     NoMemory : answer ≡ Refused OutOfMemory → 0 < answered task → new ≡ old → MakesRequest task bytes answer old new
     Made : (op next : OpView A) → task_in op ≡ task → stage_of op ≡ beginning task → answer_of op ≡ []
         → (runs : RunsOn made bytes old op new next) → EndsBy answer runs.turns next → MakesRequest task bytes answer old new
 
   -- A call: spares that are brought in before it, the request, and what is for the array's order behind it. Nothing is where there was no room.
-  pub record MakesWhole (task : Task) (bytes : List ℕ) (answer : Answer) (old new : Rig L M I A) : Type 0 where
-    pub begun : Rig L M I A
-    pub done : Rig L M I A
+  pub record MakesWhole (task : Task) (bytes : List ℕ) (answer : Answer) (old new : Inner L M I A) : Type 0 where
+    pub begun : Inner L M I A
+    pub done : Inner L M I A
     pub before : Does made IsForRequests old begun
     pub request : MakesRequest task bytes answer begun done
     pub behind : Tidies made done new
     pub full : answer ≡ Refused NoRoom → new ≡ done
 
-  abbrev pub MakesCall : ℕ → Rig L M I A → Call → Answer → Rig L M I A → Type 0
+  abbrev pub MakesCall : ℕ → Inner L M I A → Call → Answer → Inner L M I A → Type 0
   MakesCall page_bytes old call answer new = MakesWhole (task_of page_bytes (request_of call)) (bytes_of call) answer old new

@@ -2,6 +2,6 @@ pub mod Calls
 pub mod House
 pub mod Orders
 pub mod Deeds
-pub mod Rigs
+pub mod Inner
 pub mod Turns
 pub mod Stores

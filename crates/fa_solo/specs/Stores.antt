@@ -3,19 +3,19 @@ use Rattle.std.specs.Prelude.{◌≡◌, ℕ}
 use Rattle.fa_shared_store.specs.Counts.{IsMade, is_accepted, pages_of}
 use Rattle.fa_image.specs.Image.{ImageAnswer, ImageCall}
 use Rattle.fa_solo.specs.Calls.{MakesCall}
-use Rattle.fa_solo.specs.declared.rig.Rig.{Rig}
+use Rattle.fa_solo.specs.declared.inner.Inner.{Inner}
 use Rattle.fa_types.specs.Store.{Answer, Call, IsAnswer}
 
 -- what is seen of it: how many bytes it has, and a page of it, and what it owns
 pub record StoreState (L M I A : Type 0) : Type 0 where
   pub bytes : ℕ
   pub page_bytes : ℕ
-  pub rig : Rig L M I A
+  pub inner : Inner L M I A
 
 module _ {L M I A : Type 0} where
   -- It stays as large as it is, the answer is one of the call's, and its seat has as many Commits more as the call wrote pages.
   abbrev pub StoreMakes : (I → ImageCall → ImageAnswer → I → Type 0) → StoreState L M I A → Call → Answer → StoreState L M I A → Type 0
   StoreMakes made before call answer after =
       (after.bytes ≡ before.bytes) × (after.page_bytes ≡ before.page_bytes) × IsAnswer call answer
-      × IsMade (pages_of before.page_bytes call) before.rig.seat (is_accepted answer) after.rig.seat
-      × MakesCall made before.page_bytes before.rig call answer after.rig
+      × IsMade (pages_of before.page_bytes call) before.inner.seat (is_accepted answer) after.inner.seat
+      × MakesCall made before.page_bytes before.inner call answer after.inner

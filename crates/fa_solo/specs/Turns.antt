@@ -12,8 +12,8 @@ use Rattle.fa_shared.specs.Seats.{commits_with, number_of}
 use Rattle.fa_shared.specs.declared.seat.Seat.{Seat}
 use Rattle.fa_solo.specs.Deeds.{Goes, IsMeanwhile}
 use Rattle.fa_solo.specs.House.{House}
-use Rattle.fa_solo.specs.Rigs.{house_of}
-use Rattle.fa_solo.specs.declared.rig.Rig.{Rig}
+use Rattle.fa_solo.specs.Inner.{house_of}
+use Rattle.fa_solo.specs.declared.inner.Inner.{Inner}
 use Rattle.fa_types.specs.declared.blocks.BlockFault.{BlockFault}
 
 -- How far a request is: the array with its images, the seat by which its events are made, its stage, and its answer so far.
@@ -65,15 +65,15 @@ module _ {L I A : Type 0} (made : I → ImageCall → ImageAnswer → I → Type
     Refuses : (turns : ℕ) (middle new : Asking L I A) → Asks old turns middle → GivesUp middle new → Asks old turns new
 
 module _ {L M I A : Type 0} where
-  abbrev pub asking_of : Rig L M I A → OpView A → Asking L I A
-  asking_of rig op = record { house = house_of rig; seat = rig.seat; stage = stage_of op; answer = answer_of op }
+  abbrev pub asking_of : Inner L M I A → OpView A → Asking L I A
+  asking_of inner op = record { house = house_of inner; seat = inner.seat; stage = stage_of op; answer = answer_of op }
 
   -- A request went on so, with these bytes. The Commits of the seat keep up with its pages, and nothing else of the array under its lock has
   -- changed.
-  pub record RunsOn (made : I → ImageCall → ImageAnswer → I → Type 0) (bytes : List ℕ) (rig : Rig L M I A) (op : OpView A) (new : Rig L M I A)
+  pub record RunsOn (made : I → ImageCall → ImageAnswer → I → Type 0) (bytes : List ℕ) (inner : Inner L M I A) (op : OpView A) (new : Inner L M I A)
       (next : OpView A) : Type 0 where
     pub turns : ℕ
-    pub asks : Asks made rig.locked.number rig.dies.items (number_of rig.seat) (task_in op) bytes (asking_of rig op) turns (asking_of new next)
-    pub counts : GoesOn rig.seat op new.seat next
-    pub rest : new.locked ≡ record rig.locked { core = new.locked.core; book = new.locked.book }
-    pub dies : new.dies.items ≡ rig.dies.items
+    pub asks : Asks made inner.locked.number inner.dies.items (number_of inner.seat) (task_in op) bytes (asking_of inner op) turns (asking_of new next)
+    pub counts : GoesOn inner.seat op new.seat next
+    pub rest : new.locked ≡ record inner.locked { core = new.locked.core; book = new.locked.book }
+    pub dies : new.dies.items ≡ inner.dies.items

@@ -2,10 +2,10 @@
 ghost use Rattle.std.specs.Prelude.{◌≡◌, true};
 ghost use Rattle.fa_machine.specs.Looks.{wants_window};
 ghost use Rattle.fa_solo.specs.Deeds.{IsForDies};
-ghost use Rattle.fa_solo.specs.Rigs.{Does};
+ghost use Rattle.fa_solo.specs.Inner.{Does};
 
+use crate::inner::Inner;
 use crate::jobs::work_off;
-use crate::rig::Rig;
 use fa_image::Image;
 use fa_machine::WindowRefused;
 use fa_map::Map;
@@ -27,13 +27,13 @@ pub(crate) enum Windows {
 
 /// Gives windows and makes their steps until no live die wants a window. False where a die that wants one was refused it.
 pub(crate) fn collect<L: Ledger, M: Map + Drop, I: Image, A: Allocator + Copy>(
-    rig: &mut Rig<L, M, I, A>,
+    inner: &mut Inner<L, M, I, A>,
 ) -> bool
-    ensures { Does I.made IsForDies rig.old rig.new }
+    ensures { Does I.made IsForDies inner.old inner.new }
 {
     for _ in 0..u64::MAX {
-        let windows = give_windows(rig, false);
-        work_off(rig);
+        let windows = give_windows(inner, false);
+        work_off(inner);
         match windows {
             Windows::Unwanted => return true,
             Windows::Given => {}
@@ -45,14 +45,14 @@ pub(crate) fn collect<L: Ledger, M: Map + Drop, I: Image, A: Allocator + Copy>(
 
 /// Gives a window to each die that wants one and has none. Where a write waits for room those are asked alone that have none.
 pub(crate) fn give_windows<L: Ledger, M: Map + Drop, I: Image, A: Allocator + Copy>(
-    rig: &mut Rig<L, M, I, A>,
+    inner: &mut Inner<L, M, I, A>,
     for_room: bool,
 ) -> Windows
-    ensures { Does I.made IsForDies rig.old rig.new }
+    ensures { Does I.made IsForDies inner.old inner.new }
 {
     let mut windows = Windows::Unwanted;
-    for die in 0..rig.locked.array().geometry().dies {
-        windows = both(windows, give_window(rig, Die(die as u8), for_room));
+    for die in 0..inner.locked.array().geometry().dies {
+        windows = both(windows, give_window(inner, Die(die as u8), for_room));
     }
     windows
 }
@@ -71,28 +71,28 @@ fn both(one: Windows, other: Windows) -> Windows {
 
 /// Gives a window to a die, if it wants one and has none.
 fn give_window<L: Ledger, M: Map + Drop, I: Image, A: Allocator + Copy>(
-    rig: &mut Rig<L, M, I, A>,
+    inner: &mut Inner<L, M, I, A>,
     die: Die,
     for_room: bool,
 ) -> Windows
-    ensures { Does I.made IsForDies rig.old rig.new }
+    ensures { Does I.made IsForDies inner.old inner.new }
 {
-    if !is_wanted(rig, die, for_room) {
+    if !is_wanted(inner, die, for_room) {
         return Windows::Unwanted;
     }
-    ask_window(rig, die)
+    ask_window(inner, die)
 }
 
 /// Asks for a window for a die that wants one.
 fn ask_window<L: Ledger, M: Map + Drop, I: Image, A: Allocator + Copy>(
-    rig: &mut Rig<L, M, I, A>,
+    inner: &mut Inner<L, M, I, A>,
     die: Die,
 ) -> Windows
-    requires wanted { wants_window rig.old.locked.core.page_map die.0 ≡ true }
-    ensures { Does I.made IsForDies rig.old rig.new }
+    requires wanted { wants_window inner.old.locked.core.page_map die.0 ≡ true }
+    ensures { Does I.made IsForDies inner.old inner.new }
 {
-    let rounds = rig.window_rounds;
-    match window(rig.alloc, &mut rig.locked, &mut rig.seat, die, rounds) {
+    let rounds = inner.window_rounds;
+    match window(inner.alloc, &mut inner.locked, &mut inner.seat, die, rounds) {
         Some(answer) => windows_of(answer),
         None => Windows::Refused(WindowRefused::Busy),
     }
@@ -108,13 +108,13 @@ fn windows_of(answer: Result<Round, WindowRefused>) -> Windows {
 
 /// Whether the die wants a window, and, where a write waits for room, has no room.
 fn is_wanted<L: Ledger, M: Map + Drop, I: Image, A: Allocator + Copy>(
-    rig: &Rig<L, M, I, A>,
+    inner: &Inner<L, M, I, A>,
     die: Die,
     for_room: bool,
 ) -> bool
-    ensures { result ≡ true → wants_window rig.now.locked.core.page_map die.0 ≡ true }
+    ensures { result ≡ true → wants_window inner.now.locked.core.page_map die.0 ≡ true }
 {
-    let array = rig.locked.array();
+    let array = inner.locked.array();
     if !array.is_die(die) {
         return false;
     }

@@ -2,9 +2,9 @@
 ghost use Rattle.std.specs.Prelude.{◌≡◌, true};
 ghost use Rattle.fa_core.specs.Array.{IsWhole, state_of};
 ghost use Rattle.fa_solo.specs.Deeds.{IsAwaited, IsForDies, IsForRequests};
-ghost use Rattle.fa_solo.specs.Rigs.{Does};
+ghost use Rattle.fa_solo.specs.Inner.{Does};
 
-use crate::rig::Rig;
+use crate::inner::Inner;
 use crate::running::run_next;
 use fa_core::Array;
 use fa_image::Image;
@@ -19,33 +19,33 @@ use std::sync::ledger::Ledger;
 /// Makes a job of each die that has one, and behind these the round passes, if the batch awaits a later one and if it may. Where no die had a
 /// job it passes too if one is awaited for a step of a collector. Whether anything was done.
 pub(crate) fn work<L: Ledger, M: Map + Drop, I: Image, A: Allocator + Copy>(
-    rig: &mut Rig<L, M, I, A>,
+    inner: &mut Inner<L, M, I, A>,
     batch: Option<BatchId>,
 ) -> bool
-    ensures { Does I.made IsForDies rig.old rig.new }
+    ensures { Does I.made IsForDies inner.old inner.new }
 {
-    if make_jobs(rig) {
-        pass_for(rig, batch);
+    if make_jobs(inner) {
+        pass_for(inner, batch);
         return true;
     }
-    if !is_awaited(rig.locked.array(), batch) {
+    if !is_awaited(inner.locked.array(), batch) {
         return false;
     }
-    pass_round(rig)
+    pass_round(inner)
 }
 
 /// The same until the batch, if one is awaited, has all of its answers, or there is nothing to be done. Whether anything was done.
 pub(crate) fn work_for<L: Ledger, M: Map + Drop, I: Image, A: Allocator + Copy>(
-    rig: &mut Rig<L, M, I, A>,
+    inner: &mut Inner<L, M, I, A>,
     batch: Option<BatchId>,
 ) -> bool
-    ensures { Does I.made IsForDies rig.old rig.new }
+    ensures { Does I.made IsForDies inner.old inner.new }
 {
-    if !work(rig, batch) {
+    if !work(inner, batch) {
         return false;
     }
     for _ in 0..u64::MAX {
-        if !work_again(rig, batch) {
+        if !work_again(inner, batch) {
             return true;
         }
     }
@@ -54,15 +54,15 @@ pub(crate) fn work_for<L: Ledger, M: Map + Drop, I: Image, A: Allocator + Copy>(
 
 /// The same once, if the batch has not all of its answers.
 fn work_again<L: Ledger, M: Map + Drop, I: Image, A: Allocator + Copy>(
-    rig: &mut Rig<L, M, I, A>,
+    inner: &mut Inner<L, M, I, A>,
     batch: Option<BatchId>,
 ) -> bool
-    ensures { Does I.made IsForDies rig.old rig.new }
+    ensures { Does I.made IsForDies inner.old inner.new }
 {
-    if !is_read(rig.locked.array(), batch) {
+    if !is_read(inner.locked.array(), batch) {
         return false;
     }
-    work(rig, batch)
+    work(inner, batch)
 }
 
 /// Whether a later round is awaited: the batch has not all of its answers, or a die that has a window has a block to collect.
@@ -121,12 +121,12 @@ fn has_step<M: Map, A: Allocator + Copy>(array: &Array<M, A>, die: Die) -> bool
 
 /// The same until there is nothing to be done.
 pub(crate) fn work_off<L: Ledger, M: Map + Drop, I: Image, A: Allocator + Copy>(
-    rig: &mut Rig<L, M, I, A>,
+    inner: &mut Inner<L, M, I, A>,
 )
-    ensures { Does I.made IsForDies rig.old rig.new }
+    ensures { Does I.made IsForDies inner.old inner.new }
 {
     for _ in 0..u64::MAX {
-        if !work(rig, None) {
+        if !work(inner, None) {
             return;
         }
     }
@@ -134,13 +134,13 @@ pub(crate) fn work_off<L: Ledger, M: Map + Drop, I: Image, A: Allocator + Copy>(
 
 /// Makes a job of each die that has one. Whether a die had one.
 fn make_jobs<L: Ledger, M: Map + Drop, I: Image, A: Allocator + Copy>(
-    rig: &mut Rig<L, M, I, A>,
+    inner: &mut Inner<L, M, I, A>,
 ) -> bool
-    ensures { Does I.made IsForDies rig.old rig.new }
+    ensures { Does I.made IsForDies inner.old inner.new }
 {
     let mut made = false;
-    for die in 0..rig.locked.array().geometry().dies {
-        if run_next(rig, Die(die as u8)) {
+    for die in 0..inner.locked.array().geometry().dies {
+        if run_next(inner, Die(die as u8)) {
             made = true;
         }
     }
@@ -149,32 +149,32 @@ fn make_jobs<L: Ledger, M: Map + Drop, I: Image, A: Allocator + Copy>(
 
 /// Brings in a spare, where one is wanted.
 pub(crate) fn bring_in<L: Ledger, M: Map + Drop, I: Image, A: Allocator + Copy>(
-    rig: &mut Rig<L, M, I, A>,
+    inner: &mut Inner<L, M, I, A>,
 )
-    ensures { Does I.made IsForRequests rig.old rig.new }
+    ensures { Does I.made IsForRequests inner.old inner.new }
 {
-    bring_in_spare(rig.alloc, &mut rig.locked, &mut rig.seat);
+    bring_in_spare(inner.alloc, &mut inner.locked, &mut inner.seat);
 }
 
 /// Lets the round pass, if the batch has not all of its answers and if it may.
 fn pass_for<L: Ledger, M: Map + Drop, I: Image, A: Allocator + Copy>(
-    rig: &mut Rig<L, M, I, A>,
+    inner: &mut Inner<L, M, I, A>,
     batch: Option<BatchId>,
 )
-    ensures { Does I.made IsForDies rig.old rig.new }
+    ensures { Does I.made IsForDies inner.old inner.new }
 {
-    if !is_read(rig.locked.array(), batch) {
+    if !is_read(inner.locked.array(), batch) {
         return;
     }
-    pass_round(rig);
+    pass_round(inner);
 }
 
 /// Lets the round pass, if it may. Whether it passed.
 fn pass_round<L: Ledger, M: Map + Drop, I: Image, A: Allocator + Copy>(
-    rig: &mut Rig<L, M, I, A>,
+    inner: &mut Inner<L, M, I, A>,
 ) -> bool
-    requires { IsAwaited rig.old.locked.core }
-    ensures { Does I.made IsForDies rig.old rig.new }
+    requires { IsAwaited inner.old.locked.core }
+    ensures { Does I.made IsForDies inner.old inner.new }
 {
-    advance(rig.alloc, &mut rig.locked, &mut rig.seat).is_ok()
+    advance(inner.alloc, &mut inner.locked, &mut inner.seat).is_ok()
 }

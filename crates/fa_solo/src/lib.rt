@@ -2,13 +2,13 @@
 #![tactic(auto)]
 
 mod collecting;
+mod inner;
 mod jobs;
 mod rebuilding;
 mod requests;
-mod rig;
 mod running;
 mod solo;
 mod whole;
 
-pub use rig::Parts;
+pub use inner::Parts;
 pub use solo::Solo;

@@ -6,11 +6,11 @@ ghost use Rattle.fa_machine.specs.Reading.{Planned, results as rule_results};
 ghost use Rattle.fa_machine.specs.Step.{Admit, EndBatch, ReserveCopy};
 ghost use Rattle.fa_core_read.specs.Answers.{admit_answer};
 ghost use Rattle.fa_solo.specs.Deeds.{IsForDies, IsForOrder};
-ghost use Rattle.fa_solo.specs.Rigs.{Does, DoesOne, ReservesCopy, SettlesCopy, Tidies, TriesCopy};
+ghost use Rattle.fa_solo.specs.Inner.{Does, DoesOne, ReservesCopy, SettlesCopy, Tidies, TriesCopy};
 
 use crate::collecting::collect;
+use crate::inner::Inner;
 use crate::jobs::{bring_in, work, work_off};
-use crate::rig::Rig;
 use fa_core_read::Admitted;
 use fa_image::Image;
 use fa_machine::{AdmitRefused, BatchId, CommitCopyRefused, Copied, ReadState};
@@ -32,24 +32,26 @@ struct ThinPage {
 /// Brings in a spare where one is wanted, collects until no live die wants a window, and makes copies until no page is thin that has a place
 /// to go. A refusal ends this. A copy that was begun is seen through.
 pub(crate) fn tidy<L: Ledger, M: Map + Drop, I: Image, A: Allocator + Copy>(
-    rig: &mut Rig<L, M, I, A>,
+    inner: &mut Inner<L, M, I, A>,
 )
-    ensures { Tidies I.made rig.old rig.new }
+    ensures { Tidies I.made inner.old inner.new }
 {
-    put_in_order(rig);
-    work_off(rig);
+    put_in_order(inner);
+    work_off(inner);
 }
 
 /// The same, but that jobs may be left to do.
-fn put_in_order<L: Ledger, M: Map + Drop, I: Image, A: Allocator + Copy>(rig: &mut Rig<L, M, I, A>)
-    ensures { Tidies I.made rig.old rig.new }
+fn put_in_order<L: Ledger, M: Map + Drop, I: Image, A: Allocator + Copy>(
+    inner: &mut Inner<L, M, I, A>,
+)
+    ensures { Tidies I.made inner.old inner.new }
 {
     for _ in 0..u64::MAX {
-        bring_in(rig);
-        if !collect(rig) {
+        bring_in(inner);
+        if !collect(inner) {
             return;
         }
-        if !rebuild_next(rig) {
+        if !rebuild_next(inner) {
             return;
         }
     }
@@ -57,22 +59,22 @@ fn put_in_order<L: Ledger, M: Map + Drop, I: Image, A: Allocator + Copy>(rig: &m
 
 /// Gives the next thin page one more copy. False where there is none, or something was refused.
 fn rebuild_next<L: Ledger, M: Map + Drop, I: Image, A: Allocator + Copy>(
-    rig: &mut Rig<L, M, I, A>,
+    inner: &mut Inner<L, M, I, A>,
 ) -> bool
-    ensures { Tidies I.made rig.old rig.new }
+    ensures { Tidies I.made inner.old inner.new }
 {
-    let Some(thin) = find_thin(&rig.locked) else {
+    let Some(thin) = find_thin(&inner.locked) else {
         return false;
     };
-    let Some(batch) = ask(rig, thin.page) else {
+    let Some(batch) = ask(inner, thin.page) else {
         return false;
     };
-    let state = wait_for(rig, batch);
-    let Some(answers) = end(rig, batch) else {
+    let state = wait_for(inner, batch);
+    let Some(answers) = end(inner, batch) else {
         return false;
     };
     match state {
-        ReadState::Ready => copy(rig, thin, answers),
+        ReadState::Ready => copy(inner, thin, answers),
         ReadState::Torn => true,
         ReadState::Waiting => false,
     }
@@ -80,15 +82,15 @@ fn rebuild_next<L: Ledger, M: Map + Drop, I: Image, A: Allocator + Copy>(
 
 /// A batch of the page alone, if it is admitted.
 fn ask<L: Ledger, M: Map + Drop, I: Image, A: Allocator + Copy>(
-    rig: &mut Rig<L, M, I, A>,
+    inner: &mut Inner<L, M, I, A>,
     page: Page,
 ) -> Option<BatchId>
-    requires thin { is_thin rig.old.locked.core.copies rig.old.locked.core.page_map page.0 ≡ true }
-    ensures none { IfNone result (Does I.made IsForOrder rig.old rig.new) }
+    requires thin { is_thin inner.old.locked.core.copies inner.old.locked.core.page_map page.0 ≡ true }
+    ensures none { IfNone result (Does I.made IsForOrder inner.old inner.new) }
     ensures some { IfSome result (λ batch. (planned : Planned)
-        × DoesOne (Admit (page.0 ∷ []) (Ok (record { batch = batch; planned = planned }))) rig.old rig.new) }
+        × DoesOne (Admit (page.0 ∷ []) (Ok (record { batch = batch; planned = planned }))) inner.old inner.new) }
 {
-    match admit(&mut rig.locked, &mut rig.seat, &[page]) {
+    match admit(&mut inner.locked, &mut inner.seat, &[page]) {
         Some(answer) => batch_of(answer),
         None => None,
     }
@@ -106,13 +108,13 @@ fn batch_of<A: Allocator>(answer: Result<Admitted<A>, AdmitRefused>) -> Option<B
 
 /// What the batch gave, which is ended.
 fn end<L: Ledger, M: Map + Drop, I: Image, A: Allocator + Copy>(
-    rig: &mut Rig<L, M, I, A>,
+    inner: &mut Inner<L, M, I, A>,
     batch: BatchId,
 ) -> Option<Vec<(Page, Vec<u8, A>), A>>
-    ensures none { IfNone result (Does I.made IsForOrder rig.old rig.new) }
-    ensures some { IfSome result (λ answers. DoesOne (EndBatch batch.0 (map (λ e. (e.0.0, e.1.items)) answers.items)) rig.old rig.new) }
+    ensures none { IfNone result (Does I.made IsForOrder inner.old inner.new) }
+    ensures some { IfSome result (λ answers. DoesOne (EndBatch batch.0 (map (λ e. (e.0.0, e.1.items)) answers.items)) inner.old inner.new) }
 {
-    end_batch(rig.alloc, &mut rig.locked, &mut rig.seat, batch)
+    end_batch(inner.alloc, &mut inner.locked, &mut inner.seat, batch)
 }
 
 /// The next thin page that has a place to go.
@@ -133,18 +135,18 @@ fn find_thin<L: Ledger, M: Map + Drop, A: Allocator + Copy>(
 
 /// Makes the reads of a batch, and tells how it stands then.
 fn wait_for<L: Ledger, M: Map + Drop, I: Image, A: Allocator + Copy>(
-    rig: &mut Rig<L, M, I, A>,
+    inner: &mut Inner<L, M, I, A>,
     batch: BatchId,
 ) -> ReadState
-    ensures does { Does I.made IsForDies rig.old rig.new }
-    ensures ready { result ≡ ReadState.Ready → rule_results rig.new.locked.core batch.0 ≡ ReadState.Ready }
+    ensures does { Does I.made IsForDies inner.old inner.new }
+    ensures ready { result ≡ ReadState.Ready → rule_results inner.new.locked.core batch.0 ≡ ReadState.Ready }
 {
     for _ in 0..u64::MAX {
-        let state = rig.locked.array().results(batch);
+        let state = inner.locked.array().results(batch);
         if state != ReadState::Waiting {
             return state;
         }
-        if !work(rig, Some(batch)) {
+        if !work(inner, Some(batch)) {
             return ReadState::Waiting;
         }
     }
@@ -153,26 +155,26 @@ fn wait_for<L: Ledger, M: Map + Drop, I: Image, A: Allocator + Copy>(
 
 /// Makes a copy of what was read of a page. False where that was refused.
 fn copy<L: Ledger, M: Map + Drop, I: Image, A: Allocator + Copy>(
-    rig: &mut Rig<L, M, I, A>,
+    inner: &mut Inner<L, M, I, A>,
     thin: ThinPage,
     answers: Vec<(Page, Vec<u8, A>), A>,
 ) -> bool
-    ensures { TriesCopy I.made thin.page.0 thin.seq.0 (map (λ e. (e.0.0, e.1.items)) answers.items) rig.old rig.new }
+    ensures { TriesCopy I.made thin.page.0 thin.seq.0 (map (λ e. (e.0.0, e.1.items)) answers.items) inner.old inner.new }
 {
-    if !reserve_last(rig, thin, answers) {
+    if !reserve_last(inner, thin, answers) {
         return false;
     }
-    see_through(rig)
+    see_through(inner)
 }
 
 /// Reserves a slot for a copy of what was answered last. Whether that was accepted.
 fn reserve_last<L: Ledger, M: Map + Drop, I: Image, A: Allocator + Copy>(
-    rig: &mut Rig<L, M, I, A>,
+    inner: &mut Inner<L, M, I, A>,
     thin: ThinPage,
     answers: Vec<(Page, Vec<u8, A>), A>,
 ) -> bool
-    ensures yes { result ≡ true → ReservesCopy thin.page.0 thin.seq.0 (map (λ e. (e.0.0, e.1.items)) answers.items) rig.old rig.new }
-    ensures no { result ≡ false → Does I.made IsForOrder rig.old rig.new }
+    ensures yes { result ≡ true → ReservesCopy thin.page.0 thin.seq.0 (map (λ e. (e.0.0, e.1.items)) answers.items) inner.old inner.new }
+    ensures no { result ≡ false → Does I.made IsForOrder inner.old inner.new }
 {
     let mut answers = answers;
     let Some((_, bytes)) = answers.pop() else {
@@ -181,20 +183,20 @@ fn reserve_last<L: Ledger, M: Map + Drop, I: Image, A: Allocator + Copy>(
     let Ok(payload) = Payload::new(bytes) else {
         return false;
     };
-    reserve(rig, thin, &payload)
+    reserve(inner, thin, &payload)
 }
 
 /// Reserves a slot for the copy. Whether that was accepted.
 fn reserve<L: Ledger, M: Map + Drop, I: Image, A: Allocator + Copy>(
-    rig: &mut Rig<L, M, I, A>,
+    inner: &mut Inner<L, M, I, A>,
     thin: ThinPage,
     payload: &Payload<A>,
 ) -> bool
-    ensures yes { result ≡ true → DoesOne (ReserveCopy thin.page.0 thin.seq.0 payload.now (Ok tt)) rig.old rig.new }
-    ensures no { result ≡ false → Does I.made IsForOrder rig.old rig.new }
+    ensures yes { result ≡ true → DoesOne (ReserveCopy thin.page.0 thin.seq.0 payload.now (Ok tt)) inner.old inner.new }
+    ensures no { result ≡ false → Does I.made IsForOrder inner.old inner.new }
 {
     let ThinPage { page, seq } = thin;
-    match reserve_copy(&mut rig.locked, &mut rig.seat, page, seq, payload) {
+    match reserve_copy(&mut inner.locked, &mut inner.seat, page, seq, payload) {
         Some(answer) => answer.is_ok(),
         None => false,
     }
@@ -202,18 +204,18 @@ fn reserve<L: Ledger, M: Map + Drop, I: Image, A: Allocator + Copy>(
 
 /// Makes the program of the copy that is under way, and ends it. Whether it ended.
 fn see_through<L: Ledger, M: Map + Drop, I: Image, A: Allocator + Copy>(
-    rig: &mut Rig<L, M, I, A>,
+    inner: &mut Inner<L, M, I, A>,
 ) -> bool
-    ensures { SettlesCopy I.made rig.old rig.new }
+    ensures { SettlesCopy I.made inner.old inner.new }
 {
     for looks in 0..u64::MAX {
-        let Some(answer) = commit_copy(rig.alloc, &mut rig.locked, &mut rig.seat) else {
+        let Some(answer) = commit_copy(inner.alloc, &mut inner.locked, &mut inner.seat) else {
             return true;
         };
         if !is_pending(answer) {
             return true;
         }
-        work(rig, None);
+        work(inner, None);
     }
     false
 }

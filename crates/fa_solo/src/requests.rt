@@ -10,14 +10,14 @@ ghost use Rattle.fa_shared_request.specs.Waiting.{HasNoWindow, awaits_flush, wai
 ghost use Rattle.fa_shared_steps.specs.declared.request.Request.TheVariants.{Read};
 ghost use Rattle.fa_solo.specs.Calls.{IsOfRead, MakesRequest, answer_by};
 ghost use Rattle.fa_solo.specs.Deeds.{IsForDies, IsMeanwhile};
-ghost use Rattle.fa_solo.specs.Rigs.{Does};
+ghost use Rattle.fa_solo.specs.Inner.{Does};
 ghost use Rattle.fa_solo.specs.Turns.{RunsOn};
 ghost use Rattle.fa_types.specs.Store.{Gave, Refused};
 ghost use Rattle.fa_types.specs.declared.blocks.BlockFault.TheVariants.{Lost, NoMemory, NoRoom, Spent};
 
 use crate::collecting::{Windows, give_windows};
+use crate::inner::Inner;
 use crate::jobs::{bring_in, work, work_for};
-use crate::rig::Rig;
 use fa_core::Array;
 use fa_image::Image;
 use fa_machine::{BatchId, WindowRefused};
@@ -34,7 +34,7 @@ const LAST_ROUND: u64 = (1 << 56) - (1 << 24);
 
 /// A request that answers no bytes.
 pub(crate) fn run<L: Ledger, M: Map + Drop, I: Image, A: Allocator + Copy>(
-    rig: &mut Rig<L, M, I, A>,
+    inner: &mut Inner<L, M, I, A>,
     page_bytes: u32,
     request: Request,
     bytes: &[u8],
@@ -42,14 +42,14 @@ pub(crate) fn run<L: Ledger, M: Map + Drop, I: Image, A: Allocator + Copy>(
     requires some { 1 ≤ page_bytes }
     requires small { page_bytes ≤ 4096 }
     requires inside { end_of request ≤ 2 ^ 32 }
-    ensures made { IsMade (pages_in (task_of page_bytes request)) rig.old.seat (is_ok result) rig.new.seat }
-    ensures request { MakesRequest I.made (task_of page_bytes request) bytes.now (answer_by result) rig.old rig.new }
+    ensures made { IsMade (pages_in (task_of page_bytes request)) inner.old.seat (is_ok result) inner.new.seat }
+    ensures request { MakesRequest I.made (task_of page_bytes request) bytes.now (answer_by result) inner.old inner.new }
 {
-    let mut op = match Op::new(rig.alloc, rig.alloc, request, u64::from(page_bytes)) {
+    let mut op = match Op::new(inner.alloc, inner.alloc, request, u64::from(page_bytes)) {
         Ok(op) => op,
         Err(_) => return Err(BlockFault::NoMemory),
     };
-    match finish(rig, &mut op, bytes) {
+    match finish(inner, &mut op, bytes) {
         Some(None) => Ok(()),
         Some(Some(fault)) => Err(fault),
         None => Err(BlockFault::Lost),
@@ -58,7 +58,7 @@ pub(crate) fn run<L: Ledger, M: Map + Drop, I: Image, A: Allocator + Copy>(
 
 /// A read. It is never refused for want of room.
 pub(crate) fn run_read<L: Ledger, M: Map + Drop, I: Image, A: Allocator + Copy, B: Allocator>(
-    rig: &mut Rig<L, M, I, A>,
+    inner: &mut Inner<L, M, I, A>,
     page_bytes: u32,
     offset: u64,
     len: u64,
@@ -69,16 +69,16 @@ pub(crate) fn run_read<L: Ledger, M: Map + Drop, I: Image, A: Allocator + Copy, 
     requires inside { offset + len ≤ 2 ^ 32 }
     ensures length { IfOk result (λ answer. length answer.items ≡ len) }
     ensures room { IfErr result (λ fault. fault ≡ NoRoom → ⊥) }
-    ensures made { IsMade 0 rig.old.seat (is_ok result) rig.new.seat }
-    ensures gave { IfOk result (λ answer. MakesRequest I.made (task_of page_bytes (Read offset len)) [] (Gave answer.items) rig.old rig.new) }
-    ensures refused { IfErr result (λ fault. MakesRequest I.made (task_of page_bytes (Read offset len)) [] (Refused fault) rig.old rig.new) }
+    ensures made { IsMade 0 inner.old.seat (is_ok result) inner.new.seat }
+    ensures gave { IfOk result (λ answer. MakesRequest I.made (task_of page_bytes (Read offset len)) [] (Gave answer.items) inner.old inner.new) }
+    ensures refused { IfErr result (λ fault. MakesRequest I.made (task_of page_bytes (Read offset len)) [] (Refused fault) inner.old inner.new) }
 {
     let request = Request::Read { offset, len };
-    let mut op = match Op::new(rig.alloc, into, request, u64::from(page_bytes)) {
+    let mut op = match Op::new(inner.alloc, into, request, u64::from(page_bytes)) {
         Ok(op) => op,
         Err(_) => return Err(BlockFault::NoMemory),
     };
-    match finish(rig, &mut op, &[]) {
+    match finish(inner, &mut op, &[]) {
         Some(None) => handed_out(op, len),
         Some(Some(fault)) => Err(of_read(fault)),
         None => Err(BlockFault::Lost),
@@ -113,11 +113,11 @@ fn of_read(fault: BlockFault) -> BlockFault
 
 /// Goes on with a request until it has ended, and tells how. None where it has not ended within 2^64 - 1 turns.
 fn finish<L: Ledger, M: Map + Drop, I: Image, A: Allocator + Copy, B: Allocator>(
-    rig: &mut Rig<L, M, I, A>,
+    inner: &mut Inner<L, M, I, A>,
     op: &mut Op<A, B>,
     bytes: &[u8],
 ) -> Option<Option<BlockFault>>
-    ensures runs { (runs : RunsOn I.made bytes.now rig.old op.old rig.new op.new) × (result ≡ None → 2 ^ 64 - 1 ≤ runs.turns) }
+    ensures runs { (runs : RunsOn I.made bytes.now inner.old op.old inner.new op.new) × (result ≡ None → 2 ^ 64 - 1 ≤ runs.turns) }
     ensures ended { IfSome result (λ end. ended (stage_of op.new) ≡ Some end) }
 {
     for turns in 0..u64::MAX {
@@ -125,65 +125,65 @@ fn finish<L: Ledger, M: Map + Drop, I: Image, A: Allocator + Copy, B: Allocator>
             return Some(end);
         }
         op.prepare(bytes);
-        step(rig, op);
+        step(inner, op);
     }
     None
 }
 
 /// A turn of a request. Where it comes to waiting, what there is to be done for dies is made.
 fn step<L: Ledger, M: Map + Drop, I: Image, A: Allocator + Copy, B: Allocator>(
-    rig: &mut Rig<L, M, I, A>,
+    inner: &mut Inner<L, M, I, A>,
     op: &mut Op<A, B>,
 )
-    ensures { (bytes : List ℕ) → (runs : RunsOn I.made bytes rig.old op.old rig.new op.new) × (1 ≤ runs.turns) }
+    ensures { (bytes : List ℕ) → (runs : RunsOn I.made bytes inner.old op.old inner.new op.new) × (1 ≤ runs.turns) }
 {
-    let came = turn(rig, op);
+    let came = turn(inner, op);
     if came == Turn::Wait {
-        pass_time(rig, op);
+        pass_time(inner, op);
     }
 }
 
 /// A turn of a request. What its last batch handed out is given back first.
 fn turn<L: Ledger, M: Map + Drop, I: Image, A: Allocator + Copy, B: Allocator>(
-    rig: &mut Rig<L, M, I, A>,
+    inner: &mut Inner<L, M, I, A>,
     op: &mut Op<A, B>,
 ) -> Turn
-    ensures { (bytes : List ℕ) → (runs : RunsOn I.made bytes rig.old op.old rig.new op.new) × (1 ≤ runs.turns) }
+    ensures { (bytes : List ℕ) → (runs : RunsOn I.made bytes inner.old op.old inner.new op.new) × (1 ≤ runs.turns) }
 {
-    op.give_back(&mut rig.locked);
-    op.turn(&mut rig.locked, &mut rig.seat)
+    op.give_back(&mut inner.locked);
+    op.turn(&mut inner.locked, &mut inner.seat)
 }
 
 /// Makes what there is to be done for dies, where the request may have to wait. Where there is nothing, and it wants room, dies without room
 /// are collected.
 fn pass_time<L: Ledger, M: Map + Drop, I: Image, A: Allocator + Copy, B: Allocator>(
-    rig: &mut Rig<L, M, I, A>,
+    inner: &mut Inner<L, M, I, A>,
     op: &mut Op<A, B>,
 )
-    ensures { (bytes : List ℕ) → RunsOn I.made bytes rig.old op.old rig.new op.new }
+    ensures { (bytes : List ℕ) → RunsOn I.made bytes inner.old op.old inner.new op.new }
 {
     if !op.may_wait() {
         return;
     }
     if op.awaits_flush() {
-        work(rig, None);
+        work(inner, None);
         return;
     }
-    let batch = batch_of(op, rig);
-    if work_at_once(rig, batch) {
+    let batch = batch_of(op, inner);
+    if work_at_once(inner, batch) {
         return;
     }
     if op.wants_room() {
-        collect_for(rig, op);
+        collect_for(inner, op);
     }
 }
 
 /// The batch that a request waits for, if it waits for one.
 fn batch_of<L: Ledger, M: Map + Drop, I: Image, A: Allocator + Copy, B: Allocator>(
     op: &Op<A, B>,
-    rig: &Rig<L, M, I, A>,
+    inner: &Inner<L, M, I, A>,
 ) -> Option<BatchId> {
-    match op.awaits(&rig.locked) {
+    match op.awaits(&inner.locked) {
         Awaits::Batch(batch) => Some(batch),
         _ => None,
     }
@@ -191,41 +191,41 @@ fn batch_of<L: Ledger, M: Map + Drop, I: Image, A: Allocator + Copy, B: Allocato
 
 /// Makes what there is to be done for dies. Behind jobs a spare is brought in, where one is wanted. Whether anything was done.
 fn work_at_once<L: Ledger, M: Map + Drop, I: Image, A: Allocator + Copy>(
-    rig: &mut Rig<L, M, I, A>,
+    inner: &mut Inner<L, M, I, A>,
     batch: Option<BatchId>,
 ) -> bool
-    ensures { Does I.made (IsMeanwhile false) rig.old rig.new }
+    ensures { Does I.made (IsMeanwhile false) inner.old inner.new }
 {
-    let worked = work_for(rig, batch);
-    bring_in(rig);
+    let worked = work_for(inner, batch);
+    bring_in(inner);
     worked
 }
 
 /// Gives windows to dies without room, for a request that wants some. Where that is refused, so is the request.
 fn collect_for<L: Ledger, M: Map + Drop, I: Image, A: Allocator + Copy, B: Allocator>(
-    rig: &mut Rig<L, M, I, A>,
+    inner: &mut Inner<L, M, I, A>,
     op: &mut Op<A, B>,
 )
     requires waits { waits (stage_of op.old) ≡ true }
     requires flush { awaits_flush (stage_of op.old) ≡ false }
-    ensures { (bytes : List ℕ) → RunsOn I.made bytes rig.old op.old rig.new op.new }
+    ensures { (bytes : List ℕ) → RunsOn I.made bytes inner.old op.old inner.new op.new }
 {
-    if let Some(fault) = give_room(rig) {
+    if let Some(fault) = give_room(inner) {
         op.refuse_room(fault);
     }
 }
 
 /// Gives windows to dies without room. Why a request is refused that waits for room, if none was given.
 fn give_room<L: Ledger, M: Map + Drop, I: Image, A: Allocator + Copy>(
-    rig: &mut Rig<L, M, I, A>,
+    inner: &mut Inner<L, M, I, A>,
 ) -> Option<BlockFault>
-    ensures does { Does I.made IsForDies rig.old rig.new }
-    ensures cause { IfSome result (λ fault. HasNoWindow rig.new.locked.core fault) }
+    ensures does { Does I.made IsForDies inner.old inner.new }
+    ensures cause { IfSome result (λ fault. HasNoWindow inner.new.locked.core fault) }
 {
-    match give_windows(rig, true) {
+    match give_windows(inner, true) {
         Windows::Refused(WindowRefused::NoMemory) => Some(BlockFault::NoMemory),
         Windows::Refused(_) => {
-            if is_late(rig.locked.array()) {
+            if is_late(inner.locked.array()) {
                 Some(BlockFault::Spent)
             } else {
                 None

@@ -5,11 +5,11 @@ ghost use Rattle.fa_core_outcome.specs.Outcomes.{outcome_of};
 ghost use Rattle.fa_machine.specs.Conditions.{history_full};
 ghost use Rattle.fa_machine.specs.Step.{is_die};
 ghost use Rattle.fa_solo.specs.Deeds.{IsForDies};
-ghost use Rattle.fa_solo.specs.Rigs.{Does, EndsAt, HasMemory, IsPlaced, RanAt};
+ghost use Rattle.fa_solo.specs.Inner.{Does, EndsAt, HasMemory, IsPlaced, RanAt};
 ghost use Rattle.fa_core_dispatch.specs.Fits.{IsJobFor};
 ghost use Rattle.fa_core_dispatch.specs.Handed.{handed_of};
 
-use crate::rig::Rig;
+use crate::inner::Inner;
 use fa_core_dispatch::Job;
 use fa_core_outcome::Outcome;
 use fa_image::Image;
@@ -24,77 +24,77 @@ use std::sync::ledger::Ledger;
 
 /// Takes the next job of a die, if it has one, makes its calls on the die's image, and ends it. Whether the die had one.
 pub(crate) fn run_next<L: Ledger, M: Map + Drop, I: Image, A: Allocator + Copy>(
-    rig: &mut Rig<L, M, I, A>,
+    inner: &mut Inner<L, M, I, A>,
     die: Die,
 ) -> bool
-    ensures { Does I.made IsForDies rig.old rig.new }
+    ensures { Does I.made IsForDies inner.old inner.new }
 {
-    if !is_of_array(rig, die) {
+    if !is_of_array(inner, die) {
         return false;
     }
-    if !has_memory(rig) {
+    if !has_memory(inner) {
         return false;
     }
-    let Some(place) = rig.place(die) else {
+    let Some(place) = inner.place(die) else {
         return false;
     };
-    fold_full(rig);
-    run_here(rig, die, place)
+    fold_full(inner);
+    run_here(inner, die, place)
 }
 
 /// Whether the die is one of the array.
 fn is_of_array<L: Ledger, M: Map + Drop, I: Image, A: Allocator + Copy>(
-    rig: &Rig<L, M, I, A>,
+    inner: &Inner<L, M, I, A>,
     die: Die,
 ) -> bool
-    ensures { result ≡ true → is_die rig.now.locked.core die.0 ≡ true }
+    ensures { result ≡ true → is_die inner.now.locked.core die.0 ≡ true }
 {
-    rig.locked.array().is_die(die)
+    inner.locked.array().is_die(die)
 }
 
 /// Whether there is memory of the right sizes for a job's calls.
 fn has_memory<L: Ledger, M: Map + Drop, I: Image, A: Allocator + Copy>(
-    rig: &Rig<L, M, I, A>,
+    inner: &Inner<L, M, I, A>,
 ) -> bool
-    ensures scratch { result ≡ true → length rig.now.scratch.items ≡ rig.now.locked.core.page_map.geometry.page_bytes + 64 }
-    ensures buffer { result ≡ true → length rig.now.buffer.items ≡ rig.now.locked.core.page_map.geometry.page_bytes }
+    ensures scratch { result ≡ true → length inner.now.scratch.items ≡ inner.now.locked.core.page_map.geometry.page_bytes + 64 }
+    ensures buffer { result ≡ true → length inner.now.buffer.items ≡ inner.now.locked.core.page_map.geometry.page_bytes }
 {
-    let page_bytes = rig.locked.array().geometry().page_bytes as usize;
-    if rig.buffer.len() != page_bytes {
+    let page_bytes = inner.locked.array().geometry().page_bytes as usize;
+    if inner.buffer.len() != page_bytes {
         return false;
     }
-    if rig.scratch.len() != page_bytes + TAG_BYTES {
+    if inner.scratch.len() != page_bytes + TAG_BYTES {
         return false;
     }
     true
 }
 
 /// The history is folded, if it is full.
-fn fold_full<L: Ledger, M: Map + Drop, I: Image, A: Allocator + Copy>(rig: &mut Rig<L, M, I, A>)
-    ensures does { Does I.made IsForDies rig.old rig.new }
-    ensures room { history_full rig.new.locked.core ≡ false }
-    ensures geometry { rig.new.locked.core.page_map.geometry ≡ rig.old.locked.core.page_map.geometry }
-    ensures rest { rig.new ≡ record rig.old { locked = rig.new.locked; seat = rig.new.seat } }
+fn fold_full<L: Ledger, M: Map + Drop, I: Image, A: Allocator + Copy>(inner: &mut Inner<L, M, I, A>)
+    ensures does { Does I.made IsForDies inner.old inner.new }
+    ensures room { history_full inner.new.locked.core ≡ false }
+    ensures geometry { inner.new.locked.core.page_map.geometry ≡ inner.old.locked.core.page_map.geometry }
+    ensures rest { inner.new ≡ record inner.old { locked = inner.new.locked; seat = inner.new.seat } }
 {
-    make_room(rig.alloc, &mut rig.locked, &mut rig.seat);
+    make_room(inner.alloc, &mut inner.locked, &mut inner.seat);
 }
 
 /// Takes the next job of a die, if it has one, and makes it on the image at this place. The history has room for it. Whether the die had one.
 fn run_here<L: Ledger, M: Map + Drop, I: Image, A: Allocator + Copy>(
-    rig: &mut Rig<L, M, I, A>,
+    inner: &mut Inner<L, M, I, A>,
     die: Die,
     place: usize,
 ) -> bool
-    requires die { is_die rig.old.locked.core die.0 ≡ true }
-    requires room { history_full rig.old.locked.core ≡ false }
-    requires placed { IsPlaced I.view rig.old die.0 place }
-    requires memory { HasMemory rig.old }
-    ensures { Does I.made IsForDies rig.old rig.new }
+    requires die { is_die inner.old.locked.core die.0 ≡ true }
+    requires room { history_full inner.old.locked.core ≡ false }
+    requires placed { IsPlaced I.view inner.old die.0 place }
+    requires memory { HasMemory inner.old }
+    ensures { Does I.made IsForDies inner.old inner.new }
 {
     the_geometry_is_kept();
-    match take(rig.alloc, &mut rig.locked, &mut rig.seat, die) {
+    match take(inner.alloc, &mut inner.locked, &mut inner.seat, die) {
         Some(job) => {
-            run_taken(rig, die, place, &job);
+            run_taken(inner, die, place, &job);
             true
         }
         None => false,
@@ -103,53 +103,53 @@ fn run_here<L: Ledger, M: Map + Drop, I: Image, A: Allocator + Copy>(
 
 /// Makes the calls of a job that was taken, and ends it.
 fn run_taken<L: Ledger, M: Map + Drop, I: Image, A: Allocator + Copy>(
-    rig: &mut Rig<L, M, I, A>,
+    inner: &mut Inner<L, M, I, A>,
     die: Die,
     place: usize,
     job: &Job<A>,
 )
-    requires flight { get rig.old.locked.core.jobs die.0 ≡ Some job.now.flight }
-    requires fits { IsJobFor rig.old.locked.core.page_map.geometry rig.old.locked.number die.0 (handed_of job.now) }
-    requires placed { IsPlaced I.view rig.old die.0 place }
-    requires memory { HasMemory rig.old }
-    ensures { EndsAt I.made rig.old die.0 place (handed_of job.now) rig.new }
+    requires flight { get inner.old.locked.core.jobs die.0 ≡ Some job.now.flight }
+    requires fits { IsJobFor inner.old.locked.core.page_map.geometry inner.old.locked.number die.0 (handed_of job.now) }
+    requires placed { IsPlaced I.view inner.old die.0 place }
+    requires memory { HasMemory inner.old }
+    ensures { EndsAt I.made inner.old die.0 place (handed_of job.now) inner.new }
 {
-    let outcome = call_image(rig, die, place, job);
-    let buffer = replace(&mut rig.buffer, Vec::new(rig.alloc));
+    let outcome = call_image(inner, die, place, job);
+    let buffer = replace(&mut inner.buffer, Vec::new(inner.alloc));
     let ended = done(
-        rig.alloc,
-        &mut rig.locked,
-        &mut rig.seat,
+        inner.alloc,
+        &mut inner.locked,
+        &mut inner.seat,
         die,
         outcome,
         buffer,
     );
     let Ok(left) = ended else { unreachable!() };
-    rig.buffer = left;
+    inner.buffer = left;
 }
 
 /// Makes the calls of a job on an image.
 fn call_image<L: Ledger, M: Map + Drop, I: Image, A: Allocator + Copy>(
-    rig: &mut Rig<L, M, I, A>,
+    inner: &mut Inner<L, M, I, A>,
     die: Die,
     place: usize,
     job: &Job<A>,
 ) -> Outcome
-    requires fits { IsJobFor rig.old.locked.core.page_map.geometry rig.old.locked.number die.0 (handed_of job.now) }
-    requires placed { IsPlaced I.view rig.old die.0 place }
-    requires memory { HasMemory rig.old }
-    ensures ran { RanAt I.made rig.old die.0 place (handed_of job.now) (outcome_of result rig.new.buffer.items) rig.new.images.items }
-    ensures rest { rig.new ≡ record rig.old { images = rig.new.images; scratch = rig.new.scratch; buffer = rig.new.buffer } }
-    ensures buffer { length rig.new.buffer.items ≡ length rig.old.buffer.items }
+    requires fits { IsJobFor inner.old.locked.core.page_map.geometry inner.old.locked.number die.0 (handed_of job.now) }
+    requires placed { IsPlaced I.view inner.old die.0 place }
+    requires memory { HasMemory inner.old }
+    ensures ran { RanAt I.made inner.old die.0 place (handed_of job.now) (outcome_of result inner.new.buffer.items) inner.new.images.items }
+    ensures rest { inner.new ≡ record inner.old { images = inner.new.images; scratch = inner.new.scratch; buffer = inner.new.buffer } }
+    ensures buffer { length inner.new.buffer.items ≡ length inner.old.buffer.items }
 {
-    let array = rig.locked.array().array_id();
+    let array = inner.locked.array().array_id();
     run_job(
         die,
-        &mut rig.images[place],
+        &mut inner.images[place],
         &array,
         job,
-        &mut rig.scratch,
-        &mut rig.buffer,
+        &mut inner.scratch,
+        &mut inner.buffer,
         &Open,
     )
 }

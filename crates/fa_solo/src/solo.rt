@@ -1,9 +1,9 @@
 //! The store of one thread.
 ghost use Rattle.std.specs.Prelude.{◌≡◌, ◌*◌, ◌^◌, ◌≤◌, IfErr, IfOk};
 ghost use Rattle.fa_core.specs.Array.{IsWhole, number_of as array_number};
-ghost use Rattle.fa_solo.specs.Rigs.{house_in, house_of};
+ghost use Rattle.fa_solo.specs.Inner.{house_in, house_of};
 
-use crate::rig::{Parts, Rig};
+use crate::inner::{Inner, Parts};
 use crate::whole::{call, call_flush, call_read};
 use fa_image::Image;
 use fa_map::Map;
@@ -16,7 +16,7 @@ use std::sync::ledger::{Blank, Ledger};
 /// the jobs of dies, the windows of the collector, spares, and copies of thin pages.
 #[derive(Drop)]
 pub struct Solo<L: Ledger, M: Map + Drop, I: Image, A: Allocator + Copy = Global> {
-    rig: Rig<L, M, I, A>,
+    inner: Inner<L, M, I, A>,
     bytes: u64,
     page_bytes: u32,
     ghost some_bytes: { 1 ≤ page_bytes },
@@ -37,18 +37,18 @@ impl<L: Ledger, M: Map + Drop, I: Image, A: Allocator + Copy> Solo<L, M, I, A> {
         requires name { blank.name ≡ L.name }
         requires parts { (blank.parts ≡ L.parts) × (blank.parts ≡ 257) }
         requires whole { IsWhole M.view parts.mounted.array }
-        ensures house { IfOk result (λ store. house_of store.rig ≡ house_in M.view parts) }
-        ensures number { IfOk result (λ store. store.rig.locked.number ≡ array_number parts.mounted.array) }
-        ensures dies { IfOk result (λ store. store.rig.dies ≡ parts.mounted.dies) }
-        ensures bytes { IfOk result (λ store. store.bytes ≡ store.rig.locked.core.page_map.geometry.pages
-            * store.rig.locked.core.page_map.geometry.page_bytes) }
-        ensures page { IfOk result (λ store. store.page_bytes ≡ store.rig.locked.core.page_map.geometry.page_bytes) }
+        ensures house { IfOk result (λ store. house_of store.inner ≡ house_in M.view parts) }
+        ensures number { IfOk result (λ store. store.inner.locked.number ≡ array_number parts.mounted.array) }
+        ensures dies { IfOk result (λ store. store.inner.dies ≡ parts.mounted.dies) }
+        ensures bytes { IfOk result (λ store. store.bytes ≡ store.inner.locked.core.page_map.geometry.pages
+            * store.inner.locked.core.page_map.geometry.page_bytes) }
+        ensures page { IfOk result (λ store. store.page_bytes ≡ store.inner.locked.core.page_map.geometry.page_bytes) }
         ensures refused { IfErr result (λ back. back ≡ parts) }
     {
         let (bytes, page_bytes) = store_bytes(parts.mounted.array.geometry());
-        match Rig::new(alloc, blank, parts, window_rounds) {
-            Ok(rig) => Ok(Solo {
-                rig,
+        match Inner::new(alloc, blank, parts, window_rounds) {
+            Ok(inner) => Ok(Solo {
+                inner,
                 bytes,
                 page_bytes,
             }),
@@ -59,19 +59,19 @@ impl<L: Ledger, M: Map + Drop, I: Image, A: Allocator + Copy> Solo<L, M, I, A> {
     /// The array and its images.
     pub fn into_parts(self) -> Parts<M, I, A>
         ensures whole { IsWhole M.view result.mounted.array }
-        ensures house { house_in M.view result ≡ house_of self.rig }
-        ensures number { array_number result.mounted.array ≡ self.rig.locked.number }
-        ensures dies { result.mounted.dies ≡ self.rig.dies }
+        ensures house { house_in M.view result ≡ house_of self.inner }
+        ensures number { array_number result.mounted.array ≡ self.inner.locked.number }
+        ensures dies { result.mounted.dies ≡ self.inner.dies }
     {
-        let Solo { rig, .. } = self;
-        rig.into_parts()
+        let Solo { inner, .. } = self;
+        inner.into_parts()
     }
 
     /// The array's round.
     pub fn now(&self) -> Round
-        ensures { result.0 ≡ self.now.rig.locked.core.calendar.round }
+        ensures { result.0 ≡ self.now.inner.locked.core.calendar.round }
     {
-        self.rig.locked.array().now()
+        self.inner.locked.array().now()
     }
 }
 
@@ -94,8 +94,8 @@ impl<L: Ledger, M: Map + Drop, I: Image, A: Allocator + Copy> Blocks for Solo<L,
     ghost view = { λ store. shared_view store.bytes store.page_bytes };
 
     ghost made = { λ before call answer after. StoreMakes I.made
-        (record { bytes = before.bytes; page_bytes = before.page_bytes; rig = before.rig }) call answer
-        (record { bytes = after.bytes; page_bytes = after.page_bytes; rig = after.rig }) };
+        (record { bytes = before.bytes; page_bytes = before.page_bytes; inner = before.inner }) call answer
+        (record { bytes = after.bytes; page_bytes = after.page_bytes; inner = after.inner }) };
 
     ghost meets = { λ before after call answer made.
         shared_meets before.bytes before.page_bytes after.bytes after.page_bytes call answer made.0 made.1 made.2 };
@@ -116,13 +116,13 @@ impl<L: Ledger, M: Map + Drop, I: Image, A: Allocator + Copy> Blocks for Solo<L,
         offset: u64,
         len: u64,
     ) -> Result<Vec<u8, B>, BlockFault> {
-        call_read(&mut self.rig, self.page_bytes, offset, len, alloc)
+        call_read(&mut self.inner, self.page_bytes, offset, len, alloc)
     }
 
     fn write(&mut self, offset: u64, bytes: &[u8], fua: bool) -> Result<(), BlockFault> {
         let len = bytes.len() as u64;
         let request = Request::Write { offset, len, fua };
-        call(&mut self.rig, self.page_bytes, request, bytes)
+        call(&mut self.inner, self.page_bytes, request, bytes)
     }
 
     fn zero(&mut self, offset: u64, len: u64, fua: bool, hole: bool) -> Result<(), BlockFault> {
@@ -132,15 +132,15 @@ impl<L: Ledger, M: Map + Drop, I: Image, A: Allocator + Copy> Blocks for Solo<L,
             fua,
             hole,
         };
-        call(&mut self.rig, self.page_bytes, request, &[])
+        call(&mut self.inner, self.page_bytes, request, &[])
     }
 
     fn trim(&mut self, offset: u64, len: u64, fua: bool) -> Result<(), BlockFault> {
         let request = Request::Trim { offset, len, fua };
-        call(&mut self.rig, self.page_bytes, request, &[])
+        call(&mut self.inner, self.page_bytes, request, &[])
     }
 
     fn flush(&mut self) -> Result<(), BlockFault> {
-        call_flush(&mut self.rig, self.page_bytes)
+        call_flush(&mut self.inner, self.page_bytes)
     }
 }

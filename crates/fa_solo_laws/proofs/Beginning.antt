@@ -145,8 +145,8 @@ module _ {L M I A : Type 0} (view : I → ImageState) (honest : I → Bool) (mad
     (array : List ℕ) (dies : List Standing) (core : Core) (is : MountsArray A view made copies unclean before after array dies core)
     (only : AreOnlyRead (map view before) (map view after)) (many : length dies ≡ core.page_map.geometry.dies)
     (agree : CopiesAgree (bytes_of (map view after) dies) core.page_map) (fair : AllByRecursion (λ image. IsTrue (honest image)) after)
-    (store : StoreState L M I A) (state : store.rig.locked.core ≡ core) (standings : store.rig.dies.items ≡ dies)
-    (images : store.rig.images.items ≡ after) (bytes : store.bytes ≡ core.page_map.geometry.pages * core.page_map.geometry.page_bytes)
+    (store : StoreState L M I A) (state : store.inner.locked.core ≡ core) (standings : store.inner.dies.items ≡ dies)
+    (images : store.inner.images.items ≡ after) (bytes : store.bytes ≡ core.page_map.geometry.pages * core.page_map.geometry.page_bytes)
     (page : store.page_bytes ≡ core.page_map.geometry.page_bytes) where
   pub mounted_store : (w : World) × IsStoreOf view store w × IsBeginning w × IsMountedWorld (bytes_of (map view after) dies) (is_spare_of dies) w
   mounted_store =
@@ -166,7 +166,7 @@ module _ {L M I A : Type 0} (view : I → ImageState) (honest : I → Bool) (mad
           owns = record {
             reached = record { first = w; happenings = []; beginning = begins; run = refl };
             core = begun.1 ∙ sym state;
-            images = subst (λ (d : List Standing). AreImages view w (image_on d store.rig.images.items)) (sym standings)
+            images = subst (λ (d : List Standing). AreImages view w (image_on d store.inner.images.items)) (sym standings)
                 (subst (λ (l : List I). AreImages view w (image_on dies l)) (sym images) there);
             idle = begun.3.idle;
           };

@@ -99,26 +99,26 @@ module _ {L M I A : Type 0} (view : I → ImageState) (honest : I → Bool) (mad
     (meets : (before after : I) (call : ImageCall) (answer : ImageAnswer) → made before call answer after
     → ImageMeets (view before) (honest before) call answer (view after) (honest after)) (laws : StepLaws) (its : RequestLaws A) where
   abbrev Fair : StoreState L M I A → Type 0
-  Fair store = AreHonest honest (image_on store.rig.dies.items store.rig.images.items)
+  Fair store = AreHonest honest (image_on store.inner.dies.items store.inner.images.items)
 
   -- one exchange
-  step_fair : (old : StoreState L M I A) (outcome : Outcome) (new : StoreState L M I A) → Makes (StoreMakes made) old outcome new → AreApart old.rig.dies.items → Fair new
+  step_fair : (old : StoreState L M I A) (outcome : Outcome) (new : StoreState L M I A) → Makes (StoreMakes made) old outcome new → AreApart old.inner.dies.items → Fair new
       → Fair old
   step_fair old (Asked call answer) new makes apart fair =
-      whole_fair view honest made whole meets laws.asks (task_of old.page_bytes (request_of call)) (bytes_of call) answer old.rig new.rig makes.4 apart
+      whole_fair view honest made whole meets laws.asks (task_of old.page_bytes (request_of call)) (bytes_of call) answer old.inner new.inner makes.4 apart
       fair
   step_fair old (NotAsked code) new same apart fair = subst Fair same fair
   step_fair old NoneForData new same apart fair = subst Fair same fair
 
-  step_apart : (old : StoreState L M I A) (outcome : Outcome) (new : StoreState L M I A) → Makes (StoreMakes made) old outcome new → AreApart old.rig.dies.items
-      → AreApart new.rig.dies.items
+  step_apart : (old : StoreState L M I A) (outcome : Outcome) (new : StoreState L M I A) → Makes (StoreMakes made) old outcome new → AreApart old.inner.dies.items
+      → AreApart new.inner.dies.items
   step_apart old (Asked call answer) new makes apart =
       subst (λ (d : List Standing). AreApart d)
-      (sym (call_dies made (task_of old.page_bytes (request_of call)) (bytes_of call) answer old.rig new.rig makes.4)) apart
-  step_apart old (NotAsked code) new same apart = subst (λ (s : StoreState L M I A). AreApart s.rig.dies.items) (sym same) apart
-  step_apart old NoneForData new same apart = subst (λ (s : StoreState L M I A). AreApart s.rig.dies.items) (sym same) apart
+      (sym (call_dies made (task_of old.page_bytes (request_of call)) (bytes_of call) answer old.inner new.inner makes.4)) apart
+  step_apart old (NotAsked code) new same apart = subst (λ (s : StoreState L M I A). AreApart s.inner.dies.items) (sym same) apart
+  step_apart old NoneForData new same apart = subst (λ (s : StoreState L M I A). AreApart s.inner.dies.items) (sym same) apart
 
-  chain_fair : (old : StoreState L M I A) (es : List Exchange) (new : StoreState L M I A) → Chain (StoreMakes made) old es new → AreApart old.rig.dies.items → Fair new
+  chain_fair : (old : StoreState L M I A) (es : List Exchange) (new : StoreState L M I A) → Chain (StoreMakes made) old es new → AreApart old.inner.dies.items → Fair new
       → Fair old
   chain_fair old [] new same apart fair = subst Fair same fair
   chain_fair old (e ∷ es) new (middle, makes, chain) apart fair =
@@ -136,12 +136,12 @@ module _ {L M I A : Type 0} (view : I → ImageState) (honest : I → Bool) (mad
       → was_timely made old outcome new makes → Fair new → Behind w outcome new
   step_meets size old w store long e right (Asked call answer) may new makes timely fair =
       let page : old.page_bytes ≡ w.core.page_map.geometry.page_bytes = store.page in
-      let whole_call = subst (λ (n : ℕ). (c : MakesWhole made (task_of n (request_of call)) (bytes_of call) answer old.rig new.rig)
-      × IsTimely made (task_of n (request_of call)) (bytes_of call) answer old.rig new.rig c) page (makes.4, timely) in
+      let whole_call = subst (λ (n : ℕ). (c : MakesWhole made (task_of n (request_of call)) (bytes_of call) answer old.inner new.inner)
+      × IsTimely made (task_of n (request_of call)) (bytes_of call) answer old.inner new.inner c) page (makes.4, timely) in
       let inside = ends_inside e.request e.body size call e.request.command refl right.whole_body may.0 may.1 in
-      let met = call_meets view honest made whole meets laws its old.rig (request_of call) (bytes_of call) answer w store.owns store.free store.apart
+      let met = call_meets view honest made whole meets laws its old.inner (request_of call) (bytes_of call) answer w store.owns store.free store.apart
       (let all = store.bytes in omega (arith, inside, long, all)) (has_bytes call)
-      (subst (λ (c : Call). IsAnswer c answer) (sym (call_back call)) makes.2) new.rig whole_call.0 whole_call.1 fair in
+      (subst (λ (c : Call). IsAnswer c answer) (sym (call_back call)) makes.2) new.inner whole_call.0 whole_call.1 fair in
       record {
         last = met.last;
         store = record {

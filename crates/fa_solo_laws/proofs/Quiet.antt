@@ -29,8 +29,8 @@ use Rattle.fa_solo.specs.Deeds.{Goes, IsForDies, IsForOrder, IsForRequests}
 use Rattle.fa_solo.specs.House.{House}
 use Rattle.fa_solo.specs.Orders.{Copies, CopiesPage, Deals, Orders, Rests}
 use Rattle.fa_shared.specs.Seats.{number_of}
-use Rattle.fa_solo.specs.Rigs.{Does, Tidies, house_of}
-use Rattle.fa_solo.specs.declared.rig.Rig.{Rig}
+use Rattle.fa_solo.specs.Inner.{Does, Tidies, house_of}
+use Rattle.fa_solo.specs.declared.inner.Inner.{Inner}
 use Rattle.fa_types.specs.Plain.{export}
 use Rattle.fa_types.specs.Store.{IsUnwritten}
 use Rattle.fa_types.specs.declared.geometry.Geometry.{Geometry}
@@ -287,7 +287,7 @@ module _ {I : Type 0} (view : I → ImageState) (honest : I → Bool) (made : I 
 module _ {L M I A : Type 0} (view : I → ImageState) (honest : I → Bool) (made : I → ImageCall → ImageAnswer → I → Type 0)
     (whole : (image : I) → IsImage (view image))
     (meets : (before after : I) (call : ImageCall) (answer : ImageAnswer) → made before call answer after
-    → ImageMeets (view before) (honest before) call answer (view after) (honest after)) (laws : Laws) (old new : Rig L M I A) (w : World)
+    → ImageMeets (view before) (honest before) call answer (view after) (honest after)) (laws : Laws) (old new : Inner L M I A) (w : World)
     (of_old : IsWorldOf view old w) (calm : IsCalm w) (apart : AreApart old.dies.items) where
   its_stand : Stands view old.dies.items (house_of old) w
   its_stand = record { core = of_old.core; images = of_old.images; idle = of_old.idle }
@@ -308,10 +308,10 @@ module _ {L M I A : Type 0} (view : I → ImageState) (honest : I → Bool) (mad
       )
 
   -- where no copy is under way none is before the request
-  pub begun_rig : (does : Does made IsForRequests old new) → AreHonest honest (image_on new.dies.items new.images.items)
+  pub begun_inner : (does : Does made IsForRequests old new) → AreHonest honest (image_on new.dies.items new.images.items)
       → w.core.copying ≡ None → (v : World) × IsWorldOf view new v × IsKept (store_of w) (store_of v) × (v.core.copying ≡ None)
       × (v.core.page_map.geometry ≡ w.core.page_map.geometry)
-  begun_rig does fair free =
+  begun_inner does fair free =
       let one = deeds_led view honest made whole meets old.locked.number old.dies.items (number_of old.seat) laws.geometry apart IsForRequests requests_plain
       (house_of old) (house_of new) does.goes
       (subst (λ (d : List Standing). AreHonest honest (image_on d new.images.items)) does.dies fair) w its_stand in
@@ -340,21 +340,21 @@ module _ {L M I A : Type 0} (view : I → ImageState) (honest : I → Bool) (mad
       → AreHonest honest (image_on old.dies.items new.images.items)
   fair_here dies fair = subst (λ (d : List Standing). AreHonest honest (image_on d new.images.items)) dies fair
 
-  pub before_rig : Does made IsForRequests old new → AreHonest honest (image_on new.dies.items new.images.items)
+  pub before_inner : Does made IsForRequests old new → AreHonest honest (image_on new.dies.items new.images.items)
       → (v : World) × IsWorldOf view new v × IsKept (store_of w) (store_of v)
-  before_rig does fair =
+  before_inner does fair =
       of_quiet does.dies
       (deeds_quiet view honest made whole meets old.locked.number old.dies.items (number_of old.seat) laws apart IsForRequests requests_plain
       requests_silent (house_of old) (house_of new) does.goes (fair_here does.dies fair) w its_stand)
 
-  pub behind_rig : Tidies made old new → AreHonest honest (image_on new.dies.items new.images.items)
+  pub behind_inner : Tidies made old new → AreHonest honest (image_on new.dies.items new.images.items)
       → (v : World) × IsWorldOf view new v × IsKept (store_of w) (store_of v)
-  behind_rig tidies fair =
+  behind_inner tidies fair =
       of_quiet tidies.dies
       (orders_quiet view honest made whole meets old.locked.number old.dies.items (number_of old.seat) laws apart (house_of old) w of_old.reached
       its_stand (house_of new) tidies.orders (fair_here tidies.dies fair))
 
 -- what is kept is not written
-pub told : {L M I A : Type 0} (view : I → ImageState) (new : Rig L M I A) (w : World)
+pub told : {L M I A : Type 0} (view : I → ImageState) (new : Inner L M I A) (w : World)
     → (v : World) × IsWorldOf view new v × IsKept (store_of w) (store_of v) → (v : World) × IsWorldOf view new v × IsUnwritten (store_of w) (store_of v)
 told view new w (v, of_new, kept) = (v, of_new, kept_unwritten (store_of w) (store_of v) kept)

@@ -25,9 +25,9 @@ use Rattle.fa_mount_close_laws.specs.Drives.{AreHonest, AreImages}
 use Rattle.fa_shared.specs.Seats.{number_of}
 use Rattle.fa_solo.specs.Calls.{Ended as EndedSo, Endless, EndsBy, IsRefused, Made, MakesRequest, NoMemory, OfOtherLength}
 use Rattle.fa_solo.specs.Calls.{WithoutMemory, WithoutRoom}
-use Rattle.fa_solo.specs.Rigs.{house_of}
+use Rattle.fa_solo.specs.Inner.{house_of}
 use Rattle.fa_solo.specs.Turns.{RunsOn, asking_of}
-use Rattle.fa_solo.specs.declared.rig.Rig.{Rig}
+use Rattle.fa_solo.specs.declared.inner.Inner.{Inner}
 use Rattle.fa_types.specs.Store.{Answer, Done, Gave, IsAnswer, Meets, Refused, Serves, Store}
 use Rattle.fa_types.specs.declared.blocks.BlockFault.{BlockFault}
 use Rattle.fa_types.specs.declared.blocks.BlockFault.TheVariants.{NoMemory as OutOfMemory, NoRoom}
@@ -113,7 +113,7 @@ module _ {L M I A : Type 0} (view : I → ImageState) (honest : I → Bool) (mad
     (whole : (image : I) → IsImage (view image))
     (meets : (before after : I) (call : ImageCall) (answer : ImageAnswer) → made before call answer after
     → ImageMeets (view before) (honest before) call answer (view after) (honest after)) (law : GeometryLaw) (laws : RequestLaws A)
-    (old new : Rig L M I A) (request : Request) (bytes : List ℕ) (answer : Answer) (w : World) (of_old : IsWorldOf view old w) (calm : IsCalm w)
+    (old new : Inner L M I A) (request : Request) (bytes : List ℕ) (answer : Answer) (w : World) (of_old : IsWorldOf view old w) (calm : IsCalm w)
     (apart : AreApart old.dies.items)
     (inside : end_of request ≤ w.core.page_map.geometry.pages * w.core.page_map.geometry.page_bytes) (has : HasBytes request bytes)
     (fits : IsAnswer (call_of request bytes) answer) (fair : AreHonest honest (image_on new.dies.items new.images.items)) where
@@ -190,7 +190,7 @@ module _ {L M I A : Type 0} (view : I → ImageState) (honest : I → Bool) (mad
       × (w.core.copying ≡ None → v.core.copying ≡ None) × (v.core.page_map.geometry ≡ w.core.page_map.geometry)
   request_served (NoMemory is some same) few = (
     w,
-    subst (λ (r : Rig L M I A). IsWorldOf view r w) (sym same) of_old,
+    subst (λ (r : Inner L M I A). IsWorldOf view r w) (sym same) of_old,
     subst (λ (a : Answer). Serves (store_of w) (call_of request bytes) a (store_of w)) (sym is) (unmade request size bytes (store_of w) some),
     λ free. free,
     refl,
@@ -207,11 +207,11 @@ module _ {L M I A : Type 0} (view : I → ImageState) (honest : I → Bool) (mad
 pub request_fair : {L M I A : Type 0} (view : I → ImageState) (honest : I → Bool) (made : I → ImageCall → ImageAnswer → I → Type 0)
     (whole : (image : I) → IsImage (view image))
     (meets : (before after : I) (call : ImageCall) (answer : ImageAnswer) → made before call answer after
-    → ImageMeets (view before) (honest before) call answer (view after) (honest after)) (law : GeometryLaw) (old new : Rig L M I A) (task : Task)
+    → ImageMeets (view before) (honest before) call answer (view after) (honest after)) (law : GeometryLaw) (old new : Inner L M I A) (task : Task)
     (bytes : List ℕ) (answer : Answer) → AreApart old.dies.items → AreHonest honest (image_on new.dies.items new.images.items)
     → MakesRequest made task bytes answer old new → AreHonest honest (image_on old.dies.items old.images.items)
 request_fair {L} {M} {I} {A} view honest made whole meets law old new task bytes answer apart fair (NoMemory is some same) =
-    subst (λ (r : Rig L M I A). AreHonest honest (image_on r.dies.items r.images.items)) same fair
+    subst (λ (r : Inner L M I A). AreHonest honest (image_on r.dies.items r.images.items)) same fair
 request_fair view honest made whole meets law old new task bytes answer apart fair (Made op next same_task stage none runs end) =
     asks_fair view honest made whole meets old.locked.number old.dies.items (number_of old.seat) law apart (task_in op) bytes (asking_of old op)
     runs.turns (asking_of new next) runs.asks (subst (λ (d : List Standing). AreHonest honest (image_on d new.images.items)) runs.dies fair)

@@ -28,9 +28,9 @@ use Rattle.fa_mount_close_laws.specs.Drives.{AreHonest}
 use Rattle.fa_shared.specs.Seats.{number_of}
 use Rattle.fa_solo.specs.Calls.{EndsBy, Made, MakesRequest, MakesWhole, NoMemory}
 use Rattle.fa_solo.specs.Deeds.{IsForRequests}
-use Rattle.fa_solo.specs.Rigs.{Does, house_of}
+use Rattle.fa_solo.specs.Inner.{Does, house_of}
 use Rattle.fa_solo.specs.Turns.{RunsOn, asking_of}
-use Rattle.fa_solo.specs.declared.rig.Rig.{Rig}
+use Rattle.fa_solo.specs.declared.inner.Inner.{Inner}
 use Rattle.fa_types.specs.Store.{Answer, Done, Refused}
 use Rattle.fa_types.specs.declared.blocks.BlockFault.TheVariants.{NoMemory as OutOfMemory}
 use Rattle.std.proofs.Common.{Bool, List, None, Some, ap, arith, false, inl, inr, refl, subst, suc, sym, true, zero, ℕ}
@@ -49,25 +49,25 @@ module _ {L M I A : Type 0} (view : I → ImageState) (honest : I → Bool) (mad
     (meets : (before after : I) (call : ImageCall) (answer : ImageAnswer) → made before call answer after
     → ImageMeets (view before) (honest before) call answer (view after) (honest after)) (asks : Laws) (laws : DieLaws) (leaves : LeavesLaw)
     (die : ℕ) where
-  abbrev Fair : Rig L M I A → Type 0
-  Fair rig = AreHonest honest (image_on rig.dies.items rig.images.items)
+  abbrev Fair : Inner L M I A → Type 0
+  Fair inner = AreHonest honest (image_on inner.dies.items inner.images.items)
 
-  abbrev Homed : Rig L M I A → Type 0
-  Homed rig = HasWorld view rig.dies.items (house_of rig)
+  abbrev Homed : Inner L M I A → Type 0
+  Homed inner = HasWorld view inner.dies.items (house_of inner)
 
   -- over the images of the dies of one store
-  abbrev Fated : List Standing → Rig L M I A → Rig L M I A → Type 0
+  abbrev Fated : List Standing → Inner L M I A → Inner L M I A → Type 0
   Fated dies old new = Fate view dies die (house_of old) (house_of new)
 
   -- the images of another store of the same dies
-  fair_of : (dies : List Standing) (rig : Rig L M I A) → rig.dies.items ≡ dies → Fair rig
-      → AreHonest honest (image_on dies rig.images.items)
-  fair_of dies rig same fair = subst (λ (d : List Standing). AreHonest honest (image_on d rig.images.items)) same fair
+  fair_of : (dies : List Standing) (inner : Inner L M I A) → inner.dies.items ≡ dies → Fair inner
+      → AreHonest honest (image_on dies inner.images.items)
+  fair_of dies inner same fair = subst (λ (d : List Standing). AreHonest honest (image_on d inner.images.items)) same fair
 
-  homed_of : (dies : List Standing) (rig : Rig L M I A) → rig.dies.items ≡ dies → HasWorld view dies (house_of rig) → Homed rig
-  homed_of dies rig same h = subst (λ (d : List Standing). HasWorld view d (house_of rig)) (sym same) h
+  homed_of : (dies : List Standing) (inner : Inner L M I A) → inner.dies.items ≡ dies → HasWorld view dies (house_of inner) → Homed inner
+  homed_of dies inner same h = subst (λ (d : List Standing). HasWorld view d (house_of inner)) (sym same) h
 
-  does_fate : (old new : Rig L M I A) → AreApart old.dies.items → Does made IsForRequests old new → Fair new → Homed old
+  does_fate : (old new : Inner L M I A) → AreApart old.dies.items → Does made IsForRequests old new → Fair new → Homed old
       → Fated old.dies.items old new × Homed new
   does_fate old new apart does fair h =
       let here = fair_of old.dies.items new does.dies fair in (
@@ -80,13 +80,13 @@ module _ {L M I A : Type 0} (view : I → ImageState) (honest : I → Bool) (mad
             (house_of old) (house_of new) does.goes here h),
       )
 
-  dies_of_request : (old new : Rig L M I A) (task : Task) (bytes : List ℕ) (answer : Answer) → MakesRequest made task bytes answer old new
+  dies_of_request : (old new : Inner L M I A) (task : Task) (bytes : List ℕ) (answer : Answer) → MakesRequest made task bytes answer old new
       → new.dies.items ≡ old.dies.items
-  dies_of_request old new task bytes answer (NoMemory is some same) = ap (λ (r : Rig L M I A). r.dies.items) same
+  dies_of_request old new task bytes answer (NoMemory is some same) = ap (λ (r : Inner L M I A). r.dies.items) same
   dies_of_request old new task bytes answer (Made op next its stage none runs end) = runs.dies
 
   -- a request
-  module _ (task : Task) (bytes : List ℕ) (old new : Rig L M I A) (apart : AreApart old.dies.items) (fair : Fair new) (h : Homed old) where
+  module _ (task : Task) (bytes : List ℕ) (old new : Inner L M I A) (apart : AreApart old.dies.items) (fair : Fair new) (h : Homed old) where
     module _ (op next : OpView A) (its : task_in op ≡ task) (runs : RunsOn made bytes old op new next) where
       there : AreHonest honest (image_on old.dies.items new.images.items)
       there = fair_of old.dies.items new runs.dies fair
@@ -115,7 +115,7 @@ module _ {L M I A : Type 0} (view : I → ImageState) (honest : I → Bool) (mad
     request_fate : (answer : Answer) → MakesRequest made task bytes answer old new
         → Fated old.dies.items old new × HasWorld view old.dies.items (house_of new)
     request_fate answer (NoMemory is some same) =
-        subst (λ (r : Rig L M I A). Fated old.dies.items old r × HasWorld view old.dies.items (house_of r)) (sym same)
+        subst (λ (r : Inner L M I A). Fated old.dies.items old r × HasWorld view old.dies.items (house_of r)) (sym same)
         (same_fate view old.dies.items die (house_of old) (house_of old) refl refl, h)
     request_fate answer (Made op next its stage none runs end) = (ran_fate op next its runs, ran_world op next its runs)
 
@@ -129,7 +129,7 @@ module _ {L M I A : Type 0} (view : I → ImageState) (honest : I → Bool) (mad
         (ended_at (stage_of next) None (subst (λ (a : Answer). EndsBy a runs.turns next) done end))
 
   -- a whole call
-  module _ (task : Task) (bytes : List ℕ) (answer : Answer) (old new : Rig L M I A) (w : World) (of_old : IsWorldOf view old w)
+  module _ (task : Task) (bytes : List ℕ) (answer : Answer) (old new : Inner L M I A) (w : World) (of_old : IsWorldOf view old w)
       (apart : AreApart old.dies.items) (call : MakesWhole made task bytes answer old new) (fair : Fair new) where
     apart_begun : AreApart call.begun.dies.items
     apart_begun = subst (λ (d : List Standing). AreApart d) (sym call.before.dies) apart

@@ -6,7 +6,7 @@ use Rattle.fa_solo_laws.proofs.Around.{IsKept, kept_same, serves_around}
 use Rattle.fa_solo_laws.proofs.Behind.{IsBehind, StepLaws, cause_behind, order_behind, orders_free}
 use Rattle.fa_solo_laws.proofs.Driving.{requests_plain}
 use Rattle.fa_solo_laws.proofs.Led.{fair_before}
-use Rattle.fa_solo_laws.proofs.Quiet.{begun_rig, behind_rig, orders_fair}
+use Rattle.fa_solo_laws.proofs.Quiet.{begun_inner, behind_inner, orders_fair}
 use Rattle.fa_solo_laws.proofs.Going.{Laws}
 use Rattle.fa_solo.specs.Deeds.{IsForRequests}
 use Rattle.fa_solo_laws.proofs.Served.{RequestLaws, request_fair, request_served}
@@ -23,8 +23,8 @@ use Rattle.fa_shared_steps.specs.declared.request.Task.{Task}
 use Rattle.fa_mount_close_laws.specs.Drives.{AreHonest}
 use Rattle.fa_shared.specs.Seats.{number_of}
 use Rattle.fa_solo.specs.Calls.{Made, MakesRequest, MakesWhole, NoMemory}
-use Rattle.fa_solo.specs.Rigs.{house_of}
-use Rattle.fa_solo.specs.declared.rig.Rig.{Rig}
+use Rattle.fa_solo.specs.Inner.{house_of}
+use Rattle.fa_solo.specs.declared.inner.Inner.{Inner}
 use Rattle.fa_types.specs.Store.{Answer, Done, Gave, HasCause, IsAnswer, Meets, Refused, Serves}
 use Rattle.fa_types.specs.declared.blocks.BlockFault.{BlockFault}
 use Rattle.fa_types.specs.declared.blocks.BlockFault.TheVariants.{Lost, NoMemory as OutOfMemory, NoRoom, Spent}
@@ -37,12 +37,12 @@ calm_free w free copying is lost = none-some copying (sym free ∙ is)
 
 -- the images of a call are those of the same dies
 request_dies : {L M I A : Type 0} (made : I → ImageCall → ImageAnswer → I → Type 0) (task : Task) (bytes : List ℕ) (answer : Answer)
-    (old new : Rig L M I A) → MakesRequest made task bytes answer old new → new.dies.items ≡ old.dies.items
-request_dies {L} {M} {I} {A} made task bytes answer old new (NoMemory is some same) = ap (λ (r : Rig L M I A). r.dies.items) same
+    (old new : Inner L M I A) → MakesRequest made task bytes answer old new → new.dies.items ≡ old.dies.items
+request_dies {L} {M} {I} {A} made task bytes answer old new (NoMemory is some same) = ap (λ (r : Inner L M I A). r.dies.items) same
 request_dies made task bytes answer old new (Made op next its_task stage none runs end) = runs.dies
 
 pub call_dies : {L M I A : Type 0} (made : I → ImageCall → ImageAnswer → I → Type 0) (task : Task) (bytes : List ℕ) (answer : Answer)
-    (old new : Rig L M I A) → MakesWhole made task bytes answer old new → new.dies.items ≡ old.dies.items
+    (old new : Inner L M I A) → MakesWhole made task bytes answer old new → new.dies.items ≡ old.dies.items
 call_dies made task bytes answer old new call =
     call.behind.dies ∙ request_dies made task bytes answer call.begun call.done call.request ∙ call.before.dies
 
@@ -51,7 +51,7 @@ module _ {L M I A : Type 0} (view : I → ImageState) (honest : I → Bool) (mad
     (whole : (image : I) → IsImage (view image))
     (meets : (before after : I) (call : ImageCall) (answer : ImageAnswer) → made before call answer after
     → ImageMeets (view before) (honest before) call answer (view after) (honest after)) (laws : Laws) (task : Task) (bytes : List ℕ)
-    (answer : Answer) (old new : Rig L M I A) (call : MakesWhole made task bytes answer old new) (apart : AreApart old.dies.items)
+    (answer : Answer) (old new : Inner L M I A) (call : MakesWhole made task bytes answer old new) (apart : AreApart old.dies.items)
     (fair : AreHonest honest (image_on new.dies.items new.images.items)) where
   pub apart_begun : AreApart call.begun.dies.items
   apart_begun = subst (λ (d : List Standing). AreApart d) (sym call.before.dies) apart
@@ -85,7 +85,7 @@ full_or (Gave bytes) = inr (λ is. let e : Gave bytes ≡ Refused NoRoom = is in
 module _ {L M I A : Type 0} (view : I → ImageState) (honest : I → Bool) (made : I → ImageCall → ImageAnswer → I → Type 0)
     (whole : (image : I) → IsImage (view image))
     (meets : (before after : I) (call : ImageCall) (answer : ImageAnswer) → made before call answer after
-    → ImageMeets (view before) (honest before) call answer (view after) (honest after)) (laws : StepLaws) (its : RequestLaws A) (old : Rig L M I A)
+    → ImageMeets (view before) (honest before) call answer (view after) (honest after)) (laws : StepLaws) (its : RequestLaws A) (old : Inner L M I A)
     (request : Request) (bytes : List ℕ) (answer : Answer) (w : World) (of_old : IsWorldOf view old w) (free : old.locked.core.copying ≡ None)
     (apart : AreApart old.dies.items)
     (inside : end_of request ≤ w.core.page_map.geometry.pages * w.core.page_map.geometry.page_bytes) (has : HasBytes request bytes)
@@ -94,7 +94,7 @@ module _ {L M I A : Type 0} (view : I → ImageState) (honest : I → Bool) (mad
   shape = w.core.page_map.geometry
 
   -- a request with fewer turns than it is given up behind, by the array's shape
-  abbrev Asked : Rig L M I A → Rig L M I A → Geometry → Type 0
+  abbrev Asked : Inner L M I A → Inner L M I A → Geometry → Type 0
   Asked begun done g =
       (makes : MakesRequest made (task_of g.page_bytes request) bytes answer begun done)
       × (turns_in made (task_of g.page_bytes request) bytes answer begun done makes < 2 ^ 64 - 1)
@@ -103,13 +103,13 @@ module _ {L M I A : Type 0} (view : I → ImageState) (honest : I → Bool) (mad
   task = task_of shape.page_bytes request
 
   -- a call that meets the store
-  pub record Met (new : Rig L M I A) : Type 0 where
+  pub record Met (new : Inner L M I A) : Type 0 where
     pub last : World
     pub of_new : IsWorldOf view new last
     pub meets_it : Meets (store_of w) (call_of request bytes) answer (store_of last)
     pub free_new : new.locked.core.copying ≡ None
 
-  module _ (new : Rig L M I A) (call : MakesWhole made task bytes answer old new) (timely : IsTimely made task bytes answer old new call)
+  module _ (new : Inner L M I A) (call : MakesWhole made task bytes answer old new) (timely : IsTimely made task bytes answer old new call)
       (fair : AreHonest honest (image_on new.dies.items new.images.items)) where
     free_first : w.core.copying ≡ None
     free_first = ap (λ (c : Core). c.copying) of_old.core ∙ free
@@ -122,7 +122,7 @@ module _ {L M I A : Type 0} (view : I → ImageState) (honest : I → Bool) (mad
 
     begun : (v : World) × IsWorldOf view call.begun v × IsKept (store_of w) (store_of v) × (v.core.copying ≡ None)
         × (v.core.page_map.geometry ≡ w.core.page_map.geometry)
-    begun = begun_rig view honest made whole meets laws.asks old call.begun w of_old (calm_free w free_first) apart call.before
+    begun = begun_inner view honest made whole meets laws.asks old call.begun w of_old (calm_free w free_first) apart call.before
         (fair_begun view honest made whole meets laws.asks task bytes answer old new call apart fair) free_first
 
     asked : Asked call.begun call.done begun.0.core.page_map.geometry
@@ -159,10 +159,10 @@ module _ {L M I A : Type 0} (view : I → ImageState) (honest : I → Bool) (mad
     pub call_meets : Met new
     call_meets = elim (full_or answer) [
       | inl full ↦
-          met_by done.0 (subst (λ (r : Rig L M I A). IsWorldOf view r done.0) (sym (call.full full)) done.1) (kept_same (store_of done.0))
+          met_by done.0 (subst (λ (r : Inner L M I A). IsWorldOf view r done.0) (sym (call.full full)) done.1) (kept_same (store_of done.0))
           (λ fault is offset len cause. cause)
       | inr other ↦
-          let l = behind_rig view honest made whole meets laws.asks call.done new done.0 done.1 (calm_free done.0 free_done)
+          let l = behind_inner view honest made whole meets laws.asks call.done new done.0 done.1 (calm_free done.0 free_done)
           (apart_done view honest made whole meets laws.asks task bytes answer old new call apart fair) call.behind fair in
           met_by l.0 l.1 l.2
           (λ fault is offset len. cause_behind done.0 l.0 l.2

@@ -29,9 +29,9 @@ use Rattle.fa_solo.specs.Calls.{Made, MakesRequest, MakesWhole, NoMemory}
 use Rattle.fa_solo.specs.Deeds.{ForReads, ForStep, Goes, IsDue, IsForOrder, IsForRequests, IsMeanwhile, Makes, MakesJob, Runs, Stays}
 use Rattle.fa_solo.specs.House.{House}
 use Rattle.fa_solo.specs.Orders.{Commits, Copies, CopiesPage, Deals, Endless, IsOver, Looks, NoLook, OneMore, Orders, Rests, Settles}
-use Rattle.fa_solo.specs.Rigs.{house_of}
+use Rattle.fa_solo.specs.Inner.{house_of}
 use Rattle.fa_solo.specs.Turns.{Asking as AskingHouse, Asks, Begins, Readies, Refuses, Turns, Waits, asking_of}
-use Rattle.fa_solo.specs.declared.rig.Rig.{Rig}
+use Rattle.fa_solo.specs.declared.inner.Inner.{Inner}
 use Rattle.fa_types.specs.Store.{Answer, Gave, Refused}
 use Rattle.fa_types.specs.declared.blocks.BlockFault.{BlockFault}
 use Rattle.std.proofs.Common.{Bool, List, None, Some, [], ap, arith, false, refl, subst, sym, true, ℕ, ◌+◌, ◌==◌, ◌∙◌, ◌∷◌}
@@ -262,7 +262,7 @@ abbrev is_refused : Answer → Bool
 is_refused (Refused fault) = true
 is_refused answer = false
 
-module _ {L M I A : Type 0} (made : I → ImageCall → ImageAnswer → I → Type 0) (old new : Rig L M I A) (offset len : ℕ)
+module _ {L M I A : Type 0} (made : I → ImageCall → ImageAnswer → I → Type 0) (old new : Inner L M I A) (offset len : ℕ)
     (given : List ℕ) where
   abbrev first : Core
   first = old.locked.core
@@ -287,7 +287,7 @@ module _ {L M I A : Type 0} (made : I → ImageCall → ImageAnswer → I → Ty
         by_range true = ends_early m first.copies in_time first A range now planned short core before
         by_range false = (before, refl)
 
-    request_at : (epoch : ℕ) (begun done : Rig L M I A) → From epoch (IsBefore m first.copies first) begun.locked.core
+    request_at : (epoch : ℕ) (begun done : Inner L M I A) → From epoch (IsBefore m first.copies first) begun.locked.core
         → MakesRequest made task [] (Gave given) begun done → From epoch (IsBehind m first.copies in_time) done.locked.core
     request_at epoch begun done from (NoMemory is some same) = absurd (false≢true (ap is_refused is))
     request_at epoch begun done from (Made op next its_task stage none runs end) =

@@ -18,18 +18,18 @@ module _ {L M I A : Type 0} where
   -- The world is of what the store owns, the store is as large as the array, no copy of a page is under way, and no two dies have one
   -- image.
   pub record IsStoreOf (view : I → ImageState) (store : StoreState L M I A) (w : World) : Type 0 where
-    pub owns : IsWorldOf view store.rig w
+    pub owns : IsWorldOf view store.inner w
     pub bytes : store.bytes ≡ w.core.page_map.geometry.pages * w.core.page_map.geometry.page_bytes
     pub page : store.page_bytes ≡ w.core.page_map.geometry.page_bytes
-    pub free : store.rig.locked.core.copying ≡ None
-    pub apart : AreApart store.rig.dies.items
+    pub free : store.inner.locked.core.copying ≡ None
+    pub apart : AreApart store.inner.dies.items
 
   module _ (made : I → ImageCall → ImageAnswer → I → Type 0) where
     -- The call of an exchange, if it has one, ended in time.
     abbrev pub was_timely : (before : StoreState L M I A) (outcome : Outcome) (after : StoreState L M I A)
         → Makes (StoreMakes made) before outcome after → Type 0
     was_timely before (Asked call answer) after makes =
-        IsTimely made (task_of before.page_bytes (request_of call)) (bytes_of call) answer before.rig after.rig makes.4
+        IsTimely made (task_of before.page_bytes (request_of call)) (bytes_of call) answer before.inner after.inner makes.4
     was_timely before outcome after makes = Unit {0}
 
     -- So did each.

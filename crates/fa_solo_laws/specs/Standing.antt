@@ -9,24 +9,24 @@ use Rattle.fa_mount_close_laws.specs.Drives.{AreImages}
 use Rattle.fa_shared.specs.Seats.{number_of}
 use Rattle.fa_solo.specs.Calls.{Made, MakesRequest, MakesWhole, NoMemory}
 use Rattle.fa_solo.specs.Orders.{looks_in}
-use Rattle.fa_solo.specs.Rigs.{house_of}
-use Rattle.fa_solo.specs.declared.rig.Rig.{Rig}
+use Rattle.fa_solo.specs.Inner.{house_of}
+use Rattle.fa_solo.specs.declared.inner.Inner.{Inner}
 use Rattle.fa_types.specs.Store.{Answer}
 
 module _ {L M I A : Type 0} where
   -- Runs lead to the world, its state is the store's, it sees what stands in the slots of the store's images, and no job is in flight.
-  pub record IsWorldOf (view : I → ImageState) (rig : Rig L M I A) (w : World) : Type 0 where
+  pub record IsWorldOf (view : I → ImageState) (inner : Inner L M I A) (w : World) : Type 0 where
     pub reached : IsReached w
-    pub core : w.core ≡ rig.locked.core
-    pub images : AreImages view w (image_on rig.dies.items rig.images.items)
+    pub core : w.core ≡ inner.locked.core
+    pub images : AreImages view w (image_on inner.dies.items inner.images.items)
     pub idle : (die : ℕ) → w.works die ≡ None
 
-  module _ (made : I → ImageCall → ImageAnswer → I → Type 0) (task : Task) (bytes : List ℕ) (answer : Answer) (old new : Rig L M I A) where
+  module _ (made : I → ImageCall → ImageAnswer → I → Type 0) (task : Task) (bytes : List ℕ) (answer : Answer) (old new : Inner L M I A) where
     abbrev pub turns_in : MakesRequest made task bytes answer old new → ℕ
     turns_in (NoMemory is some same) = 0
     turns_in (Made op next its_task stage none runs end) = runs.turns
 
-  module _ (made : I → ImageCall → ImageAnswer → I → Type 0) (task : Task) (bytes : List ℕ) (answer : Answer) (old new : Rig L M I A)
+  module _ (made : I → ImageCall → ImageAnswer → I → Type 0) (task : Task) (bytes : List ℕ) (answer : Answer) (old new : Inner L M I A)
       (call : MakesWhole made task bytes answer old new) where
     -- how often copies of pages were looked at in vain behind its request
     abbrev pub vain_looks : ℕ

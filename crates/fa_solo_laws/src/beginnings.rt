@@ -21,7 +21,7 @@ pub fn a_mounted_store_is_of_a_world<L, M, I: Image, A>()
         (store : StoreState L M I A) → MountsArray A I.view I.made copies unclean before after array dies core
         → AreOnlyRead (map I.view before) (map I.view after) → length dies ≡ core.page_map.geometry.dies
         → CopiesAgree (bytes_of (map I.view after) dies) core.page_map → AllByRecursion (λ image. IsTrue (I.honest image)) after
-        → store.rig.locked.core ≡ core → store.rig.dies.items ≡ dies → store.rig.images.items ≡ after
+        → store.inner.locked.core ≡ core → store.inner.dies.items ≡ dies → store.inner.images.items ≡ after
         → store.bytes ≡ core.page_map.geometry.pages * core.page_map.geometry.page_bytes
         → store.page_bytes ≡ core.page_map.geometry.page_bytes
         → (w : World) × IsStoreOf I.view store w × IsBeginning w

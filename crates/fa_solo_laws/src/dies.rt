@@ -10,7 +10,7 @@ ghost use Rattle.fa_mount.specs.Standings.{AreApart};
 ghost use Rattle.fa_shared_steps.specs.declared.request.Task.{Task};
 ghost use Rattle.fa_mount_close_laws.specs.Drives.{AreHonest};
 ghost use Rattle.fa_solo.specs.Calls.{MakesWhole};
-ghost use Rattle.fa_solo.specs.declared.rig.Rig.{Rig};
+ghost use Rattle.fa_solo.specs.declared.inner.Inner.{Inner};
 ghost use Rattle.fa_types.specs.Store.{Answer};
 
 use fa_image::Image;
@@ -25,13 +25,13 @@ use fa_laws::steps::{
 /// number of faults. The same is told of a spare that is none any more as the call ends, and is not live. The images return what was
 /// written, and no two dies have one image.
 pub fn a_die_leaves_the_store_only_with_a_fault<L, M, I: Image, A>()
-    ensures live { (old new : Rig L M I A) (task : Task) (bytes : List ℕ) (answer : Answer) (w : World) (die : ℕ) (before after : I)
+    ensures live { (old new : Inner L M I A) (task : Task) (bytes : List ℕ) (answer : Answer) (w : World) (die : ℕ) (before after : I)
         → IsWorldOf I.view old w → AreApart old.dies.items → MakesWhole I.made task bytes answer old new
         → AreHonest I.honest (image_on new.dies.items new.images.items)
         → is_live old.locked.core.page_map die ≡ true → is_live new.locked.core.page_map die ≡ false
         → image_on old.dies.items old.images.items die ≡ Some before → image_on new.dies.items new.images.items die ≡ Some after
         → ((I.view after).faults ≡ one_more (I.view before).faults) × ((I.view after).faults ≡ (I.view before).faults → ⊥) }
-    ensures spare { (old new : Rig L M I A) (task : Task) (bytes : List ℕ) (answer : Answer) (w : World) (die : ℕ) (before after : I)
+    ensures spare { (old new : Inner L M I A) (task : Task) (bytes : List ℕ) (answer : Answer) (w : World) (die : ℕ) (before after : I)
         → IsWorldOf I.view old w → AreApart old.dies.items → MakesWhole I.made task bytes answer old new
         → AreHonest I.honest (image_on new.dies.items new.images.items)
         → contains_key old.locked.core.spares die ≡ true

@@ -11,8 +11,8 @@ ghost use Rattle.fa_mount.specs.Standings.{AreApart};
 ghost use Rattle.fa_mount_close_laws.specs.Drives.{AreHonest, Drive, Driven, Drives, acts_of};
 ghost use Rattle.fa_solo.specs.Deeds.{Goes, IsForDies, IsForOrder, IsForRequests};
 ghost use Rattle.fa_solo.specs.House.{House};
-ghost use Rattle.fa_solo.specs.Rigs.{Does, Tidies};
-ghost use Rattle.fa_solo.specs.declared.rig.Rig.{Rig};
+ghost use Rattle.fa_solo.specs.Inner.{Does, Tidies};
+ghost use Rattle.fa_solo.specs.declared.inner.Inner.{Inner};
 ghost use Rattle.fa_types.specs.Store.{IsUnwritten};
 
 use fa_image::Image;
@@ -46,10 +46,10 @@ pub fn the_deeds_drive_the_array<I: Image>()
 /// same plain array. A page that was lost is lost still. One more copy of a page is of the bytes that were told for it. The images return
 /// what was written, no two dies have one image, and no lost page is being copied as it begins.
 pub fn the_order_of_the_store_writes_nothing<L, M, I: Image, A>()
-    ensures before { (old new : Rig L M I A) (w : World) → IsWorldOf I.view old w → IsCalm w → AreApart old.dies.items
+    ensures before { (old new : Inner L M I A) (w : World) → IsWorldOf I.view old w → IsCalm w → AreApart old.dies.items
         → Does I.made IsForRequests old new → AreHonest I.honest (image_on new.dies.items new.images.items)
         → (v : World) × IsWorldOf I.view new v × IsUnwritten (store_of w) (store_of v) }
-    ensures behind { (old new : Rig L M I A) (w : World) → IsWorldOf I.view old w → IsCalm w → AreApart old.dies.items
+    ensures behind { (old new : Inner L M I A) (w : World) → IsWorldOf I.view old w → IsCalm w → AreApart old.dies.items
         → Tidies I.made old new → AreHonest I.honest (image_on new.dies.items new.images.items)
         → (v : World) × IsWorldOf I.view new v × IsUnwritten (store_of w) (store_of v) }
 {

@@ -12,7 +12,7 @@ ghost use Rattle.fa_shared_steps.specs.Tasks.{task_of};
 ghost use Rattle.fa_shared_steps.specs.declared.request.Request.TheVariants.{Read};
 ghost use Rattle.fa_solo_laws.specs.Rest.{CountsDies, IsAtRest, IsIdle, IsPlanFor, pages_of, range_in};
 ghost use Rattle.fa_solo.specs.Calls.{MakesWhole};
-ghost use Rattle.fa_solo.specs.declared.rig.Rig.{Rig};
+ghost use Rattle.fa_solo.specs.declared.inner.Inner.{Inner};
 ghost use Rattle.fa_types.specs.Store.{Gave};
 
 use fa_cert::laws::certificate_is_least;
@@ -29,14 +29,14 @@ pub fn the_epoch_counts_dies()
 /// array is at rest: no live die wants a window, none that has one has a block to collect, and no page is thin. All that holds again as
 /// the call ends.
 pub fn a_read_takes_the_least_rounds<L, M, I: Image, A>()
-    ensures rounds { (old new : Rig L M I A) (offset len : ℕ) (given : List ℕ) (places : List Place) (w : World) → IsWorldOf I.view old w
+    ensures rounds { (old new : Inner L M I A) (offset len : ℕ) (given : List ℕ) (places : List Place) (w : World) → IsWorldOf I.view old w
         → IsIdle old.locked.core → IsAtRest old.locked.core
         → past_page (range_in old.locked.core offset len) - first_page (range_in old.locked.core offset len) ≤ 1024
         → MakesWhole I.made (task_of old.locked.core.page_map.geometry.page_bytes (Read offset len)) [] (Gave given) old new
         → new.locked.core.epoch ≡ old.locked.core.epoch
         → IsPlanFor old.locked.core (pages_of (range_in old.locked.core offset len)) places
         → new.locked.core.calendar.round ≤ old.locked.core.calendar.round + rounds_of old.locked.core.calendar.round places }
-    ensures rest { (old new : Rig L M I A) (offset len : ℕ) (given : List ℕ) (w : World) → IsWorldOf I.view old w
+    ensures rest { (old new : Inner L M I A) (offset len : ℕ) (given : List ℕ) (w : World) → IsWorldOf I.view old w
         → IsIdle old.locked.core → IsAtRest old.locked.core
         → past_page (range_in old.locked.core offset len) - first_page (range_in old.locked.core offset len) ≤ 1024
         → MakesWhole I.made (task_of old.locked.core.page_map.geometry.page_bytes (Read offset len)) [] (Gave given) old new

@@ -28,7 +28,7 @@ pub fn a_session_of_the_store_meets<L, M, I: Image, A, S: Blocks>()
     ensures meets { (old new : StoreState L M I A) (export : List ℕ) (streams : Streams) (end : SessionEnd) (w : World)
         → IsStoreOf I.view old w → (session : Session (StoreMakes I.made) export old.bytes streams old new end)
         → IsTimelySession I.made export old.bytes streams old new end session
-        → AreHonest I.honest (image_on new.rig.dies.items new.rig.images.items)
+        → AreHonest I.honest (image_on new.inner.dies.items new.inner.images.items)
         → (last : World) × IsStoreOf I.view new last
         × Session (λ before call answer after. Meets before call answer after) export old.bytes streams (store_of w) (store_of last) end }
     ensures seen { (seen : S → StoreState L M I A)

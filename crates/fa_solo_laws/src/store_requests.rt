@@ -11,7 +11,7 @@ ghost use Rattle.fa_shared_steps.specs.Tasks.{end_of, task_of};
 ghost use Rattle.fa_shared_steps.specs.declared.request.Request.{Request};
 ghost use Rattle.fa_mount_close_laws.specs.Drives.{AreHonest};
 ghost use Rattle.fa_solo.specs.Calls.{MakesRequest, MakesWhole};
-ghost use Rattle.fa_solo.specs.declared.rig.Rig.{Rig};
+ghost use Rattle.fa_solo.specs.declared.inner.Inner.{Inner};
 ghost use Rattle.fa_types.specs.Store.{Answer, IsAnswer, Meets, Serves};
 
 use fa_image::Image;
@@ -26,7 +26,7 @@ use fa_solo_laws::requests::a_request_serves;
 /// leaves its bytes and nothing else, and a refusal has its cause. The images return what was written, no two dies have one image, no lost
 /// page is being copied, the request lies within the array, and it has fewer than 2^64 - 1 turns.
 pub fn a_request_of_the_store_serves<L, M, I: Image, A>()
-    ensures { (old new : Rig L M I A) (request : Request) (bytes : List ℕ) (answer : Answer) (w : World) → IsWorldOf I.view old w → IsCalm w
+    ensures { (old new : Inner L M I A) (request : Request) (bytes : List ℕ) (answer : Answer) (w : World) → IsWorldOf I.view old w → IsCalm w
         → AreApart old.dies.items → end_of request ≤ w.core.page_map.geometry.pages * w.core.page_map.geometry.page_bytes
         → HasBytes request bytes → IsAnswer (call_of request bytes) answer
         → (makes : MakesRequest I.made (task_of w.core.page_map.geometry.page_bytes request) bytes answer old new)
@@ -45,7 +45,7 @@ pub fn a_request_of_the_store_serves<L, M, I: Image, A>()
 /// is under way as it begins, nor as it ends. The images return what was written, no two dies have one image, the request lies within the
 /// array, and it ends within 2^64 - 1 turns, and a copy within as many looks.
 pub fn a_call_of_the_store_meets<L, M, I: Image, A>()
-    ensures { (old new : Rig L M I A) (request : Request) (bytes : List ℕ) (answer : Answer) (w : World) → IsWorldOf I.view old w
+    ensures { (old new : Inner L M I A) (request : Request) (bytes : List ℕ) (answer : Answer) (w : World) → IsWorldOf I.view old w
         → old.locked.core.copying ≡ None → AreApart old.dies.items
         → end_of request ≤ w.core.page_map.geometry.pages * w.core.page_map.geometry.page_bytes → HasBytes request bytes
         → IsAnswer (call_of request bytes) answer

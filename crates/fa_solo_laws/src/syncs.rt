@@ -8,7 +8,7 @@ ghost use Rattle.fa_mount.specs.Standings.{AreApart};
 ghost use Rattle.fa_shared_steps.specs.declared.request.Task.{Task};
 ghost use Rattle.fa_mount_close_laws.specs.Drives.{AreHonest};
 ghost use Rattle.fa_solo.specs.Calls.{MakesWhole};
-ghost use Rattle.fa_solo.specs.declared.rig.Rig.{Rig};
+ghost use Rattle.fa_solo.specs.declared.inner.Inner.{Inner};
 ghost use Rattle.fa_types.specs.Store.{Answer, Done};
 
 use fa_image::Image;
@@ -23,7 +23,7 @@ use fa_laws::steps::{
 /// its images are of as the call begins, the image of each die that is live then and as it ends has accepted a sync meanwhile, or more than
 /// one. It counts them, and begins anew behind 2^64 - 1. The images return what was written, and no two dies have one image.
 pub fn a_flush_of_the_store_syncs<L, M, I: Image, A>()
-    ensures { (old new : Rig L M I A) (task : Task) (bytes : List ℕ) (w : World) (die : ℕ) (before after : I)
+    ensures { (old new : Inner L M I A) (task : Task) (bytes : List ℕ) (w : World) (die : ℕ) (before after : I)
         → IsWorldOf I.view old w → AreApart old.dies.items → task.flush ≡ true → MakesWhole I.made task bytes Done old new
         → AreHonest I.honest (image_on new.dies.items new.images.items)
         → is_live old.locked.core.page_map die ≡ true → is_live new.locked.core.page_map die ≡ true

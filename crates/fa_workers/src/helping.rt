@@ -1,10 +1,10 @@
 //! Those who work for dies while they wait for something else.
 ghost use Rattle.fa_shared_events.specs.Held.{LeavesRest};
 
-use crate::bench::Bench;
 use crate::die_events::{Ended, end_job, take_job};
 use crate::gate::Gate;
 use crate::handing::hand_over;
+use crate::image_table::ImageTable;
 use crate::order::Order;
 use crate::room::Room;
 use fa_core_outcome::Outcome;
@@ -69,7 +69,7 @@ pub struct Helper<
     rt: &'a R,
     alloc: A,
     shared: &'a Shared<L, M, A>,
-    bench: &'a Bench<I, B>,
+    image_table: &'a ImageTable<I, B>,
     gate: &'a G,
     room: HelperRoom<A>,
     // The last calls of images took little time.
@@ -91,7 +91,7 @@ impl<
         rt: &'a R,
         alloc: A,
         shared: &'a Shared<L, M, A>,
-        bench: &'a Bench<I, B>,
+        image_table: &'a ImageTable<I, B>,
         gate: &'a G,
         room: HelperRoom<A>,
     ) -> Helper<'a, R, L, M, A, I, B, G> {
@@ -99,7 +99,7 @@ impl<
             rt,
             alloc,
             shared,
-            bench,
+            image_table,
             gate,
             room,
             is_quick: false,
@@ -133,7 +133,7 @@ impl<
         } = &mut self.room;
         let start = Instant::now(self.rt).ok();
         for (order, room) in orders.iter().zip(rooms.iter_mut()) {
-            let _ = outcomes.push(self.bench.begin(self.rt, order, room, self.gate));
+            let _ = outcomes.push(self.image_table.begin(self.rt, order, room, self.gate));
         }
         self.is_quick = is_quick(self.rt, start, orders.len());
         open_reads(rooms.as_mut_slice(), outcomes.as_mut_slice());

@@ -1,13 +1,13 @@
 //! The work on the dies.
 #![tactic(auto)]
 
-mod bench;
 mod collecting;
 mod die_events;
 mod gate;
 mod handing;
 mod header;
 mod helping;
+mod image_table;
 mod moving;
 mod order;
 mod reading;
@@ -20,10 +20,10 @@ mod spares;
 mod working;
 mod writing;
 
-pub use bench::Bench;
 pub use collecting::collector_worker;
 pub use gate::{Gate, ImageCallKind, Open};
 pub use helping::{Helper, HelperRoom};
+pub use image_table::ImageTable;
 pub use rebuilding::rebuild_worker;
 pub use room::Room;
 pub use running::run_job;

@@ -3,9 +3,9 @@ ghost use Rattle.std.specs.Prelude.{◌≡◌, false, map, IfSome};
 ghost use Rattle.fa_core_read.specs.Answers.{admit_answer};
 ghost use Rattle.fa_shared_events.specs.Held.{LeavesRest};
 ghost use Rattle.fa_workers.specs.Rebuilding.{AfterBatch, IsNumbered, Rebuilds, after_admit, after_commit as rule_commit, after_reserve};
-ghost use Rattle.fa_workers.specs.declared.rebuild_stage.Stage.TheVariants.{Looking, Pausing, Reading, Reserving, Copying};
+ghost use Rattle.fa_workers.specs.declared.rebuild_stage.RebuildStage.TheVariants.{Looking, Pausing, Reading, Reserving, Copying};
 
-use crate::rebuild_stage::{Stage, ThinPage};
+use crate::rebuild_stage::{RebuildStage, ThinPage};
 use crate::spares::bring_in_spare;
 use fa_core::Admitted;
 use fa_machine::{AdmitRefused, BatchId, CommitCopyRefused, Copied, ReadState, ReserveCopyRefused};
@@ -31,7 +31,7 @@ pub(crate) enum Came {
 /// A turn of the rebuilder: how far it is, and what it does next.
 #[derive(Drop)]
 pub(crate) struct Turned<A: Allocator = Global> {
-    pub(crate) stage: Stage<A>,
+    pub(crate) stage: RebuildStage<A>,
     pub(crate) came: Came,
 }
 
@@ -40,22 +40,22 @@ pub(crate) fn turn<L: Ledger, M: Map + Drop, A: Allocator + Copy>(
     alloc: A,
     locked: &mut Locked<L, M, A>,
     seat: &mut Seat<L>,
-    stage: Stage<A>,
+    stage: RebuildStage<A>,
 ) -> Turned<A>
     ensures rebuilds { Rebuilds locked.old stage locked.new.core result.stage }
     ensures account { LeavesRest locked.old seat.old locked.new seat.new }
 {
     match stage {
-        Stage::Looking => look(alloc, locked, seat),
-        Stage::Pausing => pause(locked),
-        Stage::Reading(thin, batch) => read(alloc, locked, seat, thin, batch),
-        Stage::Reserving(thin, payload) => reserve(locked, seat, thin, payload),
-        Stage::Copying => copy(alloc, locked, seat),
+        RebuildStage::Looking => look(alloc, locked, seat),
+        RebuildStage::Pausing => pause(locked),
+        RebuildStage::Reading(thin, batch) => read(alloc, locked, seat, thin, batch),
+        RebuildStage::Reserving(thin, payload) => reserve(locked, seat, thin, payload),
+        RebuildStage::Copying => copy(alloc, locked, seat),
         stage => comes_to(stage, Came::More),
     }
 }
 
-fn comes_to<A: Allocator>(stage: Stage<A>, came: Came) -> Turned<A>
+fn comes_to<A: Allocator>(stage: RebuildStage<A>, came: Came) -> Turned<A>
     ensures { result.stage ≡ stage }
 {
     Turned { stage, came }
@@ -71,14 +71,14 @@ fn look<L: Ledger, M: Map + Drop, A: Allocator + Copy>(
     ensures account { LeavesRest locked.old seat.old locked.new seat.new }
 {
     if locked.is_stopping() {
-        return comes_to(Stage::Ended, Came::More);
+        return comes_to(RebuildStage::Ended, Came::More);
     }
     if bring_in_spare(alloc, locked, seat) {
-        return comes_to(Stage::Looking, Came::Told);
+        return comes_to(RebuildStage::Looking, Came::Told);
     }
     match find_thin(locked) {
         Some(thin) => ask(locked, seat, thin),
-        None => comes_to(Stage::Looking, Came::Wait),
+        None => comes_to(RebuildStage::Looking, Came::Wait),
     }
 }
 
@@ -87,9 +87,9 @@ fn pause<L: Ledger, M: Map + Drop, A: Allocator + Copy>(locked: &Locked<L, M, A>
     ensures { Rebuilds locked.now Pausing locked.now.core result.stage }
 {
     if locked.is_stopping() {
-        comes_to(Stage::Ended, Came::More)
+        comes_to(RebuildStage::Ended, Came::More)
     } else {
-        comes_to(Stage::Looking, Came::Wait)
+        comes_to(RebuildStage::Looking, Came::Wait)
     }
 }
 
@@ -119,7 +119,7 @@ fn ask<L: Ledger, M: Map + Drop, A: Allocator + Copy>(
     ensures account { LeavesRest locked.old seat.old locked.new seat.new }
 {
     match admit(locked, seat, &[thin.page]) {
-        None => comes_to(Stage::Looking, Came::Wait),
+        None => comes_to(RebuildStage::Looking, Came::Wait),
         Some(answer) => asked(thin, answer),
     }
 }
@@ -129,8 +129,8 @@ fn asked<A: Allocator>(thin: ThinPage, answer: Result<Admitted<A>, AdmitRefused>
     ensures { result.stage ≡ after_admit thin (admit_answer answer) }
 {
     match answer {
-        Ok(admitted) => comes_to(Stage::Reading(thin, admitted.batch), Came::Told),
-        Err(_) => comes_to(Stage::Looking, Came::Wait),
+        Ok(admitted) => comes_to(RebuildStage::Reading(thin, admitted.batch), Came::Told),
+        Err(_) => comes_to(RebuildStage::Looking, Came::Wait),
     }
 }
 
@@ -148,10 +148,10 @@ fn read<L: Ledger, M: Map + Drop, A: Allocator + Copy>(
     let stops = locked.is_stopping();
     let state = locked.array().results(batch);
     if !stops && matches!(state, ReadState::Waiting) {
-        return comes_to(Stage::Reading(thin, batch), Came::Wait);
+        return comes_to(RebuildStage::Reading(thin, batch), Came::Wait);
     }
     match end_batch(alloc, locked, seat, batch) {
-        None => comes_to(Stage::Looking, Came::More),
+        None => comes_to(RebuildStage::Looking, Came::More),
         Some(answers) => comes_to(after_batch(thin, answers, stops, state), Came::Told),
     }
 }
@@ -162,15 +162,15 @@ fn after_batch<A: Allocator>(
     answers: Vec<(Page, Vec<u8, A>), A>,
     stops: bool,
     state: ReadState,
-) -> Stage<A>
+) -> RebuildStage<A>
     ensures { AfterBatch stops state thin (map (λ e. (e.0.0, e.1.items)) answers.items) result }
 {
     if stops {
-        return Stage::Ended;
+        return RebuildStage::Ended;
     }
     match state {
-        ReadState::Ready => Stage::Read(thin, answers),
-        ReadState::Waiting | ReadState::Torn => Stage::Looking,
+        ReadState::Ready => RebuildStage::Read(thin, answers),
+        ReadState::Waiting | ReadState::Torn => RebuildStage::Looking,
     }
 }
 
@@ -185,10 +185,10 @@ fn reserve<L: Ledger, M: Map + Drop, A: Allocator + Copy>(
     ensures account { LeavesRest locked.old seat.old locked.new seat.new }
 {
     if locked.is_stopping() {
-        return comes_to(Stage::Ended, Came::More);
+        return comes_to(RebuildStage::Ended, Came::More);
     }
     match reserve_copy(locked, seat, thin.page, thin.seq, &payload) {
-        None => comes_to(Stage::Looking, Came::Wait),
+        None => comes_to(RebuildStage::Looking, Came::Wait),
         Some(answer) => reserved(thin, payload, answer),
     }
 }
@@ -202,12 +202,12 @@ fn reserved<A: Allocator>(
     ensures { result.stage ≡ after_reserve (Reserving thin payload) answer }
 {
     match answer {
-        Ok(()) => comes_to(Stage::Copying, Came::Told),
+        Ok(()) => comes_to(RebuildStage::Copying, Came::Told),
         Err(ReserveCopyRefused::Gone | ReserveCopyRefused::NoRoom) => {
-            comes_to(Stage::Looking, Came::More)
+            comes_to(RebuildStage::Looking, Came::More)
         }
         Err(ReserveCopyRefused::Busy | ReserveCopyRefused::NoMemory) => {
-            comes_to(Stage::Reserving(thin, payload), Came::Wait)
+            comes_to(RebuildStage::Reserving(thin, payload), Came::Wait)
         }
     }
 }
@@ -222,7 +222,7 @@ fn copy<L: Ledger, M: Map + Drop, A: Allocator + Copy>(
     ensures account { LeavesRest locked.old seat.old locked.new seat.new }
 {
     match commit_copy(alloc, locked, seat) {
-        None => comes_to(Stage::Looking, Came::More),
+        None => comes_to(RebuildStage::Looking, Came::More),
         Some(answer) => after_commit(answer),
     }
 }
@@ -232,8 +232,8 @@ fn after_commit<A: Allocator>(answer: Result<Copied, CommitCopyRefused>) -> Turn
     ensures { result.stage ≡ rule_commit answer }
 {
     match answer {
-        Ok(_) => comes_to(Stage::Looking, Came::Told),
-        Err(CommitCopyRefused::Pending) => comes_to(Stage::Copying, Came::Wait),
-        Err(CommitCopyRefused::Failed) => comes_to(Stage::Looking, Came::Told),
+        Ok(_) => comes_to(RebuildStage::Looking, Came::Told),
+        Err(CommitCopyRefused::Pending) => comes_to(RebuildStage::Copying, Came::Wait),
+        Err(CommitCopyRefused::Failed) => comes_to(RebuildStage::Looking, Came::Told),
     }
 }

@@ -15,7 +15,7 @@ pub(crate) struct ThinPage {
 
 /// How far the rebuilder is.
 #[derive(Drop)]
-pub(crate) enum Stage<A: Allocator = Global> {
+pub(crate) enum RebuildStage<A: Allocator = Global> {
     /// It looks for spares to bring in and for thin pages.
     Looking,
     /// It looks again when something has changed.

@@ -1,6 +1,6 @@
 //! The worker that makes thin pages whole.
 use crate::rebuild_events::{Came, turn};
-use crate::rebuild_stage::{Stage, ThinPage};
+use crate::rebuild_stage::{RebuildStage, ThinPage};
 use fa_map::Map;
 use fa_shared::{Awaits, Seat, Shared};
 use fa_tag::Payload;
@@ -21,11 +21,11 @@ pub fn rebuild_worker<R: Wait + Clock, L: Ledger, M: Map + Drop, A: Allocator + 
     shared: &Shared<L, M, A>,
     seat: &mut Seat<L>,
 ) {
-    let mut stage = Stage::Looking;
+    let mut stage = RebuildStage::Looking;
     for _ in rt.forever() {
         stage = match make_turns(rt, alloc, shared, seat, stage) {
-            Stage::Read(thin, answers) => prepare(thin, answers),
-            Stage::Ended => break,
+            RebuildStage::Read(thin, answers) => prepare(thin, answers),
+            RebuildStage::Ended => break,
             stage => stage,
         };
     }
@@ -37,8 +37,8 @@ fn make_turns<R: Wait + Clock, L: Ledger, M: Map + Drop, A: Allocator + Copy>(
     alloc: A,
     shared: &Shared<L, M, A>,
     seat: &mut Seat<L>,
-    stage: Stage<A>,
-) -> Stage<A> {
+    stage: RebuildStage<A>,
+) -> RebuildStage<A> {
     let mut guard = shared.lock(rt);
     let mut stage = stage;
     for _ in rt.forever() {
@@ -52,7 +52,7 @@ fn make_turns<R: Wait + Clock, L: Ledger, M: Map + Drop, A: Allocator + Copy>(
                 guard = shared.sleep(rt, seat, awaits, guard);
             }
         }
-        if matches!(stage, Stage::Read(..) | Stage::Ended) {
+        if matches!(stage, RebuildStage::Read(..) | RebuildStage::Ended) {
             break;
         }
     }
@@ -61,22 +61,25 @@ fn make_turns<R: Wait + Clock, L: Ledger, M: Map + Drop, A: Allocator + Copy>(
 }
 
 /// What the rebuilder waits for, where it is so far.
-fn awaits_of<A: Allocator>(stage: &Stage<A>) -> Awaits {
+fn awaits_of<A: Allocator>(stage: &RebuildStage<A>) -> Awaits {
     match stage {
-        Stage::Reading(_, batch) => Awaits::Batch(*batch),
-        Stage::Looking | Stage::Pausing => Awaits::ThinPage,
+        RebuildStage::Reading(_, batch) => Awaits::Batch(*batch),
+        RebuildStage::Looking | RebuildStage::Pausing => Awaits::ThinPage,
         _ => Awaits::Change,
     }
 }
 
 /// Hashes the page that was read. Out of memory, the rebuilder waits for a change.
-fn prepare<A: Allocator + Copy>(thin: ThinPage, answers: Vec<(Page, Vec<u8, A>), A>) -> Stage<A> {
+fn prepare<A: Allocator + Copy>(
+    thin: ThinPage,
+    answers: Vec<(Page, Vec<u8, A>), A>,
+) -> RebuildStage<A> {
     let mut answers = answers;
     let Some((_, bytes)) = answers.pop() else {
-        return Stage::Pausing;
+        return RebuildStage::Pausing;
     };
     match Payload::new(bytes) {
-        Ok(payload) => Stage::Reserving(thin, payload),
-        Err(_) => Stage::Pausing,
+        Ok(payload) => RebuildStage::Reserving(thin, payload),
+        Err(_) => RebuildStage::Pausing,
     }
 }

@@ -1,7 +1,7 @@
 //! The worker of a die.
-use crate::bench::Bench;
 use crate::die_events::{Ended, Next, end_job, turn};
 use crate::gate::Gate;
+use crate::image_table::ImageTable;
 use crate::order::Order;
 use crate::room::Room;
 use fa_core_outcome::Outcome;
@@ -43,7 +43,7 @@ pub fn die_worker<
     shared: &Shared<L, M, A>,
     seat: &mut Seat<L>,
     die: Die,
-    bench: &Bench<I, B>,
+    image_table: &ImageTable<I, B>,
     room: Room<A>,
     gate: &G,
 ) {
@@ -53,7 +53,7 @@ pub fn die_worker<
         let Some(order) = next_order(rt, alloc, shared, seat, die, next) else {
             break;
         };
-        let outcome = bench.run(rt, &order, &mut room, gate);
+        let outcome = image_table.run(rt, &order, &mut room, gate);
         let buffer = replace(&mut room.buffer, Vec::new(alloc));
         let behind = finish(rt, alloc, shared, seat, die, outcome, buffer);
         room.buffer = behind.buffer;

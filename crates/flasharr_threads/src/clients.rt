@@ -82,28 +82,28 @@ impl Session {
 
 /// Who has to do with vanishing clients.
 #[derive(Drop)]
-pub(crate) enum Guest<'a, C: Clock> {
+pub(crate) enum LoopbackUser<'a, C: Clock> {
     /// A client and its session.
     Client(Session),
     /// Who opens the gate once enough calls of images are held.
-    Porter(&'a Holding<'a, C>),
+    GateKeeper(&'a Holding<'a, C>),
 }
 
-impl<'a, C: Clock> Guest<'a, C> {
+impl<'a, C: Clock> LoopbackUser<'a, C> {
     /// Whether all was as it is to be.
     pub(crate) fn is_right(&self) -> bool {
         match self {
-            Guest::Client(session) => session.end == Some(session.due),
-            Guest::Porter(gate) => !gate.is_late(),
+            LoopbackUser::Client(session) => session.end == Some(session.due),
+            LoopbackUser::GateKeeper(gate) => !gate.is_late(),
         }
     }
 }
 
-impl<'a, C: Clock> User for Guest<'a, C> {
+impl<'a, C: Clock> User for LoopbackUser<'a, C> {
     fn act<R: Machine, B: Blocks>(&mut self, rt: &R, blocks: &mut B) {
         match self {
-            Guest::Client(session) => session.serve(rt.alloc(), blocks),
-            Guest::Porter(gate) => {
+            LoopbackUser::Client(session) => session.serve(rt.alloc(), blocks),
+            LoopbackUser::GateKeeper(gate) => {
                 gate.await_calls();
                 gate.open();
             }

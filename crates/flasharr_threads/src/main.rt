@@ -1,9 +1,9 @@
 //! Plays scenarios of an array that threads share and work for, and prints of each whether it came right.
 #![tactic(auto)]
 
+mod array_threads;
 mod arrays;
 mod clients;
-mod crew;
 mod gate;
 mod host;
 mod lent;

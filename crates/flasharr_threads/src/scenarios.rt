@@ -1,7 +1,7 @@
 //! The scenarios.
+use crate::array_threads::{Left, Meanwhile, run, syncs_of};
 use crate::arrays::{DieImage, Shape, Start, formatted, report};
-use crate::clients::{Guest, Session};
-use crate::crew::{Left, Meanwhile, run, syncs_of};
+use crate::clients::{LoopbackUser, Session};
 use crate::gate::{Held, Holding};
 use crate::host::Machine;
 use crate::loopback::{Served, serve_client};
@@ -180,7 +180,7 @@ fn vanished_client_leaves_nothing<R: Machine>(rt: &R) -> Came {
     let images = written(rt, Shape::of(3))?;
     let gate = Holding::new(rt, Held::Slots, 1);
     gate.shut();
-    let mut images = with_guests(rt, Start::of(images), &gate)?;
+    let mut images = with_loopback_users(rt, Start::of(images), &gate)?;
     let told = report(rt.alloc(), images.as_mut_slice()).ok_or(Wrong::NoArray)?;
     if told.written != 9 {
         return Err(Wrong::Written);
@@ -189,12 +189,12 @@ fn vanished_client_leaves_nothing<R: Machine>(rt: &R) -> Came {
 }
 
 /// Has clients vanish while the gate is shut, and closes the array.
-fn with_guests<R: Machine>(
+fn with_loopback_users<R: Machine>(
     rt: &R,
     start: Start,
     gate: &Holding<'_, R>,
 ) -> Result<Vec<DieImage>, Wrong> {
-    let users = guests_of(rt.alloc(), gate)?;
+    let users = users_of_loopback(rt.alloc(), gate)?;
     let left = run(rt, start, gate, Meanwhile::Help, users).ok_or(Wrong::NoThreads)?;
     if left.users.len() != 3 || left.users.iter().any(|user| !user.is_right()) {
         return Err(Wrong::Answer);
@@ -203,14 +203,14 @@ fn with_guests<R: Machine>(
 }
 
 /// A client that reads pages 0 to 2, one that writes page 9 and begins to write the next, and who opens the gate. The error is out of memory.
-fn guests_of<'a, R: Machine>(
+fn users_of_loopback<'a, R: Machine>(
     alloc: Global,
     gate: &'a Holding<'a, R>,
-) -> Result<Vec<Guest<'a, R>>, AllocError> {
+) -> Result<Vec<LoopbackUser<'a, R>>, AllocError> {
     let mut users = Vec::new(alloc);
-    users.push(Guest::Client(Session::reading(alloc, 3)?))?;
-    users.push(Guest::Client(Session::writing(alloc, 9)?))?;
-    users.push(Guest::Porter(gate))?;
+    users.push(LoopbackUser::Client(Session::reading(alloc, 3)?))?;
+    users.push(LoopbackUser::Client(Session::writing(alloc, 9)?))?;
+    users.push(LoopbackUser::GateKeeper(gate))?;
     Ok(users)
 }
 

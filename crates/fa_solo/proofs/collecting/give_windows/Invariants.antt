@@ -1,6 +1,6 @@
-use Rattle.fa_solo.specs.Rigs.{Does}
+use Rattle.fa_solo.specs.Inner.{Does}
 use Rattle.fa_solo.specs.Deeds.{IsForDies}
 use Rattle.fa_solo.proofs.collecting.give_windows.Given as goal
 
 abbrev pub invariant-loop-die : goal.invariant-loop-die
-invariant-loop-die g l = Does g.I.Image.made IsForDies l.initial.rig l.rig
+invariant-loop-die g l = Does g.I.Image.made IsForDies l.initial.inner l.inner

@@ -1,6 +1,6 @@
-use Rattle.fa_solo.specs.Rigs.{Does}
+use Rattle.fa_solo.specs.Inner.{Does}
 use Rattle.fa_solo.specs.Deeds.{IsForDies}
 use Rattle.fa_solo.proofs.jobs.work_off.Given as goal
 
 abbrev pub invariant-loop : goal.invariant-loop
-invariant-loop g l = Does g.I.Image.made IsForDies l.initial.rig l.rig
+invariant-loop g l = Does g.I.Image.made IsForDies l.initial.inner l.inner

@@ -5,7 +5,7 @@ use Rattle.fa_solo.proofs.running.call_image.Goals as goal
 
 pub returns-clause-ran : goal.returns-clause-ran
 returns-clause-ran g c = let placed = c.requires.placed in
-    let same = c.index_mut.ensures.value ∙ get_or_from_slice_get c.args.rig.now.images.items c.args.place placed.image c.index_mut.result.now placed.image_is in record {
+    let same = c.index_mut.ensures.value ∙ get_or_from_slice_get c.args.inner.now.images.items c.args.place placed.image c.index_mut.result.now placed.image_is in record {
       before = c.index_mut.result.now;
       after = c.run_job.new.image;
       image_is = placed.image_is ∙ ap Some (sym same);

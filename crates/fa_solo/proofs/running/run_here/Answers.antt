@@ -35,5 +35,5 @@ returns-in-Some g c = does_job _ _ _ _ _ _ _ c.in-Some.ensures.event c.take.ensu
     (c.the_geometry_is_kept.ensures _ _ _ c.in-Some.ensures.event) refl refl c.run_taken.ensures
 
 pub returns-in-None : goal.returns-in-None
-returns-in-None g c = does_event _ IsForDies _ _ (Take c.args.die.0 (number_of c.args.rig.now.seat) None) tt tt c.in-None.ensures.event
+returns-in-None g c = does_event _ IsForDies _ _ (Take c.args.die.0 (number_of c.args.inner.now.seat) None) tt tt c.in-None.ensures.event
     c.take.ensures.rest refl refl

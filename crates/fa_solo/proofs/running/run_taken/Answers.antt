@@ -6,7 +6,7 @@ use Rattle.fa_solo.proofs.running.run_taken.Goals as goal
 
 pub unreachable-requires : goal.unreachable-requires
 unreachable-requires g c =
-    let kind = kind_at _ c.args.job.now.flight c.call_image-outcome.result c.call_image-outcome.new.rig.buffer.items _
-    (kept_flight c.args.rig.now c.call_image-outcome.new.rig c.args.die.0 c.args.job.now.flight c.call_image-outcome.ensures.rest c.requires.flight)
+    let kind = kind_at _ c.args.job.now.flight c.call_image-outcome.result c.call_image-outcome.new.inner.buffer.items _
+    (kept_flight c.args.inner.now c.call_image-outcome.new.inner c.args.die.0 c.args.job.now.flight c.call_image-outcome.ensures.rest c.requires.flight)
     (search rules) (ran_kind _ _ _ _ _ _ _ _ c.call_image-outcome.ensures.ran.ran) in
     both_ways _ c.in_default.ensures.none.0 (and_from _ _ kind (search rules))

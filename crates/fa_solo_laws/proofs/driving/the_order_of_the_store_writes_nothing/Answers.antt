@@ -1,5 +1,5 @@
 use Rattle.fa_solo_laws.proofs.Going.{Laws}
-use Rattle.fa_solo_laws.proofs.Quiet.{before_rig, behind_rig, told}
+use Rattle.fa_solo_laws.proofs.Quiet.{before_inner, behind_inner, told}
 use Rattle.fa_solo_laws.proofs.driving.the_order_of_the_store_writes_nothing.Goals as goal
 
 pub returns : goal.returns
@@ -13,8 +13,8 @@ returns g c =
     } in record {
       before = λ old new w of_old calm apart does fair.
           told g.I.Image.view new w
-          (before_rig g.I.Image.view g.I.Image.honest g.I.Image.made g.met.I.Image.whole g.met.I.Image.meets laws old new w of_old calm apart does fair);
+          (before_inner g.I.Image.view g.I.Image.honest g.I.Image.made g.met.I.Image.whole g.met.I.Image.meets laws old new w of_old calm apart does fair);
       behind = λ old new w of_old calm apart tidies fair.
           told g.I.Image.view new w
-          (behind_rig g.I.Image.view g.I.Image.honest g.I.Image.made g.met.I.Image.whole g.met.I.Image.meets laws old new w of_old calm apart tidies fair);
+          (behind_inner g.I.Image.view g.I.Image.honest g.I.Image.made g.met.I.Image.whole g.met.I.Image.meets laws old new w of_old calm apart tidies fair);
     }

@@ -1,4 +1,4 @@
-use Rattle.flasharr_threads.proofs.crew.run.Given as goal
+use Rattle.flasharr_threads.proofs.array_threads.run.Given as goal
 
 -- the ledger is that of the blank
 abbrev pub ghosts-run_over : goal.ghosts-run_over

@@ -11,8 +11,8 @@ use Rattle.fa_shared.specs.Seats.{number_of}
 use Rattle.fa_solo.specs.Deeds.{Goes, IsForOrder}
 use Rattle.fa_solo.specs.House.{House}
 use Rattle.fa_solo.specs.Orders.{Orders, Settles}
-use Rattle.fa_solo.specs.declared.rig.Parts.{Parts}
-use Rattle.fa_solo.specs.declared.rig.Rig.{Rig}
+use Rattle.fa_solo.specs.declared.inner.Parts.{Parts}
+use Rattle.fa_solo.specs.declared.inner.Inner.{Inner}
 use Rattle.fa_shared_events.specs.Held.{LeavesRest}
 use Rattle.fa_workers.specs.Made.{Ran}
 
@@ -22,31 +22,31 @@ house_in view parts = record { core = state_of view parts.mounted.array; images 
 
 module _ {L M I A : Type 0} where
   -- one in use
-  abbrev pub house_of : Rig L M I A → House I
-  house_of rig = record { core = rig.locked.core; images = rig.images.items }
+  abbrev pub house_of : Inner L M I A → House I
+  house_of inner = record { core = inner.locked.core; images = inner.images.items }
 
   -- The die has this image, at this place of the list, and it is of the array's geometry.
-  pub record IsPlaced (view : I → ImageState) (rig : Rig L M I A) (die place : ℕ) : Type 0 where
-    pub place_is : place_on rig.dies.items die ≡ Some place
-    pub inside : place < length rig.images.items
+  pub record IsPlaced (view : I → ImageState) (inner : Inner L M I A) (die place : ℕ) : Type 0 where
+    pub place_is : place_on inner.dies.items die ≡ Some place
+    pub inside : place < length inner.images.items
     pub image : I
-    pub image_is : slice_get rig.images.items place ≡ Some image
-    pub shape : (view image).geometry ≡ rig.locked.core.page_map.geometry
+    pub image_is : slice_get inner.images.items place ≡ Some image
+    pub shape : (view image).geometry ≡ inner.locked.core.page_map.geometry
 
   -- There is memory for a slot's bytes and for a page's.
-  pub record HasMemory (rig : Rig L M I A) : Type 0 where
-    pub scratch : length rig.scratch.items ≡ rig.locked.core.page_map.geometry.page_bytes + 64
-    pub buffer : length rig.buffer.items ≡ rig.locked.core.page_map.geometry.page_bytes
+  pub record HasMemory (inner : Inner L M I A) : Type 0 where
+    pub scratch : length inner.scratch.items ≡ inner.locked.core.page_map.geometry.page_bytes + 64
+    pub buffer : length inner.buffer.items ≡ inner.locked.core.page_map.geometry.page_bytes
 
   -- An event was made. Nothing else of the array under its lock has changed, no Commit was made, and the images are the same.
-  pub record DoesOne (act : Act) (old new : Rig L M I A) : Type 0 where
+  pub record DoesOne (act : Act) (old new : Inner L M I A) : Type 0 where
     pub step : Step old.locked.core act new.locked.core
     pub left : LeavesRest old.locked old.seat new.locked new.seat
     pub images : new.images.items ≡ old.images.items
     pub dies : new.dies.items ≡ old.dies.items
 
   -- A slot was reserved for one more copy of the page's write with this number, of the bytes that were answered last.
-  pub record ReservesCopy (page seq : ℕ) (answers : List (ℕ × List ℕ)) (old new : Rig L M I A) : Type 0 where
+  pub record ReservesCopy (page seq : ℕ) (answers : List (ℕ × List ℕ)) (old new : Inner L M I A) : Type 0 where
     pub others : List (ℕ × List ℕ)
     pub given : ℕ
     pub bytes : List ℕ
@@ -55,7 +55,7 @@ module _ {L M I A : Type 0} where
 
   module _ (made : I → ImageCall → ImageAnswer → I → Type 0) where
     -- The calls of a job were made of the image at a place, and the job ends so by what they gave.
-    pub record RanAt (old : Rig L M I A) (die place : ℕ) (job : Handed) (outcome : Outcome) (images : List I) : Type 0 where
+    pub record RanAt (old : Inner L M I A) (die place : ℕ) (job : Handed) (outcome : Outcome) (images : List I) : Type 0 where
       pub before : I
       pub after : I
       pub image_is : slice_get old.images.items place ≡ Some before
@@ -63,7 +63,7 @@ module _ {L M I A : Type 0} where
       pub images_are : images ≡ slice_set old.images.items place after
 
     -- They were made, and the job has ended so.
-    pub record EndsAt (old : Rig L M I A) (die place : ℕ) (job : Handed) (new : Rig L M I A) : Type 0 where
+    pub record EndsAt (old : Inner L M I A) (die place : ℕ) (job : Handed) (new : Inner L M I A) : Type 0 where
       pub outcome : Outcome
       pub ran : RanAt old die place job outcome new.images.items
       pub ends : Step old.locked.core (Done die outcome) new.locked.core
@@ -72,24 +72,24 @@ module _ {L M I A : Type 0} where
 
     -- Deeds were done, of which the events are some of these. Nothing else of the array under its lock has changed, no Commit was made, and
     -- the images are those of the same dies.
-    pub record Does (P : Act → Type 0) (old new : Rig L M I A) : Type 0 where
+    pub record Does (P : Act → Type 0) (old new : Inner L M I A) : Type 0 where
       pub goes : Goes made old.locked.number old.dies.items (number_of old.seat) P (house_of old) (house_of new)
       pub left : LeavesRest old.locked old.seat new.locked new.seat
       pub dies : new.dies.items ≡ old.dies.items
 
     -- The same of what is done for the array's order.
-    pub record Tidies (old new : Rig L M I A) : Type 0 where
+    pub record Tidies (old new : Inner L M I A) : Type 0 where
       pub orders : Orders made old.locked.number old.dies.items (number_of old.seat) (house_of old) (house_of new)
       pub left : LeavesRest old.locked old.seat new.locked new.seat
       pub dies : new.dies.items ≡ old.dies.items
 
     -- The same of the copy under way.
-    pub record SettlesCopy (old new : Rig L M I A) : Type 0 where
+    pub record SettlesCopy (old new : Inner L M I A) : Type 0 where
       pub settles : Settles made old.locked.number old.dies.items (number_of old.seat) (house_of old) (house_of new)
       pub left : LeavesRest old.locked old.seat new.locked new.seat
       pub dies : new.dies.items ≡ old.dies.items
 
     -- One more copy of the page was reserved of what was answered, and is seen through; or it was not, and deeds were done.
-    abbrev pub TriesCopy : (page seq : ℕ) → List (ℕ × List ℕ) → Rig L M I A → Rig L M I A → Type 0
+    abbrev pub TriesCopy : (page seq : ℕ) → List (ℕ × List ℕ) → Inner L M I A → Inner L M I A → Type 0
     TriesCopy page seq answers old new =
-        Does IsForOrder old new ⊎ ((middle : Rig L M I A) × ReservesCopy page seq answers old middle × SettlesCopy middle new)
+        Does IsForOrder old new ⊎ ((middle : Inner L M I A) × ReservesCopy page seq answers old middle × SettlesCopy middle new)

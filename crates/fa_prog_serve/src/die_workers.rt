@@ -6,7 +6,7 @@ use fa_mount_headers::Standing;
 use fa_prog_clients::Networked;
 use fa_shared::{Seat, Shared};
 use fa_types::Die;
-use fa_workers::{Bench, Open, Room, collector_worker, die_worker, rebuild_worker};
+use fa_workers::{ImageTable, Open, Room, collector_worker, die_worker, rebuild_worker};
 use std::alloc::AllocError;
 use std::sync::ledger::Ledger;
 
@@ -20,11 +20,11 @@ pub(crate) struct DieTask<L: Ledger + Send> {
 
 /// The tasks of all dies, and the places of all images.
 #[derive(Drop)]
-pub(crate) struct Crew<L: Ledger + Send, I: Drop> {
+pub(crate) struct DieWorkers<L: Ledger + Send, I: Drop> {
     /// A task for each die that is live or a spare.
     pub(crate) tasks: Vec<DieTask<L>>,
     /// The images of these dies.
-    pub(crate) bench: Bench<I>,
+    pub(crate) image_table: ImageTable<I>,
     /// Where the images of the dies belong among all images, by the dies' numbers.
     pub(crate) indexes: Vec<Option<usize>>,
     /// The places of all images, with the images of the others.
@@ -32,13 +32,13 @@ pub(crate) struct Crew<L: Ledger + Send, I: Drop> {
 }
 
 /// A task for each image of a die that is live or a spare. The error is out of memory, or of seats.
-pub(crate) fn crew_of<R: Networked, L: Ledger + Send, M: Map + Drop, I: Image + Drop>(
+pub(crate) fn die_workers_of<R: Networked, L: Ledger + Send, M: Map + Drop, I: Image + Drop>(
     rt: &R,
     shared: &Shared<L, M>,
     dies: &[Standing],
     images: Vec<I>,
     page_bytes: u32,
-) -> Result<Crew<L, I>, AllocError> {
+) -> Result<DieWorkers<L, I>, AllocError> {
     let mut tasks = Vec::with_capacity(rt.alloc(), dies.len())?;
     let mut places = Places::new(rt, images.len())?;
     let mut index = 0usize;
@@ -64,10 +64,10 @@ pub(crate) fn crew_of<R: Networked, L: Ledger + Send, M: Map + Drop, I: Image + 
         }
         manned.push(image)?;
     }
-    let bench = Bench::new(rt.alloc(), manned)?;
-    Ok(Crew {
+    let image_table = ImageTable::new(rt.alloc(), manned)?;
+    Ok(DieWorkers {
         tasks,
-        bench,
+        image_table,
         indexes,
         places,
     })
@@ -83,13 +83,13 @@ fn die_of(number: usize) -> Die {
 
 /// Lays the images of the dies back in their places.
 pub(crate) fn lay_back<I: Drop>(
-    bench: Bench<I>,
+    image_table: ImageTable<I>,
     indexes: &[Option<usize>],
     places: &mut Places<I>,
 ) {
-    let mut bench = bench;
+    let mut image_table = image_table;
     for die in 0..indexes.len() {
-        if let (Some(index), Some(image)) = (indexes[die], bench.lift(die_of(die))) {
+        if let (Some(index), Some(image)) = (indexes[die], image_table.lift(die_of(die))) {
             places.lay(index, image);
         }
     }
@@ -107,7 +107,7 @@ fn index_at_work(standing: Standing) -> Option<usize> {
 pub(crate) fn work_die<R: Networked, L: Ledger + Send, M: Map + Drop, I: Image + Drop>(
     rt: &R,
     shared: &Shared<L, M>,
-    bench: &Bench<I>,
+    image_table: &ImageTable<I>,
     task: DieTask<L>,
 ) -> Seat<L> {
     let DieTask {
@@ -115,7 +115,16 @@ pub(crate) fn work_die<R: Networked, L: Ledger + Send, M: Map + Drop, I: Image +
         mut seat,
         room,
     } = task;
-    die_worker(rt, rt.alloc(), shared, &mut seat, die, bench, room, &Open);
+    die_worker(
+        rt,
+        rt.alloc(),
+        shared,
+        &mut seat,
+        die,
+        image_table,
+        room,
+        &Open,
+    );
     seat
 }
 

@@ -12,29 +12,29 @@ const FEW_CLIENTS: u64 = 2;
 
 /// A client that has come: its socket, with another handle on it.
 #[derive(Drop)]
-pub(crate) struct Guest {
+pub(crate) struct Accepted {
     stream: TcpStream,
     handle: TcpStream,
 }
 
-impl Guest {
+impl Accepted {
     /// The client of this socket. The error is the system's, which gives no other handle.
-    pub(crate) fn new(stream: TcpStream) -> io::Result<Guest> {
+    pub(crate) fn new(stream: TcpStream) -> io::Result<Accepted> {
         let handle = stream.try_clone()?;
-        Ok(Guest { stream, handle })
+        Ok(Accepted { stream, handle })
     }
 }
 
 /// The client that waits for a session, and those that are served.
 #[derive(Drop)]
-struct Door {
-    waiting: Option<Guest>,
+struct QueueState {
+    waiting: Option<Accepted>,
     /// For each session another handle on its client's socket.
     served: Vec<Option<TcpStream>>,
     is_closing: bool,
 }
 
-/// What a session finds at the door.
+/// What a session finds in the queue.
 enum Found {
     /// A client, which is registered as served.
     Client(TcpStream),
@@ -44,7 +44,7 @@ enum Found {
     Closing,
 }
 
-impl Door {
+impl QueueState {
     /// Takes the client that waits for a session of this number.
     fn take(&mut self, session: usize) -> Found {
         if self.is_closing {
@@ -53,7 +53,7 @@ impl Door {
         let Some(place) = self.served.get_mut(session) else {
             return Found::Closing;
         };
-        let Some(Guest { stream, handle }) = self.waiting.take() else {
+        let Some(Accepted { stream, handle }) = self.waiting.take() else {
             return Found::Nobody;
         };
         *place = Some(handle);
@@ -83,46 +83,46 @@ impl Door {
 }
 
 /// The place where clients wait for a session, shared by the one who accepts them, the sessions, and whoever stops the server. At most
-/// one client waits here; further ones wait in the system's queue. A lobby that was closed is never open again.
+/// one client waits here; further ones wait in the system's queue. An accept queue that was closed is never open again.
 #[derive(Drop)]
-pub struct Lobby {
-    door: Mutex<Door>,
+pub struct AcceptQueue {
+    state: Mutex<QueueState>,
     changed: Condvar,
     // How many clients are served.
     clients: AtomicU64,
 }
 
-impl Lobby {
-    /// An open lobby for this number of sessions, which are numbered from 0. It takes all its memory now. The error is out of memory.
-    pub fn new(alloc: Global, sessions: usize) -> Result<Lobby, AllocError> {
+impl AcceptQueue {
+    /// An open accept queue for this number of sessions, which are numbered from 0. It takes all its memory now. The error is out of memory.
+    pub fn new(alloc: Global, sessions: usize) -> Result<AcceptQueue, AllocError> {
         let mut served = Vec::with_capacity(alloc, sessions)?;
         for _ in 0..sessions {
             served.push(None)?;
         }
-        let door = Door {
+        let state = QueueState {
             waiting: None,
             served,
             is_closing: false,
         };
-        Ok(Lobby {
-            door: Mutex::new(door),
+        Ok(AcceptQueue {
+            state: Mutex::new(state),
             changed: Condvar::new(),
             clients: AtomicU64::new(0),
         })
     }
 
-    /// The next client for a session of this number, which is waited for. None where the lobby is closed.
+    /// The next client for a session of this number, which is waited for. None where the accept queue is closed.
     pub(crate) fn next_client<R: Networked>(&self, rt: &R, session: usize) -> Option<TcpStream> {
-        let mut door = self.door.lock(rt);
+        let mut state = self.state.lock(rt);
         for _ in rt.forever() {
-            match door.take(session) {
+            match state.take(session) {
                 Found::Client(stream) => {
                     self.clients.fetch_add(1, Ordering::SeqCst);
                     self.changed.notify_all();
                     return Some(stream);
                 }
                 Found::Closing => return None,
-                Found::Nobody => door = self.changed.wait(rt, door),
+                Found::Nobody => state = self.changed.wait(rt, state),
             }
         }
         unreachable!()
@@ -130,7 +130,7 @@ impl Lobby {
 
     /// The client of this session has gone.
     pub(crate) fn leave<R: Networked>(&self, rt: &R, session: usize) {
-        self.door.lock(rt).leave(session);
+        self.state.lock(rt).leave(session);
         self.clients.fetch_sub(1, Ordering::SeqCst);
         self.changed.notify_all();
     }
@@ -141,40 +141,40 @@ impl Lobby {
     }
 
     /// Lets a client wait for a session, up to the limit. Whether a session took it: one that none took is sent away.
-    pub(crate) fn offer<R: Networked>(&self, rt: &R, guest: Guest, limit: Duration) -> bool {
-        let mut door = self.door.lock(rt);
-        if door.is_closing {
+    pub(crate) fn offer<R: Networked>(&self, rt: &R, accepted: Accepted, limit: Duration) -> bool {
+        let mut state = self.state.lock(rt);
+        if state.is_closing {
             return false;
         }
-        door.waiting = Some(guest);
+        state.waiting = Some(accepted);
         self.changed.notify_all();
-        let (mut door, _) = self.changed.wait_timeout_while(rt, door, limit, |door| {
-            door.waiting.is_some() && !door.is_closing
+        let (mut state, _) = self.changed.wait_timeout_while(rt, state, limit, |state| {
+            state.waiting.is_some() && !state.is_closing
         });
-        door.waiting.take().is_none()
+        state.waiting.take().is_none()
     }
 
     /// Whether no client is let in any more.
     pub fn is_closing<R: Networked>(&self, rt: &R) -> bool {
-        self.door.lock(rt).is_closing
+        self.state.lock(rt).is_closing
     }
 
     /// Lets no more clients in, sends the one that waits away, and shuts the others for reading: what was read of them is still answered.
     pub fn close<R: Networked>(&self, rt: &R) {
-        let mut door = self.door.lock(rt);
-        door.is_closing = true;
-        door.waiting = None;
-        door.shut(Shutdown::Read);
-        drop(door);
+        let mut state = self.state.lock(rt);
+        state.is_closing = true;
+        state.waiting = None;
+        state.shut(Shutdown::Read);
+        drop(state);
         self.changed.notify_all();
     }
 
     /// Waits until all clients have gone, and shuts those that have not gone within the limit for writing too.
     pub fn clear<R: Networked>(&self, rt: &R, limit: Duration) {
-        let door = self.door.lock(rt);
-        let (door, _) = self
+        let state = self.state.lock(rt);
+        let (state, _) = self
             .changed
-            .wait_timeout_while(rt, door, limit, |door| door.is_serving());
-        door.shut(Shutdown::Both);
+            .wait_timeout_while(rt, state, limit, |state| state.is_serving());
+        state.shut(Shutdown::Both);
     }
 }

@@ -17,7 +17,7 @@ use fa_shared::{Fault, Hands, NoHands, Seat, Shared};
 use fa_shared_store::ArrayBlocks;
 use fa_types::Die;
 use fa_workers::{
-    Bench, Gate, Helper, HelperRoom, Room, collector_worker, die_worker, rebuild_worker,
+    Gate, Helper, HelperRoom, ImageTable, Room, collector_worker, die_worker, rebuild_worker,
 };
 use std::alloc::{AllocError, Global};
 use std::marker::Brand;
@@ -180,11 +180,11 @@ fn work_for<L: Ledger + Send, R: Machine, G: Gate + Sync, U: User + Send>(
     requires { L.parts ≡ 257 }
 {
     let count = images.len();
-    let bench = bench_of(rt, dies, images)?;
+    let image_table = image_table_of(rt, dies, images)?;
     let tasks = tasks_of(rt, shared, dies, page_bytes)?;
     let sessions = sessions_of(rt, shared, users, meanwhile, page_bytes)?;
-    let Back { users, seats } = run_threads(rt, shared, &bench, tasks, gate, sessions)?;
-    let images = lifted(rt, bench, count, dies.len())?;
+    let Back { users, seats } = run_threads(rt, shared, &image_table, tasks, gate, sessions)?;
+    let images = lifted(rt, image_table, count, dies.len())?;
     let gathered = shared.gather(rt, seats).is_ok();
     let syncs = syncs_of(rt.alloc(), images.as_slice()).ok()?;
     let faults = shared.faults(rt, rt.alloc()).ok()?;
@@ -217,11 +217,11 @@ struct Task<L: Ledger + Send> {
 }
 
 /// The images by their dies' numbers. All of them are of live dies, and in the order of these.
-fn bench_of<R: Machine>(
+fn image_table_of<R: Machine>(
     rt: &R,
     dies: &[Standing],
     images: Vec<DieImage>,
-) -> Option<Bench<DieImage>> {
+) -> Option<ImageTable<DieImage>> {
     let mut left = images.into_iter();
     let mut manned = Vec::with_capacity(rt.alloc(), dies.len()).ok()?;
     for standing in dies {
@@ -232,23 +232,23 @@ fn bench_of<R: Machine>(
         };
         manned.push(image).ok()?;
     }
-    Bench::new(rt.alloc(), manned).ok()
+    ImageTable::new(rt.alloc(), manned).ok()
 }
 
 /// The images again, so many of them, of an array of so many dies. None where one is missing.
 fn lifted<R: Machine>(
     rt: &R,
-    bench: Bench<DieImage>,
+    image_table: ImageTable<DieImage>,
     count: usize,
     dies: usize,
 ) -> Option<Vec<DieImage>> {
-    let mut bench = bench;
+    let mut image_table = image_table;
     let mut images = Vec::with_capacity(rt.alloc(), count).ok()?;
     for number in 0..dies {
         let Ok(die) = u8::try_from(number) else {
             break;
         };
-        if let Some(image) = bench.lift(Die(die)) {
+        if let Some(image) = image_table.lift(Die(die)) {
             images.push(image).ok()?;
         }
     }
@@ -352,7 +352,7 @@ fn sessions_of<L: Ledger + Send, R: Machine, M: Map + Drop, U: User>(
 fn run_threads<L: Ledger + Send, R: Machine, G: Gate + Sync, U: User + Send>(
     rt: &R,
     shared: &Shared<L, PageMap>,
-    bench: &Bench<DieImage>,
+    image_table: &ImageTable<DieImage>,
     tasks: Vec<Task<L>>,
     gate: &G,
     sessions: Vec<Session<L, U>>,
@@ -371,7 +371,13 @@ fn run_threads<L: Ledger + Send, R: Machine, G: Gate + Sync, U: User + Send>(
             requires { IsSend U.row × IsSync G.row }
         {
             for task in tasks {
-                let work = match scope.spawn(move || work_die(rt, shared, bench, gate, task)) {
+                let work = match scope.spawn(move || work_die(
+                    rt,
+                    shared,
+                    image_table,
+                    gate,
+                    task,
+                )) {
                     Ok(handle) => Work::Runs(handle),
                     Err(refused) => {
                         shared.stop(rt);
@@ -394,7 +400,7 @@ fn run_threads<L: Ledger + Send, R: Machine, G: Gate + Sync, U: User + Send>(
                     Work::Done((refused.value)())
                 }
             };
-            use_all(rt, shared, bench, gate, sessions, &mut back);
+            use_all(rt, shared, image_table, gate, sessions, &mut back);
             shared.stop(rt);
             for work in workers {
                 let _ = back.seats.push(work.end(rt));
@@ -410,7 +416,7 @@ fn run_threads<L: Ledger + Send, R: Machine, G: Gate + Sync, U: User + Send>(
 fn use_all<L: Ledger + Send, R: Machine, G: Gate + Sync, U: User + Send>(
     rt: &R,
     shared: &Shared<L, PageMap>,
-    bench: &Bench<DieImage>,
+    image_table: &ImageTable<DieImage>,
     gate: &G,
     sessions: Vec<Session<L, U>>,
     back: &mut Back<L, U>,
@@ -425,7 +431,13 @@ fn use_all<L: Ledger + Send, R: Machine, G: Gate + Sync, U: User + Send>(
             requires { IsSend U.row × IsSync G.row }
         {
             for session in sessions {
-                let work = match scope.spawn(move || use_store(rt, shared, bench, gate, session)) {
+                let work = match scope.spawn(move || use_store(
+                    rt,
+                    shared,
+                    image_table,
+                    gate,
+                    session,
+                )) {
                     Ok(handle) => Work::Runs(handle),
                     Err(refused) => {
                         shared.stop(rt);
@@ -448,7 +460,7 @@ fn use_all<L: Ledger + Send, R: Machine, G: Gate + Sync, U: User + Send>(
 fn use_store<L: Ledger + Send, R: Machine, M: Map + Drop, I: Image + Drop, G: Gate, U: User>(
     rt: &R,
     shared: &Shared<L, M>,
-    bench: &Bench<I>,
+    image_table: &ImageTable<I>,
     gate: &G,
     session: Session<L, U>,
 ) -> (U, Seat<L>) {
@@ -459,7 +471,7 @@ fn use_store<L: Ledger + Send, R: Machine, M: Map + Drop, I: Image + Drop, G: Ga
         meanwhile,
     } = session;
     let seat = match meanwhile {
-        Meanwhile::Help => help(rt, shared, bench, gate, seat, room, &mut user),
+        Meanwhile::Help => help(rt, shared, image_table, gate, seat, room, &mut user),
         Meanwhile::Sleep => act_with(rt, shared, seat, NoHands, &mut user),
     };
     (user, seat)
@@ -469,13 +481,13 @@ fn use_store<L: Ledger + Send, R: Machine, M: Map + Drop, I: Image + Drop, G: Ga
 fn help<L: Ledger + Send, R: Machine, M: Map + Drop, I: Image + Drop, G: Gate, U: User>(
     rt: &R,
     shared: &Shared<L, M>,
-    bench: &Bench<I>,
+    image_table: &ImageTable<I>,
     gate: &G,
     seat: Seat<L>,
     room: HelperRoom,
     user: &mut U,
 ) -> Seat<L> {
-    let helper = Helper::new(rt, rt.alloc(), shared, bench, gate, room);
+    let helper = Helper::new(rt, rt.alloc(), shared, image_table, gate, room);
     act_with(rt, shared, seat, helper, user)
 }
 
@@ -497,7 +509,7 @@ fn act_with<L: Ledger + Send, R: Machine, M: Map + Drop, H: Hands<L, M, Global> 
 fn work_die<L: Ledger + Send, R: Machine, M: Map + Drop, I: Image + Drop, G: Gate>(
     rt: &R,
     shared: &Shared<L, M>,
-    bench: &Bench<I>,
+    image_table: &ImageTable<I>,
     gate: &G,
     task: Task<L>,
 ) -> Seat<L> {
@@ -506,7 +518,16 @@ fn work_die<L: Ledger + Send, R: Machine, M: Map + Drop, I: Image + Drop, G: Gat
         mut seat,
         room,
     } = task;
-    die_worker(rt, rt.alloc(), shared, &mut seat, die, bench, room, gate);
+    die_worker(
+        rt,
+        rt.alloc(),
+        shared,
+        &mut seat,
+        die,
+        image_table,
+        room,
+        gate,
+    );
     seat
 }
 

@@ -11,22 +11,22 @@ use std::sync::{Mutex, Wait};
 /// The images of an array's dies, each behind a lock of its own. A die has one job at a time, and its image is locked for that job alone, so
 /// nobody waits long for an image.
 #[derive(Drop)]
-pub struct Bench<I: Drop, A: Allocator = Global> {
+pub struct ImageTable<I: Drop, A: Allocator = Global> {
     // By the numbers of the dies.
     images: Vec<Mutex<Option<I>>, A>,
 }
 
-impl<I: Drop, A: Allocator> Bench<I, A> {
+impl<I: Drop, A: Allocator> ImageTable<I, A> {
     /// The images, by the numbers of their dies. None where a die has none. The error is out of memory.
     pub fn new<B: Allocator>(
         alloc: A,
         images: Vec<Option<I>, B>,
-    ) -> Result<Bench<I, A>, AllocError> {
+    ) -> Result<ImageTable<I, A>, AllocError> {
         let mut locks = Vec::with_capacity(alloc, images.len())?;
         for image in images {
             locks.push(Mutex::new(image))?;
         }
-        Ok(Bench { images: locks })
+        Ok(ImageTable { images: locks })
     }
 
     /// The image of a die, if it is there. Then it is there no more.
@@ -38,7 +38,7 @@ impl<I: Drop, A: Allocator> Bench<I, A> {
     }
 }
 
-impl<I: Image + Drop, A: Allocator> Bench<I, A> {
+impl<I: Image + Drop, A: Allocator> ImageTable<I, A> {
     /// Makes the calls of a job on its die's image, which is locked meanwhile, and tells how the job ended. A read's slot is in the room's
     /// scratch behind it and is not opened: it stands as a bad one.
     pub(crate) fn begin<R: Wait, B: Allocator, G: Gate>(

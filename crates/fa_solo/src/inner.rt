@@ -23,7 +23,7 @@ pub struct Parts<M: Map + Drop, I: Image, A: Allocator = Global> {
 
 /// An array that nobody else uses, with its images and what their jobs want.
 #[derive(Drop)]
-pub(crate) struct Rig<L: Ledger, M: Map + Drop, I: Image, A: Allocator + Copy> {
+pub(crate) struct Inner<L: Ledger, M: Map + Drop, I: Image, A: Allocator + Copy> {
     pub(crate) alloc: A,
     pub(crate) locked: Locked<L, M, A>,
     pub(crate) seat: Seat<L>,
@@ -43,9 +43,9 @@ struct Memory<A: Allocator> {
     buffer: Vec<u8, A>,
 }
 
-impl<L: Ledger, M: Map + Drop, I: Image, A: Allocator + Copy> Rig<L, M, I, A> {
+impl<L: Ledger, M: Map + Drop, I: Image, A: Allocator + Copy> Inner<L, M, I, A> {
     ghost use Rattle.std.specs.Prelude.{◌≡◌, IfSome};
-    ghost use Rattle.fa_solo.specs.Rigs.{IsPlaced};
+    ghost use Rattle.fa_solo.specs.Inner.{IsPlaced};
 
     /// An array and its images for one thread. Where memory is refused both are handed back.
     pub(crate) fn new(
@@ -53,15 +53,15 @@ impl<L: Ledger, M: Map + Drop, I: Image, A: Allocator + Copy> Rig<L, M, I, A> {
         blank: Blank,
         parts: Parts<M, I, A>,
         window_rounds: u64,
-    ) -> Result<Rig<L, M, I, A>, Parts<M, I, A>>
+    ) -> Result<Inner<L, M, I, A>, Parts<M, I, A>>
         requires name { blank.name ≡ L.name }
         requires parts { (blank.parts ≡ L.parts) × (blank.parts ≡ 257) }
         requires whole { IsWhole M.view parts.mounted.array }
-        ensures core { IfOk result (λ rig. rig.locked.core ≡ state_of M.view parts.mounted.array) }
-        ensures number { IfOk result (λ rig. rig.locked.number ≡ array_number parts.mounted.array) }
-        ensures dies { IfOk result (λ rig. rig.dies ≡ parts.mounted.dies) }
-        ensures images { IfOk result (λ rig. rig.images ≡ parts.images) }
-        ensures rounds { IfOk result (λ rig. rig.window_rounds ≡ window_rounds) }
+        ensures core { IfOk result (λ inner. inner.locked.core ≡ state_of M.view parts.mounted.array) }
+        ensures number { IfOk result (λ inner. inner.locked.number ≡ array_number parts.mounted.array) }
+        ensures dies { IfOk result (λ inner. inner.dies ≡ parts.mounted.dies) }
+        ensures images { IfOk result (λ inner. inner.images ≡ parts.images) }
+        ensures rounds { IfOk result (λ inner. inner.window_rounds ≡ window_rounds) }
         ensures refused { IfErr result (λ back. back ≡ parts) }
     {
         let Parts { mounted, images } = parts;
@@ -96,7 +96,7 @@ impl<L: Ledger, M: Map + Drop, I: Image, A: Allocator + Copy> Rig<L, M, I, A> {
         ensures dies { result.mounted.dies ≡ self.dies }
         ensures images { result.images ≡ self.images }
     {
-        let Rig {
+        let Inner {
             locked,
             dies,
             images,
@@ -158,7 +158,7 @@ fn seated<L: Ledger, M: Map + Drop, I: Image, A: Allocator + Copy>(
     images: Vec<I, A>,
     memory: Memory<A>,
     window_rounds: u64,
-) -> Rig<L, M, I, A>
+) -> Inner<L, M, I, A>
     requires { locked.out ≡ 0 }
     ensures core { result.locked.core ≡ locked.core }
     ensures number { result.locked.number ≡ locked.number }
@@ -171,7 +171,7 @@ fn seated<L: Ledger, M: Map + Drop, I: Image, A: Allocator + Copy>(
         unreachable!()
     };
     let Memory { scratch, buffer } = memory;
-    Rig {
+    Inner {
         alloc,
         locked,
         seat,
