@@ -18,10 +18,10 @@ use Rattle.fa_shared_steps.specs.declared.stage.Stage.TheVariants.{Reserving}
 use Rattle.fa_shared.specs.Locked.{LockedState}
 use Rattle.fa_shared.specs.Seats.{commits_with, number_of}
 use Rattle.fa_shared.specs.declared.seat.Seat.{Seat}
-use Rattle.fa_solo.specs.Deeds.{Goes, IsMeanwhile}
-use Rattle.fa_solo.specs.Inner.{Does, house_of}
+use Rattle.fa_solo_job.specs.Deeds.{Goes, IsMeanwhile}
+use Rattle.fa_solo_job.specs.Inner.{Does, house_of}
 use Rattle.fa_solo.specs.Turns.{Asking, Asks, Begins, Readies, Refuses, RunsOn, Turns, Waits, asking_of}
-use Rattle.fa_solo.specs.declared.inner.Inner.{Inner}
+use Rattle.fa_solo_job.specs.declared.inner.Inner.{Inner}
 use Rattle.fa_types.specs.declared.blocks.BlockFault.{BlockFault}
 
 module _ {L I A : Type 0} (made : I → ImageCall → ImageAnswer → I → Type 0) (array : List ℕ) (dies : List Standing) (seat : ℕ) (task : Task)

@@ -11,10 +11,10 @@ use Rattle.fa_shared_steps.specs.declared.request.Request.TheVariants.{Flush, Re
 use Rattle.fa_shared_steps.specs.declared.request.Task.{Task}
 use Rattle.fa_solo.specs.Calls.{Ended, EndsBy, answer_by, IsOfFlush, IsOfRead, IsRefused, Made, MakesRequest, MakesWhole, OfOtherLength, WithoutMemory, WithoutRoom}
 use Rattle.fa_solo.specs.Calls.{Endless, NoMemory as NoMemoryFor}
-use Rattle.fa_solo.specs.Deeds.{IsForRequests}
-use Rattle.fa_solo.specs.Inner.{Does, Tidies}
+use Rattle.fa_solo_job.specs.Deeds.{IsForRequests}
+use Rattle.fa_solo_job.specs.Inner.{Does, Tidies}
 use Rattle.fa_solo.specs.Turns.{RunsOn}
-use Rattle.fa_solo.specs.declared.inner.Inner.{Inner}
+use Rattle.fa_solo_job.specs.declared.inner.Inner.{Inner}
 use Rattle.fa_types.specs.Store.{Answer, Done, Gave, Refused}
 use Rattle.fa_types.specs.declared.blocks.BlockFault.{BlockFault}
 use Rattle.fa_types.specs.declared.blocks.BlockFault.TheVariants.{Lost, NoMemory, NoRoom}

@@ -1,9 +1,6 @@
 mod Asked
 mod Awaited
 mod Begun
-pub mod Chains
-mod Ended
 mod Orders
 mod Settled
-mod Taken
 mod Thin

@@ -14,12 +14,12 @@ use Rattle.fa_machine.specs.declared.refusals.AdmitRefused.{AdmitRefused}
 use Rattle.fa_machine.specs.declared.refusals.ReserveCopyRefused.{ReserveCopyRefused}
 use Rattle.fa_shared.specs.Locked.{LockedState}
 use Rattle.fa_shared.specs.Seats.{number_of}
-use Rattle.fa_solo.proofs.Chains.{does_event, does_more, does_same, does_wider, for_order, goes_by, join_rest, requests_for_order, rest_same}
-use Rattle.fa_solo.specs.Deeds.{IsDue, IsForDies, IsForOrder, IsForRequests}
-use Rattle.fa_solo.specs.House.{House}
-use Rattle.fa_solo.specs.Orders.{Copies, CopiesPage, Deals, Orders, Rests, Settles}
-use Rattle.fa_solo.specs.Inner.{Does, DoesOne, ReservesCopy, Tidies, TriesCopy, house_of}
-use Rattle.fa_solo.specs.declared.inner.Inner.{Inner}
+use Rattle.fa_solo_job.proofs.Chains.{does_event, does_more, does_same, does_wider, for_order, goes_by, join_rest, requests_for_order, rest_same}
+use Rattle.fa_solo_job.specs.Deeds.{IsDue, IsForDies, IsForOrder, IsForRequests}
+use Rattle.fa_solo_job.specs.House.{House}
+use Rattle.fa_solo_job.specs.Orders.{Copies, CopiesPage, Deals, Orders, Rests, Settles}
+use Rattle.fa_solo_job.specs.Inner.{Does, DoesOne, ReservesCopy, Tidies, TriesCopy, house_of}
+use Rattle.fa_solo_job.specs.declared.inner.Inner.{Inner}
 use Rattle.fa_types.specs.declared.numbers.Seq.{Seq}
 use Rattle.fa_shared_events.specs.Held.{LeavesRest}
 

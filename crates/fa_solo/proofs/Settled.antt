@@ -10,12 +10,12 @@ use Rattle.fa_machine.specs.declared.refusals.CommitCopyRefused.{CommitCopyRefus
 use Rattle.fa_machine.specs.declared.refusals.CommitCopyRefused.TheVariants.{Pending}
 use Rattle.fa_shared.specs.Locked.{LockedState}
 use Rattle.fa_shared.specs.Seats.{number_of}
-use Rattle.fa_solo.proofs.Chains.{goes_by, join_rest, rest_same}
-use Rattle.fa_solo.specs.Deeds.{IsForDies}
-use Rattle.fa_solo.specs.House.{House}
-use Rattle.fa_solo.specs.Orders.{Commits, Endless, IsOver, Looks, NoLook, OneMore, Settles}
-use Rattle.fa_solo.specs.Inner.{Does, DoesOne, SettlesCopy, house_of}
-use Rattle.fa_solo.specs.declared.inner.Inner.{Inner}
+use Rattle.fa_solo_job.proofs.Chains.{goes_by, join_rest, rest_same}
+use Rattle.fa_solo_job.specs.Deeds.{IsForDies}
+use Rattle.fa_solo_job.specs.House.{House}
+use Rattle.fa_solo_job.specs.Orders.{Commits, Endless, IsOver, Looks, NoLook, OneMore, Settles}
+use Rattle.fa_solo_job.specs.Inner.{Does, DoesOne, SettlesCopy, house_of}
+use Rattle.fa_solo_job.specs.declared.inner.Inner.{Inner}
 use Rattle.fa_shared_events.specs.Held.{LeavesRest}
 
 none_open : (copying : Option Copying) → is_some copying ≡ false → copying ≡ None

@@ -6,10 +6,10 @@ use Rattle.fa_shared_request.specs.Ops.{OpView, answer_of, ended, stage_of, task
 use Rattle.fa_shared_steps.specs.Stages.{beginning}
 use Rattle.fa_shared_steps.specs.Tasks.{answered, task_of}
 use Rattle.fa_shared_steps.specs.declared.request.Task.{Task}
-use Rattle.fa_solo.specs.Deeds.{IsForRequests}
-use Rattle.fa_solo.specs.Inner.{Does, Tidies}
+use Rattle.fa_solo_job.specs.Deeds.{IsForRequests}
+use Rattle.fa_solo_job.specs.Inner.{Does, Tidies}
 use Rattle.fa_solo.specs.Turns.{RunsOn}
-use Rattle.fa_solo.specs.declared.inner.Inner.{Inner}
+use Rattle.fa_solo_job.specs.declared.inner.Inner.{Inner}
 use Rattle.fa_types.specs.Store.{Call, Writing, Answer, Gave, Done, Refused}
 use Rattle.fa_types.specs.declared.blocks.BlockFault.{BlockFault}
 use Rattle.fa_types.specs.declared.blocks.BlockFault.TheVariants.{Lost, NoMemory as OutOfMemory, NoRoom}

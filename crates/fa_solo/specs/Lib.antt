@@ -1,7 +1,3 @@
-pub mod Calls
-pub mod House
-pub mod Orders
-pub mod Deeds
-pub mod Inner
 pub mod Turns
+pub mod Calls
 pub mod Stores

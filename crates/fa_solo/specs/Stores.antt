@@ -3,7 +3,7 @@ use Rattle.std.specs.Prelude.{◌≡◌, ℕ}
 use Rattle.fa_shared_store.specs.Counts.{IsMade, is_accepted, pages_of}
 use Rattle.fa_image.specs.Image.{ImageAnswer, ImageCall}
 use Rattle.fa_solo.specs.Calls.{MakesCall}
-use Rattle.fa_solo.specs.declared.inner.Inner.{Inner}
+use Rattle.fa_solo_job.specs.declared.inner.Inner.{Inner}
 use Rattle.fa_types.specs.Store.{Answer, Call, IsAnswer}
 
 -- what is seen of it: how many bytes it has, and a page of it, and what it owns

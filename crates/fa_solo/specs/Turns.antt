@@ -10,10 +10,10 @@ use Rattle.fa_shared_steps.specs.declared.request.Task.{Task}
 use Rattle.fa_shared_steps.specs.declared.stage.Stage.{Stage}
 use Rattle.fa_shared.specs.Seats.{commits_with, number_of}
 use Rattle.fa_shared.specs.declared.seat.Seat.{Seat}
-use Rattle.fa_solo.specs.Deeds.{Goes, IsMeanwhile}
-use Rattle.fa_solo.specs.House.{House}
-use Rattle.fa_solo.specs.Inner.{house_of}
-use Rattle.fa_solo.specs.declared.inner.Inner.{Inner}
+use Rattle.fa_solo_job.specs.Deeds.{Goes, IsMeanwhile}
+use Rattle.fa_solo_job.specs.House.{House}
+use Rattle.fa_solo_job.specs.Inner.{house_of}
+use Rattle.fa_solo_job.specs.declared.inner.Inner.{Inner}
 use Rattle.fa_types.specs.declared.blocks.BlockFault.{BlockFault}
 
 -- How far a request is: the array with its images, the seat by which its events are made, its stage, and its answer so far.

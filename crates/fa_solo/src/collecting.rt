@@ -1,15 +1,15 @@
 //! Dies that are collected: windows are given, and the rounds pass in which the steps are made.
 ghost use Rattle.std.specs.Prelude.{◌≡◌, true};
 ghost use Rattle.fa_machine.specs.Looks.{wants_window};
-ghost use Rattle.fa_solo.specs.Deeds.{IsForDies};
-ghost use Rattle.fa_solo.specs.Inner.{Does};
+ghost use Rattle.fa_solo_job.specs.Deeds.{IsForDies};
+ghost use Rattle.fa_solo_job.specs.Inner.{Does};
 
-use crate::inner::Inner;
 use crate::jobs::work_off;
 use fa_image::Image;
 use fa_machine::WindowRefused;
 use fa_map::Map;
 use fa_shared_events::window;
+use fa_solo_job::Inner;
 use fa_types::{Die, Round};
 use std::alloc::Allocator;
 use std::sync::ledger::Ledger;

@@ -1,16 +1,15 @@
 //! All work that dies have.
 ghost use Rattle.std.specs.Prelude.{◌≡◌, true};
 ghost use Rattle.fa_core.specs.Array.{IsWhole, state_of};
-ghost use Rattle.fa_solo.specs.Deeds.{IsAwaited, IsForDies, IsForRequests};
-ghost use Rattle.fa_solo.specs.Inner.{Does};
+ghost use Rattle.fa_solo_job.specs.Deeds.{IsAwaited, IsForDies, IsForRequests};
+ghost use Rattle.fa_solo_job.specs.Inner.{Does};
 
-use crate::inner::Inner;
-use crate::running::run_next;
 use fa_core::Array;
 use fa_image::Image;
 use fa_machine::{BatchId, ReadState};
 use fa_map::Map;
 use fa_shared_events::advance;
+use fa_solo_job::{Inner, run_next};
 use fa_types::Die;
 use fa_workers::bring_in_spare;
 use std::alloc::Allocator;

@@ -2,13 +2,11 @@
 #![tactic(auto)]
 
 mod collecting;
-mod inner;
 mod jobs;
 mod rebuilding;
 mod requests;
-mod running;
 mod solo;
 mod whole;
 
-pub use inner::Parts;
+pub use fa_solo_job::Parts;
 pub use solo::Solo;

@@ -25,8 +25,8 @@ use Rattle.fa_shared_steps.specs.declared.stage.Wish.TheVariants.{Data, Fewer, H
 use Rattle.fa_mount_close_laws.specs.Drives.{AreHonest, AreImages, events_of}
 use Rattle.fa_shared.specs.Seats.{number_of}
 use Rattle.fa_shared.specs.declared.seat.Seat.{Seat}
-use Rattle.fa_solo.specs.Deeds.{IsForRequests, IsMeanwhile}
-use Rattle.fa_solo.specs.House.{House}
+use Rattle.fa_solo_job.specs.Deeds.{IsForRequests, IsMeanwhile}
+use Rattle.fa_solo_job.specs.House.{House}
 use Rattle.fa_solo.specs.Turns.{Asking, Asks, Begins, GivesUp as IsGivenUp, MakesReady, MakesTurn, PassesTime, Readies as ReadiesIt, Refuses, Turns, Waits}
 use Rattle.std.proofs.Common.{Bool, IsTrue, List, None, Ok, Option, Some, [], ap, false, inl, inr, map, refl, subst, sym, true, ℕ, ◌++◌, ◌∙◌, ◌∷◌, ◌≡◌}
 use Rattle.std.specs.List.{AllByRecursion}

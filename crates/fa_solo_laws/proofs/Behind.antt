@@ -21,9 +21,9 @@ use Rattle.fa_machine.specs.declared.places.Copying.{Copying}
 use Rattle.fa_machine.specs.declared.refusals.CommitCopyRefused.{CommitCopyRefused}
 use Rattle.fa_machine.specs.declared.refusals.CommitCopyRefused.TheVariants.{Failed, Pending}
 use Rattle.fa_machine.specs.declared.refusals.SpareRefused.TheVariants.{NotSpare}
-use Rattle.fa_solo.specs.Deeds.{Goes, IsDue, IsForDies, IsForOrder, Makes, MakesJob, Runs, Stays}
-use Rattle.fa_solo.specs.House.{House}
-use Rattle.fa_solo.specs.Orders.{Commits, Copies, CopiesPage, Deals, Endless, IsOver, Orders, Rests, Settles, looks_in, looks_of}
+use Rattle.fa_solo_job.specs.Deeds.{Goes, IsDue, IsForDies, IsForOrder, Makes, MakesJob, Runs, Stays}
+use Rattle.fa_solo_job.specs.House.{House}
+use Rattle.fa_solo_job.specs.Orders.{Commits, Copies, CopiesPage, Deals, Endless, IsOver, Orders, Rests, Settles, looks_in, looks_of}
 use Rattle.fa_machine.specs.World.{World}
 use Rattle.fa_types.specs.Store.{HasCause, IsMet}
 use Rattle.fa_types.specs.declared.blocks.BlockFault.{BlockFault}

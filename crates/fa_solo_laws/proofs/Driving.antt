@@ -11,10 +11,10 @@ use Rattle.fa_mount.specs.Standings.{AreApart, place_on}
 use Rattle.fa_mount_close_laws.proofs.DrivenRuns.{job_drives}
 use Rattle.fa_mount_close_laws.proofs.JobCalls.{value_here, value_other}
 use Rattle.fa_mount_close_laws.specs.Drives.{Drive, Driven, Drives, HasEvent, IsOwed, MakesCall, MakesEvent, OnlyMade, acts_of, told_by, works_after}
-use Rattle.fa_solo.specs.Deeds.{Goes, IsForDies, IsForOrder, IsForRequests, Makes, MakesJob, Runs, Stays}
-use Rattle.fa_solo.proofs.Chains.{goes_more, goes_wider}
-use Rattle.fa_solo.specs.House.{House}
-use Rattle.fa_solo.specs.Orders.{Commits, Endless, IsOver, Looks, NoLook, OneMore, Settles}
+use Rattle.fa_solo_job.specs.Deeds.{Goes, IsForDies, IsForOrder, IsForRequests, Makes, MakesJob, Runs, Stays}
+use Rattle.fa_solo_job.proofs.Chains.{goes_more, goes_wider}
+use Rattle.fa_solo_job.specs.House.{House}
+use Rattle.fa_solo_job.specs.Orders.{Commits, Endless, IsOver, Looks, NoLook, OneMore, Settles}
 use Rattle.fa_core_dispatch.specs.Fits.{IsJobFor}
 use Rattle.fa_types.specs.declared.geometry.Geometry.{Geometry}
 use Rattle.fa_workers.specs.Made.{Ran}

@@ -18,8 +18,8 @@ use Rattle.fa_machine.specs.declared.jobs.Flight.{Flight}
 use Rattle.fa_machine.specs.declared.jobs.Flight.TheVariants.{Erase, Header, Move, Program, Read, Sync}
 use Rattle.fa_machine.specs.declared.refusals.SpareRefused.TheVariants.{NotSpare}
 use Rattle.fa_mount.specs.Standings.{AreApart, place_on}
-use Rattle.fa_solo.specs.Deeds.{MakesJob}
-use Rattle.fa_solo.specs.House.{House}
+use Rattle.fa_solo_job.specs.Deeds.{MakesJob}
+use Rattle.fa_solo_job.specs.House.{House}
 use Rattle.std.proofs.Common.{Bool, List, None, Ok, Err, Option, Some, ap, arith, false, inl, inr, refl, slice_get, slice_set, subst}
 use Rattle.std.proofs.Common.{sym, true, ℕ}
 use Rattle.std.proofs.Common.{◌+◌, ◌<◌, ◌∙◌, ◌≡◌, ◌≤◌, ◌⊎◌}

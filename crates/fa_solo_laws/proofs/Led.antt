@@ -13,8 +13,8 @@ use Rattle.fa_mount_close_laws.proofs.DrivenRuns.{Follows, driven, honest_before
 use Rattle.fa_mount_close_laws.proofs.Following.{images_follow}
 use Rattle.fa_mount_close_laws.specs.Drives.{AreHonest, AreImages, Drive, Driven, Drives, acts_of, events_of}
 use Rattle.fa_mount_scan.specs.ContentCells.{IsCellOf}
-use Rattle.fa_solo.specs.Deeds.{Goes}
-use Rattle.fa_solo.specs.House.{House}
+use Rattle.fa_solo_job.specs.Deeds.{Goes}
+use Rattle.fa_solo_job.specs.House.{House}
 use Rattle.fa_types.specs.declared.geometry.Geometry.{Geometry}
 use Rattle.std.proofs.Common.{Bool, List, None, Option, [], ap, refl, subst, suc, sym, ℕ, ◌*◌, ◌<◌, ◌∙◌, ◌≡◌}
 use Rattle.std.specs.List.{AllByRecursion}

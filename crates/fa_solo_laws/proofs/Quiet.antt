@@ -25,12 +25,12 @@ use Rattle.fa_machine.specs.Step.{Act, Admit, Advance, CommitCopy, Done, EndBatc
 use Rattle.fa_machine.specs.World.{World, plain_page}
 use Rattle.fa_mount.specs.Standings.{AreApart}
 use Rattle.fa_mount_close_laws.specs.Drives.{AreHonest, AreImages, events_of}
-use Rattle.fa_solo.specs.Deeds.{Goes, IsForDies, IsForOrder, IsForRequests}
-use Rattle.fa_solo.specs.House.{House}
-use Rattle.fa_solo.specs.Orders.{Copies, CopiesPage, Deals, Orders, Rests}
+use Rattle.fa_solo_job.specs.Deeds.{Goes, IsForDies, IsForOrder, IsForRequests}
+use Rattle.fa_solo_job.specs.House.{House}
+use Rattle.fa_solo_job.specs.Orders.{Copies, CopiesPage, Deals, Orders, Rests}
 use Rattle.fa_shared.specs.Seats.{number_of}
-use Rattle.fa_solo.specs.Inner.{Does, Tidies, house_of}
-use Rattle.fa_solo.specs.declared.inner.Inner.{Inner}
+use Rattle.fa_solo_job.specs.Inner.{Does, Tidies, house_of}
+use Rattle.fa_solo_job.specs.declared.inner.Inner.{Inner}
 use Rattle.fa_types.specs.Plain.{export}
 use Rattle.fa_types.specs.Store.{IsUnwritten}
 use Rattle.fa_types.specs.declared.geometry.Geometry.{Geometry}

@@ -25,9 +25,9 @@ use Rattle.fa_mount_close_laws.specs.Drives.{AreHonest, AreImages}
 use Rattle.fa_shared.specs.Seats.{number_of}
 use Rattle.fa_solo.specs.Calls.{Ended as EndedSo, Endless, EndsBy, IsRefused, Made, MakesRequest, NoMemory, OfOtherLength}
 use Rattle.fa_solo.specs.Calls.{WithoutMemory, WithoutRoom}
-use Rattle.fa_solo.specs.Inner.{house_of}
+use Rattle.fa_solo_job.specs.Inner.{house_of}
 use Rattle.fa_solo.specs.Turns.{RunsOn, asking_of}
-use Rattle.fa_solo.specs.declared.inner.Inner.{Inner}
+use Rattle.fa_solo_job.specs.declared.inner.Inner.{Inner}
 use Rattle.fa_types.specs.Store.{Answer, Done, Gave, IsAnswer, Meets, Refused, Serves, Store}
 use Rattle.fa_types.specs.declared.blocks.BlockFault.{BlockFault}
 use Rattle.fa_types.specs.declared.blocks.BlockFault.TheVariants.{NoMemory as OutOfMemory, NoRoom}

@@ -27,10 +27,10 @@ use Rattle.fa_shared_steps.specs.declared.stage.Stage.TheVariants.{Ended}
 use Rattle.fa_mount_close_laws.specs.Drives.{AreHonest}
 use Rattle.fa_shared.specs.Seats.{number_of}
 use Rattle.fa_solo.specs.Calls.{EndsBy, Made, MakesRequest, MakesWhole, NoMemory}
-use Rattle.fa_solo.specs.Deeds.{IsForRequests}
-use Rattle.fa_solo.specs.Inner.{Does, house_of}
+use Rattle.fa_solo_job.specs.Deeds.{IsForRequests}
+use Rattle.fa_solo_job.specs.Inner.{Does, house_of}
 use Rattle.fa_solo.specs.Turns.{RunsOn, asking_of}
-use Rattle.fa_solo.specs.declared.inner.Inner.{Inner}
+use Rattle.fa_solo_job.specs.declared.inner.Inner.{Inner}
 use Rattle.fa_types.specs.Store.{Answer, Done, Refused}
 use Rattle.fa_types.specs.declared.blocks.BlockFault.TheVariants.{NoMemory as OutOfMemory}
 use Rattle.std.proofs.Common.{Bool, List, None, Some, ap, arith, false, inl, inr, refl, subst, suc, sym, true, zero, ℕ}

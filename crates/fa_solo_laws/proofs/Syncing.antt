@@ -21,7 +21,7 @@ use Rattle.fa_shared_steps.specs.declared.stage.Stage.{Stage}
 use Rattle.fa_mount_close_laws.specs.Drives.{AreHonest}
 use Rattle.fa_shared.specs.Seats.{number_of}
 use Rattle.fa_shared.specs.declared.seat.Seat.{Seat}
-use Rattle.fa_solo.specs.House.{House}
+use Rattle.fa_solo_job.specs.House.{House}
 use Rattle.fa_solo.specs.Turns.{Asking, Asks, Begins, Readies, Refuses, Turns, Waits}
 use Rattle.fa_types.specs.declared.geometry.Geometry.{Geometry}
 use Rattle.std.proofs.Common.{Bool, List, Ok, ap, arith, inl, inr, subst, sym, true, ℕ, ◌<◌, ◌∙◌, ◌≡◌, ◌≤◌}

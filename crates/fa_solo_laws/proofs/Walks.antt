@@ -20,9 +20,9 @@ use Rattle.fa_shared_steps.specs.declared.stage.Wish.TheVariants.{Data, Fewer, H
 use Rattle.fa_mount_close_laws.specs.Drives.{AreHonest}
 use Rattle.fa_shared.specs.Seats.{number_of}
 use Rattle.fa_shared.specs.declared.seat.Seat.{Seat}
-use Rattle.fa_solo.specs.Deeds.{Goes, IsForDies, IsForOrder, IsMeanwhile}
-use Rattle.fa_solo.specs.House.{House}
-use Rattle.fa_solo.specs.Orders.{Copies, CopiesPage, Deals, Orders, Rests}
+use Rattle.fa_solo_job.specs.Deeds.{Goes, IsForDies, IsForOrder, IsMeanwhile}
+use Rattle.fa_solo_job.specs.House.{House}
+use Rattle.fa_solo_job.specs.Orders.{Copies, CopiesPage, Deals, Orders, Rests}
 use Rattle.fa_solo.specs.Turns.{Asking, Asks, Begins, PassesTime, Readies, Refuses, Turns, Waits}
 use Rattle.std.proofs.Common.{Bool, List, Ok, [], refl, subst, sym, ℕ, ◌++◌, ◌∙◌, ◌∷◌, ◌≡◌}
 

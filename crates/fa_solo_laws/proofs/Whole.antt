@@ -8,7 +8,7 @@ use Rattle.fa_solo_laws.proofs.Driving.{requests_plain}
 use Rattle.fa_solo_laws.proofs.Led.{fair_before}
 use Rattle.fa_solo_laws.proofs.Quiet.{begun_inner, behind_inner, orders_fair}
 use Rattle.fa_solo_laws.proofs.Going.{Laws}
-use Rattle.fa_solo.specs.Deeds.{IsForRequests}
+use Rattle.fa_solo_job.specs.Deeds.{IsForRequests}
 use Rattle.fa_solo_laws.proofs.Served.{RequestLaws, request_fair, request_served}
 use Rattle.fa_solo_laws.specs.Driving.{image_on}
 use Rattle.fa_solo_laws.specs.Standing.{IsTimely, IsWorldOf, turns_in}
@@ -23,8 +23,8 @@ use Rattle.fa_shared_steps.specs.declared.request.Task.{Task}
 use Rattle.fa_mount_close_laws.specs.Drives.{AreHonest}
 use Rattle.fa_shared.specs.Seats.{number_of}
 use Rattle.fa_solo.specs.Calls.{Made, MakesRequest, MakesWhole, NoMemory}
-use Rattle.fa_solo.specs.Inner.{house_of}
-use Rattle.fa_solo.specs.declared.inner.Inner.{Inner}
+use Rattle.fa_solo_job.specs.Inner.{house_of}
+use Rattle.fa_solo_job.specs.declared.inner.Inner.{Inner}
 use Rattle.fa_types.specs.Store.{Answer, Done, Gave, HasCause, IsAnswer, Meets, Refused, Serves}
 use Rattle.fa_types.specs.declared.blocks.BlockFault.{BlockFault}
 use Rattle.fa_types.specs.declared.blocks.BlockFault.TheVariants.{Lost, NoMemory as OutOfMemory, NoRoom, Spent}

@@ -26,12 +26,12 @@ use Rattle.fa_solo_laws.proofs.Waiting.{IsRead, read_advance, read_fold, read_jo
 use Rattle.fa_solo_laws.specs.Rest.{pages_of}
 use Rattle.fa_shared.specs.Seats.{number_of}
 use Rattle.fa_solo.specs.Calls.{Made, MakesRequest, MakesWhole, NoMemory}
-use Rattle.fa_solo.specs.Deeds.{ForReads, ForStep, Goes, IsDue, IsForOrder, IsForRequests, IsMeanwhile, Makes, MakesJob, Runs, Stays}
-use Rattle.fa_solo.specs.House.{House}
-use Rattle.fa_solo.specs.Orders.{Commits, Copies, CopiesPage, Deals, Endless, IsOver, Looks, NoLook, OneMore, Orders, Rests, Settles}
-use Rattle.fa_solo.specs.Inner.{house_of}
+use Rattle.fa_solo_job.specs.Deeds.{ForReads, ForStep, Goes, IsDue, IsForOrder, IsForRequests, IsMeanwhile, Makes, MakesJob, Runs, Stays}
+use Rattle.fa_solo_job.specs.House.{House}
+use Rattle.fa_solo_job.specs.Orders.{Commits, Copies, CopiesPage, Deals, Endless, IsOver, Looks, NoLook, OneMore, Orders, Rests, Settles}
+use Rattle.fa_solo_job.specs.Inner.{house_of}
 use Rattle.fa_solo.specs.Turns.{Asking as AskingHouse, Asks, Begins, Readies, Refuses, Turns, Waits, asking_of}
-use Rattle.fa_solo.specs.declared.inner.Inner.{Inner}
+use Rattle.fa_solo_job.specs.declared.inner.Inner.{Inner}
 use Rattle.fa_types.specs.Store.{Answer, Gave, Refused}
 use Rattle.fa_types.specs.declared.blocks.BlockFault.{BlockFault}
 use Rattle.std.proofs.Common.{Bool, List, None, Some, [], ap, arith, false, refl, subst, sym, true, ℕ, ◌+◌, ◌==◌, ◌∙◌, ◌∷◌}

@@ -24,9 +24,9 @@ use Rattle.fa_mount_close_laws.proofs.JobCalls.{job_runs, value_here}
 use Rattle.fa_mount_close_laws.specs.Drives.{AreHonest}
 use Rattle.fa_mount_close_laws.specs.Images.{IsImageOf}
 use Rattle.fa_shared.specs.Seats.{number_of}
-use Rattle.fa_solo.specs.Deeds.{Goes, Makes, MakesJob, Runs, Stays}
-use Rattle.fa_solo.specs.House.{House}
-use Rattle.fa_solo.specs.Orders.{CopiesPage}
+use Rattle.fa_solo_job.specs.Deeds.{Goes, Makes, MakesJob, Runs, Stays}
+use Rattle.fa_solo_job.specs.House.{House}
+use Rattle.fa_solo_job.specs.Orders.{CopiesPage}
 use Rattle.fa_solo.specs.Turns.{Asking, Asks}
 use Rattle.fa_core_dispatch.specs.Fits.{IsJobFor}
 use Rattle.fa_types.specs.declared.geometry.Geometry.{Geometry}

@@ -4,8 +4,8 @@ use Rattle.fa_mount_headers.specs.declared.judging.Standing.{Standing}
 use Rattle.fa_machine.specs.Step.{Act, CommitCopy, Done, ReserveCopy, Take}
 use Rattle.fa_mount.specs.Standings.{place_on}
 use Rattle.fa_mount_close_laws.specs.Drives.{Driven}
-use Rattle.fa_solo.specs.Deeds.{IsForDies}
-use Rattle.fa_solo.specs.House.{House}
+use Rattle.fa_solo_job.specs.Deeds.{IsForDies}
+use Rattle.fa_solo_job.specs.House.{House}
 
 -- the image of a die
 abbrev pub image_on : {I : Type 0} → List Standing → List I → ℕ → Option I

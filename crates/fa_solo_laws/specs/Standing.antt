@@ -8,9 +8,9 @@ use Rattle.fa_shared_steps.specs.declared.request.Task.{Task}
 use Rattle.fa_mount_close_laws.specs.Drives.{AreImages}
 use Rattle.fa_shared.specs.Seats.{number_of}
 use Rattle.fa_solo.specs.Calls.{Made, MakesRequest, MakesWhole, NoMemory}
-use Rattle.fa_solo.specs.Orders.{looks_in}
-use Rattle.fa_solo.specs.Inner.{house_of}
-use Rattle.fa_solo.specs.declared.inner.Inner.{Inner}
+use Rattle.fa_solo_job.specs.Orders.{looks_in}
+use Rattle.fa_solo_job.specs.Inner.{house_of}
+use Rattle.fa_solo_job.specs.declared.inner.Inner.{Inner}
 use Rattle.fa_types.specs.Store.{Answer}
 
 module _ {L M I A : Type 0} where

@@ -9,10 +9,10 @@ ghost use Rattle.fa_mount_headers.specs.declared.judging.Standing.{Standing};
 ghost use Rattle.fa_machine.specs.World.{World};
 ghost use Rattle.fa_mount.specs.Standings.{AreApart};
 ghost use Rattle.fa_mount_close_laws.specs.Drives.{AreHonest, Drive, Driven, Drives, acts_of};
-ghost use Rattle.fa_solo.specs.Deeds.{Goes, IsForDies, IsForOrder, IsForRequests};
-ghost use Rattle.fa_solo.specs.House.{House};
-ghost use Rattle.fa_solo.specs.Inner.{Does, Tidies};
-ghost use Rattle.fa_solo.specs.declared.inner.Inner.{Inner};
+ghost use Rattle.fa_solo_job.specs.Deeds.{Goes, IsForDies, IsForOrder, IsForRequests};
+ghost use Rattle.fa_solo_job.specs.House.{House};
+ghost use Rattle.fa_solo_job.specs.Inner.{Does, Tidies};
+ghost use Rattle.fa_solo_job.specs.declared.inner.Inner.{Inner};
 ghost use Rattle.fa_types.specs.Store.{IsUnwritten};
 
 use fa_image::Image;

@@ -12,7 +12,7 @@ ghost use Rattle.fa_shared_steps.specs.Tasks.{task_of};
 ghost use Rattle.fa_shared_steps.specs.declared.request.Request.TheVariants.{Read};
 ghost use Rattle.fa_solo_laws.specs.Rest.{CountsDies, IsAtRest, IsIdle, IsPlanFor, pages_of, range_in};
 ghost use Rattle.fa_solo.specs.Calls.{MakesWhole};
-ghost use Rattle.fa_solo.specs.declared.inner.Inner.{Inner};
+ghost use Rattle.fa_solo_job.specs.declared.inner.Inner.{Inner};
 ghost use Rattle.fa_types.specs.Store.{Gave};
 
 use fa_cert::laws::certificate_is_least;

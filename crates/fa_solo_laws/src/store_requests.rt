@@ -11,7 +11,7 @@ ghost use Rattle.fa_shared_steps.specs.Tasks.{end_of, task_of};
 ghost use Rattle.fa_shared_steps.specs.declared.request.Request.{Request};
 ghost use Rattle.fa_mount_close_laws.specs.Drives.{AreHonest};
 ghost use Rattle.fa_solo.specs.Calls.{MakesRequest, MakesWhole};
-ghost use Rattle.fa_solo.specs.declared.inner.Inner.{Inner};
+ghost use Rattle.fa_solo_job.specs.declared.inner.Inner.{Inner};
 ghost use Rattle.fa_types.specs.Store.{Answer, IsAnswer, Meets, Serves};
 
 use fa_image::Image;

@@ -8,7 +8,7 @@ ghost use Rattle.fa_mount.specs.Standings.{AreApart};
 ghost use Rattle.fa_shared_steps.specs.declared.request.Task.{Task};
 ghost use Rattle.fa_mount_close_laws.specs.Drives.{AreHonest};
 ghost use Rattle.fa_solo.specs.Calls.{MakesWhole};
-ghost use Rattle.fa_solo.specs.declared.inner.Inner.{Inner};
+ghost use Rattle.fa_solo_job.specs.declared.inner.Inner.{Inner};
 ghost use Rattle.fa_types.specs.Store.{Answer, Done};
 
 use fa_image::Image;

@@ -1,5 +1,5 @@
 use Rattle.std.proofs.Common.{refl}
-use Rattle.fa_solo.proofs.Chains.{does_window}
+use Rattle.fa_solo_job.proofs.Chains.{does_window}
 use Rattle.fa_solo.proofs.collecting.ask_window.Goals as goal
 
 pub returns-in-Some : goal.returns-in-Some

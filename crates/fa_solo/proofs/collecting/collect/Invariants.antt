@@ -1,5 +1,5 @@
-use Rattle.fa_solo.specs.Inner.{Does}
-use Rattle.fa_solo.specs.Deeds.{IsForDies}
+use Rattle.fa_solo_job.specs.Inner.{Does}
+use Rattle.fa_solo_job.specs.Deeds.{IsForDies}
 use Rattle.fa_solo.proofs.collecting.collect.Given as goal
 
 abbrev pub invariant-loop : goal.invariant-loop

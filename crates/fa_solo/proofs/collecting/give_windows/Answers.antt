@@ -1,5 +1,5 @@
-use Rattle.fa_solo.proofs.Chains.{does_more, does_none}
-use Rattle.fa_solo.specs.Deeds.{IsForDies}
+use Rattle.fa_solo_job.proofs.Chains.{does_more, does_none}
+use Rattle.fa_solo_job.specs.Deeds.{IsForDies}
 use Rattle.fa_solo.proofs.collecting.give_windows.Goals as goal
 
 pub loop-die-init : goal.loop-die-init

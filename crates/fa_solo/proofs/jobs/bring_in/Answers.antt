@@ -1,6 +1,6 @@
 use Rattle.std.proofs.Common.{refl}
-use Rattle.fa_solo.proofs.Chains.{does_spare}
-use Rattle.fa_solo.specs.Deeds.{IsForRequests}
+use Rattle.fa_solo_job.proofs.Chains.{does_spare}
+use Rattle.fa_solo_job.specs.Deeds.{IsForRequests}
 use Rattle.fa_solo.proofs.jobs.bring_in.Goals as goal
 
 pub returns : goal.returns

@@ -1,6 +1,6 @@
 use Rattle.std.proofs.Common.{sym, ◌∙◌}
 use Rattle.fa_solo.proofs.Awaited.{victim_some}
-use Rattle.fa_solo.specs.Deeds.{ForStep}
+use Rattle.fa_solo_job.specs.Deeds.{ForStep}
 use Rattle.fa_solo.proofs.jobs.has_step.Goals as goal
 
 pub returns : goal.returns

@@ -1,5 +1,5 @@
 use Rattle.std.proofs.Common.{sym, ◌∙◌}
-use Rattle.fa_solo.specs.Deeds.{ForReads}
+use Rattle.fa_solo_job.specs.Deeds.{ForReads}
 use Rattle.fa_solo.proofs.jobs.is_read.Goals as goal
 
 pub returns-in-Waiting : goal.returns-in-Waiting

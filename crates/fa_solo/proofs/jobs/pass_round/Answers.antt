@@ -1,7 +1,7 @@
 use Rattle.std.proofs.Common.{refl}
-use Rattle.fa_solo.proofs.Chains.{does_event}
+use Rattle.fa_solo_job.proofs.Chains.{does_event}
 use Rattle.fa_machine.specs.Step.{Advance}
-use Rattle.fa_solo.specs.Deeds.{IsForDies}
+use Rattle.fa_solo_job.specs.Deeds.{IsForDies}
 use Rattle.fa_solo.proofs.jobs.pass_round.Goals as goal
 
 pub returns : goal.returns

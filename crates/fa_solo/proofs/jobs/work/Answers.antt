@@ -1,6 +1,6 @@
 use Rattle.std.proofs.Common.{subst}
-use Rattle.fa_solo.proofs.Chains.{does_more}
-use Rattle.fa_solo.specs.Deeds.{IsAwaited, IsForDies}
+use Rattle.fa_solo_job.proofs.Chains.{does_more}
+use Rattle.fa_solo_job.specs.Deeds.{IsAwaited, IsForDies}
 use Rattle.fa_solo.proofs.jobs.work.Goals as goal
 
 pub returns-then-make_jobs : goal.returns-then-make_jobs

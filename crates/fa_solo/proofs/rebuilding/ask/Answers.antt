@@ -1,9 +1,9 @@
 use Rattle.std.proofs.Common.{[], ◌∷◌, refl}
 use Rattle.fa_machine.specs.Step.{Admit}
 use Rattle.fa_core_read.specs.Answers.{admit_answer}
-use Rattle.fa_solo.proofs.Chains.{does_event, does_same}
+use Rattle.fa_solo_job.proofs.Chains.{does_event, does_same}
 use Rattle.fa_solo.proofs.Orders.{asked_for, if_none}
-use Rattle.fa_solo.specs.Deeds.{IsForOrder}
+use Rattle.fa_solo_job.specs.Deeds.{IsForOrder}
 use Rattle.fa_solo.proofs.rebuilding.ask.Goals as goal
 
 pub returns-in-Some-clause-none : goal.returns-in-Some-clause-none

@@ -1,4 +1,4 @@
-use Rattle.fa_solo.specs.Inner.{Tidies}
+use Rattle.fa_solo_job.specs.Inner.{Tidies}
 use Rattle.fa_solo.proofs.rebuilding.put_in_order.Given as goal
 
 abbrev pub invariant-loop : goal.invariant-loop

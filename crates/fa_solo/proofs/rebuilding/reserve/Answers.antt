@@ -1,7 +1,7 @@
 use Rattle.std.proofs.Common.{refl, sym, ◌∙◌}
-use Rattle.fa_solo.proofs.Chains.{does_same}
+use Rattle.fa_solo_job.proofs.Chains.{does_same}
 use Rattle.fa_solo.proofs.Orders.{reserved_no, reserved_yes}
-use Rattle.fa_solo.specs.Deeds.{IsForOrder}
+use Rattle.fa_solo_job.specs.Deeds.{IsForOrder}
 use Rattle.fa_solo.proofs.rebuilding.reserve.Goals as goal
 
 pub returns-in-Some-clause-yes : goal.returns-in-Some-clause-yes

@@ -1,6 +1,6 @@
-use Rattle.fa_solo.proofs.Chains.{does_none}
+use Rattle.fa_solo_job.proofs.Chains.{does_none}
 use Rattle.fa_solo.proofs.Orders.{reserved_last}
-use Rattle.fa_solo.specs.Deeds.{IsForOrder}
+use Rattle.fa_solo_job.specs.Deeds.{IsForOrder}
 use Rattle.fa_solo.proofs.rebuilding.reserve_last.Goals as goal
 
 pub returns-in_default-clause-no : goal.returns-in_default-clause-no

@@ -1,7 +1,7 @@
 use Rattle.std.proofs.Common.{false}
 use Rattle.fa_solo.proofs.Asked.{runs_more, runs_refused, runs_time}
-use Rattle.fa_solo.proofs.Chains.{does_wider, for_requests}
-use Rattle.fa_solo.specs.Deeds.{IsForDies, IsForRequests}
+use Rattle.fa_solo_job.proofs.Chains.{does_wider, for_requests}
+use Rattle.fa_solo_job.specs.Deeds.{IsForDies, IsForRequests}
 use Rattle.fa_solo.proofs.requests.collect_for.Goals as goal
 
 pub returns-in-Some : goal.returns-in-Some

@@ -1,5 +1,5 @@
-use Rattle.fa_solo.proofs.Chains.{does_more, does_wider, for_requests}
-use Rattle.fa_solo.specs.Deeds.{IsForDies, IsForRequests}
+use Rattle.fa_solo_job.proofs.Chains.{does_more, does_wider, for_requests}
+use Rattle.fa_solo_job.specs.Deeds.{IsForDies, IsForRequests}
 use Rattle.fa_solo.proofs.requests.work_at_once.Goals as goal
 
 pub returns : goal.returns

@@ -4,8 +4,8 @@ ghost use Rattle.std.specs.Prelude.{◌≡◌, ◌+◌, true, false, Some, lengt
 ghost use Rattle.fa_core_outcome.specs.Outcomes.{outcome_of};
 ghost use Rattle.fa_machine.specs.Conditions.{history_full};
 ghost use Rattle.fa_machine.specs.Step.{is_die};
-ghost use Rattle.fa_solo.specs.Deeds.{IsForDies};
-ghost use Rattle.fa_solo.specs.Inner.{Does, EndsAt, HasMemory, IsPlaced, RanAt};
+ghost use Rattle.fa_solo_job.specs.Deeds.{IsForDies};
+ghost use Rattle.fa_solo_job.specs.Inner.{Does, EndsAt, HasMemory, IsPlaced, RanAt};
 ghost use Rattle.fa_core_dispatch.specs.Fits.{IsJobFor};
 ghost use Rattle.fa_core_dispatch.specs.Handed.{handed_of};
 
@@ -23,7 +23,7 @@ use std::mem::replace;
 use std::sync::ledger::Ledger;
 
 /// Takes the next job of a die, if it has one, makes its calls on the die's image, and ends it. Whether the die had one.
-pub(crate) fn run_next<L: Ledger, M: Map + Drop, I: Image, A: Allocator + Copy>(
+pub fn run_next<L: Ledger, M: Map + Drop, I: Image, A: Allocator + Copy>(
     inner: &mut Inner<L, M, I, A>,
     die: Die,
 ) -> bool

@@ -8,11 +8,11 @@ use Rattle.fa_machine.specs.Step.{Act, Done, ReserveCopy, Step}
 use Rattle.fa_machine.specs.Taking.{Handed}
 use Rattle.fa_mount.specs.Standings.{place_on}
 use Rattle.fa_shared.specs.Seats.{number_of}
-use Rattle.fa_solo.specs.Deeds.{Goes, IsForOrder}
-use Rattle.fa_solo.specs.House.{House}
-use Rattle.fa_solo.specs.Orders.{Orders, Settles}
-use Rattle.fa_solo.specs.declared.inner.Parts.{Parts}
-use Rattle.fa_solo.specs.declared.inner.Inner.{Inner}
+use Rattle.fa_solo_job.specs.Deeds.{Goes, IsForOrder}
+use Rattle.fa_solo_job.specs.House.{House}
+use Rattle.fa_solo_job.specs.Orders.{Orders, Settles}
+use Rattle.fa_solo_job.specs.declared.inner.Parts.{Parts}
+use Rattle.fa_solo_job.specs.declared.inner.Inner.{Inner}
 use Rattle.fa_shared_events.specs.Held.{LeavesRest}
 use Rattle.fa_workers.specs.Made.{Ran}
 

@@ -10,10 +10,10 @@ use Rattle.fa_machine.specs.declared.refusals.WindowRefused.{WindowRefused}
 use Rattle.fa_shared.specs.Locked.{LockedState}
 use Rattle.fa_shared.specs.Seats.{number_of}
 use Rattle.fa_shared.specs.declared.seat.Seat.{Seat}
-use Rattle.fa_solo.specs.Deeds.{Goes, IsDue, IsForDies, IsForOrder, IsForRequests, IsMeanwhile, Makes, Runs, Stays}
-use Rattle.fa_solo.specs.House.{House}
-use Rattle.fa_solo.specs.Inner.{Does, house_of}
-use Rattle.fa_solo.specs.declared.inner.Inner.{Inner}
+use Rattle.fa_solo_job.specs.Deeds.{Goes, IsDue, IsForDies, IsForOrder, IsForRequests, IsMeanwhile, Makes, Runs, Stays}
+use Rattle.fa_solo_job.specs.House.{House}
+use Rattle.fa_solo_job.specs.Inner.{Does, house_of}
+use Rattle.fa_solo_job.specs.declared.inner.Inner.{Inner}
 use Rattle.fa_types.specs.declared.numbers.Round.{Round}
 use Rattle.fa_shared_events.specs.Held.{Folded, Folds, HadRoom, LeavesRest}
 use Rattle.fa_workers.specs.Spares.{BringsIn, HasNone, Lowest, WantsNone}

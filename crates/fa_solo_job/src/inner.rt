@@ -23,17 +23,23 @@ pub struct Parts<M: Map + Drop, I: Image, A: Allocator = Global> {
 
 /// An array that nobody else uses, with its images and what their jobs want.
 #[derive(Drop)]
-pub(crate) struct Inner<L: Ledger, M: Map + Drop, I: Image, A: Allocator + Copy> {
-    pub(crate) alloc: A,
-    pub(crate) locked: Locked<L, M, A>,
-    pub(crate) seat: Seat<L>,
-    pub(crate) dies: Vec<Standing, A>,
-    pub(crate) images: Vec<I, A>,
-    // A slot's bytes, and a page's.
-    pub(crate) scratch: Vec<u8, A>,
-    pub(crate) buffer: Vec<u8, A>,
-    // How many rounds a window of the collector has.
-    pub(crate) window_rounds: u64,
+pub struct Inner<L: Ledger, M: Map + Drop, I: Image, A: Allocator + Copy> {
+    /// Where memory for requests comes from.
+    pub alloc: A,
+    /// The array.
+    pub locked: Locked<L, M, A>,
+    /// The one seat of the array.
+    pub seat: Seat<L>,
+    /// The places of the dies' images.
+    pub dies: Vec<Standing, A>,
+    /// The images, in the order in which they were mounted.
+    pub images: Vec<I, A>,
+    /// A slot's bytes.
+    pub scratch: Vec<u8, A>,
+    /// A page's bytes.
+    pub buffer: Vec<u8, A>,
+    /// How many rounds a window of the collector has, 1 to 64.
+    pub window_rounds: u64,
 }
 
 /// Memory for the jobs of dies: a slot's bytes, and a page's.
@@ -45,10 +51,10 @@ struct Memory<A: Allocator> {
 
 impl<L: Ledger, M: Map + Drop, I: Image, A: Allocator + Copy> Inner<L, M, I, A> {
     ghost use Rattle.std.specs.Prelude.{◌≡◌, IfSome};
-    ghost use Rattle.fa_solo.specs.Inner.{IsPlaced};
+    ghost use Rattle.fa_solo_job.specs.Inner.{IsPlaced};
 
     /// An array and its images for one thread. Where memory is refused both are handed back.
-    pub(crate) fn new(
+    pub fn new(
         alloc: A,
         blank: Blank,
         parts: Parts<M, I, A>,
@@ -89,7 +95,7 @@ impl<L: Ledger, M: Map + Drop, I: Image, A: Allocator + Copy> Inner<L, M, I, A> 
     }
 
     /// The array and its images.
-    pub(crate) fn into_parts(self) -> Parts<M, I, A>
+    pub fn into_parts(self) -> Parts<M, I, A>
         ensures core { state_of M.view result.mounted.array ≡ self.locked.core }
         ensures number { array_number result.mounted.array ≡ self.locked.number }
         ensures whole { IsWhole M.view result.mounted.array }
@@ -112,7 +118,7 @@ impl<L: Ledger, M: Map + Drop, I: Image, A: Allocator + Copy> Inner<L, M, I, A> 
     }
 
     /// The place of the image of a die, which is of the array's geometry. None where there is none.
-    pub(crate) fn place(&self, die: Die) -> Option<usize>
+    pub fn place(&self, die: Die) -> Option<usize>
         ensures { IfSome result (λ place. IsPlaced I.view self.now die.0 place) }
     {
         let place = place_at(self.dies.as_slice(), usize::from(die.0))?;

@@ -15,10 +15,10 @@ use Rattle.fa_machine.specs.declared.jobs.Flight.{Flight}
 use Rattle.fa_mount.specs.Standings.{place_on}
 use Rattle.fa_shared.specs.Locked.{LockedState}
 use Rattle.fa_shared.specs.Seats.{number_of}
-use Rattle.fa_solo.proofs.Chains.{join_rest}
-use Rattle.fa_solo.specs.Deeds.{IsForDies, Runs, Stays}
-use Rattle.fa_solo.specs.Inner.{Does, EndsAt, house_of}
-use Rattle.fa_solo.specs.declared.inner.Inner.{Inner}
+use Rattle.fa_solo_job.proofs.Chains.{join_rest}
+use Rattle.fa_solo_job.specs.Deeds.{IsForDies, Runs, Stays}
+use Rattle.fa_solo_job.specs.Inner.{Does, EndsAt, house_of}
+use Rattle.fa_solo_job.specs.declared.inner.Inner.{Inner}
 use Rattle.fa_core_dispatch.specs.Fits.{IsJobFor}
 use Rattle.fa_types.specs.declared.geometry.Geometry.{Geometry}
 use Rattle.fa_shared_events.specs.Held.{LeavesRest}

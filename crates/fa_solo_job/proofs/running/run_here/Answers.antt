@@ -1,12 +1,12 @@
 use Rattle.std.proofs.Common.{◌∙◌, ◌+◌, None, ap, refl, sym}
-use Rattle.fa_solo.proofs.Chains.{does_event}
+use Rattle.fa_solo_job.proofs.Chains.{does_event}
 use Rattle.fa_machine.specs.Step.{Take}
 use Rattle.fa_shared.specs.Locked.{LockedState}
 use Rattle.fa_shared.specs.Seats.{number_of}
-use Rattle.fa_solo.proofs.Taken.{does_job, fits_by, took_job}
-use Rattle.fa_solo.specs.Deeds.{IsForDies}
+use Rattle.fa_solo_job.proofs.Taken.{does_job, fits_by, took_job}
+use Rattle.fa_solo_job.specs.Deeds.{IsForDies}
 use Rattle.fa_types.specs.declared.geometry.Geometry.{Geometry}
-use Rattle.fa_solo.proofs.running.run_here.Goals as goal
+use Rattle.fa_solo_job.proofs.running.run_here.Goals as goal
 
 pub run_taken-requires-clause-flight : goal.run_taken-requires-clause-flight
 run_taken-requires-clause-flight g c = took_job _ _ _ _ _ c.in-Some.ensures.event

@@ -1,6 +1,6 @@
-use Rattle.fa_solo.proofs.Chains.{does_more, does_none}
-use Rattle.fa_solo.specs.Deeds.{IsForDies}
-use Rattle.fa_solo.proofs.running.run_next.Goals as goal
+use Rattle.fa_solo_job.proofs.Chains.{does_more, does_none}
+use Rattle.fa_solo_job.specs.Deeds.{IsForDies}
+use Rattle.fa_solo_job.proofs.running.run_next.Goals as goal
 
 pub returns-then-not-is_of_array : goal.returns-then-not-is_of_array
 returns-then-not-is_of_array g c = does_none _ IsForDies _

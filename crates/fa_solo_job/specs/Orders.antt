@@ -11,8 +11,8 @@ use Rattle.fa_machine.specs.declared.answers.ReadState.TheVariants.{Ready}
 use Rattle.fa_machine.specs.declared.places.Version.{Version}
 use Rattle.fa_machine.specs.declared.refusals.CommitCopyRefused.{CommitCopyRefused}
 use Rattle.fa_machine.specs.declared.refusals.CommitCopyRefused.TheVariants.{Pending}
-use Rattle.fa_solo.specs.Deeds.{Goes, IsForDies, IsForOrder}
-use Rattle.fa_solo.specs.House.{House}
+use Rattle.fa_solo_job.specs.Deeds.{Goes, IsForDies, IsForOrder}
+use Rattle.fa_solo_job.specs.House.{House}
 
 module _ {I : Type 0} (made : I → ImageCall → ImageAnswer → I → Type 0) (array : List ℕ) (dies : List Standing) (seat : ℕ) where
   -- A thin page is read by a batch of its own, which ends as it is ready, and a slot is reserved for one more copy of the bytes that the batch gave

@@ -1,6 +1,6 @@
 use Rattle.std.proofs.Common.{◌∙◌, ◌<◌, ap, length, rules, sym, Some}
 use Rattle.std.proofs.lemmas.Option.{slice_get-get_or}
-use Rattle.fa_solo.proofs.inner.Inner.place.Goals as goal
+use Rattle.fa_solo_job.proofs.inner.Inner.place.Goals as goal
 
 pub returns : goal.returns
 returns g c =

@@ -1,7 +1,7 @@
 use Rattle.std.proofs.Common.{◌∙◌, Some, ap, refl, sym}
 use Rattle.std.proofs.lemmas.Option.{get_or_from_slice_get}
-use Rattle.fa_solo.proofs.Taken.{ran_by}
-use Rattle.fa_solo.proofs.running.call_image.Goals as goal
+use Rattle.fa_solo_job.proofs.Taken.{ran_by}
+use Rattle.fa_solo_job.proofs.running.call_image.Goals as goal
 
 pub returns-clause-ran : goal.returns-clause-ran
 returns-clause-ran g c = let placed = c.requires.placed in

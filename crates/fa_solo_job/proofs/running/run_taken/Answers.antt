@@ -1,8 +1,8 @@
 use Rattle.std.proofs.Common.{rules}
 use Rattle.std.proofs.lemmas.Bool.{and_from, both_ways}
-use Rattle.fa_solo.proofs.Ended.{ran_kind}
-use Rattle.fa_solo.proofs.Taken.{kept_flight, kind_at}
-use Rattle.fa_solo.proofs.running.run_taken.Goals as goal
+use Rattle.fa_solo_job.proofs.Ended.{ran_kind}
+use Rattle.fa_solo_job.proofs.Taken.{kept_flight, kind_at}
+use Rattle.fa_solo_job.proofs.running.run_taken.Goals as goal
 
 pub unreachable-requires : goal.unreachable-requires
 unreachable-requires g c =

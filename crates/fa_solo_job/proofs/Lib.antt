@@ -1,0 +1,3 @@
+pub mod Chains
+mod Ended
+mod Taken

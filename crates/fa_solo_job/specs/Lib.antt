@@ -1,0 +1,4 @@
+pub mod House
+pub mod Deeds
+pub mod Orders
+pub mod Inner
