@@ -1,6 +1,7 @@
 //! The store that an array is to one of those who share it.
 ghost use Rattle.std.specs.Prelude.{◌≤◌};
 
+use crate::context::Context;
 use crate::running::{finish, run, run_read, store_bytes};
 use fa_map::Map;
 use fa_shared::{Hands, Seat, Shared};
@@ -23,15 +24,10 @@ pub struct ArrayBlocks<
     A: Allocator + Copy,
     H: Hands<L, M, A> + Drop,
 > {
-    rt: &'a R,
-    alloc: A,
-    shared: &'a Shared<L, M, A>,
+    context: Context<'a, R, L, M, A>,
     seat: Seat<L>,
     hands: H,
     bytes: u64,
-    page_bytes: u32,
-    ghost some_bytes: { 1 ≤ page_bytes },
-    ghost small_pages: { page_bytes ≤ 4096 },
     ghost few_bytes: { bytes ≤ 4294967296 },
 }
 
@@ -61,13 +57,15 @@ impl<
     {
         let (bytes, page_bytes) = store_bytes(shared.lock(rt).array().geometry());
         ArrayBlocks {
-            rt,
-            alloc,
-            shared,
+            context: Context {
+                rt,
+                alloc,
+                shared,
+                page_bytes,
+            },
             seat,
             hands,
             bytes,
-            page_bytes,
         }
     }
 
@@ -81,8 +79,7 @@ impl<
     {
         let mut op = op;
         let _end = finish(
-            self.rt,
-            self.shared,
+            &self.context,
             &mut self.seat,
             &mut self.hands,
             &mut op,
@@ -113,22 +110,22 @@ impl<
     ghost use Rattle.fa_shared_store.specs.SharedStore.{shared_meets, shared_view, shared_whole};
     ghost use Rattle.fa_types.specs.Store.{IsAnswer};
 
-    ghost view = { λ store. shared_view store.bytes store.page_bytes };
+    ghost view = { λ store. shared_view store.bytes store.context.page_bytes };
 
-    ghost made = { λ before call answer after. (after.bytes ≡ before.bytes) × (after.page_bytes ≡ before.page_bytes) × IsAnswer call answer
-        × IsMade (pages_of before.page_bytes call) before.seat (is_accepted answer) after.seat };
+    ghost made = { λ before call answer after. (after.bytes ≡ before.bytes) × (after.context.page_bytes ≡ before.context.page_bytes) × IsAnswer call answer
+        × IsMade (pages_of before.context.page_bytes call) before.seat (is_accepted answer) after.seat };
 
     ghost meets = { λ before after call answer made.
-        shared_meets before.bytes before.page_bytes after.bytes after.page_bytes call answer made.0 made.1 made.2 };
+        shared_meets before.bytes before.context.page_bytes after.bytes after.context.page_bytes call answer made.0 made.1 made.2 };
 
-    ghost whole = { λ store. shared_whole store.bytes store.page_bytes store.some_bytes };
+    ghost whole = { λ store. shared_whole store.bytes store.context.page_bytes store.context.some_bytes };
 
     fn size(&self) -> u64 {
         self.bytes
     }
 
     fn page_bytes(&self) -> u32 {
-        self.page_bytes
+        self.context.page_bytes
     }
 
     fn read<B: Allocator>(
@@ -138,12 +135,9 @@ impl<
         len: u64,
     ) -> Result<Vec<u8, B>, BlockFault> {
         run_read(
-            self.rt,
-            self.alloc,
-            self.shared,
+            &self.context,
             &mut self.seat,
             &mut self.hands,
-            self.page_bytes,
             offset,
             len,
             alloc,
@@ -154,12 +148,9 @@ impl<
         let len = bytes.len() as u64;
         let request = Request::Write { offset, len, fua };
         run(
-            self.rt,
-            self.alloc,
-            self.shared,
+            &self.context,
             &mut self.seat,
             &mut self.hands,
-            self.page_bytes,
             request,
             bytes,
         )
@@ -172,40 +163,19 @@ impl<
             fua,
             hole,
         };
-        run(
-            self.rt,
-            self.alloc,
-            self.shared,
-            &mut self.seat,
-            &mut self.hands,
-            self.page_bytes,
-            request,
-            &[],
-        )
+        run(&self.context, &mut self.seat, &mut self.hands, request, &[])
     }
 
     fn trim(&mut self, offset: u64, len: u64, fua: bool) -> Result<(), BlockFault> {
         let request = Request::Trim { offset, len, fua };
-        run(
-            self.rt,
-            self.alloc,
-            self.shared,
-            &mut self.seat,
-            &mut self.hands,
-            self.page_bytes,
-            request,
-            &[],
-        )
+        run(&self.context, &mut self.seat, &mut self.hands, request, &[])
     }
 
     fn flush(&mut self) -> Result<(), BlockFault> {
         let answer = run(
-            self.rt,
-            self.alloc,
-            self.shared,
+            &self.context,
             &mut self.seat,
             &mut self.hands,
-            self.page_bytes,
             Request::Flush,
             &[],
         );

@@ -2,6 +2,7 @@
 #![tactic(auto)]
 
 mod array_blocks;
+mod context;
 mod parts;
 mod running;
 

@@ -5,9 +5,10 @@ ghost use Rattle.fa_shared_store.specs.Counts.{Counts, IsMade, PartsGoOn, has_en
 ghost use Rattle.fa_shared_request.specs.Tallies.{pages_in, refusals_by, tally_of};
 ghost use Rattle.fa_shared_steps.specs.Tasks.{end_of, task_of};
 
+use crate::context::Context;
 use crate::running::{pass_time, turn_on};
 use fa_map::Map;
-use fa_shared::{Awaits, Hands, Locked, Seat, Shared};
+use fa_shared::{Awaits, Hands, Locked, Seat};
 use fa_shared_request::{Op, Turn};
 use fa_shared_steps::Request;
 use fa_tag::Payload;
@@ -70,31 +71,24 @@ pub(crate) fn run_parts<
     A: Allocator + Copy,
     H: Hands<L, M, A>,
 >(
-    rt: &R,
-    alloc: A,
-    shared: &Shared<L, M, A>,
+    context: &Context<'_, R, L, M, A>,
     seat: &mut Seat<L>,
     hands: &mut H,
-    page_bytes: u32,
     request: Request,
     bytes: &[u8],
 ) -> Result<(), BlockFault>
-    requires some { 1 ≤ page_bytes }
-    requires small { page_bytes ≤ 4096 }
     requires inside { end_of request ≤ 2 ^ 32 }
-    ensures { IsMade (pages_in (task_of page_bytes request)) seat.old (is_ok result) seat.new }
+    ensures { IsMade (pages_in (task_of context.now.page_bytes request)) seat.old (is_ok result) seat.new }
 {
-    let Ok(mut parts) = parts_of(alloc, u64::from(page_bytes), request) else {
+    let Ok(mut parts) = parts_of(context.alloc, u64::from(context.page_bytes), request) else {
         return Err(BlockFault::NoMemory);
     };
-    finish_parts(rt, alloc, shared, seat, hands, parts.as_mut_slice(), bytes)
+    finish_parts(context, seat, hands, parts.as_mut_slice(), bytes)
 }
 
 /// Goes on with parts until all have ended. The fault is that of the first one that was refused.
 fn finish_parts<R: Wait + Clock, L: Ledger, M: Map + Drop, A: Allocator + Copy, H: Hands<L, M, A>>(
-    rt: &R,
-    alloc: A,
-    shared: &Shared<L, M, A>,
+    context: &Context<'_, R, L, M, A>,
     seat: &mut Seat<L>,
     hands: &mut H,
     parts: &mut [Part<A>],
@@ -104,12 +98,12 @@ fn finish_parts<R: Wait + Clock, L: Ledger, M: Map + Drop, A: Allocator + Copy, 
     ensures ended { list_all rule_ended parts.new ≡ true }
     ensures well { OnOk result (sum_by refusals_in parts.new ≡ 0) }
 {
-    for _ in rt.forever() {
+    for _ in context.rt.forever() {
         if has_ended(parts) {
             return fault_of(parts);
         }
-        prepare(alloc, parts, bytes);
-        make_turns(rt, shared, seat, hands, parts);
+        prepare(context.alloc, parts, bytes);
+        make_turns(context, seat, hands, parts);
     }
     unreachable!()
 }
@@ -156,8 +150,6 @@ fn push_part<A: Allocator + Copy>(
     from: u64,
     to: u64,
 ) -> Result<(), AllocError>
-    requires some { 1 ≤ page_bytes }
-    requires small { page_bytes ≤ 4096 }
     requires order { from ≤ to }
     requires inside { to ≤ 2 ^ 32 }
     ensures left { OnOk result (sum_by left_in parts.new.items
@@ -257,23 +249,22 @@ fn payloads_of<A: Allocator + Copy>(
 
 /// Makes turns until a part has something to prepare, or all have ended. The lock is free while all wait, and behind.
 fn make_turns<R: Wait + Clock, L: Ledger, M: Map + Drop, A: Allocator + Copy, H: Hands<L, M, A>>(
-    rt: &R,
-    shared: &Shared<L, M, A>,
+    context: &Context<'_, R, L, M, A>,
     seat: &mut Seat<L>,
     hands: &mut H,
     parts: &mut [Part<A>],
 )
     ensures { PartsGoOn seat.old parts.old seat.new parts.new }
 {
-    let mut guard = shared.lock(rt);
-    for _ in rt.forever() {
-        if !matches!(turn_all(rt, parts, &mut guard, seat), Turn::Wait) {
+    let mut guard = context.shared.lock(context.rt);
+    for _ in context.rt.forever() {
+        if !matches!(turn_all(context.rt, parts, &mut guard, seat), Turn::Wait) {
             break;
         }
         let awaits = awaits_of(parts, &guard);
-        guard = pass_time(rt, shared, seat, hands, awaits, guard);
+        guard = pass_time(context, seat, hands, awaits, guard);
     }
-    shared.release(seat, guard);
+    context.shared.release(seat, guard);
     hands.note();
 }
 

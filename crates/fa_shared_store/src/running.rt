@@ -7,9 +7,10 @@ ghost use Rattle.fa_shared_steps.specs.Tasks.{end_of, task_of};
 ghost use Rattle.fa_shared.specs.Seats.{commits_with, number_of};
 ghost use Rattle.fa_types.specs.declared.blocks.BlockFault.TheVariants.{NoRoom};
 
+use crate::context::Context;
 use crate::parts::run_parts;
 use fa_map::Map;
-use fa_shared::{Awaits, Hands, Locked, Seat, Shared};
+use fa_shared::{Awaits, Hands, Locked, Seat};
 use fa_shared_request::{Op, Turn};
 use fa_shared_steps::Request;
 use fa_types::{BlockFault, Geometry};
@@ -32,25 +33,25 @@ pub(crate) fn store_bytes(geometry: Geometry) -> (u64, u32)
 
 /// A request that answers no bytes, done page by page.
 fn run_whole<R: Wait + Clock, L: Ledger, M: Map + Drop, A: Allocator + Copy, H: Hands<L, M, A>>(
-    rt: &R,
-    alloc: A,
-    shared: &Shared<L, M, A>,
+    context: &Context<'_, R, L, M, A>,
     seat: &mut Seat<L>,
     hands: &mut H,
-    page_bytes: u32,
     request: Request,
     bytes: &[u8],
 ) -> Result<(), BlockFault>
-    requires some { 1 ≤ page_bytes }
-    requires small { page_bytes ≤ 4096 }
     requires inside { end_of request ≤ 2 ^ 32 }
-    ensures { IsMade (pages_in (task_of page_bytes request)) seat.old (is_ok result) seat.new }
+    ensures { IsMade (pages_in (task_of context.now.page_bytes request)) seat.old (is_ok result) seat.new }
 {
-    let mut op = match Op::new(alloc, alloc, request, u64::from(page_bytes)) {
+    let mut op = match Op::new(
+        context.alloc,
+        context.alloc,
+        request,
+        u64::from(context.page_bytes),
+    ) {
         Ok(op) => op,
         Err(_) => return Err(BlockFault::NoMemory),
     };
-    match finish(rt, shared, seat, hands, &mut op, bytes) {
+    match finish(context, seat, hands, &mut op, bytes) {
         None => Ok(()),
         Some(fault) => Err(fault),
     }
@@ -64,35 +65,21 @@ pub(crate) fn run<
     A: Allocator + Copy,
     H: Hands<L, M, A>,
 >(
-    rt: &R,
-    alloc: A,
-    shared: &Shared<L, M, A>,
+    context: &Context<'_, R, L, M, A>,
     seat: &mut Seat<L>,
     hands: &mut H,
-    page_bytes: u32,
     request: Request,
     bytes: &[u8],
 ) -> Result<(), BlockFault>
-    requires some { 1 ≤ page_bytes }
-    requires small { page_bytes ≤ 4096 }
     requires inside { end_of request ≤ 2 ^ 32 }
-    ensures { IsMade (pages_in (task_of page_bytes request)) seat.old (is_ok result) seat.new }
+    ensures { IsMade (pages_in (task_of context.now.page_bytes request)) seat.old (is_ok result) seat.new }
 {
-    if request.extent().1 <= u64::from(page_bytes) {
-        return run_whole(rt, alloc, shared, seat, hands, page_bytes, request, bytes);
+    if request.extent().1 <= u64::from(context.page_bytes) {
+        return run_whole(context, seat, hands, request, bytes);
     }
-    run_parts(rt, alloc, shared, seat, hands, page_bytes, request, bytes)?;
+    run_parts(context, seat, hands, request, bytes)?;
     if request.has_flush() {
-        return run_whole(
-            rt,
-            alloc,
-            shared,
-            seat,
-            hands,
-            page_bytes,
-            Request::Flush,
-            &[],
-        );
+        return run_whole(context, seat, hands, Request::Flush, &[]);
     }
     Ok(())
 }
@@ -106,29 +93,24 @@ pub(crate) fn run_read<
     H: Hands<L, M, A>,
     B: Allocator,
 >(
-    rt: &R,
-    alloc: A,
-    shared: &Shared<L, M, A>,
+    context: &Context<'_, R, L, M, A>,
     seat: &mut Seat<L>,
     hands: &mut H,
-    page_bytes: u32,
     offset: u64,
     len: u64,
     into: B,
 ) -> Result<Vec<u8, B>, BlockFault>
-    requires some { 1 ≤ page_bytes }
-    requires small { page_bytes ≤ 4096 }
     requires inside { offset + len ≤ 2 ^ 32 }
     ensures length { IfOk result (λ answer. length answer.items ≡ len) }
     ensures room { IfErr result (λ fault. fault ≡ NoRoom → ⊥) }
     ensures made { IsMade 0 seat.old (is_ok result) seat.new }
 {
     let request = Request::Read { offset, len };
-    let mut op = match Op::new(alloc, into, request, u64::from(page_bytes)) {
+    let mut op = match Op::new(context.alloc, into, request, u64::from(context.page_bytes)) {
         Ok(op) => op,
         Err(_) => return Err(BlockFault::NoMemory),
     };
-    match finish(rt, shared, seat, hands, &mut op, &[]) {
+    match finish(context, seat, hands, &mut op, &[]) {
         None => handed_out(op, len),
         Some(fault) => Err(of_read(fault)),
     }
@@ -168,8 +150,7 @@ pub(crate) fn finish<
     B: Allocator,
     H: Hands<L, M, A>,
 >(
-    rt: &R,
-    shared: &Shared<L, M, A>,
+    context: &Context<'_, R, L, M, A>,
     seat: &mut Seat<L>,
     hands: &mut H,
     op: &mut Op<A, B>,
@@ -178,12 +159,12 @@ pub(crate) fn finish<
     ensures goes_on { GoesOn seat.old op.old seat.new op.new }
     ensures ended { ended (stage_of op.new) ≡ Some result }
 {
-    for _ in rt.forever() {
+    for _ in context.rt.forever() {
         if let Some(end) = op.ended() {
             return end;
         }
         op.prepare(bytes);
-        make_turns(rt, shared, seat, hands, op);
+        make_turns(context, seat, hands, op);
     }
     unreachable!()
 }
@@ -197,18 +178,18 @@ fn make_turns<
     A: Allocator + Copy,
     B: Allocator,
     H: Hands<L, M, A>,
->(rt: &R, shared: &Shared<L, M, A>, seat: &mut Seat<L>, hands: &mut H, op: &mut Op<A, B>)
+>(context: &Context<'_, R, L, M, A>, seat: &mut Seat<L>, hands: &mut H, op: &mut Op<A, B>)
     ensures { GoesOn seat.old op.old seat.new op.new }
 {
-    let mut guard = shared.lock(rt);
-    for _ in rt.forever() {
-        if !matches!(turn_on(rt, op, &mut guard, seat), Turn::Wait) {
+    let mut guard = context.shared.lock(context.rt);
+    for _ in context.rt.forever() {
+        if !matches!(turn_on(context.rt, op, &mut guard, seat), Turn::Wait) {
             break;
         }
         let awaits = op.awaits(&guard);
-        guard = pass_time(rt, shared, seat, hands, awaits, guard);
+        guard = pass_time(context, seat, hands, awaits, guard);
     }
-    shared.release(seat, guard);
+    context.shared.release(seat, guard);
     hands.note();
 }
 
@@ -221,8 +202,7 @@ pub(crate) fn pass_time<
     A: Allocator + Copy,
     H: Hands<L, M, A>,
 >(
-    rt: &R,
-    shared: &'a Shared<L, M, A>,
+    context: &Context<'a, R, L, M, A>,
     seat: &mut Seat<L>,
     hands: &mut H,
     awaits: Awaits,
@@ -233,11 +213,11 @@ pub(crate) fn pass_time<
 {
     let mut guard = guard;
     if !hands.take(&mut guard, seat) {
-        return shared.sleep(rt, seat, awaits, guard);
+        return context.shared.sleep(context.rt, seat, awaits, guard);
     }
-    shared.release(seat, guard);
+    context.shared.release(seat, guard);
     hands.work();
-    let mut guard = shared.lock(rt);
+    let mut guard = context.shared.lock(context.rt);
     hands.end(&mut guard, seat);
     guard
 }
