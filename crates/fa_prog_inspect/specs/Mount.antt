@@ -28,6 +28,13 @@ module _ {I : Type 0} (view : I → ImageState) (made : I → ImageCall → Imag
         mounted.array mounted.epoch mounted.clean mounted.dies.items (page_view mounted.map)
     pub by_these : mounts.headers.founds ≡ founds
 
+  -- why the headers are not those of the settings' array: memory was refused, or it is by the settings
+  abbrev pub RefusesHeaders : List I → List I → MountRefused → Type 0
+  RefusesHeaders before after refusal =
+      (refusal ≡ refused NoMemory)
+      ⊎ ((founds : List Found) × IsReadOf view made before after founds
+      × IsExpected settings.geometry settings.array unclean founds (Err refusal))
+
   -- why they were not: memory was refused, or it is by the settings, or by the array
   abbrev pub RefusesArray : List I → List I → MountRefused → Type 0
   RefusesArray before after refusal =

@@ -3,4 +3,4 @@
 
 mod look;
 
-pub use look::{Asked, Look, explain, mount_line, run_look};
+pub use look::{Asked, Look, explain, mount_line, read_expected, run_look};

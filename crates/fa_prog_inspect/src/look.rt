@@ -1,9 +1,10 @@
 //! The commands `check` and `dump`, which look at the images of an array.
-ghost use Rattle.std.specs.Prelude.{◌≡◌, List, map, string_bytes, IfOk, IfErr, MatchResult};
+ghost use Rattle.std.specs.Prelude.{◌≡◌, List, Ok, map, string_bytes, IfOk, IfErr, MatchResult};
 ghost use Rattle.fa_image.specs.FileMade.{file_view, FileMade};
 ghost use Rattle.fa_prog_inspect.specs.Array.{IsTold, IsLines, IsDocument, IsDocumentWith, IsNotTold, TellsLook, TellsArray, mount_line as line_of, not_told_of};
+ghost use Rattle.fa_mount_headers.specs.Expected.{IsExpected};
 ghost use Rattle.fa_mount_headers.specs.Found.{AreFound, IsReadOf};
-ghost use Rattle.fa_prog_inspect.specs.Mount.{MountsArray, RefusesArray};
+ghost use Rattle.fa_prog_inspect.specs.Mount.{MountsArray, RefusesArray, RefusesHeaders};
 
 use fa_image::{FileImage, Image};
 use fa_map::{Map, PageMap};
@@ -175,6 +176,28 @@ fn mounted_of<R: Host, A: Allocator>(
     }
 }
 
+/// Reads the header of each image, once, and asks whether they are those of the settings' array.
+pub fn read_expected<R: Host, I: Image, A: Allocator>(
+    rt: &R,
+    settings: &Settings<A>,
+    unclean: bool,
+    images: &mut [I],
+) -> Result<Vec<Found>, MountRefused>
+    ensures { MatchResult result
+        (λ founds. IsReadOf I.view I.made images.old images.new founds.items
+        × IsExpected settings.now.geometry settings.now.array unclean founds.items (Ok tt))
+        (RefusesHeaders I.view I.made settings.now unclean images.old images.new) }
+{
+    let Ok(founds) = read_headers(rt.alloc(), images) else {
+        return Err(MountRefused::of_nobody(MountFault::NoMemory));
+    };
+    let (geometry, array) = (settings.geometry, settings.array);
+    match expect(rt.alloc(), founds.as_slice(), geometry, array, unclean) {
+        Ok(()) => Ok(founds),
+        Err(refused) => Err(refused),
+    }
+}
+
 /// Mounts the images, which are to be those of the settings' array. The header of each is read once.
 fn mount<R: Host, I: Image + Send, A: Allocator>(
     rt: &R,
@@ -186,30 +209,30 @@ fn mount<R: Host, I: Image + Send, A: Allocator>(
         (λ array. MountsArray I.view I.made settings.now unclean images.old images.new array.founds.items array.mounted)
         (RefusesArray I.view I.made settings.now unclean images.old images.new) }
 {
-    let Ok(founds) = read_headers(rt.alloc(), images) else {
-        return Err(MountRefused::of_nobody(MountFault::NoMemory));
+    let founds = match read_expected(rt, settings, unclean, images) {
+        Ok(founds) => founds,
+        Err(refused) => return Err(refused),
     };
-    match mount_found(rt, settings, unclean, images, founds.as_slice()) {
+    match scan_expected(rt, settings, unclean, images, founds.as_slice()) {
         Ok(mounted) => Ok(FoundArray { founds, mounted }),
         Err(refused) => Err(refused),
     }
 }
 
-/// Mounts images whose headers were read.
-fn mount_found<R: Host, I: Image + Send, A: Allocator>(
+/// Mounts images whose headers were read, and are those of the settings' array.
+fn scan_expected<R: Host, I: Image + Send, A: Allocator>(
     rt: &R,
     settings: &Settings<A>,
     unclean: bool,
     images: &mut [I],
     founds: &[Found],
 ) -> Result<Mounted<PageMap>, MountRefused>
-    requires { AreFound I.view I.made images.old founds.now }
+    requires found { AreFound I.view I.made images.old founds.now }
+    requires expected { IsExpected settings.now.geometry settings.now.array unclean founds.now (Ok tt) }
     ensures { (before : List I) → IsReadOf I.view I.made before images.old founds.now → MatchResult result
         (MountsArray I.view I.made settings.now unclean before images.new founds.now)
         (RefusesArray I.view I.made settings.now unclean before images.new) }
 {
-    let (geometry, array) = (settings.geometry, settings.array);
-    expect(rt.alloc(), founds, geometry, array, unclean)?;
     scan_found_side_by_side(rt, rt.alloc(), images, founds, settings.copies, unclean)
 }
 

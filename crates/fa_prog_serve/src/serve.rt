@@ -14,11 +14,11 @@ use fa_core::Array;
 use fa_image::Image;
 use fa_map::{Map, PageMap};
 use fa_mount::{MountedArray, mount_found_side_by_side};
-use fa_mount_headers::{MountFault, MountRefused, Standing, expect, read_headers};
+use fa_mount_headers::{MountFault, MountRefused, Standing};
 use fa_prog_clients::Networked;
 use fa_prog_host::printing::{DONE, REFUSED, print, refuse_for_memory};
 use fa_prog_host::{NotOpened, OpenImages, open_images, refuse_settings, settings_at, tell};
-use fa_prog_inspect::{explain, mount_line};
+use fa_prog_inspect::{explain, mount_line, read_expected};
 use fa_settings::Settings;
 use fa_shared::{Fault, Shared};
 use std::alloc::{AllocError, Allocator, Global};
@@ -153,18 +153,15 @@ fn mount<R: ServerHost, I: Image + Send, A: Allocator>(
 ) -> Result<MountedArray<PageMap>, MountRefused>
     ensures { IfOk result (λ mounted. IsWhole page_view mounted.array) }
 {
-    let Ok(founds) = read_headers(rt.alloc(), images) else {
-        return Err(MountRefused::of_nobody(MountFault::NoMemory));
-    };
-    let founds = founds.as_slice();
-    expect(
+    let founds = read_expected(rt, settings, unclean, images)?;
+    mount_found_side_by_side(
+        rt,
         rt.alloc(),
-        founds,
-        settings.geometry,
-        settings.array,
+        images,
+        founds.as_slice(),
+        settings.copies,
         unclean,
-    )?;
-    mount_found_side_by_side(rt, rt.alloc(), images, founds, settings.copies, unclean)
+    )
 }
 
 /// How the threads of an array ended, and the faults that took its dies out.

@@ -150,6 +150,8 @@ fn push_part<A: Allocator + Copy>(
     from: u64,
     to: u64,
 ) -> Result<(), AllocError>
+    requires some { 1 ≤ page_bytes }
+    requires small { page_bytes ≤ 4096 }
     requires order { from ≤ to }
     requires inside { to ≤ 2 ^ 32 }
     ensures left { OnOk result (sum_by left_in parts.new.items
