@@ -24,7 +24,7 @@ ghost use Rattle.fa_workers.specs.Made.{Ran};
 
 use fa_image::Image;
 use fa_laws::steps::the_geometry_is_kept;
-use fa_mount_close_laws::closing::{
+use crate::closing::{
     a_closed_array_is_mounted_again, a_mounted_world_has_no_newer_cell,
 };
 

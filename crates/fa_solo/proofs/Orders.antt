@@ -94,11 +94,11 @@ module _ {L M I A : Type 0} (made : I → ImageCall → ImageAnswer → I → Ty
   reserved_no a b page seq bytes (Err refused) is one = one_does IsForOrder (ReserveCopy page seq bytes (Err refused)) a b tt tt one
 
   -- no event, if its condition did not hold
-  pub same_if_none : {X C : Type 0} (a b : Inner L M I A) (result : Option X) → IfNone result (C × (b.locked.core ≡ a.locked.core))
+  pub same_if_none : {X : Type 0} (C : Type 0) (a b : Inner L M I A) (result : Option X) → IfNone result (C × (b.locked.core ≡ a.locked.core))
       → LeavesRest a.locked a.seat b.locked b.seat → b.images.items ≡ a.images.items → b.dies.items ≡ a.dies.items
       → IfNone result (Does made IsForOrder a b)
-  same_if_none a b (Some x) same left images dies = tt
-  same_if_none a b None same left images dies = does_same made IsForOrder a b same.1 left images dies
+  same_if_none C a b (Some x) same left images dies = tt
+  same_if_none C a b None same left images dies = does_same made IsForOrder a b same.1 left images dies
 
   pub tidies_none : (a : Inner L M I A) → Tidies made a a
   tidies_none a = record { orders = Rests; left = rest_same _ _; dies = refl }

@@ -92,21 +92,21 @@ module _ {L M I A : Type 0} (made : I → ImageCall → ImageAnswer → I → Ty
   }
 
   -- an event, if its condition held
-  pub does_option : {X C : Type 0} (P : Act → Type 0) (a b : Inner L M I A) (result : Option X) (act : X → Act) → ((x : X) → P (act x))
+  pub does_option : {X : Type 0} (C : Type 0) (P : Act → Type 0) (a b : Inner L M I A) (result : Option X) (act : X → Act) → ((x : X) → P (act x))
       → ((x : X) → IsDue a.locked.core (act x)) → IfSome result (λ x. Step a.locked.core (act x) b.locked.core)
       → IfNone result (C × (b.locked.core ≡ a.locked.core))
       → LeavesRest a.locked a.seat b.locked b.seat → b.images.items ≡ a.images.items → b.dies.items ≡ a.dies.items → Does made P a b
-  does_option P a b (Some x) act may due some none left images dies = does_event P a b (act x) (may x) (due x) some left images dies
-  does_option P a b None act may due some none left images dies = does_same P a b none.1 left images dies
+  does_option C P a b (Some x) act may due some none left images dies = does_event P a b (act x) (may x) (due x) some left images dies
+  does_option C P a b None act may due some none left images dies = does_same P a b none.1 left images dies
 
   -- a window is asked for, for a die that wants one
-  pub does_window : {C : Type 0} (a b : Inner L M I A) (die rounds : ℕ) (result : Option (Result Round WindowRefused))
+  pub does_window : (C : Type 0) (a b : Inner L M I A) (die rounds : ℕ) (result : Option (Result Round WindowRefused))
       → IfSome result (λ answer. Step a.locked.core (Window die rounds answer) b.locked.core)
       → IfNone result (C × (b.locked.core ≡ a.locked.core))
       → LeavesRest a.locked a.seat b.locked b.seat → b.images.items ≡ a.images.items → b.dies.items ≡ a.dies.items
       → wants_window a.locked.core.page_map die ≡ true → Does made IsForDies a b
-  does_window a b die rounds result some none left images dies wants =
-      does_option IsForDies a b result (λ answer. Window die rounds answer) (λ _. tt) (λ _. wants) some none left images dies
+  does_window C a b die rounds result some none left images dies wants =
+      does_option C IsForDies a b result (λ answer. Window die rounds answer) (λ _. tt) (λ _. wants) some none left images dies
 
   -- the history is folded, if it is full
   pub does_fold : (P : Act → Type 0) (a b : Inner L M I A) → P Fold → Folds a.locked.core b.locked.core

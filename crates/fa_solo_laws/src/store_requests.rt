@@ -19,7 +19,7 @@ use fa_laws::steps::{
     flushes_are_counted, live_dies_are_kept, numbers_are_kept, spares_are_kept,
     the_geometry_is_kept, the_last_number_never_falls, the_round_is_kept,
 };
-use fa_solo_laws::requests::a_request_serves;
+use crate::requests::a_request_serves;
 
 /// A request of the store of one thread serves, as a store that is alone does: over any world that the store's array and images are of, it
 /// leads to one that they are of then, with its answer. A read that is answered gives the bytes of the plain array, an accepted write

@@ -4,7 +4,7 @@ use Rattle.fa_solo.proofs.Orders.{one_if_some, same_if_none}
 use Rattle.fa_solo.proofs.rebuilding.end.Goals as goal
 
 pub returns-clause-none : goal.returns-clause-none
-returns-clause-none g c = same_if_none _ _ _ c.end_batch.result c.end_batch.ensures.none c.end_batch.ensures.rest refl refl
+returns-clause-none g c = same_if_none _ _ _ _ c.end_batch.result c.end_batch.ensures.none c.end_batch.ensures.rest refl refl
 
 pub returns-clause-some : goal.returns-clause-some
 returns-clause-some g c =
