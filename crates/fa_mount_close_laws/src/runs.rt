@@ -22,11 +22,9 @@ ghost use Rattle.fa_mount_scan.specs.MountedWorld.{CopiesAgree, IsMountedWorld, 
 ghost use Rattle.fa_core_dispatch.specs.Fits.{IsJobFor};
 ghost use Rattle.fa_workers.specs.Made.{Ran};
 
+use crate::closing::{a_closed_array_is_mounted_again, a_mounted_world_has_no_newer_cell};
 use fa_image::Image;
 use fa_laws::steps::the_geometry_is_kept;
-use crate::closing::{
-    a_closed_array_is_mounted_again, a_mounted_world_has_no_newer_cell,
-};
 
 /// Any bytes of a slot are a cell of the array's machine, also those that a refused write has left.
 pub fn any_bytes_are_a_cell()

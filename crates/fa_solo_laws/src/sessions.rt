@@ -11,12 +11,12 @@ ghost use Rattle.fa_session.specs.declared.session_end.SessionEnd.{SessionEnd};
 ghost use Rattle.fa_solo.specs.Stores.{StoreMakes, StoreState};
 ghost use Rattle.fa_types.specs.Store.{Answer, Call, Meets};
 
+use crate::requests::a_request_serves;
 use fa_image::Image;
 use fa_laws::steps::{
     flushes_are_counted, live_dies_are_kept, numbers_are_kept, spares_are_kept,
     the_geometry_is_kept, the_last_number_never_falls, the_round_is_kept,
 };
-use crate::requests::a_request_serves;
 use fa_types::Blocks;
 
 /// A connection that `fa_session::serve_stream` serves over the store of one thread is one over a store that is alone, whose content is

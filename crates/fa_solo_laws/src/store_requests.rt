@@ -14,12 +14,12 @@ ghost use Rattle.fa_solo.specs.Calls.{MakesRequest, MakesWhole};
 ghost use Rattle.fa_solo_job.specs.declared.inner.Inner.{Inner};
 ghost use Rattle.fa_types.specs.Store.{Answer, IsAnswer, Meets, Serves};
 
+use crate::requests::a_request_serves;
 use fa_image::Image;
 use fa_laws::steps::{
     flushes_are_counted, live_dies_are_kept, numbers_are_kept, spares_are_kept,
     the_geometry_is_kept, the_last_number_never_falls, the_round_is_kept,
 };
-use crate::requests::a_request_serves;
 
 /// A request of the store of one thread serves, as a store that is alone does: over any world that the store's array and images are of, it
 /// leads to one that they are of then, with its answer. A read that is answered gives the bytes of the plain array, an accepted write
