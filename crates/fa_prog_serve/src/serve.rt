@@ -222,14 +222,13 @@ fn share<L: Ledger, M: Map + Drop>(
 fn serve_over<
     L: Ledger + Send,
     R: ServerHost,
-    M: Map + Send + Drop,
     I: Image + Send + Drop,
     N: Read,
     W: Write,
     A: Allocator,
 >(
     rt: &R,
-    shared: Shared<L, M>,
+    shared: Shared<L, PageMap>,
     dies: Vec<Standing>,
     listener: &TcpListener,
     images: Vec<I>,
@@ -265,14 +264,13 @@ fn serve_over<
 fn serve_lent<
     L: Ledger + Send,
     R: ServerHost,
-    M: Map + Send + Drop,
     I: Image + Send + Drop,
     N: Read,
     W: Write,
     A: Allocator,
 >(
     rt: &R,
-    shared: &Shared<L, M>,
+    shared: &Shared<L, PageMap>,
     dies: &[Standing],
     listener: &TcpListener,
     images: Vec<I>,

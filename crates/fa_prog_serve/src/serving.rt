@@ -8,7 +8,7 @@ use crate::stop_line::wait_for_stop;
 use crate::watching::{sight_of, watch};
 use fa_core::Array;
 use fa_image::Image;
-use fa_map::Map;
+use fa_map::{Map, PageMap};
 use fa_prog_clients::{
     AcceptQueue, Networked, Session, accept_clients, serve_clients, stop_accepting,
 };
@@ -80,15 +80,9 @@ pub(crate) struct Ended<I: Drop> {
 }
 
 /// Serves clients until the input says stop, ends all threads, and gathers their seats. The error is out of memory.
-pub(crate) fn serve_ready<
-    R: Networked,
-    L: Ledger + Send,
-    M: Map + Send + Drop,
-    I: Image + Send + Drop,
-    N: Read,
->(
+pub(crate) fn serve_ready<R: Networked, L: Ledger + Send, I: Image + Send + Drop, N: Read>(
     rt: &R,
-    shared: &Shared<L, M>,
+    shared: &Shared<L, PageMap>,
     listener: &TcpListener,
     ready: Ready<'_, L, I>,
     input: &mut N,
@@ -156,15 +150,9 @@ impl<T: Drop> Work<T> {
 
 /// Serves clients until the input says stop, and then ends all threads. Where a thread cannot be started the array is stopped at once, and
 /// no client is served. The error is out of memory, before any thread was started.
-fn serve_shared<
-    R: Networked,
-    L: Ledger + Send,
-    M: Map + Send + Drop,
-    I: Image + Send + Drop,
-    N: Read,
->(
+fn serve_shared<R: Networked, L: Ledger + Send, I: Image + Send + Drop, N: Read>(
     rt: &R,
-    shared: &Shared<L, M>,
+    shared: &Shared<L, PageMap>,
     listening: Listening<'_>,
     image_table: &ImageTable<I>,
     tasks: Vec<DieTask<L>>,
@@ -190,8 +178,7 @@ fn serve_shared<
         thread::scope_env(),
         rt,
         |scope| -> Back<L>
-            requires image { IsSend I.row }
-            requires map { IsSend M.row }
+            requires { IsSend I.row }
         {
             for task in tasks {
                 let work = match scope.spawn(move || work_die(rt, shared, image_table, task)) {
@@ -257,15 +244,9 @@ fn seat_count(dies: usize, sessions: usize) -> usize {
 
 /// Serves clients until the input says stop, and then sends them away. The sessions' seats go to the others, for which there is room, as there
 /// is for their work. Whether each thread could be started: where one could not, no client is waited for.
-fn serve_sessions<
-    R: Networked,
-    L: Ledger + Send,
-    M: Map + Send + Drop,
-    I: Image + Send + Drop,
-    N: Read,
->(
+fn serve_sessions<R: Networked, L: Ledger + Send, I: Image + Send + Drop, N: Read>(
     rt: &R,
-    shared: &Shared<L, M>,
+    shared: &Shared<L, PageMap>,
     listening: Listening<'_>,
     image_table: &ImageTable<I>,
     sessions: Vec<Session<'_, L>>,
@@ -283,8 +264,7 @@ fn serve_sessions<
         thread::scope_env(),
         rt,
         |scope| -> (Vec<Work<Seat<L>>>, bool)
-            requires image { IsSend I.row }
-            requires map { IsSend M.row }
+            requires { IsSend I.row }
         {
             for session in sessions {
                 let work = match scope.spawn(move || serve_clients(
