@@ -4,7 +4,7 @@ use Rattle.fa_solo_laws.proofs.OneTurn.{turn_asked}
 use Rattle.fa_solo_laws.proofs.RestKept.{BeginsNoCopy, event_keeps}
 use Rattle.fa_solo_laws.specs.Asked.{Asked, BringsNoSpare, GivesUp, IsAnothers, IsInTime, IsNoSpare, LeavesClaim, Meanwhile, Moment, OfOne, Readies, Turn}
 use Rattle.fa_solo_laws.specs.Asked.{batch_at, claim_at}
-use Rattle.fa_solo_laws.proofs.Driving.{dies_plain, goes_shape, requests_plain}
+use Rattle.fa_solo_laws.proofs.DrivenDeeds.{dies_plain, goes_shape, requests_plain}
 use Rattle.fa_solo_laws.proofs.Led.{Stands, deeds_led, fair_before, images_kept}
 use Rattle.fa_solo_laws.specs.Driving.{IsDeedOf, IsOfJob, IsPlain, image_on}
 use Rattle.fa_mount_headers.specs.declared.judging.Standing.{Standing}

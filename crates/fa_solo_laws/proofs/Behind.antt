@@ -5,7 +5,7 @@ use Rattle.fa_solo_laws.proofs.Gone.{done_live}
 use Rattle.fa_solo_laws.proofs.RestKept.{BeginsNoCopy, GivesNoNumber, event_keeps}
 use Rattle.fa_solo_laws.specs.Shown.{is_spent, store_of}
 use Rattle.fa_solo_laws.proofs.Around.{IsKept}
-use Rattle.fa_solo_laws.proofs.Driving.{settles_goes}
+use Rattle.fa_solo_laws.proofs.DrivenDeeds.{settles_goes}
 use Rattle.fa_solo_laws.specs.Driving.{IsForCopy}
 use Rattle.fa_mount_headers.specs.declared.judging.Standing.{Standing}
 use Rattle.fa_image.specs.Image.{ImageAnswer, ImageCall}

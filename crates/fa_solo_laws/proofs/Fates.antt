@@ -1,5 +1,5 @@
 -- What becomes of a die and of the counts of its image in what is done with an array.
-use Rattle.fa_solo_laws.proofs.Driving.{got_here, got_other}
+use Rattle.fa_solo_laws.proofs.DrivenDeeds.{got_here, got_other}
 use Rattle.fa_solo_laws.proofs.Counts.{Counts, faults_by, more, more_both, ran_counts, syncs_by}
 use Rattle.fa_solo_laws.specs.Driving.{image_on}
 use Rattle.fa_mount_headers.specs.declared.judging.Standing.{Standing}

@@ -1,5 +1,5 @@
 -- Deeds of the store lead from a world that its array and images are of to another one, by the run that they drive.
-use Rattle.fa_solo_laws.proofs.Driving.{deeds_drive}
+use Rattle.fa_solo_laws.proofs.DrivenDeeds.{deeds_drive}
 use Rattle.fa_solo_laws.specs.Driving.{IsDeedOf, IsPlain, StandsFor, image_on}
 use Rattle.fa_mount_headers.specs.declared.judging.Standing.{Standing}
 use Rattle.fa_image.specs.Image.{ImageAnswer, ImageCall, ImageMeets, ImageState, IsImage, slot_at}

@@ -26,7 +26,7 @@ pub mod Sized
 pub mod WriteServes
 pub mod WriteStages
 pub mod Around
-pub mod Driving
+pub mod DrivenDeeds
 pub mod Behind
 pub mod Led
 pub mod Asking

@@ -10,7 +10,7 @@ use Rattle.fa_solo_laws.specs.Shown.{store_of}
 use Rattle.fa_solo_laws.proofs.Asking.{requests_free, run_free}
 use Rattle.fa_solo_laws.proofs.Led.{Led, Stands, deeds_led, fair_before, happens, next, stands_next}
 use Rattle.fa_solo_laws.proofs.Around.{IsKept, kept_unwritten}
-use Rattle.fa_solo_laws.proofs.Driving.{copy_plain, dies_plain, order_plain, requests_plain, settles_goes}
+use Rattle.fa_solo_laws.proofs.DrivenDeeds.{copy_plain, dies_plain, order_plain, requests_plain, settles_goes}
 use Rattle.fa_solo_laws.specs.Driving.{IsDeedOf, IsForCopy, IsOfJob, IsPlain, image_on}
 use Rattle.fa_solo_laws.specs.Standing.{IsWorldOf}
 use Rattle.fa_mount_headers.specs.declared.judging.Standing.{Standing}

@@ -2,7 +2,7 @@
 use Rattle.fa_solo_laws.proofs.Going.{Laws}
 use Rattle.fa_solo_laws.proofs.Served.{ended_at}
 use Rattle.fa_solo_laws.proofs.Counts.{Counts, more, more_sum}
-use Rattle.fa_solo_laws.proofs.Driving.{requests_plain}
+use Rattle.fa_solo_laws.proofs.DrivenDeeds.{requests_plain}
 use Rattle.fa_solo_laws.proofs.Fates.{DieLaws, Fate, IsIn, IsSpare, fate_on, same_fate, syncs_on}
 use Rattle.fa_solo_laws.proofs.Flushes.{HasSynced, Keeps, NoneOlderLaw, keeps_first, synced_counted}
 use Rattle.fa_solo_laws.proofs.Quiet.{orders_fair}

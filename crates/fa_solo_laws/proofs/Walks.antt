@@ -1,7 +1,7 @@
 -- What becomes of a die in a request of the store of one thread, and in what is done for the array's order.
 use Rattle.fa_solo_laws.proofs.Going.{Laws}
 use Rattle.fa_solo_laws.proofs.Asking.{meanwhile_plain}
-use Rattle.fa_solo_laws.proofs.Driving.{copy_plain, dies_plain, order_plain, settles_goes}
+use Rattle.fa_solo_laws.proofs.DrivenDeeds.{copy_plain, dies_plain, order_plain, settles_goes}
 use Rattle.fa_solo_laws.proofs.Fates.{DieLaws, Fate, IsNoDone, event_fate, fate_on, same_fate}
 use Rattle.fa_solo_laws.proofs.Led.{fair_before}
 use Rattle.fa_solo_laws.proofs.Worlds.{HasWorld, LeavesLaw, asks_world, copies_world, event_world, goes_fate, goes_world}

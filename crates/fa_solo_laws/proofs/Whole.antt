@@ -4,7 +4,7 @@ use Rattle.fa_solo_laws.specs.Calls.{HasBytes, call_of}
 use Rattle.fa_solo_laws.specs.Shown.{store_of}
 use Rattle.fa_solo_laws.proofs.Around.{IsKept, kept_same, serves_around}
 use Rattle.fa_solo_laws.proofs.Behind.{IsBehind, StepLaws, cause_behind, order_behind, orders_free}
-use Rattle.fa_solo_laws.proofs.Driving.{requests_plain}
+use Rattle.fa_solo_laws.proofs.DrivenDeeds.{requests_plain}
 use Rattle.fa_solo_laws.proofs.Led.{fair_before}
 use Rattle.fa_solo_laws.proofs.Quiet.{begun_inner, behind_inner, orders_fair}
 use Rattle.fa_solo_laws.proofs.Going.{Laws}

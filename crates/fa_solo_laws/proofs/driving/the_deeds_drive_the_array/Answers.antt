@@ -1,4 +1,4 @@
-use Rattle.fa_solo_laws.proofs.Driving.{deeds_drive, dies_plain, order_plain, requests_plain}
+use Rattle.fa_solo_laws.proofs.DrivenDeeds.{deeds_drive, dies_plain, order_plain, requests_plain}
 use Rattle.fa_solo_job.specs.Deeds.{IsForDies, IsForOrder, IsForRequests}
 use Rattle.fa_solo_laws.proofs.driving.the_deeds_drive_the_array.Goals as goal
 
