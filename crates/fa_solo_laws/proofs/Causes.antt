@@ -4,7 +4,7 @@ use Rattle.fa_solo_laws.proofs.Gone.{done_live}
 use Rattle.fa_solo_laws.proofs.RangePages.{page_met}
 use Rattle.fa_solo_laws.proofs.ReadStages.{Fits}
 use Rattle.fa_solo_laws.proofs.RestKept.{event_keeps}
-use Rattle.fa_solo_laws.proofs.WriteStages.{Founds}
+use Rattle.fa_solo_laws.proofs.WriteWorlds.{Founds}
 use Rattle.fa_solo_laws.specs.Asked.{IsNoSpare}
 use Rattle.fa_solo_laws.specs.Shown.{is_crowded, roomy, store_of}
 use Rattle.fa_laws.proofs.Ranged.{calls_core}

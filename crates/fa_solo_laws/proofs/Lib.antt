@@ -24,6 +24,8 @@ pub mod ReadStages
 pub mod Serving
 pub mod Sized
 pub mod WriteServes
+pub mod WriteWorlds
+pub mod WriteEvents
 pub mod WriteStages
 pub mod Around
 pub mod DrivenDeeds

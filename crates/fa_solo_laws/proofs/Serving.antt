@@ -10,7 +10,9 @@ use Rattle.fa_solo_laws.proofs.ReadServes.{read_fits, read_gives, read_may, read
 use Rattle.fa_solo_laws.proofs.ReadStages.{Fits, no_stray as no_stray_read}
 use Rattle.fa_solo_laws.proofs.Sized.{page_some, reached_sized}
 use Rattle.fa_solo_laws.proofs.WriteServes.{begins, first_past, wrote_all, wrote_is, wrote_none}
-use Rattle.fa_solo_laws.proofs.WriteStages.{EndsAt, IsAt, WritesAt, from_on, no_stray, writes_on}
+use Rattle.fa_solo_laws.proofs.WriteEvents.{EndsAt, WritesAt, from_on}
+use Rattle.fa_solo_laws.proofs.WriteStages.{no_stray, writes_on}
+use Rattle.fa_solo_laws.proofs.WriteWorlds.{IsAt}
 use Rattle.fa_solo_laws.specs.Asked.{Asked, GivesUp, Makes, Meanwhile, Moment, Readies, Strayed, Turn, TurnsTo}
 use Rattle.fa_solo_laws.specs.Begun.{HasBegun, IsCalm}
 use Rattle.fa_solo_laws.specs.Calls.{HasBytes, answer_of, call_of}

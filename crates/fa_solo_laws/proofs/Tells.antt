@@ -12,35 +12,34 @@ use Rattle.fa_laws.specs.Reached.{IsReached}
 use Rattle.fa_machine.proofs.Lists.{among-contains, among-filter_map}
 use Rattle.fa_machine.proofs.Maps.{get-insert_cases, get-remove_some, nat_same}
 use Rattle.fa_machine.proofs.Takes.{IsOther, IsUrgent, take_cases}
-use Rattle.fa_machine.proofs.Values.{any_value, get-insert_all}
+use Rattle.fa_machine.proofs.Values.{get-insert_all}
 use Rattle.fa_machine.specs.Among.{Among}
 use Rattle.fa_machine.specs.Cells.{DidRead, Outcome, payload_of}
 use Rattle.fa_machine.specs.Conditions.{reserved_under}
 use Rattle.fa_machine.specs.Maps.{insert_all}
-use Rattle.fa_machine.specs.Reading.{Admitted, answered, at_once, is_fresh, names_batch, zeros}
+use Rattle.fa_machine.specs.Reading.{Admitted, answered, at_once, is_fresh, zeros}
 use Rattle.fa_machine.specs.Run.{CallsNext, Event, Happening, Happens, HappensEvent, ImageCall, Run}
 use Rattle.fa_machine.specs.State.{Core, OpenBatch, Reservation}
 use Rattle.fa_machine.specs.Step.{Act, Admit, Commit, Done, EndBatch, Reserve, ReserveFewer, ReserveHole, Step, Take}
-use Rattle.fa_machine.specs.Taking.{Handed, begins, handed, program_of, taken, without_stale_booking}
+use Rattle.fa_machine.specs.Taking.{Handed, begins, handed, taken, without_stale_booking}
 use Rattle.fa_machine.specs.Writing.{Commits}
 use Rattle.fa_machine.specs.World.{Gave, JobCall, Told, Work, World, followed, next_call, told_at_once, with_due, with_end, with_told, with_value}
 use Rattle.fa_machine.specs.declared.ids.BatchId.{BatchId}
 use Rattle.fa_machine.specs.declared.jobs.Flight.{Flight}
 use Rattle.fa_machine.specs.declared.jobs.Flight.TheVariants.{Erase, Header, Move, Program, Read, Sync}
-use Rattle.fa_machine.specs.declared.places.Booking.{Booking}
 use Rattle.fa_machine.specs.declared.places.Version.{Version}
 use Rattle.fa_machine.specs.declared.refusals.CommitRefused.{CommitRefused}
 use Rattle.fa_types.specs.declared.numbers.Page.{Page}
 use Rattle.fa_types.specs.declared.numbers.Slot.{Slot}
-use Rattle.std.proofs.Common.{Bool, List, None, Option, Some, [], ap, arith, eq-eqb, false, inl, inr, length, refl, suc, subst, sym, true, ℕ}
-use Rattle.std.proofs.Common.{◌++◌, ◌<◌, ◌||◌, ◌∙◌, ◌∷◌, ◌≡◌, ◌⊎◌}
-use Rattle.std.proofs.lemmas.Bool.{cases_eq, false≢true, not-true, or_parts}
+use Rattle.std.proofs.Common.{Bool, List, None, Option, Some, [], ap, arith, false, inl, inr, refl, suc, subst, sym, true, ℕ}
+use Rattle.std.proofs.Common.{◌++◌, ◌∙◌, ◌∷◌, ◌≡◌}
+use Rattle.std.proofs.lemmas.Bool.{cases_eq, false≢true}
 use Rattle.std.proofs.lemmas.Option.{none-some, same_Some}
 use Rattle.std.specs.Cmp.{nat_cmp_total}
-use Rattle.std.specs.FinMap.{FinMap, contains_key, empty, get, get-empty, insert, values}
-use Rattle.std.specs.List.{AllByRecursion, cons_option, list_any}
+use Rattle.std.specs.FinMap.{FinMap, empty, get, get-empty, insert}
+use Rattle.std.specs.List.{AllByRecursion, cons_option}
 use Rattle.std.specs.Ordering.{nat_cmp}
-use Rattle.std.specs.Prelude.{Contains, Err, Ok, filter_map, is_some, option_map, unwrap_or, ◌==◌}
+use Rattle.std.specs.Prelude.{Contains, Err, Ok, filter_map, option_map, unwrap_or}
 
 abbrev Versions : Type 0
 Versions = FinMap nat_cmp Version

@@ -4,7 +4,7 @@ use Rattle.fa_solo_laws.proofs.Gone.{gone_lost}
 use Rattle.fa_solo_laws.proofs.PutBytes.{with_none}
 use Rattle.fa_solo_laws.proofs.RangePages.{IsInside, IsOf, of_back, of_front, upto, upto_first, upto_past}
 use Rattle.fa_solo_laws.proofs.ReadStages.{Fits}
-use Rattle.fa_solo_laws.proofs.WriteStages.{Wrote}
+use Rattle.fa_solo_laws.proofs.WriteWorlds.{Wrote}
 use Rattle.fa_solo_laws.specs.Begun.{IsCalm}
 use Rattle.fa_solo_laws.specs.Shown.{store_of}
 use Rattle.fa_laws.specs.Reached.{IsReached}
