@@ -8,7 +8,7 @@ use Rattle.fa_types.specs.Open.{open_among}
 use Rattle.fa_types.specs.declared.numbers.Page.{Page}
 use Rattle.fa_batch.specs.Batch.{Entry}
 use Rattle.fa_batch.specs.Certificate.{AreNamed, AreTheHolders, ShowsNoFewer, holds_any, open_places}
-use Rattle.fa_cert_places.specs.Rooms.{marked}
+use Rattle.fa_cert_places.specs.OpenCounts.{marked}
 use Rattle.fa_batch.proofs.Counting.{count_by-cons}
 
 -- each marked die is there once, and no other

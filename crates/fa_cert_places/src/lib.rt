@@ -3,7 +3,7 @@
 
 ghost use Rattle.std.specs.Prelude.{◌≡◌, ◌+◌, ◌<◌, ◌↔◌, ◌^◌, IsTrue};
 ghost use Rattle.fa_batch.specs.Certificate.{open_places};
-ghost use Rattle.fa_cert_places.specs.Rooms.{AreRooms, marked};
+ghost use Rattle.fa_cert_places.specs.OpenCounts.{AreOpenCounts, marked};
 
 use fa_types::{Die, Rounds};
 
@@ -26,13 +26,13 @@ pub fn are_more<R: Rounds>(calendar: &R, rounds: u64, marks: &[bool; 256], pages
 }
 
 /// How many of so many rounds are open for each die, by its number.
-pub fn count_rooms<R: Rounds>(calendar: &R, rounds: u64) -> [u64; 256]
+pub fn count_open<R: Rounds>(calendar: &R, rounds: u64) -> [u64; 256]
     requires { R.current calendar.now + rounds < 2 ^ 64 }
-    ensures { AreRooms (R.current calendar.now) (R.closed calendar.now) rounds result }
+    ensures { AreOpenCounts (R.current calendar.now) (R.closed calendar.now) rounds result }
 {
-    let mut rooms = [0; 256];
+    let mut open_counts = [0; 256];
     for die in 0..256usize {
-        rooms[die] = calendar.open_count(Die(die as u8), rounds);
+        open_counts[die] = calendar.open_count(Die(die as u8), rounds);
     }
-    rooms
+    open_counts
 }

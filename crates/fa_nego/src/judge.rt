@@ -15,7 +15,7 @@ use crate::phase::Phase;
 use crate::reply::{export_data, information, listing, reply};
 use crate::step::{CloseCause, Step};
 use byteorder::{BigEndian, ByteOrder};
-use fa_nego_head::{Held, option_in};
+use fa_nego_head::{Heard, option_in};
 use std::alloc::{AllocError, Allocator};
 
 /// How many bytes the client's flags have.
@@ -88,10 +88,10 @@ fn judge_option<A: Allocator>(
         (stage_after (Phase.Options flags) held.now judged.next)) }
 {
     match option_in(held) {
-        Held::Waits => Ok(waits(alloc)),
-        Held::WrongMagic => Ok(closed(alloc, CloseCause::WrongMagic)),
-        Held::TooLong => Ok(closed(alloc, CloseCause::TooLong)),
-        Held::Whole { option, given } => {
+        Heard::Waits => Ok(waits(alloc)),
+        Heard::WrongMagic => Ok(closed(alloc, CloseCause::WrongMagic)),
+        Heard::TooLong => Ok(closed(alloc, CloseCause::TooLong)),
+        Heard::Whole { option, given } => {
             let come = answer(alloc, export, size, flags, option, given)?;
             let next = match come.next {
                 Step::More => Phase::Options { flags },

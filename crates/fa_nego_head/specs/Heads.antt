@@ -4,8 +4,8 @@ use Rattle.std.specs.Prelude.{◌≡◌, ◌≢◌, ℕ, ◌^◌, ◌<◌, ◌�
 use Rattle.byteorder.specs.Endian.{big_bytes}
 use Rattle.fa_nego_head.specs.declared.option.Head.{Head}
 use Rattle.fa_nego_head.specs.declared.option.Head.TheVariants.{WrongMagic, TooLong, Good}
-use Rattle.fa_nego_head.specs.declared.option.Held.{Held}
-use Rattle.fa_nego_head.specs.declared.option.Held.TheVariants as held_as
+use Rattle.fa_nego_head.specs.declared.option.Heard.{Heard}
+use Rattle.fa_nego_head.specs.declared.option.Heard.TheVariants as heard_as
 
 -- what stands before an option's data
 unfoldable pub head_bytes : ℕ → ℕ → List ℕ
@@ -30,9 +30,9 @@ IsHead bytes TooLong =
 IsHead bytes (Good option len) = (option < 2 ^ 32) × (len ≤ max_data) × (bytes ≡ head_bytes option len)
 
 -- What is held of an option. One is whole once it has as much data as its head says.
-abbrev pub IsOptionIn : List ℕ → Held → Type 0
-IsOptionIn held held_as.Waits = IsPart held
-IsOptionIn held held_as.WrongMagic = (16 ≤ length held) × IsHead (take 16 held) WrongMagic
-IsOptionIn held held_as.TooLong = (16 ≤ length held) × IsHead (take 16 held) TooLong
-IsOptionIn held (held_as.Whole option given) =
+abbrev pub IsOptionIn : List ℕ → Heard → Type 0
+IsOptionIn held heard_as.Waits = IsPart held
+IsOptionIn held heard_as.WrongMagic = (16 ≤ length held) × IsHead (take 16 held) WrongMagic
+IsOptionIn held heard_as.TooLong = (16 ≤ length held) × IsHead (take 16 held) TooLong
+IsOptionIn held (heard_as.Whole option given) =
     (len : ℕ) × IsHead (take 16 held) (Good option len) × (given.now ≡ drop 16 held) × (len ≤ length given.now)

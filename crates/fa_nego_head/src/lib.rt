@@ -3,4 +3,4 @@
 
 mod option;
 
-pub use option::{HEAD_LEN, Held, OPTION_MAGIC, option_in};
+pub use option::{HEAD_LEN, Heard, OPTION_MAGIC, option_in};

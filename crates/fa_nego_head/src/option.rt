@@ -15,7 +15,7 @@ const MAX_DATA_BYTES: u32 = 65_536;
 
 /// What is held of an option.
 #[derive(Clone, Copy)]
-pub enum Held<'a> {
+pub enum Heard<'a> {
     /// Less than a whole option.
     Waits,
     /// Not the magic number of an option.
@@ -38,21 +38,21 @@ enum Head {
 }
 
 /// Judges the bytes that are held of an option: first its head, then whether its data is whole.
-pub fn option_in(held: &[u8]) -> Held<'_>
+pub fn option_in(held: &[u8]) -> Heard<'_>
     ensures { IsOptionIn held.now result }
 {
     if held.len() < HEAD_LEN {
-        return Held::Waits;
+        return Heard::Waits;
     }
     let (head, given) = held.split_at(HEAD_LEN);
     match head_of(head) {
-        Head::WrongMagic => Held::WrongMagic,
-        Head::TooLong => Held::TooLong,
+        Head::WrongMagic => Heard::WrongMagic,
+        Head::TooLong => Heard::TooLong,
         Head::Good { option, len } => {
             if given.len() < len as usize {
-                return Held::Waits;
+                return Heard::Waits;
             }
-            Held::Whole { option, given }
+            Heard::Whole { option, given }
         }
     }
 }

@@ -60,7 +60,7 @@ module _ (batch : List Entry) (first : List Die) (w : Walk) (free : ℕ) (given 
 
 -- The way has come to its beginning: the first page with no die takes the one that is wanted there.
 module _ (batch : List Entry) (first : List Die) (w : Walk) (free : ℕ) (given : List Die) (d : Die) (page : ℕ) (so_far : IsHandingOn batch first w free given d page) (past : length given ≤ page)
-    (tables : Tables) (were : AreGiven batch first tables) (next : length first < length batch) (known : free < 256) (found : HasFound first tables.rooms w free) where
+    (tables : Tables) (were : AreGiven batch first tables) (next : length first < length batch) (known : free < 256) (found : HasFound first tables.open_counts w free) where
   load_now : (die : ℕ) → load_of (given ++ d ∷ []) die ≡ load_of first die + cond (nat_eq free die) 1 0
   load_now die = let pushed = sum_by_push (λ (v : Die). cond (v.0 == die) 1 0) given d in let was = so_far.loads die in omega (arith, pushed, was)
 
@@ -73,7 +73,7 @@ module _ (batch : List Entry) (first : List Die) (w : Walk) (free : ℕ) (given 
       let e : length given ≡ way_to w d.0 = omega (arith, within, way, long, past) in
       ap (λ n. can_read batch n d.0) e ∙ step.held
 
-  more_given : AreGiven batch (given ++ d ∷ []) (record { loads = set tables.loads free (get_or tables.loads free 0 + 1); rooms = tables.rooms })
+  more_given : AreGiven batch (given ++ d ∷ []) (record { loads = set tables.loads free (get_or tables.loads free 0 + 1); open_counts = tables.open_counts })
   more_given = record {
     short = let more = length-append given (d ∷ []) in let long = so_far.long in omega (arith, more, long, next);
     long = length-set tables.loads free (get_or tables.loads free 0 + 1) ∙ were.long;
@@ -104,9 +104,9 @@ module _ (batch : List Entry) (first : List Die) (w : Walk) (free : ℕ) (given 
           (let here = ap (λ b. cond {A = ℕ} b 1 0) (eq-eqb free die (sym same)) in
           let load = load_now die in
           let back = ap (λ n. load_of first n) same in
-          let rooms = ap (λ n. get_or tables.rooms n 0) same in
+          let open_counts = ap (λ n. get_or tables.open_counts n 0) same in
           let room = found.room in
-          omega (arith, here, load, back, rooms, room))
+          omega (arith, here, load, back, open_counts, room))
       | inr other ↦
           (let none = ap (λ b. cond {A = ℕ} b 1 0) (ne_eqb free die (λ e. other (sym e))) in
           let load = load_now die in
@@ -115,5 +115,5 @@ module _ (batch : List Entry) (first : List Die) (w : Walk) (free : ℕ) (given 
     ];
   }
 
-  pub given_more : (after : List Die) → after ≡ given ++ d ∷ [] → AreGiven batch after (record { loads = set tables.loads free (get_or tables.loads free 0 + 1); rooms = tables.rooms })
-  given_more after is = subst (λ v. AreGiven batch v (record { loads = set tables.loads free (get_or tables.loads free 0 + 1); rooms = tables.rooms })) (sym is) more_given
+  pub given_more : (after : List Die) → after ≡ given ++ d ∷ [] → AreGiven batch after (record { loads = set tables.loads free (get_or tables.loads free 0 + 1); open_counts = tables.open_counts })
+  given_more after is = subst (λ v. AreGiven batch v (record { loads = set tables.loads free (get_or tables.loads free 0 + 1); open_counts = tables.open_counts })) (sym is) more_given

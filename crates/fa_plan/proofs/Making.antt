@@ -11,7 +11,7 @@ use Rattle.fa_batch.proofs.Counting.{get_or-replicate_default}
 use Rattle.fa_plan.specs.declared.planner.Progress.{Progress}
 use Rattle.fa_plan_search.specs.declared.walk.Tables.{Tables}
 use Rattle.fa_plan_search.specs.declared.walk.Walk.{Walk}
-use Rattle.fa_cert_places.specs.Rooms.{AreRooms}
+use Rattle.fa_cert_places.specs.OpenCounts.{AreOpenCounts}
 use Rattle.fa_plan.specs.Bound.{IsSimpleBound}
 use Rattle.fa_plan.specs.Progress.{IsProgress}
 use Rattle.fa_plan.specs.Giving.{AreGiven}
@@ -41,7 +41,7 @@ none_enough batch current closed pages some dies whose = let none = none_open cu
 
 module _ {A : Type 0} (batch : List Entry) (current : ℕ) (closed : ℕ → ℕ → Bool) where
   -- no page has a die yet, in as many rounds as the batch as a whole needs
-  module _ (given : Vec Die A) (rooms : List ℕ) (walk : Walk) (number : ℕ) (short : List Page) (none_given : given.items ≡ []) (are_rooms : AreRooms current closed number rooms) (whole : short ≡ pages_of batch)
+  module _ (given : Vec Die A) (open_counts : List ℕ) (walk : Walk) (number : ℕ) (short : List Page) (none_given : given.items ≡ []) (are_open_counts : AreOpenCounts current closed number open_counts) (whole : short ≡ pages_of batch)
       (some : 0 < length batch → IsRaised batch current closed (pages_of batch) 0 number) (none : length batch ≡ 0 → number ≡ 0) where
     long : length (pages_of batch) ≡ length batch
     long = length-map batch (λ e. e.page)
@@ -74,16 +74,16 @@ module _ {A : Type 0} (batch : List Entry) (current : ℕ) (closed : ℕ → ℕ
           | inr nothing ↦ (let is = none (omega (arith, nothing)) in omega (arith, is))
         ]
 
-    pub begun : IsProgress batch current closed (record { given = given; tables = record { loads = replicate 256 0; rooms = rooms }; walk = walk; rounds = number; short = short; searches = 0; looks = 0 })
+    pub begun : IsProgress batch current closed (record { given = given; tables = record { loads = replicate 256 0; open_counts = open_counts }; walk = walk; rounds = number; short = short; searches = 0; looks = 0 })
     begun = record {
-      given = subst (λ v. AreGiven batch v (record { loads = replicate 256 0; rooms = rooms })) (sym none_given) (record {
+      given = subst (λ v. AreGiven batch v (record { loads = replicate 256 0; open_counts = open_counts })) (sym none_given) (record {
         short = omega arith;
         long = refl;
         readers = λ page below. absurd (omega (arith, below));
         loads = λ die below. get_or-replicate_default 256 die 0;
         within = λ die below. omega arith;
       });
-      rooms = are_rooms;
+      open_counts = are_open_counts;
       limit = limit;
       shows = shows;
       few = λ first bound. let low = simple first bound in omega (arith, low);
@@ -103,11 +103,11 @@ module _ {A : Type 0} (batch : List Entry) (current : ℕ) (closed : ℕ → ℕ
         omega (arith, was, more, few, next)
 
     -- a page more has a die
-    pub given_one : (given : Vec Die A) (tables : Tables) → AreGiven batch given.items tables → length given.items ≡ length p.given.items + 1 → tables.rooms ≡ p.tables.rooms
+    pub given_one : (given : Vec Die A) (tables : Tables) → AreGiven batch given.items tables → length given.items ≡ length p.given.items + 1 → tables.open_counts ≡ p.tables.open_counts
         → IsProgress batch current closed (record { given = given; tables = tables; walk = walk; rounds = p.rounds; short = p.short; searches = p.searches + 1; looks = p.looks + walk.looks })
-    given_one given tables are longer rooms = record {
+    given_one given tables are longer open_counts = record {
       given = are;
-      rooms = subst (λ v. AreRooms current closed p.rounds v) (sym rooms) is.rooms;
+      open_counts = subst (λ v. AreOpenCounts current closed p.rounds v) (sym open_counts) is.open_counts;
       limit = is.limit;
       shows = is.shows;
       few = λ first bound. let was = is.few first bound in omega (arith, was, longer);
@@ -118,26 +118,26 @@ module _ {A : Type 0} (batch : List Entry) (current : ℕ) (closed : ℕ → ℕ
     }
 
     -- there are more rounds
-    pub raised : (given : Vec Die A) (loads rooms : List ℕ) (number : ℕ) (pages : List Page) → given.items ≡ p.given.items → loads ≡ p.tables.loads → AreRooms current closed number rooms
+    pub raised : (given : Vec Die A) (loads open_counts : List ℕ) (number : ℕ) (pages : List Page) → given.items ≡ p.given.items → loads ≡ p.tables.loads → AreOpenCounts current closed number open_counts
         → length pages ≤ length batch → IsRaised batch current closed pages p.rounds number
-        → IsProgress batch current closed (record { given = given; tables = record { loads = loads; rooms = rooms }; walk = walk; rounds = number; short = pages; searches = p.searches + 1; looks = p.looks + walk.looks })
-    raised given loads rooms number pages same same_loads are_rooms few_pages up =
+        → IsProgress batch current closed (record { given = given; tables = record { loads = loads; open_counts = open_counts }; walk = walk; rounds = number; short = pages; searches = p.searches + 1; looks = p.looks + walk.looks })
+    raised given loads open_counts number pages same same_loads are_open_counts few_pages up =
         let long = ap (λ v. length v) same in
         let later = up.later in
         record {
-          given = subst (λ v. AreGiven batch v (record { loads = loads; rooms = rooms })) (sym same) (record {
+          given = subst (λ v. AreGiven batch v (record { loads = loads; open_counts = open_counts })) (sym same) (record {
             short = is.given.short;
             long = ap (λ v. length v) same_loads ∙ is.given.long;
             readers = is.given.readers;
             loads = λ die below. ap (λ v. get_or v die 0) same_loads ∙ is.given.loads die below;
             within = λ die below.
                 let was = is.given.within die below in
-                let before = is.rooms die below in
-                let after = are_rooms die below in
+                let before = is.open_counts die below in
+                let after = are_open_counts die below in
                 let grows = open_grows current closed die p.rounds number (omega (arith, later)) in
                 omega (arith, was, before, after, grows);
           });
-          rooms = are_rooms;
+          open_counts = are_open_counts;
           limit = let most = up.limit in omega (arith, most, few_pages);
           shows = up.shows;
           few = λ first bound. let was = is.few first bound in omega (arith, was, long, later);

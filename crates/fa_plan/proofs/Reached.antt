@@ -11,7 +11,7 @@ use Rattle.fa_types.specs.declared.numbers.Die.{Die}
 use Rattle.fa_types.specs.declared.numbers.Page.{Page}
 use Rattle.fa_batch.specs.Batch.{AreFine, Entry, holds, is_among, times_named}
 use Rattle.fa_batch.specs.Certificate.{AreNamed, AreTheHolders, holds_any, open_places}
-use Rattle.fa_cert_places.specs.Rooms.{AreRooms, marked}
+use Rattle.fa_cert_places.specs.OpenCounts.{AreOpenCounts, marked}
 use Rattle.fa_batch.proofs.Counting.{AllByRecursion-of, AllByRecursion-weaker, count-from-any, count_by-cons, count_by-le-on, sum_by-add, sum_by-le-on}
 use Rattle.fa_cert.proofs.Marked.{are_the_holders, shows_iff, sum_by-same_counts}
 use Rattle.fa_plan_search.specs.declared.walk.Walk.{Walk}
@@ -118,8 +118,8 @@ loads_within marks dies once (d ∷ given) =
     let few = once d.0 in
     omega (arith, rest, split, le, parts, turn, few)
 
-module _ (batch : List Entry) (given : List Die) (w : Walk) (rooms : List ℕ) (pages : List Page) (once : (page : ℕ) → times_named batch page ≤ 1)
-    (tables : length w.seen ≡ 256) (end : IsAtItsEnd batch given rooms w) (are : AreReached batch given w pages) where
+module _ (batch : List Entry) (given : List Die) (w : Walk) (open_counts : List ℕ) (pages : List Page) (once : (page : ℕ) → times_named batch page ≤ 1)
+    (tables : length w.seen ≡ 256) (end : IsAtItsEnd batch given open_counts w) (are : AreReached batch given w pages) where
   -- the walk reached each die that holds a page that it reached
   holder_is_reached : (die : ℕ) → holds_any batch pages die ≡ true → has_reached w die ≡ true
   holder_is_reached die some =
@@ -131,15 +131,15 @@ module _ (batch : List Entry) (given : List Die) (w : Walk) (rooms : List ℕ) (
       pages (recursion_from_All (IsReachedPage batch given w) pages are.each)) some
 
   -- so their open places are as many as the pages that they read, and one page more was reached
-  pub reached_are_too_many : (current : ℕ) (closed : ℕ → ℕ → Bool) (rounds : ℕ) → AreRooms current closed rounds rooms → AreTooFew batch current closed rounds pages
-  reached_are_too_many current closed rounds are_rooms dies whose =
+  pub reached_are_too_many : (current : ℕ) (closed : ℕ → ℕ → Bool) (rounds : ℕ) → AreOpenCounts current closed rounds open_counts → AreTooFew batch current closed rounds pages
+  reached_are_too_many current closed rounds are_open_counts dies whose =
       let full = sum_by-le-on (λ die. open_among current closed die rounds) (load_of given) dies
       (of_each (λ die. open_among current closed die rounds ≤ load_of given die) dies (λ die some.
       let mark : (b : Bool) → holds_any batch pages die ≡ b → 1 ≤ cond b 1 0 → holds_any batch pages die ≡ true =
       λ b. elim b as (λ v. holds_any batch pages die ≡ v → 1 ≤ cond v 1 0 → holds_any batch pages die ≡ true) [ true ↦ λ e _. e | false ↦ λ _ wrong. absurd (omega (arith, wrong)) ] in
       let held = mark (holds_any batch pages die) refl (let is = whose die in omega (arith, some, is)) in
       let there = holder_is_reached die held in
-      let room = are_rooms die (let known = reached_is_known w die there in omega (arith, known, tables)) in
+      let room = are_open_counts die (let known = reached_is_known w die there in omega (arith, known, tables)) in
       let most = end.full die there in
       omega (arith, room, most))) in
       let loads = loads_within (has_reached w) dies (λ die.

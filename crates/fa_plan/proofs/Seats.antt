@@ -18,11 +18,11 @@ use Rattle.fa_batch.specs.declared.plan.Place.{Place}
 use Rattle.fa_batch.proofs.Counting.{AllByRecursion-weaker, count_by-cons, count-from-any}
 use Rattle.fa_cert.proofs.Shortages.{no_fewer}
 use Rattle.fa_plan.specs.declared.layout.Seat.{Seat}
-use Rattle.fa_cert_places.specs.Rooms.{AreRooms}
+use Rattle.fa_cert_places.specs.OpenCounts.{AreOpenCounts}
 use Rattle.fa_plan_search.specs.Pages.{pages_of}
 use Rattle.fa_plan.specs.Layout.{AreRising, IsInTurn, IsLaidOut, is_at_die, seat_of}
 use Rattle.fa_plan.specs.Progress.{AreSeats}
-use Rattle.fa_plan.specs.Giving.{AreReaders, AreWithinRooms}
+use Rattle.fa_plan.specs.Giving.{AreReaders, AreWithinOpenCounts}
 use Rattle.fa_plan_search.specs.Reading.{die_of, load_of, no_die, no_entry}
 use Rattle.fa_plan.proofs.Bounds.{open_grows}
 use Rattle.fa_plan.proofs.Reached.{holds_if_reads, is_named_at, times_of_pages}
@@ -147,14 +147,14 @@ module _ (batch : List Entry) (given : List Die) (listed seats : List Seat) (are
     rounds_within rounds [] all = omega arith
     rounds_within rounds (x ∷ xs) all = let rest = rounds_within rounds xs all.1 in let here : x.round.0 + 1 - current ≤ rounds = all.0 in omega (arith, rest, here)
 
-    pub is_certificate : IsSound batch → AreReaders batch given → length given ≡ length batch → (rooms : List ℕ) (number : ℕ) (pages : List Page)
-        → AreWithinRooms given rooms → AreRooms current closed number rooms → ShowsNoFewer batch current closed number pages → IsCertificate batch current closed number places pages
-    is_certificate sound readers all rooms number pages within are_rooms shows =
+    pub is_certificate : IsSound batch → AreReaders batch given → length given ≡ length batch → (open_counts : List ℕ) (number : ℕ) (pages : List Page)
+        → AreWithinOpenCounts given open_counts → AreOpenCounts current closed number open_counts → ShowsNoFewer batch current closed number pages → IsCertificate batch current closed number places pages
+    is_certificate sound readers all open_counts number pages within are_open_counts shows =
         let plan = is_plan sound readers all in
         let low = no_fewer batch current closed number pages shows places plan in
         let high = rounds_within number places (in_rounds number (λ x known.
         let load = load_here x.die.0 in
         let fits = within x.die.0 known in
-        let room = are_rooms x.die.0 known in
+        let room = are_open_counts x.die.0 known in
         omega (arith, load, fits, room))) in
         record { plan = plan; length_is = omega (arith, low, high); least = shows }

@@ -2,7 +2,7 @@
 use Rattle.std.specs.Prelude.{◌≡◌, ℕ, ◌+◌, ◌-◌, ◌<◌, ◌≤◌, Bool, true, false, List, length, slice_index_or}
 use Rattle.fa_batch.specs.Batch.{Entry}
 use Rattle.fa_batch.specs.Certificate.{AreTheHolders, open_places}
-use Rattle.fa_cert_places.specs.Rooms.{marked}
+use Rattle.fa_cert_places.specs.OpenCounts.{marked}
 use Rattle.fa_plan_search.specs.Pages.{pages_of}
 
 -- The simple bound: the least number of rounds in which the dies that hold any of the pages have as many open places

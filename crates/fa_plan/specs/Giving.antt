@@ -12,8 +12,8 @@ abbrev pub AreReaders : List Entry → List Die → Type 0
 AreReaders batch given = (page : ℕ) → page < length given → can_read batch page (die_of given page) ≡ true
 
 -- no die has more pages than it has room for
-abbrev pub AreWithinRooms : List Die → List ℕ → Type 0
-AreWithinRooms given rooms = (die : ℕ) → die < 256 → load_of given die ≤ slice_index rooms die
+abbrev pub AreWithinOpenCounts : List Die → List ℕ → Type 0
+AreWithinOpenCounts given open_counts = (die : ℕ) → die < 256 → load_of given die ≤ slice_index open_counts die
 
 -- pages were given dies that hold them, none more than it has room for
 pub record AreGiven (batch : List Entry) (given : List Die) (tables : Tables) : Type 0 where
@@ -21,7 +21,7 @@ pub record AreGiven (batch : List Entry) (given : List Die) (tables : Tables) : 
   pub long : length tables.loads ≡ 256
   pub readers : AreReaders batch given
   pub loads : AreLoads given tables.loads
-  pub within : AreWithinRooms given tables.rooms
+  pub within : AreWithinOpenCounts given tables.open_counts
 
 -- Pages were handed on along a way from its end up to a page, which wants this die: the rest of the way is as it was, and each
 -- die has as many pages as it began with, but for a free one and this one.

@@ -7,7 +7,7 @@ use Rattle.fa_plan.specs.declared.layout.Seat.{Seat}
 use Rattle.fa_plan.specs.declared.planner.Progress.{Progress}
 use Rattle.fa_plan.specs.Bound.{IsSimpleBound}
 use Rattle.fa_plan.specs.Giving.{AreGiven}
-use Rattle.fa_cert_places.specs.Rooms.{AreRooms}
+use Rattle.fa_cert_places.specs.OpenCounts.{AreOpenCounts}
 use Rattle.fa_plan_search.specs.Pages.{pages_of}
 
 -- the pages of a batch with the dies that they were given
@@ -22,7 +22,7 @@ module _ {A : Type 0} where
 
   pub record IsProgress (batch : List Entry) (current : ℕ) (closed : ℕ → ℕ → Bool) (p : Progress A) : Type 0 where
     pub given : AreGiven batch p.given.items p.tables
-    pub rooms : AreRooms current closed p.rounds p.tables.rooms
+    pub open_counts : AreOpenCounts current closed p.rounds p.tables.open_counts
     pub limit : p.rounds ≤ length batch + 1048576
     pub shows : ShowsNoFewer batch current closed p.rounds p.short
     pub few : (first : ℕ) → IsSimpleBound batch current closed first → p.searches + first ≤ length p.given.items + p.rounds

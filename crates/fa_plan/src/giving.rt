@@ -22,10 +22,10 @@ pub(crate) fn give<A: Allocator>(
     ensures walk { IfOk result (λ is_given. IsWalk batch.now given.old.items walk.new) }
     ensures given { IfOk result (λ is_given. is_given ≡ true → AreGiven batch.now given.new.items tables.new) }
     ensures longer { IfOk result (λ is_given. is_given ≡ true → length given.new.items ≡ length given.old.items + 1) }
-    ensures rooms { IfOk result (λ is_given. tables.new.rooms ≡ tables.old.rooms) }
+    ensures open_counts { IfOk result (λ is_given. tables.new.open_counts ≡ tables.old.open_counts) }
     ensures same { IfOk result (λ is_given. is_given ≡ false → given.new.items ≡ given.old.items) }
     ensures loads { IfOk result (λ is_given. is_given ≡ false → tables.new.loads ≡ tables.old.loads) }
-    ensures end { IfOk result (λ is_given. is_given ≡ false → IsAtItsEnd batch.now given.old.items tables.old.rooms walk.new) }
+    ensures end { IfOk result (λ is_given. is_given ≡ false → IsAtItsEnd batch.now given.old.items tables.old.open_counts walk.new) }
 {
     let Some(free) = search(walk, batch, given.as_slice(), tables) else {
         return Ok(false);

@@ -15,7 +15,7 @@ use crate::layout::{Seat, lay_out};
 use crate::shortage::rounds_for;
 use crate::workspace::Workspace;
 use fa_batch::{Batch, Plan, Shortage};
-use fa_cert_places::count_rooms;
+use fa_cert_places::count_open;
 use fa_plan_search::{Tables, Walk, all_pages, reached_pages};
 use fa_types::{Die, Rounds};
 use std::alloc::{AllocError, Allocator, Global};
@@ -123,7 +123,7 @@ fn begin<R: Rounds, A: Allocator + Copy>(
     let given = workspace.take_dies(alloc, batch.len())?;
     let tables = Tables {
         loads: [0; 256],
-        rooms: count_rooms(calendar, rounds),
+        open_counts: count_open(calendar, rounds),
     };
     Ok(Progress {
         given,
@@ -162,7 +162,7 @@ fn step<R: Rounds, A: Allocator + Copy>(
     if !is_given {
         let pages = reached_pages(alloc, batch, progress.given.as_slice(), &progress.walk)?;
         progress.rounds = rounds_for(batch, calendar, pages.as_slice(), progress.rounds);
-        progress.tables.rooms = count_rooms(calendar, progress.rounds);
+        progress.tables.open_counts = count_open(calendar, progress.rounds);
         progress.short = pages;
     }
     Ok(())

@@ -131,9 +131,9 @@ module _ (batch : List Entry) (given : List Die) (w : Walk) (is : IsWalk batch g
           omega (arith, both, was, few);
     }
 
-    pub added_is_full : (rooms : List ℕ) → AreFull given rooms w → get_or rooms die 0 ≤ load_of given die → AreFull given rooms (with_die w die page looks)
-    added_is_full rooms full here = λ x so. elim (cases_eq x die) [
-      | inl same ↦ subst (λ n. get_or rooms n 0 ≤ load_of given n) (sym same) here
+    pub added_is_full : (open_counts : List ℕ) → AreFull given open_counts w → get_or open_counts die 0 ≤ load_of given die → AreFull given open_counts (with_die w die page looks)
+    added_is_full open_counts full here = λ x so. elim (cases_eq x die) [
+      | inl same ↦ subst (λ n. get_or open_counts n 0 ≤ load_of given n) (sym same) here
       | inr other ↦ full x (sym (get_or-set_other w.seen die x true false other) ∙ so)
     ]
 
@@ -150,8 +150,8 @@ begun_is_walk batch given w seen count looks order rank via =
       looks = omega (arith, looks);
     }
 
-pub begun_is_full : (given : List Die) (rooms : List ℕ) (w : Walk) → w.seen ≡ replicate 256 false → AreFull given rooms w
-begun_is_full given rooms w seen = λ die so. (let no = ap (λ s. get_or s die false) seen ∙ get_or-replicate_default 256 die false in let wrong : ⊥ = cc in absurd wrong)
+pub begun_is_full : (given : List Die) (open_counts : List ℕ) (w : Walk) → w.seen ≡ replicate 256 false → AreFull given open_counts w
+begun_is_full given open_counts w seen = λ die so. (let no = ap (λ s. get_or s die false) seen ∙ get_or-replicate_default 256 die false in let wrong : ⊥ = cc in absurd wrong)
 
 -- a walk goes on step by step
 pub then : (u v w : Walk) → GoesOn u v → GoesOn v w → GoesOn u w

@@ -47,7 +47,7 @@ pub record IsWalk (batch : List Entry) (given : List Die) (w : Walk) : Type 0 wh
 
 -- the dies that a walk reached have no room
 abbrev pub AreFull : List Die → List ℕ → Walk → Type 0
-AreFull given rooms w = (die : ℕ) → has_reached w die ≡ true → slice_index rooms die ≤ load_of given die
+AreFull given open_counts w = (die : ℕ) → has_reached w die ≡ true → slice_index open_counts die ≤ load_of given die
 
 -- a walk reached each die that holds a page
 abbrev pub IsFollowed : List Entry → Walk → ℕ → Type 0
@@ -60,9 +60,9 @@ pub record GoesOn (before after : Walk) : Type 0 where
   pub longer : before.count ≤ after.count
 
 -- a walk found a die with room
-pub record HasFound (given : List Die) (rooms : List ℕ) (w : Walk) (die : ℕ) : Type 0 where
+pub record HasFound (given : List Die) (open_counts : List ℕ) (w : Walk) (die : ℕ) : Type 0 where
   pub reached : has_reached w die ≡ true
-  pub room : load_of given die < slice_index rooms die
+  pub room : load_of given die < slice_index open_counts die
 
 -- a search is under way: a page wants a die, and no die that the walk reached has room
 pub record IsSearching (batch : List Entry) (given : List Die) (tables : Tables) (w : Walk) : Type 0 where
@@ -70,20 +70,20 @@ pub record IsSearching (batch : List Entry) (given : List Die) (tables : Tables)
   pub next : length given < length batch
   pub loads : AreLoads given tables.loads
   pub walk : IsWalk batch given w
-  pub full : AreFull given tables.rooms w
+  pub full : AreFull given tables.open_counts w
 
 -- a walk went on and found a die with room, or else what was to be followed is followed
 pub record HasGoneOn (batch : List Entry) (given : List Die) (tables : Tables) (before after : Walk) (free : Option Die)
     (AreFollowed : Type 0) : Type 0 where
   pub walk : IsWalk batch given after
   pub goes : GoesOn before after
-  pub found : IfSome free (λ die. HasFound given tables.rooms after die.0)
-  pub full : IfNone free (AreFull given tables.rooms after)
+  pub found : IfSome free (λ die. HasFound given tables.open_counts after die.0)
+  pub full : IfNone free (AreFull given tables.open_counts after)
   pub followed : IfNone free AreFollowed
 
 -- a walk cannot go on and found no room
-pub record IsAtItsEnd (batch : List Entry) (given : List Die) (rooms : List ℕ) (w : Walk) : Type 0 where
-  pub full : AreFull given rooms w
+pub record IsAtItsEnd (batch : List Entry) (given : List Die) (open_counts : List ℕ) (w : Walk) : Type 0 where
+  pub full : AreFull given open_counts w
   pub followed : (page : ℕ) → IsReached given w page → IsFollowed batch w page
 
 -- a walk that comes to a die by a page, with so many more looks

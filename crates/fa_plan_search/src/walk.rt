@@ -32,7 +32,7 @@ pub struct Tables {
     /// How many pages each die reads.
     pub loads: [u64; 256],
     /// How many pages each die has room for.
-    pub rooms: [u64; 256],
+    pub open_counts: [u64; 256],
 }
 
 impl Walk {
@@ -90,8 +90,8 @@ pub fn search<A: Allocator>(
     requires next { length given.now < length batch.now }
     requires loads { AreLoads given.now tables.now.loads }
     ensures walk { IsWalk batch.now given.now walk.new }
-    ensures found { IfSome result (λ die. HasFound given.now tables.now.rooms walk.new die.0) }
-    ensures none { IfNone result (IsAtItsEnd batch.now given.now tables.now.rooms walk.new) }
+    ensures found { IfSome result (λ die. HasFound given.now tables.now.open_counts walk.new die.0) }
+    ensures none { IfNone result (IsAtItsEnd batch.now given.now tables.now.open_counts walk.new) }
 {
     walk.begin();
     let first = follow(walk, batch, given, tables, given.len());
@@ -150,7 +150,7 @@ fn follow<A: Allocator>(
         let number = die.0 as usize;
         if !walk.seen[number] {
             let load = tables.loads[number];
-            if load < tables.rooms[number] {
+            if load < tables.open_counts[number] {
                 walk.add(*die, page, 0);
                 return Some(*die);
             }

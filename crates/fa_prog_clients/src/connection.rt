@@ -24,15 +24,15 @@ const HELD_BYTES: usize = 65_536;
 
 /// Memory for a connection. It is made before the session's thread is started.
 #[derive(Drop)]
-pub(crate) struct ConnectionRoom {
+pub(crate) struct ConnectionMemory {
     ahead: Vec<u8>,
     held: Vec<u8>,
 }
 
-impl ConnectionRoom {
+impl ConnectionMemory {
     /// Memory for both sides. The error is out of memory.
-    pub(crate) fn new(global: Global) -> Result<ConnectionRoom, AllocError> {
-        Ok(ConnectionRoom {
+    pub(crate) fn new(global: Global) -> Result<ConnectionMemory, AllocError> {
+        Ok(ConnectionMemory {
             ahead: vec![in global; 0u8; AHEAD_BYTES]?,
             held: Vec::with_capacity(global, HELD_BYTES)?,
         })
@@ -43,20 +43,20 @@ impl ConnectionRoom {
 #[derive(Drop)]
 pub(crate) struct Connection {
     ahead: Ahead,
-    held: Held,
+    held: HeldReplies,
 }
 
 impl Connection {
     /// A connection in this memory.
-    pub(crate) fn new(room: ConnectionRoom) -> Connection {
-        let ConnectionRoom { ahead, held } = room;
+    pub(crate) fn new(memory: ConnectionMemory) -> Connection {
+        let ConnectionMemory { ahead, held } = memory;
         Connection {
             ahead: Ahead {
                 bytes: ahead,
                 from: 0,
                 to: 0,
             },
-            held: Held {
+            held: HeldReplies {
                 replies: RefCell::new(held),
                 has_last_word: Cell::new(false),
             },
@@ -155,14 +155,14 @@ fn has_passed<R: Clock>(rt: &R, start: Instant) -> bool {
 
 /// Replies that were not sent yet.
 #[derive(Drop)]
-struct Held {
+struct HeldReplies {
     // Both sides of a connection use it, and never at once.
     replies: RefCell<Vec<u8>>,
     // The session has said something since it used what the client said.
     has_last_word: Cell<bool>,
 }
 
-impl Held {
+impl HeldReplies {
     /// None is held.
     fn clear(&self) {
         if let Ok(mut replies) = self.replies.try_borrow_mut() {
@@ -214,7 +214,7 @@ pub(crate) struct RequestReader<'a, R: Clock> {
     accept_queue: &'a AcceptQueue,
     stream: &'a TcpStream,
     ahead: &'a mut Ahead,
-    held: &'a Held,
+    held: &'a HeldReplies,
     // The client has said something.
     has_heard: bool,
 }
@@ -265,7 +265,7 @@ fn is_timeout(kind: ErrorKind) -> bool {
 #[derive(Drop)]
 pub(crate) struct ReplyWriter<'a> {
     stream: &'a TcpStream,
-    held: &'a Held,
+    held: &'a HeldReplies,
 }
 
 impl<'a> Write for ReplyWriter<'a> {

@@ -1,6 +1,6 @@
 //! A session of the server: it serves one client after another.
 use crate::accept_queue::AcceptQueue;
-use crate::connection::{Connection, ConnectionRoom};
+use crate::connection::{Connection, ConnectionMemory};
 use crate::export::Export;
 use crate::host::Networked;
 use crate::socket::prepare;
@@ -11,7 +11,7 @@ use fa_session::{SessionEnd, serve_stream};
 use fa_shared::{Hands, Seat, Shared};
 use fa_shared_store::ArrayBlocks;
 use fa_types::Blocks;
-use fa_workers::{Helper, HelperRoom, ImageTable, Open};
+use fa_workers::{Helper, HelperMemory, ImageTable, Open};
 use std::alloc::{AllocError, Global};
 use std::io::Write;
 use std::net::{SocketAddr, TcpStream};
@@ -23,9 +23,9 @@ pub struct Session<'a, L: Ledger + Send> {
     service: Service<'a>,
     seat: Seat<L>,
     // Memory for the jobs that it makes of dies while its requests wait.
-    room: HelperRoom,
+    memory: HelperMemory,
     // Memory for what its clients say and are told.
-    connection: ConnectionRoom,
+    connection: ConnectionMemory,
 }
 
 impl<'a, L: Ledger + Send> Session<'a, L> {
@@ -37,12 +37,12 @@ impl<'a, L: Ledger + Send> Session<'a, L> {
         seat: Seat<L>,
         page_bytes: u32,
     ) -> Result<Session<'a, L>, AllocError> {
-        let room = HelperRoom::new(global, page_bytes)?;
-        let connection = ConnectionRoom::new(global)?;
+        let memory = HelperMemory::new(global, page_bytes)?;
+        let connection = ConnectionMemory::new(global)?;
         Ok(Session {
             service,
             seat,
-            room,
+            memory,
             connection,
         })
     }
@@ -71,10 +71,10 @@ pub fn serve_clients<R: Networked, L: Ledger + Send, M: Map + Drop, I: Image + S
     let Session {
         service,
         seat,
-        room,
+        memory,
         connection,
     } = session;
-    let helper = Helper::new(rt, rt.alloc(), shared, image_table, &Open, room);
+    let helper = Helper::new(rt, rt.alloc(), shared, image_table, &Open, memory);
     serve_with(rt, accept_queue, shared, service, connection, seat, helper)
 }
 
@@ -85,7 +85,7 @@ fn serve_with<R: Networked, L: Ledger + Send, M: Map + Drop, H: Hands<L, M, Glob
     accept_queue: &AcceptQueue,
     shared: &Shared<L, M>,
     service: Service<'_>,
-    connection: ConnectionRoom,
+    connection: ConnectionMemory,
     seat: Seat<L>,
     hands: H,
 ) -> Seat<L> {

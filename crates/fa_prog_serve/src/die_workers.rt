@@ -6,7 +6,7 @@ use fa_mount_headers::Standing;
 use fa_prog_clients::Networked;
 use fa_shared::{Seat, Shared};
 use fa_types::Die;
-use fa_workers::{ImageTable, Open, Room, collector_worker, die_worker, rebuild_worker};
+use fa_workers::{ImageTable, JobMemory, Open, collector_worker, die_worker, rebuild_worker};
 use std::alloc::AllocError;
 use std::sync::ledger::Ledger;
 
@@ -15,7 +15,7 @@ use std::sync::ledger::Ledger;
 pub(crate) struct DieTask<L: Ledger + Send> {
     die: Die,
     seat: Seat<L>,
-    room: Room,
+    memory: JobMemory,
 }
 
 /// The tasks of all dies, and the places of all images.
@@ -59,7 +59,7 @@ pub(crate) fn die_workers_of<R: Networked, L: Ledger + Send, M: Map + Drop, I: I
             tasks.push(DieTask {
                 die: die_of(number),
                 seat: shared.seat(rt).ok_or(AllocError)?,
-                room: Room::new(rt.alloc(), page_bytes)?,
+                memory: JobMemory::new(rt.alloc(), page_bytes)?,
             })?;
         }
         manned.push(image)?;
@@ -113,7 +113,7 @@ pub(crate) fn work_die<R: Networked, L: Ledger + Send, M: Map + Drop, I: Image +
     let DieTask {
         die,
         mut seat,
-        room,
+        memory,
     } = task;
     die_worker(
         rt,
@@ -122,7 +122,7 @@ pub(crate) fn work_die<R: Networked, L: Ledger + Send, M: Map + Drop, I: Image +
         &mut seat,
         die,
         image_table,
-        room,
+        memory,
         &Open,
     );
     seat
@@ -154,7 +154,7 @@ pub(crate) fn rebuild<R: Networked, L: Ledger + Send, M: Map + Drop>(
 pub(crate) struct Places<I: Drop> {
     /// The images that were laid back.
     laid: Vec<Option<I>>,
-    /// Room for all of them.
+    /// Memory for all of them.
     images: Vec<I>,
 }
 

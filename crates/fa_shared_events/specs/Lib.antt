@@ -1,2 +1,2 @@
 pub mod Accounts
-pub mod Held
+pub mod Rest

@@ -4,7 +4,7 @@ ghost use Rattle.fa_machine.specs.Conditions.{history_full};
 ghost use Rattle.fa_machine.specs.Step.{FlushBegin, FlushState as StateFlush, Fold, Step};
 ghost use Rattle.fa_shared.specs.Seats.{commits_with};
 ghost use Rattle.fa_shared_events.specs.Accounts.{IsAccounted};
-ghost use Rattle.fa_shared_events.specs.Held.{Folds, LeavesRest};
+ghost use Rattle.fa_shared_events.specs.Rest.{Folds, LeavesRest};
 
 use crate::making::make;
 use fa_core::{Answer, Call};

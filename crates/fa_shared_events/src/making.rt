@@ -3,7 +3,7 @@ ghost use Rattle.std.specs.Prelude.{◌≡◌};
 ghost use Rattle.fa_core.specs.Calls.{FitsAnswer, Makes};
 ghost use Rattle.fa_shared.specs.Seats.{commits_with, number_of};
 ghost use Rattle.fa_shared_events.specs.Accounts.{IsAccounted};
-ghost use Rattle.fa_shared_events.specs.Held.{IsNoCommit, LeavesRest};
+ghost use Rattle.fa_shared_events.specs.Rest.{IsNoCommit, LeavesRest};
 
 use fa_core::{Answer, Call};
 use fa_map::Map;

@@ -6,7 +6,7 @@ ghost use Rattle.fa_machine.specs.Conditions.{batch_open};
 ghost use Rattle.fa_machine.specs.Step.{Admit, EndBatch, Replan, Step, is_distinct, is_page};
 ghost use Rattle.fa_shared.specs.Seats.{commits_with};
 ghost use Rattle.fa_shared_events.specs.Accounts.{IsAccounted};
-ghost use Rattle.fa_shared_events.specs.Held.{LeavesRest};
+ghost use Rattle.fa_shared_events.specs.Rest.{LeavesRest};
 
 use crate::making::make;
 use fa_core::{Answer, Call, Planned};

@@ -4,7 +4,7 @@ ghost use Rattle.fa_machine.specs.Conditions.{copy_open};
 ghost use Rattle.fa_machine.specs.Step.{Advance, CommitCopy, ReserveCopy, SpareIn, Step, Window, is_die, is_page, is_sized};
 ghost use Rattle.fa_shared.specs.Seats.{commits_with};
 ghost use Rattle.fa_shared_events.specs.Accounts.{IsAccounted};
-ghost use Rattle.fa_shared_events.specs.Held.{LeavesRest};
+ghost use Rattle.fa_shared_events.specs.Rest.{LeavesRest};
 
 use crate::making::make;
 use fa_core::{Answer, Call};

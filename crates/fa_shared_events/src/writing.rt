@@ -5,7 +5,7 @@ ghost use Rattle.fa_machine.specs.Step.{Step, is_page, is_sized};
 ghost use Rattle.fa_machine.specs.Step.{Abandon, Claim, Commit, Release, Reserve, ReserveFewer, ReserveHole};
 ghost use Rattle.fa_shared.specs.Seats.{commits_with, number_of};
 ghost use Rattle.fa_shared_events.specs.Accounts.{IsAccounted, commits_in};
-ghost use Rattle.fa_shared_events.specs.Held.{LeavesRest};
+ghost use Rattle.fa_shared_events.specs.Rest.{LeavesRest};
 
 use crate::making::make;
 use fa_core::{Answer, Call};

@@ -11,7 +11,7 @@ use Rattle.fa_machine.specs.declared.ids.Block.{Block}
 use Rattle.fa_machine.specs.declared.refusals.ReserveRefused.{ReserveRefused}
 use Rattle.fa_machine.specs.declared.refusals.ReserveRefused.TheVariants.{NoRoom}
 use Rattle.fa_shared_request.specs.Founded.{IsFounded, may_collect, may_free}
-use Rattle.fa_shared_steps.specs.declared.stage.Held.{Held}
+use Rattle.fa_shared_steps.specs.declared.stage.PageClaim.{PageClaim}
 use Rattle.fa_shared_steps.specs.declared.stage.Stage.{Stage}
 use Rattle.fa_shared_steps.specs.declared.stage.Stage.TheVariants.{Releasing, Reserving}
 use Rattle.fa_shared_steps.specs.declared.stage.Wish.TheVariants.{Fewer}
@@ -48,7 +48,7 @@ spared_may_not m die o is none =
     and_right (is_live m die && not (has_room m die)) (is_some (victim m die)) (ap is_some (sym is) ∙ some_block o ∙ none)
 
 -- A write on fewer dies is refused for want of room where it was asked before whether it may get room.
-pub founded_fewer : {A : Type 0} (core : Core) (held : Held) (payload : List ℕ) (claim : ℕ) (bytes : List ℕ)
+pub founded_fewer : {A : Type 0} (core : Core) (held : PageClaim) (payload : List ℕ) (claim : ℕ) (bytes : List ℕ)
     (answer : Result Seq ReserveRefused) (waits : Bool) (next : Stage A) → (waits ≡ false → may_collect core.page_map ≡ false)
     → (answer ≡ Err NoRoom → waits ≡ true → next ≡ Reserving held (Fewer payload))
     → IsFounded core (Reserving held (Fewer payload)) (ReserveFewer claim bytes answer) next

@@ -13,7 +13,7 @@ use Rattle.fa_shared_request.specs.Moves.{Turned, Moved, Rested, Strayed}
 use Rattle.fa_shared_request.specs.Ops.{OpView, stage_of, task_in}
 use Rattle.fa_shared_steps.specs.Stages.{stopped}
 use Rattle.fa_shared_steps.specs.declared.request.Task.{Task}
-use Rattle.fa_shared_steps.specs.declared.stage.Held.{Held}
+use Rattle.fa_shared_steps.specs.declared.stage.PageClaim.{PageClaim}
 use Rattle.fa_shared_steps.specs.declared.stage.Purpose.{Purpose}
 use Rattle.fa_shared_steps.specs.declared.stage.Stage.{Stage}
 use Rattle.fa_shared_steps.specs.declared.stage.Stage.TheVariants.{Leaving, Releasing}
@@ -54,7 +54,7 @@ left t before after old new purpose batch fault next told (Some a) some none kep
 left t before after old new purpose batch fault next told None some none kept e = Strayed (none.1) kept (none.0, e) tt
 
 -- what is reserved is given up before the page is released, or it was not reserved
-pub gave_up : {L A X : Type 0} (t : Task) (before after : Seat L) (old new : Core) (held : Held) (fault : Option BlockFault)
+pub gave_up : {L A X : Type 0} (t : Task) (before after : Seat L) (old new : Core) (held : PageClaim) (fault : Option BlockFault)
     (told : X → Result (Unit {0}) AbandonRefused) (answer : Option X) → IfSome answer (λ a. Step old (Abandon held.claim.0 (told a)) new)
     → IfNone answer ((is_reserved old held.claim.0 ≡ false) × (new ≡ old)) → commits_with after ≡ commits_with before
     → Turned {A = A} t before after old (Releasing held fault) new (Releasing held fault)

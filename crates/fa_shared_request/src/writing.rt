@@ -12,7 +12,9 @@ use fa_shared::{Locked, Seat};
 use fa_shared_events::{
     abandon, claim, commit, fold, release, reserve, reserve_fewer, reserve_hole,
 };
-use fa_shared_steps::{Held, Stage, Task, Wish, abandoned, claimed, committed, released, reserved};
+use fa_shared_steps::{
+    PageClaim, Stage, Task, Wish, abandoned, claimed, committed, released, reserved,
+};
 use fa_tag::Payload;
 use fa_types::{BlockFault, Page};
 use std::alloc::Allocator;
@@ -41,7 +43,7 @@ pub(crate) fn reserve_wish<L: Ledger, M: Map + Drop, A: Allocator + Copy>(
     alloc: A,
     locked: &mut Locked<L, M, A>,
     seat: &mut Seat<L>,
-    held: Held,
+    held: PageClaim,
     wish: Wish<A>,
 ) -> Stage<A>
     ensures turned { (t : Task) → Turned t seat.old seat.new locked.old.core (Reserving held wish) locked.new.core result }
@@ -58,7 +60,7 @@ pub(crate) fn reserve_wish<L: Ledger, M: Map + Drop, A: Allocator + Copy>(
 fn reserve_data<L: Ledger, M: Map + Drop, A: Allocator + Copy>(
     locked: &mut Locked<L, M, A>,
     seat: &mut Seat<L>,
-    held: Held,
+    held: PageClaim,
     payload: Payload<A>,
 ) -> Stage<A>
     ensures turned { (t : Task) → Turned t seat.old seat.new locked.old.core (Reserving held (Wish.Data payload)) locked.new.core result }
@@ -75,7 +77,7 @@ fn reserve_data<L: Ledger, M: Map + Drop, A: Allocator + Copy>(
 fn reserve_on_fewer<L: Ledger, M: Map + Drop, A: Allocator + Copy>(
     locked: &mut Locked<L, M, A>,
     seat: &mut Seat<L>,
-    held: Held,
+    held: PageClaim,
     payload: Payload<A>,
 ) -> Stage<A>
     ensures turned { (t : Task) → Turned t seat.old seat.new locked.old.core (Reserving held (Wish.Fewer payload)) locked.new.core result }
@@ -93,7 +95,7 @@ fn reserve_no_data<L: Ledger, M: Map + Drop, A: Allocator + Copy>(
     alloc: A,
     locked: &mut Locked<L, M, A>,
     seat: &mut Seat<L>,
-    held: Held,
+    held: PageClaim,
 ) -> Stage<A>
     ensures turned { (t : Task) → Turned t seat.old seat.new locked.old.core (Reserving held Wish.Hole) locked.new.core result }
     ensures account { IsAccounted locked.old seat.old locked.new seat.new }
@@ -110,7 +112,7 @@ pub(crate) fn commit_wish<L: Ledger, M: Map + Drop, A: Allocator + Copy>(
     alloc: A,
     locked: &mut Locked<L, M, A>,
     seat: &mut Seat<L>,
-    held: Held,
+    held: PageClaim,
     wish: Wish<A>,
 ) -> Stage<A>
     ensures turned { (t : Task) → Turned t seat.old seat.new locked.old.core (Committing held wish) locked.new.core result }
@@ -131,7 +133,7 @@ fn commit_now<L: Ledger, M: Map + Drop, A: Allocator + Copy>(
     alloc: A,
     locked: &mut Locked<L, M, A>,
     seat: &mut Seat<L>,
-    held: Held,
+    held: PageClaim,
     wish: Wish<A>,
 ) -> Stage<A>
     requires { history_full locked.old.core ≡ false }
@@ -149,7 +151,7 @@ fn commit_folded<L: Ledger, M: Map + Drop, A: Allocator + Copy>(
     alloc: A,
     locked: &mut Locked<L, M, A>,
     seat: &mut Seat<L>,
-    held: Held,
+    held: PageClaim,
     wish: Wish<A>,
 ) -> Stage<A>
     requires full { history_full locked.old.core ≡ true }
@@ -169,7 +171,7 @@ pub(crate) fn abandon_wish<L: Ledger, M: Map + Drop, A: Allocator + Copy>(
     alloc: A,
     locked: &mut Locked<L, M, A>,
     seat: &mut Seat<L>,
-    held: Held,
+    held: PageClaim,
     wish: Wish<A>,
 ) -> Stage<A>
     ensures turned { (t : Task) → Turned t seat.old seat.new locked.old.core (Abandoning held wish) locked.new.core result }
@@ -187,7 +189,7 @@ pub(crate) fn release_page<L: Ledger, M: Map + Drop, A: Allocator + Copy>(
     locked: &mut Locked<L, M, A>,
     seat: &mut Seat<L>,
     task: Task,
-    held: Held,
+    held: PageClaim,
     fault: Option<BlockFault>,
 ) -> Stage<A>
     requires { IsRange task.range }
@@ -211,7 +213,7 @@ fn give_up<L: Ledger, M: Map + Drop, A: Allocator + Copy>(
     alloc: A,
     locked: &mut Locked<L, M, A>,
     seat: &mut Seat<L>,
-    held: Held,
+    held: PageClaim,
     fault: Option<BlockFault>,
 ) -> Stage<A>
     ensures turned { (t : Task) → Turned t seat.old seat.new locked.old.core (Releasing held fault) locked.new.core result }

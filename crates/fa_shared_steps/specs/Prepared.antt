@@ -8,7 +8,7 @@ use Rattle.fa_shared_steps.specs.declared.range.Range.{Range}
 use Rattle.fa_shared_steps.specs.declared.request.Fill.{Fill}
 use Rattle.fa_shared_steps.specs.declared.request.Fill.TheVariants.{Bytes, Holes}
 use Rattle.fa_shared_steps.specs.declared.request.Task.{Task}
-use Rattle.fa_shared_steps.specs.declared.stage.Held.{Held}
+use Rattle.fa_shared_steps.specs.declared.stage.PageClaim.{PageClaim}
 use Rattle.fa_shared_steps.specs.declared.stage.Purpose.{Purpose}
 use Rattle.fa_shared_steps.specs.declared.stage.Purpose.TheVariants.{Answer, Merge}
 use Rattle.fa_shared_steps.specs.declared.stage.Stage.{Stage}
@@ -58,13 +58,13 @@ module _ {A : Type 0} where
   IsWish t bytes page fewer (Fewer payload) = (fewer ≡ true) × (payload ≡ content t.fill t.range page bytes)
 
   -- What a page that is written whole is to hold, or no memory for it, or no bytes.
-  abbrev pub IsFilled : Task → List ℕ → Held → Bool → Stage A → Type 0
+  abbrev pub IsFilled : Task → List ℕ → PageClaim → Bool → Stage A → Type 0
   IsFilled t bytes held fewer (Reserving h wish) = (h ≡ held) × IsWish t bytes held.page.0 fewer wish
   IsFilled t bytes held fewer next = (next ≡ Releasing held (Some NoMemory))
       ⊎ ((has_content t.fill t.range held.page.0 bytes ≡ false) × (next ≡ Releasing held (Some Lost)))
 
   -- What a page that is written in part is to hold: the request's bytes over those that the page had.
-  abbrev pub IsMerged : Task → List ℕ → Held → List ℕ → Stage A → Type 0
+  abbrev pub IsMerged : Task → List ℕ → PageClaim → List ℕ → Stage A → Type 0
   IsMerged t bytes held given (Reserving h (Data payload)) =
       (h ≡ held) × (payload ≡ with_bytes (begins_at t.range held.page.0) (content t.fill t.range held.page.0 bytes) given)
   IsMerged t bytes held given next = (next ≡ Releasing held (Some NoMemory))
@@ -72,7 +72,7 @@ module _ {A : Type 0} where
       × (next ≡ Releasing held (Some Lost)))
 
   -- What a page is to hold behind a batch that gave this of it.
-  abbrev pub SortsPage : Task → List ℕ → Held → List (ℕ × List ℕ) → Stage A → Type 0
+  abbrev pub SortsPage : Task → List ℕ → PageClaim → List (ℕ × List ℕ) → Stage A → Type 0
   SortsPage t bytes held [] next = next ≡ Releasing held (Some Lost)
   SortsPage t bytes held (e ∷ rest) next = IsMerged t bytes held e.1 next
 

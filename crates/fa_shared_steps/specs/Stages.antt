@@ -21,7 +21,7 @@ use Rattle.fa_machine.specs.declared.refusals.ReserveRefused.TheVariants.{NoMemo
 use Rattle.fa_shared_steps.specs.Ranges.{covers, first_page, past_page}
 use Rattle.fa_shared_steps.specs.declared.request.Fill.{Fill}
 use Rattle.fa_shared_steps.specs.declared.request.Task.{Task}
-use Rattle.fa_shared_steps.specs.declared.stage.Held.{Held}
+use Rattle.fa_shared_steps.specs.declared.stage.PageClaim.{PageClaim}
 use Rattle.fa_shared_steps.specs.declared.stage.Purpose.{Purpose}
 use Rattle.fa_shared_steps.specs.declared.stage.Purpose.TheVariants.{Answer, Merge}
 use Rattle.fa_shared_steps.specs.declared.stage.Stage.{Stage}
@@ -57,7 +57,7 @@ module _ {A : Type 0} where
   beginning t = beginning_by t t.fill
 
   -- a page that is written in part is read first
-  abbrev pub opened : Task → Held → Stage A
+  abbrev pub opened : Task → PageClaim → Stage A
   opened t held = if covers t.range held.page.0 then Filling held false else Listing (Merge held)
 
   abbrev pub after_claim : Task → Page → Result ClaimId ClaimRefused → Stage A
@@ -82,29 +82,29 @@ module _ {A : Type 0} where
   IsSorting purpose answers stage = ⊥
 
   -- with fewer copies, where there is no room for as many as are asked for
-  abbrev pub with_fewer : Held → Wish A → Stage A
+  abbrev pub with_fewer : PageClaim → Wish A → Stage A
   with_fewer held (Data payload) = Reserving held (Fewer payload)
   with_fewer held (Fewer payload) = Releasing held (Some NoRoom)
   with_fewer held Hole = Filling held true
 
-  abbrev pub AfterReserve : Held → Wish A → Result Seq ReserveRefused → Stage A → Type 0
+  abbrev pub AfterReserve : PageClaim → Wish A → Result Seq ReserveRefused → Stage A → Type 0
   AfterReserve held wish (Ok seq) next = next ≡ Committing held wish
   AfterReserve held wish (Err ReserveNoRoom) next = (next ≡ with_fewer held wish) ⊎ (next ≡ Reserving held wish)
   AfterReserve held wish (Err ReserveNoDie) next = next ≡ Releasing held (Some Lost)
   AfterReserve held wish (Err NumbersSpent) next = next ≡ Releasing held (Some Spent)
   AfterReserve held wish (Err ReserveNoMemory) next = next ≡ Releasing held (Some NoMemory)
 
-  abbrev pub after_commit : Held → Wish A → Result Seq CommitRefused → Stage A
+  abbrev pub after_commit : PageClaim → Wish A → Result Seq CommitRefused → Stage A
   after_commit held wish (Ok seq) = Releasing held None
   after_commit held wish (Err CommitPending) = Committing held wish
   after_commit held wish (Err Failed) = Abandoning held wish
 
-  abbrev pub after_abandon : Held → Wish A → Result (Unit {0}) AbandonRefused → Stage A
+  abbrev pub after_abandon : PageClaim → Wish A → Result (Unit {0}) AbandonRefused → Stage A
   after_abandon held wish (Ok done) = Reserving held wish
   after_abandon held wish (Err AbandonPending) = Abandoning held wish
   after_abandon held wish (Err Programmed) = Committing held wish
 
-  abbrev pub after_release : Task → Held → Option BlockFault → Stage A
+  abbrev pub after_release : Task → PageClaim → Option BlockFault → Stage A
   after_release t held None = from_page t (held.page.0 + 1)
   after_release t held (Some fault) = Ended (Some fault)
 

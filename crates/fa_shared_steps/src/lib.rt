@@ -14,4 +14,4 @@ pub use page_list::PageList;
 pub use preparing::{content, fill_page, fill_with, fits, list, sort_page};
 pub use range::Range;
 pub use request::{Fill, Request, Task};
-pub use stage::{Held, Purpose, Stage, Wish};
+pub use stage::{PageClaim, Purpose, Stage, Wish};

@@ -6,7 +6,7 @@ ghost use Rattle.fa_shared_steps.specs.Stages.{after_pages as rule_after, from_p
 ghost use Rattle.fa_shared_steps.specs.declared.stage.Stage.TheVariants.{Reserving};
 
 use crate::request::Task;
-use crate::stage::{Held, Purpose, Stage, Wish};
+use crate::stage::{PageClaim, Purpose, Stage, Wish};
 use fa_machine::{
     AbandonRefused, ClaimId, ClaimRefused, CommitRefused, Flush, FlushRefused, FlushState,
     ReserveRefused,
@@ -66,7 +66,7 @@ fn from_page<A: Allocator>(task: Task, page: u64) -> Stage<A>
 }
 
 /// A page is claimed. One that is written in part is read first.
-fn opened<A: Allocator>(task: Task, held: Held) -> Stage<A>
+fn opened<A: Allocator>(task: Task, held: PageClaim) -> Stage<A>
     requires { IsRange task.range }
     ensures { result ≡ rule_opened task held }
 {
@@ -87,7 +87,7 @@ pub fn claimed<A: Allocator>(
     ensures { result ≡ after_claim task page answer }
 {
     match answer {
-        Ok(claim) => opened(task, Held { page, claim }),
+        Ok(claim) => opened(task, PageClaim { page, claim }),
         Err(ClaimRefused::Claimed) => Stage::Claiming(page),
         Err(ClaimRefused::NoMemory) => Stage::Ended(Some(BlockFault::NoMemory)),
     }
@@ -95,7 +95,7 @@ pub fn claimed<A: Allocator>(
 
 /// What the request does behind its Reserve. Where there is no room it waits, if it is to.
 pub fn reserved<A: Allocator>(
-    held: Held,
+    held: PageClaim,
     wish: Wish<A>,
     answer: Result<Seq, ReserveRefused>,
     waits: bool,
@@ -120,7 +120,7 @@ pub fn reserved<A: Allocator>(
 }
 
 /// The page is written with fewer copies than are asked for, if it was not tried yet.
-fn with_fewer<A: Allocator>(held: Held, wish: Wish<A>) -> Stage<A>
+fn with_fewer<A: Allocator>(held: PageClaim, wish: Wish<A>) -> Stage<A>
     ensures { result ≡ rule_fewer held wish }
 {
     match wish {
@@ -132,7 +132,7 @@ fn with_fewer<A: Allocator>(held: Held, wish: Wish<A>) -> Stage<A>
 
 /// What the request does behind its Commit.
 pub fn committed<A: Allocator>(
-    held: Held,
+    held: PageClaim,
     wish: Wish<A>,
     answer: Result<Seq, CommitRefused>,
 ) -> Stage<A>
@@ -147,7 +147,7 @@ pub fn committed<A: Allocator>(
 
 /// What the request does behind its Abandon.
 pub fn abandoned<A: Allocator>(
-    held: Held,
+    held: PageClaim,
     wish: Wish<A>,
     answer: Result<(), AbandonRefused>,
 ) -> Stage<A>
@@ -161,7 +161,7 @@ pub fn abandoned<A: Allocator>(
 }
 
 /// What the request does behind its Release.
-pub fn released<A: Allocator>(task: Task, held: Held, fault: Option<BlockFault>) -> Stage<A>
+pub fn released<A: Allocator>(task: Task, held: PageClaim, fault: Option<BlockFault>) -> Stage<A>
     requires { IsRange task.range }
     ensures { result ≡ after_release task held fault }
 {

@@ -9,7 +9,7 @@ use crate::next::stopped;
 use crate::page_list::PageList;
 use crate::range::Range;
 use crate::request::{Fill, Task};
-use crate::stage::{Held, Purpose, Stage, Wish};
+use crate::stage::{PageClaim, Purpose, Stage, Wish};
 use fa_tag::Payload;
 use fa_types::bytes::{fill, part, put};
 use fa_types::{BlockFault, Page};
@@ -49,7 +49,7 @@ pub fn fill_page<A: Allocator + Copy>(
     alloc: A,
     task: Task,
     bytes: &[u8],
-    held: Held,
+    held: PageClaim,
     fewer: bool,
 ) -> Stage<A>
     requires { IsRange task.range }
@@ -73,7 +73,7 @@ pub fn fill_with<A: Allocator + Copy>(
     alloc: A,
     task: Task,
     bytes: &[u8],
-    held: Held,
+    held: PageClaim,
     fewer: bool,
     payload: Payload<A>,
 ) -> Stage<A>
@@ -136,7 +136,7 @@ pub fn content<A: Allocator + Copy>(
 fn merge_page<A: Allocator + Copy>(
     task: Task,
     bytes: &[u8],
-    held: Held,
+    held: PageClaim,
     given: Vec<u8, A>,
 ) -> Stage<A>
     requires { IsRange task.range }
@@ -186,7 +186,7 @@ pub fn fits(offset: usize, count: usize, len: usize) -> bool
 pub fn sort_page<A: Allocator + Copy>(
     task: Task,
     bytes: &[u8],
-    held: Held,
+    held: PageClaim,
     answers: Vec<(Page, Vec<u8, A>), A>,
 ) -> Stage<A>
     requires { IsRange task.range }

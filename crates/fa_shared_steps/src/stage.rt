@@ -9,7 +9,7 @@ use std::alloc::{Allocator, Global};
 
 /// A page that is claimed, with its claim.
 #[derive(Clone, Copy, Debug, PartialEq, Eq)]
-pub struct Held {
+pub struct PageClaim {
     /// The page.
     pub page: Page,
     /// The claim of it.
@@ -22,7 +22,7 @@ pub enum Purpose {
     /// For the answer of a read, which goes on at this page.
     Answer(u64),
     /// For a page that is written in part.
-    Merge(Held),
+    Merge(PageClaim),
 }
 
 /// What is to be written of a page.
@@ -52,15 +52,15 @@ pub enum Stage<A: Allocator = Global> {
     /// The page is to be claimed.
     Claiming(Page),
     /// What the page is to hold is to be made, for as many dies as are asked for, or for fewer.
-    Filling(Held, bool),
+    Filling(PageClaim, bool),
     /// A number and slots are to be reserved.
-    Reserving(Held, Wish<A>),
+    Reserving(PageClaim, Wish<A>),
     /// What is reserved is to be committed.
-    Committing(Held, Wish<A>),
+    Committing(PageClaim, Wish<A>),
     /// What is reserved is to be given up, and then to be reserved anew.
-    Abandoning(Held, Wish<A>),
+    Abandoning(PageClaim, Wish<A>),
     /// The page is to be released, and the request goes on or is refused so.
-    Releasing(Held, Option<BlockFault>),
+    Releasing(PageClaim, Option<BlockFault>),
     /// A flush is to be begun.
     BeginningFlush,
     /// The flush is waited for.

@@ -39,7 +39,7 @@ use Rattle.fa_shared_steps.specs.Stages.{after_abandon, after_begin, after_claim
 use Rattle.fa_shared_steps.specs.Stages.{opened, stopped}
 use Rattle.fa_shared_steps.specs.Stages.{IsSorting, with_fewer}
 use Rattle.fa_shared_steps.specs.declared.request.Task.{Task}
-use Rattle.fa_shared_steps.specs.declared.stage.Held.{Held}
+use Rattle.fa_shared_steps.specs.declared.stage.PageClaim.{PageClaim}
 use Rattle.fa_shared_steps.specs.declared.stage.Purpose.{Purpose}
 use Rattle.fa_shared_steps.specs.declared.stage.Purpose.TheVariants.{Answer, Merge}
 use Rattle.fa_shared_steps.specs.declared.stage.Stage.{Stage}
@@ -90,16 +90,16 @@ counted_leave : (A : Type 0) (t : Task) (purpose : Purpose) (batch : BatchId) (f
 counted_leave A t (Answer page) batch fault = record { stays = omega arith; most = omega arith; all = λ same. omega arith }
 counted_leave A t (Merge held) batch fault = record { stays = omega arith; most = omega arith; all = λ same. omega arith }
 
-counted_dropped : (A : Type 0) (t : Task) (held : Held) (fault : Option BlockFault)
+counted_dropped : (A : Type 0) (t : Task) (held : PageClaim) (fault : Option BlockFault)
     → Counted {A = A} t (Releasing held fault) 0 (Ended (Some Lost))
 counted_dropped A t held None = record { stays = omega arith; most = omega arith; all = λ same. omega arith }
 counted_dropped A t held (Some fault) = record { stays = omega arith; most = omega arith; all = λ same. omega arith }
 
-counted_opened : (A : Type 0) (t : Task) (held : Held) → Counted {A = A} t (Claiming held.page) 0 (opened t held)
+counted_opened : (A : Type 0) (t : Task) (held : PageClaim) → Counted {A = A} t (Claiming held.page) 0 (opened t held)
 counted_opened A t held =
     record { stays = grind (arith, nat_tests); most = grind (arith, nat_tests); all = λ same. grind (arith, nat_tests) }
 
-counted_fewer : {A : Type 0} (t : Task) (held : Held) (wish : Wish A) → Counted t (Reserving held wish) 0 (with_fewer held wish)
+counted_fewer : {A : Type 0} (t : Task) (held : PageClaim) (wish : Wish A) → Counted t (Reserving held wish) 0 (with_fewer held wish)
 counted_fewer t held (Data payload) = record { stays = omega arith; most = omega arith; all = λ same. omega arith }
 counted_fewer t held (Fewer payload) = record { stays = omega arith; most = omega arith; all = λ same. omega arith }
 counted_fewer t held Hole = record { stays = omega arith; most = omega arith; all = λ same. omega arith }
@@ -131,7 +131,7 @@ counted_claim A t page (Ok claim) = counted_opened _ t (record { page = page; cl
 counted_claim A t page (Err Claimed) = counted_same t (Claiming page)
 counted_claim A t page (Err ClaimNoMemory) = record { stays = omega arith; most = omega arith; all = λ same. omega arith }
 
-counted_reserve : {A : Type 0} (t : Task) (held : Held) (wish : Wish A) (answer : Result Seq ReserveRefused) (next : Stage A)
+counted_reserve : {A : Type 0} (t : Task) (held : PageClaim) (wish : Wish A) (answer : Result Seq ReserveRefused) (next : Stage A)
     → AfterReserve held wish answer next → Counted t (Reserving held wish) 0 next
 counted_reserve t held wish (Ok seq) next e =
     counted_to t _ next 0 _ e record { stays = omega arith; most = omega arith; all = λ same. omega arith }
@@ -144,19 +144,19 @@ counted_reserve t held wish (Err NumbersSpent) next e =
 counted_reserve t held wish (Err ReserveNoMemory) next e =
     counted_to t _ next 0 _ e record { stays = omega arith; most = omega arith; all = λ same. omega arith }
 
-counted_commit : {A : Type 0} (t : Task) (held : Held) (wish : Wish A) (claim seat : ℕ) (answer : Result Seq CommitRefused)
+counted_commit : {A : Type 0} (t : Task) (held : PageClaim) (wish : Wish A) (claim seat : ℕ) (answer : Result Seq CommitRefused)
     → Counted t (Committing held wish) (commits_in (Commit claim seat answer)) (after_commit held wish answer)
 counted_commit t held wish claim seat (Ok seq) = record { stays = omega arith; most = omega arith; all = λ same. omega arith }
 counted_commit t held wish claim seat (Err CommitPending) = counted_same t (Committing held wish)
 counted_commit t held wish claim seat (Err Failed) = record { stays = omega arith; most = omega arith; all = λ same. omega arith }
 
-counted_abandon : {A : Type 0} (t : Task) (held : Held) (wish : Wish A) (answer : Result (Unit {0}) AbandonRefused)
+counted_abandon : {A : Type 0} (t : Task) (held : PageClaim) (wish : Wish A) (answer : Result (Unit {0}) AbandonRefused)
     → Counted t (Abandoning held wish) 0 (after_abandon held wish answer)
 counted_abandon t held wish (Ok done) = record { stays = omega arith; most = omega arith; all = λ same. omega arith }
 counted_abandon t held wish (Err AbandonPending) = counted_same t (Abandoning held wish)
 counted_abandon t held wish (Err Programmed) = record { stays = omega arith; most = omega arith; all = λ same. omega arith }
 
-counted_release : (A : Type 0) (t : Task) (held : Held) (fault : Option BlockFault)
+counted_release : (A : Type 0) (t : Task) (held : PageClaim) (fault : Option BlockFault)
     → Counted {A = A} t (Releasing held fault) 0 (after_release t held fault)
 counted_release A t held None =
     record {
@@ -257,28 +257,28 @@ counted_listing t (Answer page) (Asking p pages) listed =
     record { stays = omega arith; most = omega (arith, ap (left_for t) listed.0); all = λ same. omega (arith, ap (left_for t) listed.0) }
 counted_listing t purpose next e = counted_to t _ next 0 _ e (counted_stopped t (Listing purpose) purpose NoMemory refl)
 
-counted_filling : {A : Type 0} (t : Task) (bytes : List ℕ) (held : Held) (fewer : Bool) (next : Stage A) → IsFilled t bytes held fewer next
+counted_filling : {A : Type 0} (t : Task) (bytes : List ℕ) (held : PageClaim) (fewer : Bool) (next : Stage A) → IsFilled t bytes held fewer next
     → Counted t (Filling held fewer) 0 next
 counted_filling t bytes held fewer (Reserving h wish) filled =
-    let same_page : h.page.0 ≡ held.page.0 = ap (λ (x : Held). x.page.0) filled.0 in
+    let same_page : h.page.0 ≡ held.page.0 = ap (λ (x : PageClaim). x.page.0) filled.0 in
     record { stays = omega arith; most = omega (arith, same_page); all = λ same. omega (arith, same_page) }
 counted_filling t bytes held fewer next (inl e) =
     counted_to t _ next 0 _ e (record { stays = omega arith; most = omega arith; all = λ same. omega arith })
 counted_filling t bytes held fewer next (inr e) =
     counted_to t _ next 0 _ (e.1) (record { stays = omega arith; most = omega arith; all = λ same. omega arith })
 
-counted_merging : {A : Type 0} (t : Task) (bytes : List ℕ) (held : Held) (given : List ℕ) (answers : Vec (Page × Vec ℕ A) A)
+counted_merging : {A : Type 0} (t : Task) (bytes : List ℕ) (held : PageClaim) (given : List ℕ) (answers : Vec (Page × Vec ℕ A) A)
     (next : Stage A)
     → IsMerged t bytes held given next → Counted t (Sorting (Merge held) answers) 0 next
 counted_merging t bytes held given answers (Reserving h (Data payload)) merged =
-    let same_page : h.page.0 ≡ held.page.0 = ap (λ (x : Held). x.page.0) merged.0 in
+    let same_page : h.page.0 ≡ held.page.0 = ap (λ (x : PageClaim). x.page.0) merged.0 in
     record { stays = omega arith; most = omega (arith, same_page); all = λ same. omega (arith, same_page) }
 counted_merging t bytes held given answers next (inl e) =
     counted_to t _ next 0 _ e (record { stays = omega arith; most = omega arith; all = λ same. omega arith })
 counted_merging t bytes held given answers next (inr e) =
     counted_to t _ next 0 _ (e.1) (record { stays = omega arith; most = omega arith; all = λ same. omega arith })
 
-counted_sorted : {A : Type 0} (t : Task) (bytes : List ℕ) (held : Held) (given : List (ℕ × List ℕ)) (answers : Vec (Page × Vec ℕ A) A)
+counted_sorted : {A : Type 0} (t : Task) (bytes : List ℕ) (held : PageClaim) (given : List (ℕ × List ℕ)) (answers : Vec (Page × Vec ℕ A) A)
     (next : Stage A) → SortsPage t bytes held given next → Counted t (Sorting (Merge held) answers) 0 next
 counted_sorted t bytes held [] answers next e =
     counted_to t _ next 0 _ e (record { stays = omega arith; most = omega arith; all = λ same. omega arith })

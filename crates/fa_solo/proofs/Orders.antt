@@ -21,7 +21,7 @@ use Rattle.fa_solo_job.specs.Orders.{Copies, CopiesPage, Deals, Orders, Rests, S
 use Rattle.fa_solo_job.specs.Inner.{Does, DoesOne, ReservesCopy, Tidies, TriesCopy, house_of}
 use Rattle.fa_solo_job.specs.declared.inner.Inner.{Inner}
 use Rattle.fa_types.specs.declared.numbers.Seq.{Seq}
-use Rattle.fa_shared_events.specs.Held.{LeavesRest}
+use Rattle.fa_shared_events.specs.Rest.{LeavesRest}
 
 module _ {I : Type 0} (made : I → ImageCall → ImageAnswer → I → Type 0) (array : List ℕ) (dies : List Standing) (seat : ℕ) where
   orders_more : (a b c : House I) → Orders made array dies seat a b → Orders made array dies seat b c → Orders made array dies seat a c

@@ -16,7 +16,7 @@ use Rattle.fa_solo_job.specs.House.{House}
 use Rattle.fa_solo_job.specs.Orders.{Commits, Endless, IsOver, Looks, NoLook, OneMore, Settles}
 use Rattle.fa_solo_job.specs.Inner.{Does, DoesOne, SettlesCopy, house_of}
 use Rattle.fa_solo_job.specs.declared.inner.Inner.{Inner}
-use Rattle.fa_shared_events.specs.Held.{LeavesRest}
+use Rattle.fa_shared_events.specs.Rest.{LeavesRest}
 
 none_open : (copying : Option Copying) → is_some copying ≡ false → copying ≡ None
 none_open None is_none = refl

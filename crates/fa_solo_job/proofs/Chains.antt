@@ -15,7 +15,7 @@ use Rattle.fa_solo_job.specs.House.{House}
 use Rattle.fa_solo_job.specs.Inner.{Does, house_of}
 use Rattle.fa_solo_job.specs.declared.inner.Inner.{Inner}
 use Rattle.fa_types.specs.declared.numbers.Round.{Round}
-use Rattle.fa_shared_events.specs.Held.{Folded, Folds, HadRoom, LeavesRest}
+use Rattle.fa_shared_events.specs.Rest.{Folded, Folds, HadRoom, LeavesRest}
 use Rattle.fa_workers.specs.Spares.{BringsIn, HasNone, Lowest, WantsNone}
 
 -- one after the other

@@ -21,7 +21,7 @@ use Rattle.fa_solo_job.specs.Inner.{Does, EndsAt, house_of}
 use Rattle.fa_solo_job.specs.declared.inner.Inner.{Inner}
 use Rattle.fa_core_dispatch.specs.Fits.{IsJobFor}
 use Rattle.fa_types.specs.declared.geometry.Geometry.{Geometry}
-use Rattle.fa_shared_events.specs.Held.{LeavesRest}
+use Rattle.fa_shared_events.specs.Rest.{LeavesRest}
 use Rattle.fa_workers.specs.Made.{Ran}
 
 from_begins : (die seat : ℕ) (core : Core) (given : Option Handed) (job : Handed) (new : Core)

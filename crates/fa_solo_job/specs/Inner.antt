@@ -13,7 +13,7 @@ use Rattle.fa_solo_job.specs.House.{House}
 use Rattle.fa_solo_job.specs.Orders.{Orders, Settles}
 use Rattle.fa_solo_job.specs.declared.inner.Parts.{Parts}
 use Rattle.fa_solo_job.specs.declared.inner.Inner.{Inner}
-use Rattle.fa_shared_events.specs.Held.{LeavesRest}
+use Rattle.fa_shared_events.specs.Rest.{LeavesRest}
 use Rattle.fa_workers.specs.Made.{Ran}
 
 -- an array with its images that is not in use

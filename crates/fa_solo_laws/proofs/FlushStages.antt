@@ -24,7 +24,7 @@ use Rattle.fa_shared_steps.specs.Ranges.{covers, first_page, past_page}
 use Rattle.fa_shared_request.specs.Waiting.{without_room}
 use Rattle.fa_shared_steps.specs.declared.request.Fill.{Fill}
 use Rattle.fa_shared_steps.specs.declared.request.Task.{Task}
-use Rattle.fa_shared_steps.specs.declared.stage.Held.{Held}
+use Rattle.fa_shared_steps.specs.declared.stage.PageClaim.{PageClaim}
 use Rattle.fa_shared_steps.specs.declared.stage.Purpose.TheVariants.{Answer, Merge}
 use Rattle.fa_shared_steps.specs.declared.stage.Stage.{Stage}
 use Rattle.fa_shared_steps.specs.declared.stage.Stage.TheVariants.{Abandoning, Asking, BeginningFlush, Claiming, Committing, Ended, Filling}
@@ -85,12 +85,12 @@ module _ (A : Type 0) where
     known_strayed core stage next k strays = absurd strays
 
     -- something is prepared
-    merged : (t : Task) (bytes : List ℕ) (held : Held) (given : List ℕ) (next : Stage A) → IsMerged t bytes held given next → At next
+    merged : (t : Task) (bytes : List ℕ) (held : PageClaim) (given : List ℕ) (next : Stage A) → IsMerged t bytes held given next → At next
     merged t bytes held given (Reserving h (Data payload)) made = tt
     merged t bytes held given next (inl none) = subst At (sym none) tt
     merged t bytes held given next (inr short) = subst At (sym short.1) tt
 
-    sorts : (t : Task) (bytes : List ℕ) (held : Held) (given : List (ℕ × List ℕ)) (next : Stage A) → SortsPage t bytes held given next → At next
+    sorts : (t : Task) (bytes : List ℕ) (held : PageClaim) (given : List (ℕ × List ℕ)) (next : Stage A) → SortsPage t bytes held given next → At next
     sorts t bytes held [] next made = subst At (sym made) tt
     sorts t bytes held (e ∷ rest) next made = merged t bytes held e.1 next made
 
@@ -128,14 +128,14 @@ module _ (A : Type 0) where
       pub known_first : At (beginning t)
       known_first = begun_by t.fill
 
-      opens_on : (held : Held) → At (opened t held)
+      opens_on : (held : PageClaim) → At (opened t held)
       opens_on held = by_covers (covers t.range held.page.0)
         where
           by_covers : (b : Bool) → At (if b then Filling held false else Listing (Merge held))
           by_covers true = tt
           by_covers false = tt
 
-      reserves_on : (held : Held) (wish : Wish A) (answer : Result Seq ReserveRefused) (next : Stage A) → At (with_fewer held wish)
+      reserves_on : (held : PageClaim) (wish : Wish A) (answer : Result Seq ReserveRefused) (next : Stage A) → At (with_fewer held wish)
           → AfterReserve held wish answer next → At next
       reserves_on held wish (Ok seq) next fewer m = subst At (sym m) tt
       reserves_on held wish (Err ReserveNoRoom) next fewer (inl less) = subst At (sym less) fewer

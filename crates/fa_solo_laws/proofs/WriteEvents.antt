@@ -46,7 +46,7 @@ use Rattle.fa_shared_request.specs.Moves.{Moves}
 use Rattle.fa_shared_steps.specs.Stages.{AfterReserve, after_pages, from_page, opened, with_fewer}
 use Rattle.fa_shared_steps.specs.Ranges.{begins_at, bytes_in, covers, first_page, past_page}
 use Rattle.fa_shared_steps.specs.declared.request.Task.{Task}
-use Rattle.fa_shared_steps.specs.declared.stage.Held.{Held}
+use Rattle.fa_shared_steps.specs.declared.stage.PageClaim.{PageClaim}
 use Rattle.fa_shared_steps.specs.declared.stage.Purpose.TheVariants.{Merge}
 use Rattle.fa_shared_steps.specs.declared.stage.Stage.{Stage}
 use Rattle.fa_shared_steps.specs.declared.stage.Stage.TheVariants.{Abandoning, Asking, BeginningFlush, Claiming, Committing, Ended, Filling, Flushing, Leaving}
@@ -78,7 +78,7 @@ module _ (A : Type 0) (laws : Laws) (t : Task) (seat : ℕ) (bytes : List ℕ) (
   abbrev Done : ℕ → World → Type 0
   Done = Wrote t.range first all
 
-  abbrev Own : Held → World → Type 0
+  abbrev Own : PageClaim → World → Type 0
   Own = Has t.range first all
 
   -- behind the last page only a flush is refused
@@ -116,7 +116,7 @@ module _ (A : Type 0) (laws : Laws) (t : Task) (seat : ℕ) (bytes : List ℕ) (
   pub done_on : (page : ℕ) (w after : World) → Done page w → (happening : Happening) → Happens w happening after → WritesNothing happening → Done page after
   done_on = wrote_on t.range first all laws
 
-  pub own_on : (held : Held) (w after : World) → Own held w → (happening : Happening) → Happens w happening after → WritesNothing happening
+  pub own_on : (held : PageClaim) (w after : World) → Own held w → (happening : Happening) → Happens w happening after → WritesNothing happening
       → LeavesClaim held.claim.0 happening → Own held after
   own_on held w after k happening happens none leaves = record {
     at = k.at;
@@ -171,7 +171,7 @@ module _ (A : Type 0) (laws : Laws) (t : Task) (seat : ℕ) (bytes : List ℕ) (
   payload_on w after (Fewer payload) same = refl
   payload_on w after Hole same = ap (λ (g : Geometry). replicate g.page_bytes 0) same
 
-  pub reserving_on : (held : Held) (w after : World) (wish : Wish A) → IsReserving t.range first all held w wish → (happening : Happening)
+  pub reserving_on : (held : PageClaim) (w after : World) (wish : Wish A) → IsReserving t.range first all held w wish → (happening : Happening)
       → Happens w happening after → WritesNothing happening → KeepsClaim held.claim.0 happening → IsReserving t.range first all held after wish
   reserving_on held w after wish k happening happens none keeps =
       let geometry = geometry_kept laws.geometry w after happening happens in
@@ -194,14 +194,14 @@ module _ (A : Type 0) (laws : Laws) (t : Task) (seat : ℕ) (bytes : List ℕ) (
     flushes = ap (λ (c : Core). c.flushes) same;
   }
 
-  opened_at : (w : World) (held : Held) → Own held w → WritesAt w (opened t held)
+  opened_at : (w : World) (held : PageClaim) → Own held w → WritesAt w (opened t held)
   opened_at w held k = by_covers (covers t.range held.page.0) refl
     where
       by_covers : (b : Bool) → covers t.range held.page.0 ≡ b → WritesAt w (if b then Filling held false else Listing (Merge held))
       by_covers true is = (k, is)
       by_covers false is = k
 
-  pub merging_on : (held : Held) (batch : ℕ) (w after : World) → Own held w → IsMerging t.range first all held.page.0 batch w → (happening : Happening)
+  pub merging_on : (held : PageClaim) (batch : ℕ) (w after : World) → Own held w → IsMerging t.range first all held.page.0 batch w → (happening : Happening)
       → Happens w happening after → WritesNothing happening → EndsNoBatch batch happening → IsMerging t.range first all held.page.0 batch after
   merging_on held batch w after k m happening happens none unended = record {
     gives = subst (λ plain. Gives batch plain after) (sym (happens_plain w after happening none happens))
@@ -210,7 +210,7 @@ module _ (A : Type 0) (laws : Laws) (t : Task) (seat : ℕ) (bytes : List ℕ) (
     there = m.there;
   }
 
-  admitted_at : (held : Held) (w after : World) (asked : List ℕ) (made : Admitted) → Own held w → asked ≡ held.page.0 ∷ []
+  admitted_at : (held : PageClaim) (w after : World) (asked : List ℕ) (made : Admitted) → Own held w → asked ≡ held.page.0 ∷ []
       → HappensEvent w (Admit asked (Ok made)) after → IsMerging t.range first all held.page.0 made.batch.0 after
   admitted_at held w after asked made k same e =
       let h = reached_holds w k.wrote.reached in
@@ -228,7 +228,7 @@ module _ (A : Type 0) (laws : Laws) (t : Task) (seat : ℕ) (bytes : List ℕ) (
   one_page page p (inr rest) = absurd rest
 
   -- the page is lost, so that the write of it is refused
-  lost_at : (held : Held) (w after : World) → Own held after → after.core ≡ w.core → (p : ℕ) → Among p (held.page.0 ∷ []) → is_lost w.core.page_map p ≡ true
+  lost_at : (held : PageClaim) (w after : World) → Own held after → after.core ≡ w.core → (p : ℕ) → Among p (held.page.0 ∷ []) → is_lost w.core.page_map p ≡ true
       → WritesAt after (Releasing held (Some Lost))
   lost_at held w after k same p i lost = (
     k,
@@ -236,14 +236,14 @@ module _ (A : Type 0) (laws : Laws) (t : Task) (seat : ℕ) (bytes : List ℕ) (
         (ap (λ (c : Core). is_lost c.page_map held.page.0) same ∙ ap (is_lost w.core.page_map) (one_page held.page.0 p i) ∙ lost),
   )
 
-  left_page : (held : Held) (batch : ℕ) (w : World) → IsMerging t.range first all held.page.0 batch w → (p : ℕ) → Among p (left_of w.core batch)
+  left_page : (held : PageClaim) (batch : ℕ) (w : World) → IsMerging t.range first all held.page.0 batch w → (p : ℕ) → Among p (left_of w.core batch)
       → Among p (held.page.0 ∷ [])
   left_page held batch w m p i =
       subst (Among p) (ap (λ (o : Option OpenBatch). (unwrap_or o (record { pages = []; answers = empty })).pages) m.opened.found ∙ m.opened.lists)
       (among-filter _ p (entry_at w.core batch).pages i).0
 
   -- a Reserve that is refused
-  refused_at : (held : Held) (wish : Wish A) (w : World) (next : Stage A) (page least : ℕ) (refused : ReserveRefused) → WritesAt w (Reserving held wish)
+  refused_at : (held : PageClaim) (wish : Wish A) (w : World) (next : Stage A) (page least : ℕ) (refused : ReserveRefused) → WritesAt w (Reserving held wish)
       → refused ≡ unwrap_or (reserve_refusal w.core page least) ReserveNoMemory → AfterReserve held wish (Err refused) next
       → (refused ≡ ReserveNoRoom → next ≡ with_fewer held wish → WritesAt w (with_fewer held wish)) → WritesAt w next
   refused_at held wish w next page least ReserveNoRoom k why m fewer =
@@ -266,7 +266,7 @@ module _ (A : Type 0) (laws : Laws) (t : Task) (seat : ℕ) (bytes : List ℕ) (
   refused_at held wish w next page least ReserveNoMemory k why m fewer = subst (WritesAt w) (sym m) (k.0, founds.no_memory w)
 
   -- the state is the same where a Reserve was refused
-  reserving_same : (held : Held) (wish : Wish A) (w after : World) (act : Act) → WritesAt w (Reserving held wish) → HappensEvent w act after
+  reserving_same : (held : PageClaim) (wish : Wish A) (w after : World) (act : Act) → WritesAt w (Reserving held wish) → HappensEvent w act after
       → WritesNothing (Event act) → claims_after w.core act ≡ w.core.claims → WritesAt after (Reserving held wish)
   reserving_same held wish w after act k e none same = (
     record {
@@ -277,7 +277,7 @@ module _ (A : Type 0) (laws : Laws) (t : Task) (seat : ℕ) (bytes : List ℕ) (
     wish_on held.page.0 w after wish k.0.wrote (happens_plain w after (Event act) none e) (geometry_kept laws.geometry w after (Event act) e) k.1,
   )
 
-  reserved_at : (held : Held) (wish : Wish A) (w after : World) (act : Act) (seq : Seq) → WritesAt w (Reserving held wish) → HappensEvent w act after
+  reserved_at : (held : PageClaim) (wish : Wish A) (w after : World) (act : Act) (seq : Seq) → WritesAt w (Reserving held wish) → HappensEvent w act after
       → WritesNothing (Event act) → IsReservedFor held.claim.0 (claimed_page w.core held.claim.0) seq (payload_in t.range first all w wish) after
       → WritesAt after (Committing held wish)
   reserved_at held wish w after act seq k e none reserved =
@@ -293,7 +293,7 @@ module _ (A : Type 0) (laws : Laws) (t : Task) (seat : ℕ) (bytes : List ℕ) (
       }
 
   -- a page is committed
-  committed_at : (held : Held) (wish : Wish A) (w after : World) (by : ℕ) (given : Seq) → IsReserving t.range first all held w wish
+  committed_at : (held : PageClaim) (wish : Wish A) (w after : World) (by : ℕ) (given : Seq) → IsReserving t.range first all held w wish
       → HappensEvent w (Commit held.claim.0 by (Ok given)) after → WritesAt after (Releasing held None)
   committed_at held wish w after by given k e =
       let page : ℕ = held.page.0 in
@@ -340,7 +340,7 @@ module _ (A : Type 0) (laws : Laws) (t : Task) (seat : ℕ) (bytes : List ℕ) (
             (claims_are w.core (Commit held.claim.0 by (Ok given)) after.core e.step.does)),
       )
 
-  abandoned_at : (held : Held) (wish : Wish A) (w after : World) (done : Unit {0}) → IsReserving t.range first all held w wish
+  abandoned_at : (held : PageClaim) (wish : Wish A) (w after : World) (done : Unit {0}) → IsReserving t.range first all held w wish
       → HappensEvent w (Abandon held.claim.0 (Ok done)) after → WritesAt after (Reserving held wish)
   abandoned_at held wish w after done k e =
       let on_page : claimed_page w.core held.claim.0 ≡ held.page.0 =
@@ -357,11 +357,11 @@ module _ (A : Type 0) (laws : Laws) (t : Task) (seat : ℕ) (bytes : List ℕ) (
       )
 
   -- with fewer copies
-  fewer_at : (held : Held) (payload : List ℕ) (w : World) → WritesAt w (Reserving held (Data payload)) → WritesAt w (Reserving held (Fewer payload))
+  fewer_at : (held : PageClaim) (payload : List ℕ) (w : World) → WritesAt w (Reserving held (Data payload)) → WritesAt w (Reserving held (Fewer payload))
   fewer_at held payload w k = (k.0, record { for_page = k.1.for_page; hole = tt })
 
   -- nothing is reserved under a claim of which nothing is
-  pub not_reserved : (held : Held) (w : World) → IsOwned held.claim.0 held.page.0 w.core.claims → is_reserved w.core held.claim.0 ≡ false
+  pub not_reserved : (held : PageClaim) (w : World) → IsOwned held.claim.0 held.page.0 w.core.claims → is_reserved w.core held.claim.0 ≡ false
   not_reserved held w k = ap is_some (ap (option_and_then {T = OpenClaim} (λ c. c.reserved)) k.found ∙ k.free)
 
   -- the request makes its event

@@ -26,7 +26,7 @@ use Rattle.fa_shared_steps.specs.Ranges.{begins_at, bytes_in, covers, past_page}
 use Rattle.fa_shared_steps.specs.declared.request.Fill.{Fill}
 use Rattle.fa_shared_steps.specs.declared.request.Fill.TheVariants.{Bytes, Holes, Zeros}
 use Rattle.fa_shared_steps.specs.declared.request.Task.{Task}
-use Rattle.fa_shared_steps.specs.declared.stage.Held.{Held}
+use Rattle.fa_shared_steps.specs.declared.stage.PageClaim.{PageClaim}
 use Rattle.fa_shared_steps.specs.declared.stage.Purpose.TheVariants.{Merge}
 use Rattle.fa_shared_request.specs.Waiting.{HasNoWindow, without_room}
 use Rattle.fa_shared_steps.specs.declared.stage.Stage.{Stage}
@@ -57,7 +57,7 @@ module _ (A : Type 0) (laws : Laws) (t : Task) (seat : ℕ) (bytes : List ℕ) (
   abbrev Done : ℕ → World → Type 0
   Done = Wrote t.range first all
 
-  abbrev Own : Held → World → Type 0
+  abbrev Own : PageClaim → World → Type 0
   Own = Has t.range first all
 
   abbrev At : World → Stage A → Type 0
@@ -132,7 +132,7 @@ module _ (A : Type 0) (laws : Laws) (t : Task) (seat : ℕ) (bytes : List ℕ) (
   contents page here = content_is first.core.page_map.geometry.pages t.range f.inside t.fill bytes page here
 
   -- what goes into a page that is written whole
-  wish_made : (held : Held) (less : Bool) (w : World) (wish : Wish A) → Own held w → covers t.range held.page.0 ≡ true
+  wish_made : (held : PageClaim) (less : Bool) (w : World) (wish : Wish A) → Own held w → covers t.range held.page.0 ≡ true
       → IsWish t bytes held.page.0 less wish → IsWishFor t.range first all held.page.0 w wish
   wish_made held less w wish k covered made =
       let page : ℕ = held.page.0 in
@@ -157,7 +157,7 @@ module _ (A : Type 0) (laws : Laws) (t : Task) (seat : ℕ) (bytes : List ℕ) (
       }
 
   -- what goes into a page that is written in part
-  merged_at : (held : Held) (w : World) (next : Stage A) → Own held w → is_lost first.core.page_map held.page.0 ≡ false
+  merged_at : (held : PageClaim) (w : World) (next : Stage A) → Own held w → is_lost first.core.page_map held.page.0 ≡ false
       → IsMerged t bytes held (plain_page w held.page.0) next → At w next
   merged_at held w next k there made = by_next next made
     where
@@ -220,7 +220,7 @@ module _ (A : Type 0) (laws : Laws) (t : Task) (seat : ℕ) (bytes : List ℕ) (
   page_inside w page k at =
       subst (λ (g : Geometry). page < g.pages) (sym k.geometry) (page_low first.core.page_map.geometry.pages t.range f.inside page (of_range A laws t seat bytes first f long Cause Knows founds page at))
 
-  payload_sized : (held : Held) (w : World) (payload : List ℕ) → Own held w → IsFor t.range first all held.page.0 w.plain payload
+  payload_sized : (held : PageClaim) (w : World) (payload : List ℕ) → Own held w → IsFor t.range first all held.page.0 w.plain payload
       → is_sized w.core payload ≡ true
   payload_sized held w payload k is =
       eq-eqb (length payload) w.core.page_map.geometry.page_bytes
@@ -228,11 +228,11 @@ module _ (A : Type 0) (laws : Laws) (t : Task) (seat : ℕ) (bytes : List ℕ) (
       ∙ new_long first.core.page_map.geometry.pages t.range f.inside all long w.plain k.wrote.sized (many A laws t seat bytes first f long Cause Knows founds w held.page.0 k.wrote) held.page.0 (of_range A laws t seat bytes first f long Cause Knows founds held.page.0 k.at)
       ∙ f.same ∙ ap (λ (g : Geometry). g.page_bytes) (sym k.wrote.geometry))
 
-  under_reserved : (held : Held) (w : World) (wish : Wish A) → IsReserving t.range first all held w wish → is_reserved w.core held.claim.0 ≡ true
+  under_reserved : (held : PageClaim) (w : World) (wish : Wish A) → IsReserving t.range first all held w wish → is_reserved w.core held.claim.0 ≡ true
   under_reserved held w wish k =
       ap is_some (ap (option_and_then {T = OpenClaim} (λ c. c.reserved)) k.reserved.under.found ∙ k.reserved.under.is_for.reserved)
 
-  sized_wish : (held : Held) (w : World) (wish : Wish A) → Own held w → IsWishFor t.range first all held.page.0 w wish → fits w.core wish ≡ true
+  sized_wish : (held : PageClaim) (w : World) (wish : Wish A) → Own held w → IsWishFor t.range first all held.page.0 w wish → fits w.core wish ≡ true
   sized_wish held w (Data payload) k is = payload_sized held w payload k is.for_page
   sized_wish held w (Fewer payload) k is = payload_sized held w payload k is.for_page
   sized_wish held w Hole k is = refl

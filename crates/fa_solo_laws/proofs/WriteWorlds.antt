@@ -28,7 +28,7 @@ use Rattle.fa_machine.specs.declared.refusals.ReserveRefused.TheVariants.{Spent 
 use Rattle.fa_shared_request.specs.Founded.{may_collect}
 use Rattle.fa_shared_steps.specs.Ranges.{begins_at, bytes_in, covers, first_page, past_page}
 use Rattle.fa_shared_steps.specs.declared.range.Range.{Range}
-use Rattle.fa_shared_steps.specs.declared.stage.Held.{Held}
+use Rattle.fa_shared_steps.specs.declared.stage.PageClaim.{PageClaim}
 use Rattle.fa_shared_steps.specs.declared.stage.Wish.{Wish}
 use Rattle.fa_shared_steps.specs.declared.stage.Wish.TheVariants.{Data, Fewer, Hole}
 use Rattle.fa_types.specs.Plain.{HasPages, export}
@@ -75,7 +75,7 @@ module _ (r : Range) (first : World) (all : List ℕ) where
     pub past : page < past_page r
 
   -- the request has a claim of its page, with nothing reserved under it
-  pub record Has (held : Held) (w : World) : Type 0 where
+  pub record Has (held : PageClaim) (w : World) : Type 0 where
     pub at : IsAt held.page.0
     pub wrote : Wrote held.page.0 w
     pub owned : IsOwned held.claim.0 held.page.0 w.core.claims
@@ -104,7 +104,7 @@ module _ (r : Range) (first : World) (all : List ℕ) where
       pub for_page : IsFor page w.plain (payload_in w wish)
       pub hole : CoversHole page wish
 
-    pub record IsReserving (held : Held) (w : World) (wish : Wish A) : Type 0 where
+    pub record IsReserving (held : PageClaim) (w : World) (wish : Wish A) : Type 0 where
       pub at : IsAt held.page.0
       pub wrote : Wrote held.page.0 w
       pub seq : Seq

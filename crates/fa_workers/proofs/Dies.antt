@@ -7,7 +7,7 @@ use Rattle.fa_machine.specs.Step.{Done, Step, Take}
 use Rattle.fa_machine.specs.Taking.{Handed}
 use Rattle.fa_machine.specs.declared.refusals.AdvanceRefused.{AdvanceRefused}
 use Rattle.fa_workers.specs.DieTurns.{Ends, TakesNext, may_end}
-use Rattle.fa_shared_events.specs.Held.{Folds, MakesFolded}
+use Rattle.fa_shared_events.specs.Rest.{Folds, MakesFolded}
 use Rattle.fa_workers.specs.declared.die_events.Next.{Next}
 
 -- a Take behind a Fold, with the number of the seat before it

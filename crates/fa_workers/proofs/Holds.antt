@@ -5,7 +5,7 @@ use Rattle.fa_machine.specs.Step.{Advance, Step, is_die}
 use Rattle.fa_machine.specs.declared.refusals.AdvanceRefused.{AdvanceRefused}
 use Rattle.fa_shared.specs.Locked.{LockedState}
 use Rattle.fa_shared.specs.declared.seat.Seat.{Seat}
-use Rattle.fa_shared_events.specs.Held.{Folded, Folds, HadRoom, LeavesRest}
+use Rattle.fa_shared_events.specs.Rest.{Folded, Folds, HadRoom, LeavesRest}
 
 -- one after the other
 pub join_rest : {L : Type 0} {a b c : LockedState} {s t u : Seat L} → LeavesRest a s b t → LeavesRest b t c u → LeavesRest a s c u

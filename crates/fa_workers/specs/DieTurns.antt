@@ -16,7 +16,7 @@ use Rattle.fa_shared.specs.declared.faults.Fault.{Fault}
 use Rattle.fa_core_dispatch.specs.Handed.{handed_of}
 use Rattle.fa_types.specs.declared.numbers.Die.{Die}
 use Rattle.fa_types.specs.declared.numbers.Round.{Round}
-use Rattle.fa_shared_events.specs.Held.{MakesFolded}
+use Rattle.fa_shared_events.specs.Rest.{MakesFolded}
 use Rattle.fa_workers.specs.declared.die_events.Next.{Next}
 use Rattle.fa_workers.specs.declared.die_events.Next.TheVariants.{Run, Again, Rest}
 use Rattle.fa_workers.specs.declared.order.Order.{Order}

@@ -2,6 +2,6 @@ pub mod DieTurns
 pub mod Made
 pub mod Orders
 pub mod Rebuilding
-pub mod Rooms
+pub mod JobMemories
 pub mod Spares
 pub mod Windows

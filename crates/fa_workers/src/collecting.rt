@@ -1,6 +1,6 @@
 //! The worker that gives dies their windows.
 ghost use Rattle.std.specs.Prelude.{◌≡◌, ◌<◌, false};
-ghost use Rattle.fa_shared_events.specs.Held.{LeavesRest};
+ghost use Rattle.fa_shared_events.specs.Rest.{LeavesRest};
 ghost use Rattle.fa_workers.specs.Windows.{GivesWindow, GivesWindows};
 
 use fa_map::Map;

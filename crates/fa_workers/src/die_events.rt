@@ -6,7 +6,7 @@ ghost use Rattle.fa_shared.specs.Seats.{number_of};
 ghost use Rattle.fa_core_dispatch.specs.Handed.{handed_of};
 ghost use Rattle.fa_workers.specs.DieTurns.{Ends, Rests, TakesNext, Turns};
 ghost use Rattle.fa_workers.specs.DieTurns.{after_look as rule_look, cause_of as rule_cause, fault_of, noted};
-ghost use Rattle.fa_shared_events.specs.Held.{LeavesRest};
+ghost use Rattle.fa_shared_events.specs.Rest.{LeavesRest};
 
 use crate::order::{Order, order_of};
 use fa_core::Array;

@@ -1,12 +1,12 @@
 //! Those who work for dies while they wait for something else.
-ghost use Rattle.fa_shared_events.specs.Held.{LeavesRest};
+ghost use Rattle.fa_shared_events.specs.Rest.{LeavesRest};
 
 use crate::die_events::{Ended, end_job, take_job};
 use crate::gate::Gate;
 use crate::handing::hand_over;
 use crate::image_table::ImageTable;
+use crate::job_memory::JobMemory;
 use crate::order::Order;
-use crate::room::Room;
 use fa_core_outcome::Outcome;
 use fa_image::Image;
 use fa_map::Map;
@@ -30,22 +30,22 @@ const QUICK_MICROSECONDS: u64 = 50;
 
 /// Memory for the jobs of somebody who helps. It is made before the helper's thread is started.
 #[derive(Drop)]
-pub struct HelperRoom<A: Allocator = Global> {
-    rooms: Vec<Room<A>, A>,
+pub struct HelperMemory<A: Allocator = Global> {
+    memories: Vec<JobMemory<A>, A>,
     orders: Vec<Order<A>, A>,
     outcomes: Vec<Outcome, A>,
     faults: Vec<Fault, A>,
 }
 
-impl<A: Allocator + Copy> HelperRoom<A> {
+impl<A: Allocator + Copy> HelperMemory<A> {
     /// Memory for the jobs of dies whose pages have so many bytes. The error is out of memory.
-    pub fn new(alloc: A, page_bytes: u32) -> Result<HelperRoom<A>, AllocError> {
-        let mut rooms = Vec::with_capacity(alloc, MAX_JOBS)?;
+    pub fn new(alloc: A, page_bytes: u32) -> Result<HelperMemory<A>, AllocError> {
+        let mut memories = Vec::with_capacity(alloc, MAX_JOBS)?;
         for _ in 0..MAX_JOBS {
-            rooms.push(Room::new(alloc, page_bytes)?)?;
+            memories.push(JobMemory::new(alloc, page_bytes)?)?;
         }
-        Ok(HelperRoom {
-            rooms,
+        Ok(HelperMemory {
+            memories,
             orders: Vec::with_capacity(alloc, MAX_JOBS)?,
             outcomes: Vec::with_capacity(alloc, MAX_JOBS)?,
             faults: Vec::with_capacity(alloc, MAX_JOBS)?,
@@ -71,7 +71,7 @@ pub struct Helper<
     shared: &'a Shared<L, M, A>,
     image_table: &'a ImageTable<I, B>,
     gate: &'a G,
-    room: HelperRoom<A>,
+    memory: HelperMemory<A>,
     // The last calls of images took little time.
     is_quick: bool,
 }
@@ -93,7 +93,7 @@ impl<
         shared: &'a Shared<L, M, A>,
         image_table: &'a ImageTable<I, B>,
         gate: &'a G,
-        room: HelperRoom<A>,
+        memory: HelperMemory<A>,
     ) -> Helper<'a, R, L, M, A, I, B, G> {
         Helper {
             rt,
@@ -101,7 +101,7 @@ impl<
             shared,
             image_table,
             gate,
-            room,
+            memory,
             is_quick: false,
         }
     }
@@ -120,34 +120,38 @@ impl<
     fn take(&mut self, locked: &mut Locked<L, M, A>, seat: &mut Seat<L>) -> bool {
         locked.settle(seat);
         let most = if self.is_quick { MAX_JOBS } else { 1 };
-        take_jobs(self.alloc, locked, seat, most, &mut self.room.orders);
-        !self.room.orders.is_empty()
+        take_jobs(self.alloc, locked, seat, most, &mut self.memory.orders);
+        !self.memory.orders.is_empty()
     }
 
     fn work(&mut self) {
-        let HelperRoom {
-            rooms,
+        let HelperMemory {
+            memories,
             orders,
             outcomes,
             ..
-        } = &mut self.room;
+        } = &mut self.memory;
         let start = Instant::now(self.rt).ok();
-        for (order, room) in orders.iter().zip(rooms.iter_mut()) {
-            let _ = outcomes.push(self.image_table.begin(self.rt, order, room, self.gate));
+        for (order, memory) in orders.iter().zip(memories.iter_mut()) {
+            let _ = outcomes.push(self.image_table.begin(self.rt, order, memory, self.gate));
         }
         self.is_quick = is_quick(self.rt, start, orders.len());
-        open_reads(rooms.as_mut_slice(), outcomes.as_mut_slice());
+        open_reads(memories.as_mut_slice(), outcomes.as_mut_slice());
     }
 
     fn end(&mut self, locked: &mut Locked<L, M, A>, seat: &mut Seat<L>) {
-        let HelperRoom {
-            rooms,
+        let HelperMemory {
+            memories,
             orders,
             outcomes,
             faults,
-        } = &mut self.room;
-        for ((order, room), outcome) in orders.iter().zip(rooms.iter_mut()).zip(outcomes.iter()) {
-            let buffer = replace(&mut room.buffer, Vec::new(self.alloc));
+        } = &mut self.memory;
+        for ((order, memory), outcome) in orders
+            .iter()
+            .zip(memories.iter_mut())
+            .zip(outcomes.iter())
+        {
+            let buffer = replace(&mut memory.buffer, Vec::new(self.alloc));
             let Ended { buffer, fault } = end_job(
                 self.alloc,
                 locked,
@@ -156,7 +160,7 @@ impl<
                 *outcome,
                 buffer,
             );
-            room.buffer = buffer;
+            memory.buffer = buffer;
             if let Some(fault) = fault {
                 let _ = faults.push(fault);
             }
@@ -166,10 +170,10 @@ impl<
     }
 
     fn note(&mut self) {
-        for fault in self.room.faults.iter() {
+        for fault in self.memory.faults.iter() {
             self.shared.note_fault(self.rt, *fault);
         }
-        self.room.faults.clear();
+        self.memory.faults.clear();
     }
 }
 
@@ -184,7 +188,7 @@ fn is_quick<R: Clock>(rt: &R, start: Option<Instant>, jobs: usize) -> bool {
     }
 }
 
-/// Takes the next jobs of dies that have one, this many at most, as long as there is room for one more.
+/// Takes the next jobs of dies that have one, this many at most, as long as there is memory for one more.
 fn take_jobs<L: Ledger, M: Map + Drop, A: Allocator + Copy>(
     alloc: A,
     locked: &mut Locked<L, M, A>,
@@ -206,64 +210,68 @@ fn take_jobs<L: Ledger, M: Map + Drop, A: Allocator + Copy>(
 
 /// Opens what reads gave, and hands out the payloads. A read whose slot is not opened yet stands as one of a bad slot. Where several jobs
 /// are reads their slots are hashed side by side.
-fn open_reads<A: Allocator>(rooms: &mut [Room<A>], outcomes: &mut [Outcome]) {
+fn open_reads<A: Allocator>(memories: &mut [JobMemory<A>], outcomes: &mut [Outcome]) {
     let reads = outcomes
         .iter()
         .filter(|outcome| matches!(outcome, Outcome::Read(_)))
         .count();
     if reads < FEW_READS {
-        open_each(rooms, outcomes);
+        open_each(memories, outcomes);
         return;
     }
-    let opened = open_slots(rooms);
-    for ((room, outcome), opened) in rooms.iter_mut().zip(outcomes.iter_mut()).zip(opened.iter()) {
+    let opened = open_slots(memories);
+    for ((memory, outcome), opened) in memories
+        .iter_mut()
+        .zip(outcomes.iter_mut())
+        .zip(opened.iter())
+    {
         if matches!(outcome, Outcome::Read(_)) {
             *outcome = Outcome::Read(*opened);
-            hand_out(room);
+            hand_out(memory);
         }
     }
 }
 
 /// The same, one by one.
-fn open_each<A: Allocator>(rooms: &mut [Room<A>], outcomes: &mut [Outcome]) {
-    for (room, outcome) in rooms.iter_mut().zip(outcomes.iter_mut()) {
+fn open_each<A: Allocator>(memories: &mut [JobMemory<A>], outcomes: &mut [Outcome]) {
+    for (memory, outcome) in memories.iter_mut().zip(outcomes.iter_mut()) {
         if matches!(outcome, Outcome::Read(_)) {
-            *outcome = Outcome::Read(open(room.scratch.as_slice()));
-            hand_out(room);
+            *outcome = Outcome::Read(open(memory.scratch.as_slice()));
+            hand_out(memory);
         }
     }
 }
 
-/// What stands in the memory of all rooms, as slots, hashed side by side.
-fn open_slots<A: Allocator>(rooms: &[Room<A>]) -> [Opened; MAX_JOBS] {
+/// What stands in all memories, as slots, hashed side by side.
+fn open_slots<A: Allocator>(memories: &[JobMemory<A>]) -> [Opened; MAX_JOBS] {
     let mut opened = [Opened::Bad; MAX_JOBS];
     open_all(
         &[
-            slot_in(rooms, 0),
-            slot_in(rooms, 1),
-            slot_in(rooms, 2),
-            slot_in(rooms, 3),
-            slot_in(rooms, 4),
-            slot_in(rooms, 5),
-            slot_in(rooms, 6),
-            slot_in(rooms, 7),
+            slot_in(memories, 0),
+            slot_in(memories, 1),
+            slot_in(memories, 2),
+            slot_in(memories, 3),
+            slot_in(memories, 4),
+            slot_in(memories, 5),
+            slot_in(memories, 6),
+            slot_in(memories, 7),
         ],
         &mut opened,
     );
     opened
 }
 
-/// The memory for a slot in the room of this place. None there has no bytes.
-fn slot_in<A: Allocator>(rooms: &[Room<A>], place: usize) -> &[u8] {
-    match rooms.get(place) {
-        Some(room) => room.scratch.as_slice(),
+/// What stands for a slot in the memory of this place. None there has no bytes.
+fn slot_in<A: Allocator>(memories: &[JobMemory<A>], place: usize) -> &[u8] {
+    match memories.get(place) {
+        Some(memory) => memory.scratch.as_slice(),
         None => &[],
     }
 }
 
 /// The payload of the slot that was read goes to where a read hands it out.
-fn hand_out<A: Allocator>(room: &mut Room<A>) {
-    if room.buffer.len() <= room.scratch.len() {
-        hand_over(&mut room.scratch, &mut room.buffer);
+fn hand_out<A: Allocator>(memory: &mut JobMemory<A>) {
+    if memory.buffer.len() <= memory.scratch.len() {
+        hand_over(&mut memory.scratch, &mut memory.buffer);
     }
 }

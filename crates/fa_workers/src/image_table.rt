@@ -1,7 +1,7 @@
 //! The images of an array's dies, for all who work for the dies.
 use crate::gate::Gate;
+use crate::job_memory::JobMemory;
 use crate::order::Order;
-use crate::room::Room;
 use fa_core_outcome::Outcome;
 use fa_image::Image;
 use fa_types::Die;
@@ -39,13 +39,13 @@ impl<I: Drop, A: Allocator> ImageTable<I, A> {
 }
 
 impl<I: Image + Drop, A: Allocator> ImageTable<I, A> {
-    /// Makes the calls of a job on its die's image, which is locked meanwhile, and tells how the job ended. A read's slot is in the room's
+    /// Makes the calls of a job on its die's image, which is locked meanwhile, and tells how the job ended. A read's slot is in the memory's
     /// scratch behind it and is not opened: it stands as a bad one.
     pub(crate) fn begin<R: Wait, B: Allocator, G: Gate>(
         &self,
         rt: &R,
         order: &Order<B>,
-        room: &mut Room<B>,
+        memory: &mut JobMemory<B>,
         gate: &G,
     ) -> Outcome {
         let Some(lock) = self.images.get(order.die().0 as usize) else {
@@ -53,7 +53,7 @@ impl<I: Image + Drop, A: Allocator> ImageTable<I, A> {
         };
         let mut guard = lock.lock(rt);
         match &mut *guard {
-            Some(image) => order.begin(image, &mut room.scratch, &mut room.buffer, gate),
+            Some(image) => order.begin(image, &mut memory.scratch, &mut memory.buffer, gate),
             None => order.refused(),
         }
     }
@@ -64,7 +64,7 @@ impl<I: Image + Drop, A: Allocator> ImageTable<I, A> {
         &self,
         rt: &R,
         order: &Order<B>,
-        room: &mut Room<B>,
+        memory: &mut JobMemory<B>,
         gate: &G,
     ) -> Outcome {
         let Some(lock) = self.images.get(order.die().0 as usize) else {
@@ -72,7 +72,7 @@ impl<I: Image + Drop, A: Allocator> ImageTable<I, A> {
         };
         let mut guard = lock.lock(rt);
         match &mut *guard {
-            Some(image) => order.run(image, &mut room.scratch, &mut room.buffer, gate),
+            Some(image) => order.run(image, &mut memory.scratch, &mut memory.buffer, gate),
             None => order.refused(),
         }
     }

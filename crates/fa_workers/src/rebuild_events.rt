@@ -1,7 +1,7 @@
 //! What the rebuilder does while it holds the array's lock.
 ghost use Rattle.std.specs.Prelude.{◌≡◌, false, map, IfSome};
 ghost use Rattle.fa_core_read.specs.Answers.{admit_answer};
-ghost use Rattle.fa_shared_events.specs.Held.{LeavesRest};
+ghost use Rattle.fa_shared_events.specs.Rest.{LeavesRest};
 ghost use Rattle.fa_workers.specs.Rebuilding.{AfterBatch, IsNumbered, Rebuilds, after_admit, after_commit as rule_commit, after_reserve};
 ghost use Rattle.fa_workers.specs.declared.rebuild_stage.RebuildStage.TheVariants.{Looking, Pausing, Reading, Reserving, Copying};
 

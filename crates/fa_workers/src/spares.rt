@@ -1,7 +1,7 @@
 //! Spares that are brought in.
 ghost use Rattle.std.specs.Prelude.{◌≡◌, ◌<◌, true, false};
 ghost use Rattle.fa_core.specs.Array.{state_of};
-ghost use Rattle.fa_shared_events.specs.Held.{LeavesRest};
+ghost use Rattle.fa_shared_events.specs.Rest.{LeavesRest};
 ghost use Rattle.fa_workers.specs.Spares.{BringsIn, BringsInOne, live_below, wants_spare as rule_wants};
 
 use fa_core::Array;

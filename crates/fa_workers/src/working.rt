@@ -2,8 +2,8 @@
 use crate::die_events::{Ended, Next, end_job, turn};
 use crate::gate::Gate;
 use crate::image_table::ImageTable;
+use crate::job_memory::JobMemory;
 use crate::order::Order;
-use crate::room::Room;
 use fa_core_outcome::Outcome;
 use fa_image::Image;
 use fa_map::Map;
@@ -28,7 +28,7 @@ struct Behind<A: Allocator = Global> {
 /// Take of the next are made in one hold of the lock. Where the die has no job it lets the round pass, if it may, and else waits; others may
 /// take the die's jobs too. It notes why the die went out, if it did; the worker of a die that is out, or of a spare, waits.
 ///
-/// An image of another geometry than the array's refuses each job. A room that was made for pages of another size ends no job.
+/// An image of another geometry than the array's refuses each job. A memory that was made for pages of another size ends no job.
 pub fn die_worker<
     R: Wait + Clock,
     L: Ledger,
@@ -44,19 +44,19 @@ pub fn die_worker<
     seat: &mut Seat<L>,
     die: Die,
     image_table: &ImageTable<I, B>,
-    room: Room<A>,
+    memory: JobMemory<A>,
     gate: &G,
 ) {
-    let mut room = room;
+    let mut memory = memory;
     let mut next = None;
     for _ in rt.forever() {
         let Some(order) = next_order(rt, alloc, shared, seat, die, next) else {
             break;
         };
-        let outcome = image_table.run(rt, &order, &mut room, gate);
-        let buffer = replace(&mut room.buffer, Vec::new(alloc));
+        let outcome = image_table.run(rt, &order, &mut memory, gate);
+        let buffer = replace(&mut memory.buffer, Vec::new(alloc));
         let behind = finish(rt, alloc, shared, seat, die, outcome, buffer);
-        room.buffer = behind.buffer;
+        memory.buffer = behind.buffer;
         next = behind.next;
     }
 }

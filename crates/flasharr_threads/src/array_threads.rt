@@ -17,7 +17,7 @@ use fa_shared::{Fault, Hands, NoHands, Seat, Shared};
 use fa_shared_store::ArrayBlocks;
 use fa_types::Die;
 use fa_workers::{
-    Gate, Helper, HelperRoom, ImageTable, Room, collector_worker, die_worker, rebuild_worker,
+    Gate, Helper, HelperMemory, ImageTable, JobMemory, collector_worker, die_worker, rebuild_worker,
 };
 use std::alloc::{AllocError, Global};
 use std::marker::Brand;
@@ -213,7 +213,7 @@ pub(crate) fn syncs_of(alloc: Global, images: &[DieImage]) -> Result<Vec<u64>, A
 struct Task<L: Ledger + Send> {
     die: Die,
     seat: Seat<L>,
-    room: Room,
+    memory: JobMemory,
 }
 
 /// The images by their dies' numbers. All of them are of live dies, and in the order of these.
@@ -276,7 +276,7 @@ fn tasks_of<L: Ledger + Send, R: Machine, M: Map + Drop>(
                 .push(Task {
                     die: Die(die),
                     seat: shared.seat(rt)?,
-                    room: Room::new(rt.alloc(), page_bytes).ok()?,
+                    memory: JobMemory::new(rt.alloc(), page_bytes).ok()?,
                 })
                 .ok()?;
         }
@@ -301,7 +301,7 @@ struct Back<L: Ledger + Send, U: Drop> {
 struct Session<L: Ledger + Send, U: Drop> {
     user: U,
     seat: Seat<L>,
-    room: HelperRoom,
+    memory: HelperMemory,
     meanwhile: Meanwhile,
 }
 
@@ -335,12 +335,12 @@ fn sessions_of<L: Ledger + Send, R: Machine, M: Map + Drop, U: User>(
     let mut sessions = Vec::with_capacity(rt.alloc(), users.len()).ok()?;
     for user in users {
         let seat = shared.seat(rt)?;
-        let room = HelperRoom::new(rt.alloc(), page_bytes).ok()?;
+        let memory = HelperMemory::new(rt.alloc(), page_bytes).ok()?;
         sessions
             .push(Session {
                 user,
                 seat,
-                room,
+                memory,
                 meanwhile,
             })
             .ok()?;
@@ -467,11 +467,11 @@ fn use_store<L: Ledger + Send, R: Machine, M: Map + Drop, I: Image + Drop, G: Ga
     let Session {
         mut user,
         seat,
-        room,
+        memory,
         meanwhile,
     } = session;
     let seat = match meanwhile {
-        Meanwhile::Help => help(rt, shared, image_table, gate, seat, room, &mut user),
+        Meanwhile::Help => help(rt, shared, image_table, gate, seat, memory, &mut user),
         Meanwhile::Sleep => act_with(rt, shared, seat, NoHands, &mut user),
     };
     (user, seat)
@@ -484,10 +484,10 @@ fn help<L: Ledger + Send, R: Machine, M: Map + Drop, I: Image + Drop, G: Gate, U
     image_table: &ImageTable<I>,
     gate: &G,
     seat: Seat<L>,
-    room: HelperRoom,
+    memory: HelperMemory,
     user: &mut U,
 ) -> Seat<L> {
-    let helper = Helper::new(rt, rt.alloc(), shared, image_table, gate, room);
+    let helper = Helper::new(rt, rt.alloc(), shared, image_table, gate, memory);
     act_with(rt, shared, seat, helper, user)
 }
 
@@ -516,7 +516,7 @@ fn work_die<L: Ledger + Send, R: Machine, M: Map + Drop, I: Image + Drop, G: Gat
     let Task {
         die,
         mut seat,
-        room,
+        memory,
     } = task;
     die_worker(
         rt,
@@ -525,7 +525,7 @@ fn work_die<L: Ledger + Send, R: Machine, M: Map + Drop, I: Image + Drop, G: Gat
         &mut seat,
         die,
         image_table,
-        room,
+        memory,
         gate,
     );
     seat

@@ -10,7 +10,7 @@ pub(crate) const TURNS: u32 = 10_000;
 
 /// Which calls are held.
 #[derive(Clone, Copy)]
-pub(crate) enum Held {
+pub(crate) enum HeldCalls {
     /// Reads of slots.
     Reads,
     /// Reads and programs of slots.
@@ -21,7 +21,7 @@ pub(crate) enum Held {
 #[derive(Drop)]
 pub(crate) struct Holding<'a, R: Clock> {
     rt: &'a R,
-    held: Held,
+    held: HeldCalls,
     /// How many calls have to have begun.
     enough: u64,
     is_shut: AtomicBool,
@@ -32,7 +32,7 @@ pub(crate) struct Holding<'a, R: Clock> {
 
 impl<'a, R: Clock> Holding<'a, R> {
     /// An open gate.
-    pub(crate) fn new(rt: &'a R, held: Held, enough: u64) -> Holding<'a, R> {
+    pub(crate) fn new(rt: &'a R, held: HeldCalls, enough: u64) -> Holding<'a, R> {
         Holding {
             rt,
             held,
@@ -107,7 +107,7 @@ impl<'a, R: Clock> Gate for Holding<'a, R> {
     fn before(&self, _die: Die, call: ImageCallKind) {
         let is_held = match (call, self.held) {
             (ImageCallKind::ReadSlot, _) => true,
-            (ImageCallKind::Program, Held::Slots) => true,
+            (ImageCallKind::Program, HeldCalls::Slots) => true,
             _ => false,
         };
         if is_held && self.is_shut.load(Ordering::SeqCst) {

@@ -2,7 +2,7 @@
 use crate::array_threads::{Left, Meanwhile, run, syncs_of};
 use crate::arrays::{DieImage, Shape, Start, formatted, report};
 use crate::clients::{LoopbackUser, Session};
-use crate::gate::{Held, Holding};
+use crate::gate::{HeldCalls, Holding};
 use crate::host::Machine;
 use crate::loopback::{Served, serve_client};
 use crate::pages::{Pages, Step};
@@ -52,7 +52,7 @@ fn two_sessions_read_back<R: Machine>(rt: &R) -> Came {
 fn take_turns<R: Machine>(rt: &R, meanwhile: Meanwhile) -> Came {
     let start = new_array(rt, Shape::of(3))?;
     let desk = Desk::new(rt.alloc())?;
-    let gate = Holding::new(rt, Held::Reads, 0);
+    let gate = Holding::new(rt, HeldCalls::Reads, 0);
     let users = turns_of(rt.alloc(), &desk)?;
     let left = run(rt, start, &gate, meanwhile, users).ok_or(Wrong::NoThreads)?;
     if !desk.is_right(rt) {
@@ -73,7 +73,7 @@ fn turns_of(alloc: Global, desk: &Desk) -> Result<Vec<InTurn<'_>>, AllocError> {
 /// A read of two pages on two dies is at both dies at once, whichever is first: each read of a die waits for that of the other.
 fn two_dies_read_in_one_round<R: Machine>(rt: &R) -> Came {
     let steps = [Step::Write(0), Step::Write(1), Step::Shut, Step::Read(0, 2)];
-    let gate = Holding::new(rt, Held::Reads, 2);
+    let gate = Holding::new(rt, HeldCalls::Reads, 2);
     let start = new_array(rt, Shape::of(2))?;
     close_by_steps(rt, start, &gate, Meanwhile::Sleep, &steps, 0)?;
     Ok(())
@@ -97,7 +97,7 @@ fn admit<R: Machine>(rt: &R, pages: [u64; 3]) -> Came {
         Step::Shut,
         Step::Read(0, 9),
     ];
-    let gate = Holding::new(rt, Held::Reads, 3);
+    let gate = Holding::new(rt, HeldCalls::Reads, 3);
     let start = new_array(rt, Shape::of(3))?;
     close_by_steps(rt, start, &gate, Meanwhile::Sleep, &steps, 0)?;
     Ok(())
@@ -105,7 +105,7 @@ fn admit<R: Machine>(rt: &R, pages: [u64; 3]) -> Came {
 
 /// A flush syncs each image.
 fn flush_without_sync<R: Machine>(rt: &R) -> Came {
-    let gate = Holding::new(rt, Held::Reads, 0);
+    let gate = Holding::new(rt, HeldCalls::Reads, 0);
     let start = new_array(rt, Shape::of(3))?;
     let before = syncs_of(rt.alloc(), start.images.as_slice())?;
     let left = by_steps(rt, start, &gate, Meanwhile::Help, &[Step::Flush], 0)?;
@@ -145,7 +145,7 @@ fn workers_collect_and_rebuild<R: Machine>(rt: &R) -> Came {
         return Err(Wrong::NoArray);
     }
     let _missing = images.remove(1);
-    let gate = Holding::new(rt, Held::Reads, 0);
+    let gate = Holding::new(rt, HeldCalls::Reads, 0);
     let start = Start {
         images,
         unclean: true,
@@ -169,7 +169,7 @@ fn workers_collect_and_rebuild<R: Machine>(rt: &R) -> Came {
 /// Many writes of one page, on whole images.
 fn collect<R: Machine>(rt: &R) -> Came {
     let images = written(rt, SMALL)?;
-    let gate = Holding::new(rt, Held::Reads, 0);
+    let gate = Holding::new(rt, HeldCalls::Reads, 0);
     let steps = [Step::WriteOften(6, 40), Step::Read(0, 8)];
     close_by_steps(rt, Start::of(images), &gate, Meanwhile::Help, &steps, 8)?;
     Ok(())
@@ -178,7 +178,7 @@ fn collect<R: Machine>(rt: &R) -> Came {
 /// Clients that vanish before a reply or inside a request leave nothing open.
 fn vanished_client_leaves_nothing<R: Machine>(rt: &R) -> Came {
     let images = written(rt, Shape::of(3))?;
-    let gate = Holding::new(rt, Held::Slots, 1);
+    let gate = Holding::new(rt, HeldCalls::Slots, 1);
     gate.shut();
     let mut images = with_loopback_users(rt, Start::of(images), &gate)?;
     let told = report(rt.alloc(), images.as_mut_slice()).ok_or(Wrong::NoArray)?;
@@ -222,7 +222,7 @@ fn wrong_bytes_take_the_die_out<R: Machine>(rt: &R) -> Came {
         unclean: false,
         wrong: Some(1),
     };
-    let gate = Holding::new(rt, Held::Reads, 0);
+    let gate = Holding::new(rt, HeldCalls::Reads, 0);
     let left = by_steps(rt, start, &gate, Meanwhile::Help, &[Step::Read(0, 8)], 8)?;
     let is_told = match left.faults.as_slice() {
         [fault] => fault.die == Die(1) && fault.cause == Cause::Wrong,
@@ -266,7 +266,7 @@ fn new_array<R: Machine>(rt: &R, shape: Shape) -> Result<Start, Wrong> {
 
 /// The images of an array of this shape whose pages 0 to 7 were written, and which was closed.
 fn written<R: Machine>(rt: &R, shape: Shape) -> Result<Vec<DieImage>, Wrong> {
-    let gate = Holding::new(rt, Held::Reads, 0);
+    let gate = Holding::new(rt, HeldCalls::Reads, 0);
     let start = new_array(rt, shape)?;
     close_by_steps(rt, start, &gate, Meanwhile::Help, &ALL, 0)
 }

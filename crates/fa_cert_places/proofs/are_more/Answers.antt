@@ -1,7 +1,7 @@
 use Rattle.std.proofs.Common.{◌≡◌, ◌+◌, ◌-◌, arith, ap}
 use Rattle.std.proofs.lemmas.Bool.{lt-ltb, ltb-true}
 use Rattle.fa_batch.specs.Certificate.{open_places}
-use Rattle.fa_cert_places.specs.Rooms.{marked}
+use Rattle.fa_cert_places.specs.OpenCounts.{marked}
 use Rattle.fa_cert_places.proofs.Marked.{marked-none, places-yes, places-no, places-grow}
 use Rattle.fa_cert_places.proofs.are_more.Goals as goal
 use Rattle.fa_cert_places.proofs.are_more.Goals.{then-marks-die+else-left-open, else-marks-die}

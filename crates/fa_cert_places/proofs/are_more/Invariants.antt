@@ -1,6 +1,6 @@
 use Rattle.std.proofs.Common.{◌≡◌, ◌+◌}
 use Rattle.fa_batch.specs.Certificate.{open_places}
-use Rattle.fa_cert_places.specs.Rooms.{marked}
+use Rattle.fa_cert_places.specs.OpenCounts.{marked}
 use Rattle.fa_cert_places.proofs.are_more.Given as goal
 
 abbrev pub invariant-loop-die : goal.invariant-loop-die

@@ -15,4 +15,4 @@ pub returns-clause-given : goal.returns-clause-given
 returns-clause-given g c = λ so.
     let past : length c.hand_on.given.items ≤ c.hand_on.page = omega arith in
     given_more c.args.batch.now c.args.given.now.items c.search.new.walk c.in-Some.free.0 c.hand_on.given.items c.hand_on.die c.hand_on.page c.hand_on.invariant past
-    c.args.tables.now c.requires.given c.requires.next (search rules) (subst (λ v. HasFound v c.args.tables.now.rooms c.search.new.walk c.in-Some.free.0) c.as_slice.ensures.value c.in-Some.ensures.found) c.push.new.self.items c.in_ok-push.ensures.items
+    c.args.tables.now c.requires.given c.requires.next (search rules) (subst (λ v. HasFound v c.args.tables.now.open_counts c.search.new.walk c.in-Some.free.0) c.as_slice.ensures.value c.in-Some.ensures.found) c.push.new.self.items c.in_ok-push.ensures.items

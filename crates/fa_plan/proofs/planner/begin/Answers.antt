@@ -20,7 +20,7 @@ rounds_for-rounds-requires-clause-low g c =
 pub returns : goal.returns
 returns g c =
     begun c.args.batch.now (g.R.Rounds.current c.args.calendar.now) (g.R.Rounds.closed c.args.calendar.now)
-    c.in_ok-given.given c.count_rooms.result c.new.result c.if-len-gt0.rounds c.in_ok-short.short c.in_ok-given.ensures c.count_rooms.ensures c.in_ok-short.ensures
+    c.in_ok-given.given c.count_open.result c.new.result c.if-len-gt0.rounds c.in_ok-short.short c.in_ok-given.ensures c.count_open.ensures c.in_ok-short.ensures
     (λ some. elim c.if-len-gt0.branch [
       | then-len-gt0 w ↦
           subst (λ n. IsRaised c.args.batch.now (g.R.Rounds.current c.args.calendar.now) (g.R.Rounds.closed c.args.calendar.now) (pages_of c.args.batch.now) 0 n) (sym w.rounds-is)

@@ -21,4 +21,4 @@ returns-clause-certificate g c =
     is_certificate c.args.batch.now given same.0 c.in_ok-seats.seats.items (subst (λ v. AreSeats c.args.batch.now v same.0) c.as_slice.ensures.value same.1) same.2
     (g.R.Rounds.current c.args.calendar.now) (g.R.Rounds.closed c.args.calendar.now) c.in_ok-places.places
     (subst (λ v. IsLaidOut (g.R.Rounds.current c.args.calendar.now) (g.R.Rounds.closed c.args.calendar.now) v c.in_ok-places.places) c.as_slice-2.ensures.value c.in_ok-places.ensures)
-    c.requires.sound progress.given.readers all c.args.progress.tables.rooms c.args.progress.rounds c.args.progress.short progress.given.within progress.rooms progress.shows
+    c.requires.sound progress.given.readers all c.args.progress.tables.open_counts c.args.progress.rounds c.args.progress.short progress.given.within progress.open_counts progress.shows

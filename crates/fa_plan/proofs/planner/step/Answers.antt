@@ -16,9 +16,9 @@ rounds_for-progress-requires-clause-low g c =
     let p = c.args.progress.now in
     let same = c.as_slice.ensures.value ∙ c.in_ok-is_given.ensures.same c.if-not-is_given.true in
     subst (λ v. AreTooFew c.args.batch.now (g.R.Rounds.current c.args.calendar.now) (g.R.Rounds.closed c.args.calendar.now) p.rounds v) (sym c.as_slice-then-not-is_given.ensures)
-    (reached_are_too_many c.args.batch.now p.given.items c.give.new.walk p.tables.rooms c.in_ok-pages.pages c.requires.sound.fine.once c.in_ok-is_given.ensures.walk.tables.0
+    (reached_are_too_many c.args.batch.now p.given.items c.give.new.walk p.tables.open_counts c.in_ok-pages.pages c.requires.sound.fine.once c.in_ok-is_given.ensures.walk.tables.0
     (c.in_ok-is_given.ensures.end c.if-not-is_given.true) (subst (λ v. AreReached c.args.batch.now v c.give.new.walk c.in_ok-pages.pages) same c.in_ok-pages.ensures)
-    (g.R.Rounds.current c.args.calendar.now) (g.R.Rounds.closed c.args.calendar.now) p.rounds c.requires.progress.rooms)
+    (g.R.Rounds.current c.args.calendar.now) (g.R.Rounds.closed c.args.calendar.now) p.rounds c.requires.progress.open_counts)
 
 pub returns-in_ok-pages-clause-progress : goal.returns-in_ok-pages-clause-progress
 returns-in_ok-pages-clause-progress g c =
@@ -35,4 +35,4 @@ returns-in_ok-pages-clause-progress g c =
 pub returns-else-not-is_given-clause-progress : goal.returns-else-not-is_given-clause-progress
 returns-else-not-is_given-clause-progress g c =
     given_one c.args.batch.now (g.R.Rounds.current c.args.calendar.now) (g.R.Rounds.closed c.args.calendar.now) c.requires.sound c.args.progress.now c.requires.progress c.requires.next c.give.new.walk c.in_ok-is_given.ensures.walk
-    c.give.new.given c.give.new.tables (c.in_ok-is_given.ensures.given c.if-not-is_given.false) (c.in_ok-is_given.ensures.longer c.if-not-is_given.false) c.in_ok-is_given.ensures.rooms
+    c.give.new.given c.give.new.tables (c.in_ok-is_given.ensures.given c.if-not-is_given.false) (c.in_ok-is_given.ensures.longer c.if-not-is_given.false) c.in_ok-is_given.ensures.open_counts

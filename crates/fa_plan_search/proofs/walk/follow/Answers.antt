@@ -39,13 +39,13 @@ loop-die-preserved g c =
           let there : IsReached c.args.given.now c.loop-die.walk c.args.page = record { within = c.requires.reached.within; taken = λ below. so_far.goes.reached _ (c.requires.reached.taken below) } in
           let known : die < 256 = search rules in
           let load : slice_index c.args.tables.now.loads die ≡ load_of c.args.given.now die = c.requires.searching.loads die known in
-          let room : slice_index c.args.tables.now.rooms die ≤ slice_index c.args.tables.now.loads die = w.if-load-tables.false in
+          let room : slice_index c.args.tables.now.open_counts die ≤ slice_index c.args.tables.now.loads die = w.if-load-tables.false in
           let is = w.walk-is ∙ w.add-then-not-walk-number.ensures in
           let after = with_die c.loop-die.walk die c.args.page (slice_index c.args.tables.now.loads die) in
           let on = added_goes_on c.args.batch.now c.args.given.now c.loop-die.walk so_far.walk die c.args.page (slice_index c.args.tables.now.loads die) known w.if-not-walk-number.true in
           record {
             walk = subst (λ v. IsWalk c.args.batch.now c.args.given.now v) (sym is) (added_is_walk c.args.batch.now c.args.given.now c.loop-die.walk so_far.walk die c.args.page (slice_index c.args.tables.now.loads die) known w.if-not-walk-number.true held there (omega arith));
-            full = subst (λ v. AreFull c.args.given.now c.args.tables.now.rooms v) (sym is) (added_is_full c.args.batch.now c.args.given.now c.loop-die.walk so_far.walk die c.args.page (slice_index c.args.tables.now.loads die) known w.if-not-walk-number.true held there c.args.tables.now.rooms so_far.full (omega arith));
+            full = subst (λ v. AreFull c.args.given.now c.args.tables.now.open_counts v) (sym is) (added_is_full c.args.batch.now c.args.given.now c.loop-die.walk so_far.walk die c.args.page (slice_index c.args.tables.now.loads die) known w.if-not-walk-number.true held there c.args.tables.now.open_counts so_far.full (omega arith));
             goes = subst (λ v. GoesOn c.args.walk.now v) (sym is) (then c.args.walk.now c.loop-die.walk after so_far.goes on);
             reached = subst (λ v. (x : ℕ) → is_among (take (c.loop-die.die-index + 1) c.holders_at-die-items.result.now) x ≡ true → has_reached v x ≡ true) (sym is)
                 (among_more after c.holders_at-die-items.result.now c.loop-die.die-index c.loop-die-test.true (λ x among. on.reached x (so_far.reached x among)) (added_reached c.args.batch.now c.args.given.now c.loop-die.walk so_far.walk die c.args.page (slice_index c.args.tables.now.loads die) known w.if-not-walk-number.true));
@@ -54,7 +54,7 @@ loop-die-preserved g c =
           (let at : has_reached c.loop-die.walk die ≡ true = w.if-not-walk-number.false in
           record {
             walk = subst (λ v. IsWalk c.args.batch.now c.args.given.now v) (sym w.walk-is) so_far.walk;
-            full = subst (λ v. AreFull c.args.given.now c.args.tables.now.rooms v) (sym w.walk-is) so_far.full;
+            full = subst (λ v. AreFull c.args.given.now c.args.tables.now.open_counts v) (sym w.walk-is) so_far.full;
             goes = subst (λ v. GoesOn c.args.walk.now v) (sym w.walk-is) so_far.goes;
             reached = subst (λ v. (x : ℕ) → is_among (take (c.loop-die.die-index + 1) c.holders_at-die-items.result.now) x ≡ true → has_reached v x ≡ true) (sym w.walk-is)
                 (among_more c.loop-die.walk c.holders_at-die-items.result.now c.loop-die.die-index c.loop-die-test.true so_far.reached at);

@@ -6,7 +6,7 @@ use Rattle.fa_plan_search.proofs.walk.follow.Given as goal
 abbrev pub invariant-loop-die : goal.invariant-loop-die
 invariant-loop-die g l = record {
   walk : IsWalk l.batch l.given l.walk;
-  full : AreFull l.given l.tables.rooms l.walk;
+  full : AreFull l.given l.tables.open_counts l.walk;
   goes : GoesOn l.fn.walk l.walk;
   reached : (die : ℕ) → is_among (take l.die-index l.die-items) die ≡ true → has_reached l.walk die ≡ true;
 }

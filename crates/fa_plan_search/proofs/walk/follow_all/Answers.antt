@@ -13,11 +13,11 @@ loop-page-preserved g c =
       | then-given-page+else-is_some w ↦
           (let none = sym w.is_some.ensures ∙ w.if-is_some.false in
           let after = w.follow-found.new.walk in
-          let full : AreFull c.args.given.now c.args.tables.now.rooms after = at_none w.follow-found.result (AreFull c.args.given.now c.args.tables.now.rooms after) none w.follow-found.ensures.full in
+          let full : AreFull c.args.given.now c.args.tables.now.open_counts after = at_none w.follow-found.result (AreFull c.args.given.now c.args.tables.now.open_counts after) none w.follow-found.ensures.full in
           let here = at_none w.follow-found.result (IsFollowed c.args.batch.now after c.loop-page.page) none w.follow-found.ensures.followed in
           record {
             walk = subst (λ v. IsWalk c.args.batch.now c.args.given.now v) (sym w.walk-is) w.follow-found.ensures.walk;
-            full = subst (λ v. AreFull c.args.given.now c.args.tables.now.rooms v) (sym w.walk-is) full;
+            full = subst (λ v. AreFull c.args.given.now c.args.tables.now.open_counts v) (sym w.walk-is) full;
             goes = subst (λ v. GoesOn c.args.walk.now v) (sym w.walk-is) (then c.args.walk.now c.loop-page.walk after i.goes w.follow-found.ensures.goes);
             followed = λ page below is. elim (cases_eq page c.loop-page.page) [
               | inl e ↦ subst (λ v. IsFollowed c.args.batch.now v page) (sym w.walk-is) (subst (λ n. IsFollowed c.args.batch.now after n) (sym e) here)
@@ -27,7 +27,7 @@ loop-page-preserved g c =
       | else-given-page w ↦
           record {
             walk = subst (λ v. IsWalk c.args.batch.now c.args.given.now v) (sym w.walk-is) i.walk;
-            full = subst (λ v. AreFull c.args.given.now c.args.tables.now.rooms v) (sym w.walk-is) i.full;
+            full = subst (λ v. AreFull c.args.given.now c.args.tables.now.open_counts v) (sym w.walk-is) i.full;
             goes = subst (λ v. GoesOn c.args.walk.now v) (sym w.walk-is) i.goes;
             followed = λ page below is. subst (λ v. IsFollowed c.args.batch.now v page) (sym w.walk-is)
                 (elim (cases_eq page c.loop-page.page) [

@@ -6,7 +6,7 @@ use Rattle.fa_plan_search.proofs.walk.follow_all.Given as goal
 abbrev pub invariant-loop-page : goal.invariant-loop-page
 invariant-loop-page g l = record {
   walk : IsWalk l.batch l.given l.walk;
-  full : AreFull l.given l.tables.rooms l.walk;
+  full : AreFull l.given l.tables.open_counts l.walk;
   goes : GoesOn l.fn.walk l.walk;
   followed : (page : ℕ) → page < l.page → die_of l.given page ≡ l.die.0 → IsFollowed l.batch l.walk page;
 }

@@ -6,7 +6,7 @@ use Rattle.fa_plan_search.proofs.walk.search.Given as goal
 abbrev pub invariant-loop-next : goal.invariant-loop-next
 invariant-loop-next g l = record {
   walk : IsWalk l.batch l.given l.walk;
-  full : AreFull l.given l.tables.rooms l.walk;
+  full : AreFull l.given l.tables.open_counts l.walk;
   begun : IsFollowed l.batch l.walk (length l.given);
   followed : (k page : ℕ) → k < l.next → page < length l.given → die_of l.given page ≡ slice_index l.walk.order k → IsFollowed l.batch l.walk page;
   within : l.next ≤ l.walk.count;

@@ -1,4 +1,4 @@
-use Rattle.fa_shared_events.specs.Held.{LeavesRest}
+use Rattle.fa_shared_events.specs.Rest.{LeavesRest}
 use Rattle.fa_workers.proofs.helping.take_jobs.Given as goal
 
 abbrev pub invariant-loop-number : goal.invariant-loop-number

@@ -8,5 +8,5 @@ marked marks zero = []
 marked marks (suc n) = if slice_index_or marks n false then n ∷ marked marks n else marked marks n
 
 -- a table has the open rounds of each die
-abbrev pub AreRooms : ℕ → (ℕ → ℕ → Bool) → ℕ → List ℕ → Type 0
-AreRooms current closed rounds rooms = (die : ℕ) → die < 256 → slice_index rooms die ≡ open_among current closed die rounds
+abbrev pub AreOpenCounts : ℕ → (ℕ → ℕ → Bool) → ℕ → List ℕ → Type 0
+AreOpenCounts current closed rounds open_counts = (die : ℕ) → die < 256 → slice_index open_counts die ≡ open_among current closed die rounds
