@@ -1,6 +1,6 @@
 -- Counts over the slots of a die and of one of its blocks, and tests of all numbers of a range.
-use Rattle.fa_map.proofs.Indices.{die_fits}
-use Rattle.fa_map.proofs.Ranges.{bit, count_agree, count_cons, count_same}
+use Rattle.fa_map_calls.proofs.Indices.{die_fits}
+use Rattle.fa_map_calls.proofs.Ranges.{bit, count_agree, count_cons, count_same}
 use Rattle.fa_machine.specs.Collecting.{count_in, is_erased_outside, is_in_block, may_be_victim}
 use Rattle.fa_machine.specs.Copies.{is_held_slot, is_reserved_slot, is_stale_slot}
 use Rattle.fa_machine.specs.Placement.{free, is_erased_slot}

@@ -2,9 +2,9 @@
 use Rattle.fa_machine.specs.Copies.{is_held_slot}
 use Rattle.fa_machine.specs.declared.places.Used.{Used}
 use Rattle.fa_machine.specs.declared.places.Used.TheVariants.{Held, Reserved as ReservedSlot, Stale as StaleSlot}
-use Rattle.fa_map.specs.Slots.{state_of}
-use Rattle.fa_map.specs.declared.slots.SlotState.{SlotState}
-use Rattle.fa_map.specs.declared.slots.SlotState.TheVariants.{Current, Erased, Reserved, Stale}
+use Rattle.fa_map_calls.specs.Slots.{state_of}
+use Rattle.fa_map_calls.specs.declared.slots.SlotState.{SlotState}
+use Rattle.fa_map_calls.specs.declared.slots.SlotState.TheVariants.{Current, Erased, Reserved, Stale}
 use Rattle.std.proofs.Common.{Bool, None, Option, Some, false, refl, true, ◌≡◌}
 
 abbrev pub is_current_state : SlotState → Bool

@@ -1,7 +1,7 @@
 -- The block with most stale slots, of those with no reserved one, is the victim, or there is none.
 use Rattle.fa_collect.proofs.Blocks.{all_in, block_sum, erased_few, one_of_all, outside_is}
-use Rattle.fa_map.proofs.Ranges.{find_none, find_some}
-use Rattle.fa_map.specs.Found.{IsGreatest, is_clean_block}
+use Rattle.fa_map_calls.proofs.Ranges.{find_none, find_some}
+use Rattle.fa_map_calls.specs.Blocks.{IsGreatest, is_clean_block}
 use Rattle.fa_machine.specs.Collecting.{count_in, is_erased_outside, is_no_better, may_be_victim, victim}
 use Rattle.fa_machine.specs.Copies.{is_held_slot, is_reserved_slot, is_stale_slot}
 use Rattle.fa_machine.specs.Maps.{below}

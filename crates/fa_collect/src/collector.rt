@@ -4,7 +4,7 @@ ghost use Rattle.fa_machine.specs.Collecting.{victim as rule_victim, next_step a
 ghost use Rattle.fa_machine.specs.Looks.{wants_window as rule_window};
 
 use fa_machine::{Block, CollectorStep};
-use fa_map::{BlockCounts, Map, SlotState};
+use fa_map_calls::{BlockCounts, Map, SlotState};
 use fa_types::{Die, Slot};
 
 /// The block that the collector of a die empties: of the blocks with a stale slot, no reserved slot and no more current slots

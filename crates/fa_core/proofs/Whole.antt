@@ -15,7 +15,7 @@ use Rattle.fa_machine.specs.Step.{Act, Step}
 use Rattle.fa_machine.specs.Writing.{claimed_page}
 use Rattle.fa_machine.specs.declared.places.Used.TheVariants.{Held}
 use Rattle.fa_machine.specs.declared.places.Version.{Version}
-use Rattle.fa_map.specs.Slots.{IsPageMap}
+use Rattle.fa_map_calls.specs.Slots.{IsPageMap}
 use Rattle.fa_core_read.proofs.Others.{AreInside, fitted_with, tracked_again}
 use Rattle.fa_sound.specs.Owners.{Owned, owned_claim, owned_of}
 use Rattle.fa_sound.specs.Ready.{AreReady}

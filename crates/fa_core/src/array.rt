@@ -10,7 +10,7 @@ ghost use Rattle.fa_set.specs.Members.{bound_of, members};
 use crate::mounting::begin;
 use fa_core_read::Planner;
 use fa_core_state::State;
-use fa_map::Map;
+use fa_map_calls::Map;
 use fa_set::NumberSet;
 use fa_tag::Payload;
 use fa_types::{Copies, Seq};

@@ -12,7 +12,7 @@ use crate::array::Array;
 use crate::distinct::are_distinct;
 use fa_core_outcome::Outcome;
 use fa_machine::{ClaimId, Flight};
-use fa_map::Map;
+use fa_map_calls::Map;
 use fa_tag::Payload;
 use fa_types::{Die, Page};
 use std::alloc::Allocator;

@@ -16,7 +16,7 @@ use crate::keeping::{an_event_counts, an_event_keeps, is_a_number};
 use fa_core_dispatch::Job;
 use fa_core_dispatch::laws::what_is_handed_out_fits;
 use fa_core_outcome::Outcome;
-use fa_map::Map;
+use fa_map_calls::Map;
 use fa_types::Die;
 use std::alloc::Allocator;
 

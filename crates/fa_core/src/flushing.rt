@@ -8,7 +8,7 @@ use crate::array::Array;
 use crate::call::{Answer, Call};
 use crate::keeping::{an_event_counts, an_event_keeps};
 use fa_machine::{Flush, FlushRefused, FlushState};
-use fa_map::Map;
+use fa_map_calls::Map;
 use std::alloc::Allocator;
 
 impl<M: Map, A: Allocator + Clone> Array<M, A> {

@@ -14,7 +14,7 @@ ghost use Rattle.fa_core_tables.specs.Counted.{capped};
 
 use crate::array::Array;
 use fa_machine::{BatchId, Block, ClaimId, HistoryEntry, JobKind, Version};
-use fa_map::Map;
+use fa_map_calls::Map;
 use fa_types::{Die, Geometry, Page, Round, Seq, Slot};
 use std::alloc::Allocator;
 

@@ -12,7 +12,7 @@ use fa_core_batches::Batches;
 use fa_core_bookings::Bookings;
 use fa_core_state::{State, mark_live};
 use fa_core_tables::{ByDie, Claims, Log, Waiting};
-use fa_map::Map;
+use fa_map_calls::Map;
 use fa_set::NumberSet;
 use fa_types::{Copies, Round, Seq};
 use std::alloc::{AllocError, Allocator};

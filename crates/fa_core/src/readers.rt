@@ -15,7 +15,7 @@ use crate::keeping::{an_event_counts, an_event_keeps};
 use fa_batch::Closed;
 use fa_core_read::Admitted;
 use fa_machine::{AdmitRefused, BatchId, ReadState};
-use fa_map::Map;
+use fa_map_calls::Map;
 use fa_plan::Planned;
 use fa_types::Page;
 use std::alloc::{AllocError, Allocator};

@@ -4,7 +4,7 @@ ghost use Rattle.fa_machine.specs.Looks.{counts};
 
 use crate::array::Array;
 use crate::call::{Answer, Call};
-use fa_map::Map;
+use fa_map_calls::Map;
 use std::alloc::Allocator;
 
 impl<M: Map, A: Allocator + Copy> Array<M, A> {

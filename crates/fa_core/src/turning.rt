@@ -10,7 +10,7 @@ use crate::keeping::{an_event_counts, an_event_keeps};
 use fa_machine::{
     AdvanceRefused, CommitCopyRefused, Copied, ReserveCopyRefused, SpareRefused, WindowRefused,
 };
-use fa_map::Map;
+use fa_map_calls::Map;
 use fa_tag::Payload;
 use fa_types::{Die, Page, Round, Seq};
 use std::alloc::Allocator;

@@ -8,7 +8,7 @@ use crate::array::Array;
 use crate::call::{Answer, Call};
 use crate::keeping::{an_event_counts, an_event_keeps};
 use fa_machine::{AbandonRefused, ClaimId, ClaimRefused, CommitRefused, ReserveRefused};
-use fa_map::Map;
+use fa_map_calls::Map;
 use fa_mirror::copies_asked;
 use fa_tag::Payload;
 use fa_types::{Kind, Page, Seq};

@@ -9,10 +9,10 @@ use Rattle.fa_machine.specs.declared.jobs.Flight.TheVariants.{Move}
 use Rattle.fa_machine.specs.declared.places.Used.{Used}
 use Rattle.fa_machine.specs.declared.places.Used.TheVariants.{Held, Reserved, Stale}
 use Rattle.fa_machine.specs.declared.places.Version.{Version}
-use Rattle.fa_map.proofs.Ranges.{find_none}
-use Rattle.fa_map.proofs.Tallied.{block_of_slot}
-use Rattle.fa_map.specs.Changes.{MayKeep, with_used}
-use Rattle.fa_map.specs.Slots.{IsPageMap}
+use Rattle.fa_map_calls.proofs.Ranges.{find_none}
+use Rattle.fa_map_calls.proofs.Indices.{block_of_slot}
+use Rattle.fa_map_calls.specs.Changes.{MayKeep, with_used}
+use Rattle.fa_map_calls.specs.Slots.{IsPageMap}
 use Rattle.fa_sound.specs.Owners.{owned_of}
 use Rattle.fa_sound.specs.Sound.{IsMoving, IsSound, is_settled}
 use Rattle.fa_types.specs.declared.numbers.Page.{Page}

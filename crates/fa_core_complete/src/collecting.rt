@@ -8,7 +8,7 @@ ghost use Rattle.fa_machine.specs.Maps.{keep};
 ghost use Rattle.fa_machine.specs.State.{is_live};
 ghost use Rattle.fa_machine.specs.Taking.{EndsJob, erase_ends, move_ends, stays, stepped_on};
 ghost use Rattle.fa_machine.specs.declared.places.Used.TheVariants.{Held, Stale};
-ghost use Rattle.fa_map.specs.Changes.{MayKeep, with_used};
+ghost use Rattle.fa_map_calls.specs.Changes.{MayKeep, with_used};
 ghost use Rattle.fa_sound.specs.Sound.{IsSound};
 ghost use Rattle.fa_core_state.specs.Core.{core_of};
 ghost use Rattle.fa_core_state.specs.Fitted.{IsFitted};
@@ -16,7 +16,7 @@ ghost use Rattle.fa_core_state.specs.Fitted.{IsFitted};
 use crate::dropping::end_job;
 use fa_core_state::State;
 use fa_machine::{Block, Flight, Version};
-use fa_map::Map;
+use fa_map_calls::Map;
 use fa_types::{Die, Page, Slot};
 use std::alloc::Allocator;
 

@@ -8,7 +8,7 @@ ghost use Rattle.fa_core_state.specs.Fitted.{IsFitted};
 ghost use Rattle.fa_core_state.specs.Tracked.{is_at_read};
 
 use fa_core_state::{State, mark_live};
-use fa_map::Map;
+use fa_map_calls::Map;
 use fa_types::Die;
 use std::alloc::Allocator;
 

@@ -16,7 +16,7 @@ use crate::reading::read_done;
 use crate::telling::{header_done, sync_done};
 use fa_core_outcome::Outcome;
 use fa_core_state::State;
-use fa_map::Map;
+use fa_map_calls::Map;
 use fa_types::Die;
 use std::alloc::Allocator;
 

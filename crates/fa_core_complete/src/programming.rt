@@ -11,7 +11,7 @@ ghost use Rattle.fa_core_state.specs.Fitted.{IsFitted};
 use crate::dropping::end_job;
 use fa_core_state::State;
 use fa_machine::{Copying, Flight, Target};
-use fa_map::Map;
+use fa_map_calls::Map;
 use fa_types::{Die, Page, Slot};
 use std::alloc::Allocator;
 

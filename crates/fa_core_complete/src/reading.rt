@@ -14,7 +14,7 @@ use crate::dropping::lose_die;
 use fa_core_outcome::is_copy;
 use fa_core_state::State;
 use fa_machine::{BatchId, Flight, Version};
-use fa_map::Map;
+use fa_map_calls::Map;
 use fa_tag::Opened;
 use fa_types::{Die, Page, Slot};
 use std::alloc::Allocator;

@@ -3,7 +3,7 @@ use Rattle.fa_machine.specs.Collecting.{is_erased_outside, move_place}
 use Rattle.fa_machine.specs.State.{Core, MapState}
 use Rattle.fa_machine.specs.declared.jobs.Flight.{Flight}
 use Rattle.fa_machine.specs.declared.jobs.Flight.TheVariants.{Erase, Header, Move, Program, Read, Sync}
-use Rattle.fa_map.proofs.Ranges.{find_below}
+use Rattle.fa_map_calls.proofs.Ranges.{find_below}
 use Rattle.fa_core_dispatch.specs.Begins.{IsOfCollector, MayBegin}
 use Rattle.std.proofs.Common.{None, Option, Some, arith, ℕ, ◌*◌, ◌<◌, ◌≡◌}
 use Rattle.std.specs.Prelude.{IfSome}

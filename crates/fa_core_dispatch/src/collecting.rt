@@ -14,7 +14,7 @@ ghost use Rattle.fa_types.specs.Windows.{is_in_window};
 use fa_collect::next_step;
 use fa_core_state::State;
 use fa_machine::{Block, CollectorStep, Flight, Version};
-use fa_map::Map;
+use fa_map_calls::Map;
 use fa_types::{Die, Page, Slot, Window};
 use std::alloc::Allocator;
 

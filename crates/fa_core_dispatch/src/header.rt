@@ -7,7 +7,7 @@ ghost use Rattle.fa_core_dispatch.specs.Begins.{MayBegin};
 
 use fa_core_state::State;
 use fa_machine::Flight;
-use fa_map::Map;
+use fa_map_calls::Map;
 use fa_types::Die;
 use std::alloc::Allocator;
 

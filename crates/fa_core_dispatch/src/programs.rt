@@ -12,7 +12,7 @@ use crate::jobs::set_job;
 use fa_core_state::State;
 use fa_core_tables::ByDie;
 use fa_machine::Flight;
-use fa_map::Map;
+use fa_map_calls::Map;
 use fa_types::Die;
 use std::alloc::Allocator;
 

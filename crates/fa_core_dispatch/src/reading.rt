@@ -15,7 +15,7 @@ use fa_core_batches::PageState;
 use fa_core_read_pages::read_of;
 use fa_core_state::State;
 use fa_machine::{BatchId, Booking, Flight, Version};
-use fa_map::Map;
+use fa_map_calls::Map;
 use fa_types::{Die, Page, Round, Slot};
 use std::alloc::Allocator;
 

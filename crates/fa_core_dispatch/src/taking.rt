@@ -19,7 +19,7 @@ use crate::programs::{begin_other, has_other};
 use crate::reading::{begin_read, drop_stale_booking, read_job};
 use fa_core_state::State;
 use fa_machine::Flight;
-use fa_map::Map;
+use fa_map_calls::Map;
 use fa_types::Die;
 use std::alloc::Allocator;
 

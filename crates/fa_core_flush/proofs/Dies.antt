@@ -2,7 +2,7 @@
 use Rattle.fa_machine.proofs.Maps.{get-insert_other, get-insert_same}
 use Rattle.fa_machine.specs.Maps.{below, insert_all}
 use Rattle.fa_machine.specs.State.{MapState, is_live}
-use Rattle.fa_map.specs.Slots.{IsPageMap}
+use Rattle.fa_map_calls.specs.Slots.{IsPageMap}
 use Rattle.std.proofs.Common.{◌≡◌, ℕ, ◌+◌, ◌<◌, ◌≤◌, Bool, true, false, List, [], ◌∷◌, Option, Some, ap, cond}
 use Rattle.std.proofs.Common.{inl, inr, length, length-set, refl, sym, map, get_or, set, ◌∙◌, arith, below_more}
 use Rattle.std.proofs.lemmas.Bool.{cases_Bool, cases_lt}

@@ -11,7 +11,7 @@ ghost use Rattle.fa_core_state.specs.Fitted.{IsFitted};
 use fa_core_state::State;
 use fa_core_tables::ByDie;
 use fa_machine::{Flush, FlushRefused};
-use fa_map::Map;
+use fa_map_calls::Map;
 use fa_types::Die;
 use std::alloc::Allocator;
 

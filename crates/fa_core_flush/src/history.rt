@@ -8,7 +8,7 @@ ghost use Rattle.fa_core_state.specs.Core.{core_of};
 ghost use Rattle.fa_core_state.specs.Fitted.{IsFitted};
 
 use fa_core_state::State;
-use fa_map::Map;
+use fa_map_calls::Map;
 use std::alloc::Allocator;
 
 /// The history is taken into its base, and none is left.

@@ -25,7 +25,7 @@ use fa_calendar::CalendarRefused;
 use fa_core_read_pages::first_lost;
 use fa_core_state::State;
 use fa_machine::{AdmitRefused, BatchId};
-use fa_map::Map;
+use fa_map_calls::Map;
 use fa_plan::Planned;
 use fa_types::Page;
 use std::alloc::{AllocError, Allocator, Global};

@@ -26,7 +26,7 @@ use fa_core_batches::{Batches, PageState};
 use fa_core_read_pages::has_data;
 use fa_core_state::State;
 use fa_machine::BatchId;
-use fa_map::Map;
+use fa_map_calls::Map;
 use fa_types::Page;
 use std::alloc::{AllocError, Allocator};
 

@@ -18,7 +18,7 @@ use fa_core_bookings::Bookings;
 use fa_core_read_pages::place_in;
 use fa_core_state::State;
 use fa_machine::BatchId;
-use fa_map::Map;
+use fa_map_calls::Map;
 use fa_types::Page;
 use std::alloc::Allocator;
 

@@ -11,7 +11,7 @@ use crate::planner::Planner;
 use fa_core_bookings::Bookings;
 use fa_core_read_pages::list_written;
 use fa_core_state::State;
-use fa_map::Map;
+use fa_map_calls::Map;
 use fa_plan::{Planned, plan_in};
 use fa_types::Page;
 use std::alloc::{AllocError, Allocator};

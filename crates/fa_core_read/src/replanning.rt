@@ -29,7 +29,7 @@ use fa_core_batches::Batches;
 use fa_core_read_pages::{booked_places, is_left, is_lost, list_left};
 use fa_core_state::State;
 use fa_machine::{AdmitRefused, BatchId};
-use fa_map::Map;
+use fa_map_calls::Map;
 use fa_plan::{Planned, plan_in};
 use fa_types::Page;
 use std::alloc::{AllocError, Allocator};

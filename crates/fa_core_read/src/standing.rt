@@ -7,7 +7,7 @@ ghost use Rattle.fa_core_state.specs.Fitted.{IsFitted};
 
 use fa_core_state::State;
 use fa_machine::{BatchId, ReadState};
-use fa_map::Map;
+use fa_map_calls::Map;
 use std::alloc::Allocator;
 
 /// How the batch stands: torn where no such batch is open, or where a page has no answer and no read that is booked or in flight;

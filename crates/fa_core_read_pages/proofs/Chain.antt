@@ -1,7 +1,7 @@
 -- The holders of a page along its chain of copies.
 use Rattle.fa_machine.specs.Copies.{holds_page}
 use Rattle.fa_machine.specs.State.{MapState}
-use Rattle.fa_map.specs.Slots.{first_holder}
+use Rattle.fa_map_calls.specs.Slots.{first_holder}
 use Rattle.fa_types.specs.declared.numbers.Die.{Die}
 use Rattle.fa_types.specs.declared.numbers.Slot.{Slot}
 use Rattle.std.proofs.Common.{Bool, List, None, Option, Some, [], ap, arith, cond, false, refl, suc, sym, true, zero, ℕ, ◌+◌, ◌-◌, ◌<◌, ◌≤◌}

@@ -11,7 +11,7 @@ use crate::holding::add_page;
 use fa_batch::{Batch, Place};
 use fa_core_batches::{Batches, PageState};
 use fa_machine::BatchId;
-use fa_map::Map;
+use fa_map_calls::Map;
 use fa_types::{Kind, Page};
 use std::alloc::{AllocError, Allocator};
 

@@ -4,7 +4,7 @@ ghost use Rattle.fa_core_read_pages.specs.Booked.{IsReadOf};
 ghost use Rattle.fa_machine.specs.Taking.{read_of as rule_read_of};
 
 use fa_machine::{Booking, Flight};
-use fa_map::Map;
+use fa_map_calls::Map;
 use fa_types::Die;
 
 /// The read of a booking that was not started, from the slot that holds the page at this moment. A page that the array does not

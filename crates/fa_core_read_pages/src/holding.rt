@@ -3,7 +3,7 @@ ghost use Rattle.std.specs.Prelude.{◌≡◌, ◌<◌, ◌++◌, [], ◌∷◌,
 ghost use Rattle.fa_machine.specs.Reading.{entries_for};
 
 use fa_batch::Batch;
-use fa_map::Map;
+use fa_map_calls::Map;
 use fa_types::Page;
 use std::alloc::{AllocError, Allocator};
 

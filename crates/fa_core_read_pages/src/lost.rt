@@ -3,7 +3,7 @@ ghost use Rattle.std.specs.Prelude.{◌≡◌, ◌<◌, find, map, option_map};
 ghost use Rattle.std.specs.List.{All};
 ghost use Rattle.fa_machine.specs.Copies.{is_lost as rule_lost};
 
-use fa_map::Map;
+use fa_map_calls::Map;
 use fa_types::Page;
 
 /// Whether the page was written, and no live die has a current copy.

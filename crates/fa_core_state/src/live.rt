@@ -4,7 +4,7 @@ ghost use Rattle.std.specs.FinMap.{contains_key};
 ghost use Rattle.fa_machine.specs.State.{is_live};
 ghost use Rattle.fa_set.specs.Members.{bound_of, members};
 
-use fa_map::Map;
+use fa_map_calls::Map;
 use fa_set::NumberSet;
 use fa_types::Die;
 use std::alloc::Allocator;

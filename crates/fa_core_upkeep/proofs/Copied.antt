@@ -9,9 +9,9 @@ use Rattle.fa_machine.specs.declared.places.Used.TheVariants.{Held, Reserved, St
 use Rattle.fa_machine.specs.declared.places.Version.{Version}
 use Rattle.fa_machine.specs.declared.refusals.CommitCopyRefused.{CommitCopyRefused}
 use Rattle.fa_machine.specs.declared.refusals.CommitCopyRefused.TheVariants.{Failed, Pending}
-use Rattle.fa_map.proofs.Ranges.{find_none}
-use Rattle.fa_map.specs.Changes.{MayKeep}
-use Rattle.fa_map.specs.Slots.{IsPageMap}
+use Rattle.fa_map_calls.proofs.Ranges.{find_none}
+use Rattle.fa_map_calls.specs.Changes.{MayKeep}
+use Rattle.fa_map_calls.specs.Slots.{IsPageMap}
 use Rattle.fa_sound.specs.Owners.{owned_of}
 use Rattle.fa_sound.specs.Sound.{IsSound}
 use Rattle.fa_types.specs.declared.numbers.Page.{Page}

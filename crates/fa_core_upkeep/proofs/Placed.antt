@@ -1,5 +1,5 @@
 -- The die that one more copy goes to.
-use Rattle.fa_map.specs.Slots.{IsPageMap}
+use Rattle.fa_map_calls.specs.Slots.{IsPageMap}
 use Rattle.fa_machine.specs.Copies.{holds_page}
 use Rattle.fa_machine.specs.Placement.{copy_place, has_room, order_of, room}
 use Rattle.fa_machine.specs.State.{MapState, is_live}

@@ -17,7 +17,7 @@ use crate::settling::is_last;
 use fa_core_state::State;
 use fa_core_tables::QueuedProgram;
 use fa_machine::{Copying, ReserveCopyRefused, Target, Version};
-use fa_map::Map;
+use fa_map_calls::Map;
 use fa_mirror::{copy_place, is_thin, slot_on};
 use fa_tag::Payload;
 use fa_types::{Copies, Die, Kind, Page, Seq, Slot};

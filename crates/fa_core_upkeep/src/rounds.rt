@@ -15,7 +15,7 @@ use fa_collect::victim;
 use fa_core_bookings::Bookings;
 use fa_core_state::State;
 use fa_machine::{AdvanceRefused, Booking, Flight};
-use fa_map::Map;
+use fa_map_calls::Map;
 use fa_set::NumberSet;
 use fa_types::{Die, Round, Window};
 use std::alloc::Allocator;

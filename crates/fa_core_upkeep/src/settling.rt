@@ -5,14 +5,14 @@ ghost use Rattle.fa_machine.specs.Conditions.{copy_open, first_that};
 ghost use Rattle.fa_machine.specs.State.{is_live};
 ghost use Rattle.fa_machine.specs.Turning.{CommitsCopy, commit_copy_refusal, has_number};
 ghost use Rattle.fa_machine.specs.declared.refusals.CommitCopyRefused.TheVariants.{Pending, Failed};
-ghost use Rattle.fa_map.specs.Changes.{MayKeep};
+ghost use Rattle.fa_map_calls.specs.Changes.{MayKeep};
 ghost use Rattle.fa_sound.specs.Sound.{IsSound};
 ghost use Rattle.fa_core_state.specs.Core.{core_of};
 ghost use Rattle.fa_core_state.specs.Fitted.{IsFitted};
 
 use fa_core_state::State;
 use fa_machine::{CommitCopyRefused, Copied, Copying, Target};
-use fa_map::Map;
+use fa_map_calls::Map;
 use fa_types::{Page, Seq};
 use std::alloc::Allocator;
 

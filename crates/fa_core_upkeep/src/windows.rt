@@ -13,7 +13,7 @@ use fa_calendar::CalendarRefused;
 use fa_core_bookings::Bookings;
 use fa_core_state::State;
 use fa_machine::WindowRefused;
-use fa_map::Map;
+use fa_map_calls::Map;
 use fa_types::{Die, Round};
 use std::alloc::Allocator;
 

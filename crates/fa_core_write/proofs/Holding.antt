@@ -11,8 +11,8 @@ use Rattle.fa_machine.specs.declared.places.Target.{Target}
 use Rattle.fa_machine.specs.declared.places.Used.{Used}
 use Rattle.fa_machine.specs.declared.places.Used.TheVariants.{Held, Reserved, Stale}
 use Rattle.fa_machine.specs.declared.places.Version.{Version}
-use Rattle.fa_map.proofs.Ranges.{find_agree, find_none}
-use Rattle.fa_map.specs.Changes.{MayKeep, renewed}
+use Rattle.fa_map_calls.proofs.Ranges.{find_agree, find_none}
+use Rattle.fa_map_calls.specs.Changes.{MayKeep, renewed}
 use Rattle.fa_sound.specs.Sound.{IsSound}
 use Rattle.fa_types.specs.declared.numbers.Page.{Page}
 use Rattle.fa_core_write.proofs.Kept.{reserved_fit, reserved_kept, owner_of}

@@ -4,7 +4,7 @@ use Rattle.fa_machine.specs.State.{MapState}
 use Rattle.fa_machine.specs.Writing.{with_targets}
 use Rattle.fa_machine.specs.declared.places.Target.{Target}
 use Rattle.fa_machine.specs.declared.places.Used.{Used}
-use Rattle.fa_map.specs.Changes.{with_used}
+use Rattle.fa_map_calls.specs.Changes.{with_used}
 use Rattle.fa_mirror.specs.Order.{numbers_of}
 use Rattle.fa_types.specs.declared.numbers.Die.{Die}
 use Rattle.std.proofs.Common.{List, [], ap, arith, get_or, length, map, refl, suc, subst}

@@ -18,7 +18,7 @@ use crate::looking::are_programmed;
 use fa_core_state::State;
 use fa_core_tables::{ByDie, Waiting};
 use fa_machine::{AbandonRefused, ClaimId, Flight, Target};
-use fa_map::Map;
+use fa_map_calls::Map;
 use fa_types::Slot;
 use std::alloc::Allocator;
 

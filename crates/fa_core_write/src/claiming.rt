@@ -9,7 +9,7 @@ ghost use Rattle.fa_core_state.specs.Fitted.{IsFitted};
 
 use fa_core_state::State;
 use fa_machine::{ClaimId, ClaimRefused};
-use fa_map::Map;
+use fa_map_calls::Map;
 use fa_types::Page;
 use std::alloc::Allocator;
 

@@ -8,7 +8,7 @@ ghost use Rattle.fa_machine.specs.State.{is_live};
 ghost use Rattle.fa_machine.specs.Writing.{Commits, claimed_page, committed, with_targets};
 ghost use Rattle.fa_machine.specs.declared.places.Used.TheVariants.{Held};
 ghost use Rattle.fa_machine.specs.declared.refusals.CommitRefused.TheVariants.{Pending, Failed};
-ghost use Rattle.fa_map.specs.Changes.{renewed};
+ghost use Rattle.fa_map_calls.specs.Changes.{renewed};
 ghost use Rattle.fa_core_tables.specs.Logs.{history_of};
 ghost use Rattle.fa_core_tables.specs.declared.log.TheConstants.{MAX_ENTRIES};
 ghost use Rattle.fa_sound.specs.Sound.{IsSound};
@@ -20,7 +20,7 @@ use crate::looking::{are_pending, are_programmed};
 use fa_core_state::State;
 use fa_core_tables::Reservation;
 use fa_machine::{ClaimId, CommitRefused, Target, Version};
-use fa_map::Map;
+use fa_map_calls::Map;
 use fa_types::{Page, Seq};
 use std::alloc::Allocator;
 

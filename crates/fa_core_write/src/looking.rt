@@ -4,7 +4,7 @@ ghost use Rattle.std.specs.List.{list_any};
 ghost use Rattle.fa_machine.specs.State.{is_live};
 
 use fa_machine::Target;
-use fa_map::Map;
+use fa_map_calls::Map;
 
 /// Whether a copy was programmed in one of the slots of live dies.
 pub fn are_programmed<M: Map>(page_map: &M, slots: &[Target]) -> bool

@@ -9,7 +9,7 @@ ghost use Rattle.fa_mirror.specs.Chosen.{MayReserve};
 
 use fa_core_tables::Targets;
 use fa_machine::Target;
-use fa_map::Map;
+use fa_map_calls::Map;
 use fa_mirror::{slot_on, targets};
 use fa_types::{Copies, Page};
 

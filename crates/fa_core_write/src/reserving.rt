@@ -15,7 +15,7 @@ use crate::queueing::queue;
 use fa_core_state::State;
 use fa_core_tables::{Reservation, Targets};
 use fa_machine::{ClaimId, ReserveRefused, Version};
-use fa_map::Map;
+use fa_map_calls::Map;
 use fa_mirror::copies_asked;
 use fa_tag::Payload;
 use fa_types::{Kind, Page, Seq};

@@ -5,7 +5,7 @@ use Rattle.std.proofs.lemmas.Option.{none-some, same_Some}
 use Rattle.fa_map.specs.Chains.{IsChained, IsNext, IsSeam, behind, is_before}
 use Rattle.fa_map.specs.declared.entries.Entry.{Entry}
 use Rattle.fa_map.specs.declared.entries.Entry.TheVariants.{Current}
-use Rattle.fa_map.proofs.Changed.{place_cases}
+use Rattle.fa_map_calls.proofs.Changed.{place_cases}
 
 pub same_page : (p q : ℕ) → Current p ≡ Current q → p ≡ q
 same_page p q e = cc

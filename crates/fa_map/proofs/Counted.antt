@@ -8,7 +8,7 @@ use Rattle.fa_map.specs.Entries.{die_holds, is_copy_of}
 use Rattle.fa_map.specs.declared.entries.Entry.{Entry}
 use Rattle.fa_map.specs.declared.entries.Entry.TheVariants.{Erased, Reserved, Current, Stale}
 use Rattle.fa_map.proofs.Chained.{before_none, before_some, place_or_none}
-use Rattle.fa_map.proofs.Ranges.{bit, count_cons, count_past, find_none, found_some}
+use Rattle.fa_map_calls.proofs.Ranges.{bit, count_cons, count_past, find_none, found_some}
 
 pub no_copy : (page : ℕ) (e : Entry) → (e ≡ Current page → ⊥) → is_copy_of page e ≡ false
 no_copy page Erased off = refl

@@ -10,13 +10,13 @@ use Rattle.fa_types.specs.declared.geometry.Geometry.{Geometry}
 use Rattle.fa_map.specs.Chains.{entry_at, entry_of}
 use Rattle.fa_map.specs.Entries.{copies_in, die_holds, is_copy_of, is_current_entry}
 use Rattle.fa_map.specs.Few.{AreFew, Few, IsCounted, IsPut, with_member}
-use Rattle.fa_map.specs.Plain.{die_slots}
+use Rattle.fa_map_calls.specs.Plain.{die_slots}
 use Rattle.fa_map.specs.declared.entries.Entry.{Entry}
 use Rattle.fa_map.specs.declared.entries.Entry.TheVariants.{Erased, Current}
 use Rattle.fa_map.proofs.Chained.{same_page}
-use Rattle.fa_map.proofs.Changed.{place_cases}
+use Rattle.fa_map_calls.proofs.Changed.{place_cases}
 use Rattle.fa_map.proofs.Counted.{bare, holds, no_copy}
-use Rattle.fa_map.proofs.Ranges.{bit, count_agree, count_changed, count_same, count_some, find_agree}
+use Rattle.fa_map_calls.proofs.Ranges.{bit, count_agree, count_changed, count_same, count_some, find_agree}
 use Rattle.fa_map.proofs.Tabled.{bare_entry}
 use Rattle.fa_map.proofs.Tallied.{entry_same, entry_other}
 

@@ -8,8 +8,8 @@ use Rattle.fa_types.specs.declared.numbers.Slot.{Slot}
 use Rattle.fa_machine.specs.declared.places.Used.{Used}
 use Rattle.fa_machine.specs.Copies.{copy_on}
 use Rattle.fa_machine.specs.State.{MapState}
-use Rattle.fa_map.specs.Plain.{holds}
-use Rattle.fa_map.specs.Slots.{first_holder}
+use Rattle.fa_map_calls.specs.Plain.{holds}
+use Rattle.fa_map_calls.specs.Slots.{first_holder}
 
 -- the first copy, by the numbers of its die and slot
 abbrev pub IsFirstCopy : MapState → ℕ → ℕ → Option (ℕ × ℕ) → Type 0

@@ -12,16 +12,17 @@ use Rattle.std.proofs.Math.Nat.{div-eq_of_lt-le, div-mul-le_self, lt-div-mul-add
 use Rattle.fa_types.specs.declared.geometry.Geometry.{Geometry}
 use Rattle.fa_map.specs.Chains.{entry_at, entry_of}
 use Rattle.fa_map.specs.Entries.{is_erased_entry, may_take, no_counts}
-use Rattle.fa_map.specs.Found.{AreFound, IsFound, IsGreatest, has_rank, is_clean, rank_index}
-use Rattle.fa_map.specs.Plain.{die_slots}
+use Rattle.fa_map_calls.specs.Blocks.{IsGreatest}
+use Rattle.fa_map.specs.Found.{AreFound, IsFound, has_rank, is_clean, rank_index}
+use Rattle.fa_map_calls.specs.Plain.{die_slots}
 use Rattle.fa_map.specs.Sets.{Sets}
 use Rattle.fa_map.specs.declared.entries.Entry.{Entry}
 use Rattle.fa_map.specs.declared.entries.Entry.TheVariants.{Current, Erased, Reserved, Stale}
-use Rattle.fa_map.specs.declared.slots.BlockCounts.{BlockCounts}
-use Rattle.fa_map.proofs.Changed.{place_cases}
+use Rattle.fa_map_calls.specs.declared.slots.BlockCounts.{BlockCounts}
+use Rattle.fa_map_calls.proofs.Changed.{place_cases}
 use Rattle.fa_map.proofs.Few.{member_put}
-use Rattle.fa_map.proofs.Indices.{die_fits, index_apart, index_fits, later}
-use Rattle.fa_map.proofs.Ranges.{find_is, find_none, find_some, none_is}
+use Rattle.fa_map_calls.proofs.Indices.{die_fits, index_apart, index_fits, later}
+use Rattle.fa_map_calls.proofs.Ranges.{find_is, find_none, find_some, none_is}
 use Rattle.fa_map.proofs.Tallied.{block_of_slot, entry_same, entry_other}
 
 -- the one entry of an erased slot

@@ -8,9 +8,9 @@ use Rattle.fa_machine.specs.declared.places.Version.{Version}
 use Rattle.fa_machine.specs.Copies.{copy_on}
 use Rattle.fa_machine.specs.State.{MapState}
 use Rattle.fa_map.specs.Chains.{IsNext, entry_of}
-use Rattle.fa_map.specs.Plain.{die_slots}
+use Rattle.fa_map_calls.specs.Plain.{die_slots}
 use Rattle.fa_map.specs.Shown.{IsShown}
-use Rattle.fa_map.specs.Slots.{first_holder}
+use Rattle.fa_map_calls.specs.Slots.{first_holder}
 use Rattle.fa_map.specs.declared.entries.Entry.{Entry}
 use Rattle.fa_map.specs.declared.entries.Entry.TheVariants.{Current}
 use Rattle.fa_map.proofs.Firsts.{first_told, numbers_of}

@@ -11,8 +11,8 @@ use Rattle.fa_map.specs.declared.entries.Entry.TheVariants.{Current}
 use Rattle.fa_map.specs.declared.entries.Link.{Link}
 use Rattle.fa_map.specs.declared.entries.Second.{Second}
 use Rattle.fa_map.proofs.Chained.{same_place, some_place}
-use Rattle.fa_map.proofs.Changed.{place_cases}
-use Rattle.fa_map.proofs.Indices.{index_apart, index_fits}
+use Rattle.fa_map_calls.proofs.Changed.{place_cases}
+use Rattle.fa_map_calls.proofs.Indices.{index_apart, index_fits}
 
 -- what stands behind a place is as it was, where the link behind another place was written
 pub follower_apart : (n : ℕ) (last place : Option (ℕ × ℕ)) (link : Link) (links : List Link) → ((d s : ℕ) → last ≡ Some (d, s) → s < n)

@@ -11,8 +11,8 @@ use Rattle.fa_map.specs.declared.entries.Entry.TheVariants.{Current}
 use Rattle.fa_map.specs.declared.entries.Link.{Link}
 use Rattle.fa_map.specs.declared.entries.Second.{Second}
 use Rattle.fa_map.proofs.Chained.{before_none, next_low, same_page, same_place, some_place}
-use Rattle.fa_map.proofs.Changed.{place_cases}
-use Rattle.fa_map.proofs.Indices.{index_apart}
+use Rattle.fa_map_calls.proofs.Changed.{place_cases}
+use Rattle.fa_map_calls.proofs.Indices.{index_apart}
 use Rattle.fa_map.proofs.Renewed.{IsHolder, follower_apart, follower_written, is_place, next_holder}
 use Rattle.fa_map.proofs.Tallied.{entry_other, entry_same}
 

@@ -11,8 +11,8 @@ use Rattle.fa_map.specs.declared.entries.Entry.{Entry}
 use Rattle.fa_map.specs.declared.entries.Entry.TheVariants.{Current}
 use Rattle.fa_map.specs.declared.entries.Link.{Link}
 use Rattle.fa_map.specs.declared.entries.Second.{Second}
-use Rattle.fa_map.proofs.Indices.{index_fits}
-use Rattle.fa_map.proofs.Written.{repeated}
+use Rattle.fa_map_calls.proofs.Indices.{index_fits}
+use Rattle.fa_map_calls.proofs.Written.{repeated}
 
 -- no page leads anywhere
 pub new_seconds : (links heads : List Link) (seconds : List Second) (n pages : ℕ) → heads ≡ replicate pages no_link

@@ -18,26 +18,26 @@ use Rattle.fa_machine.specs.Placement.{free, is_erased_slot, lowest_erased}
 use Rattle.fa_machine.specs.State.{MapState, is_live, slots_of, used_at}
 use Rattle.fa_machine.specs.Writing.{without_page}
 use Rattle.fa_map.specs.Chains.{IsNext, entry_at, entry_of, is_before}
-use Rattle.fa_map.specs.Changes.{MayHold, MayKeep, dropped, made_current, new_map, outdated, renewed, with_used, without_block}
+use Rattle.fa_map_calls.specs.Changes.{MayHold, MayKeep, dropped, made_current, new_map, outdated, renewed, with_used, without_block}
 use Rattle.fa_map.specs.Entries.{copies_in, die_holds, entries_in, erased_entry, is_copy_of, is_current_entry, is_erased_entry, is_same_state, may_take, retired, state_of_entry}
 use Rattle.fa_map.specs.Shown.{IsShown, held, is_number, used_of, version_at}
-use Rattle.fa_map.specs.Plain.{IsPlain, die_slots, holds, slot_at}
-use Rattle.fa_map.specs.Slots.{first_holder}
+use Rattle.fa_map_calls.specs.Plain.{IsPlain, die_slots, holds, slot_at}
+use Rattle.fa_map_calls.specs.Slots.{first_holder}
 use Rattle.fa_map.specs.declared.entries.Entry.{Entry}
 use Rattle.fa_map.specs.declared.entries.Entry.TheVariants.{Erased, Reserved, Current, Stale}
-use Rattle.fa_map.specs.declared.slots.SlotState.{SlotState}
-use Rattle.fa_map.specs.declared.slots.SlotState.TheVariants as states
+use Rattle.fa_map_calls.specs.declared.slots.SlotState.{SlotState}
+use Rattle.fa_map_calls.specs.declared.slots.SlotState.TheVariants as states
 use Rattle.std.proofs.Math.Nat.{mul-le-mul_right}
 use Rattle.fa_map.proofs.Chained.{same_page}
-use Rattle.fa_map.proofs.Changed.{place_cases}
+use Rattle.fa_map_calls.proofs.Changed.{place_cases}
 use Rattle.fa_map.proofs.Firsts.{IsFirstCopy, found_passes, held_some}
-use Rattle.fa_map.proofs.Holders.{copy_found, holders_counted}
-use Rattle.fa_map.proofs.Indices.{die_fits, index_fits}
-use Rattle.fa_map.proofs.Plain.{live_fits, plain_alike, plain_current, plain_dropped, plain_erased, plain_kept, plain_new, plain_renewed, plain_used, told}
-use Rattle.fa_map.proofs.Ranges.{count_agree, find_agree, find_none, find_some, found_some}
+use Rattle.fa_map_calls.proofs.Holders.{copy_found, holders_counted}
+use Rattle.fa_map_calls.proofs.Indices.{die_fits, index_fits}
+use Rattle.fa_map_calls.proofs.Plain.{live_fits, plain_alike, plain_current, plain_dropped, plain_erased, plain_kept, plain_new, plain_renewed, plain_used, told}
+use Rattle.fa_map_calls.proofs.Ranges.{count_agree, find_agree, find_none, find_some, found_some}
 use Rattle.fa_map.proofs.Swept.{retired_one, retired_other, with_true}
 use Rattle.fa_map.proofs.Tabled.{bare_entry}
-use Rattle.fa_map.proofs.Written.{repeated}
+use Rattle.fa_map_calls.proofs.Written.{repeated}
 use Rattle.fa_map.proofs.Tallied.{entry_same, entry_other}
 
 pub slot_mapped : (versions : List (Option Version)) (entries : List Entry) (k : ℕ) → slot_at (map (used_of versions) entries) k ≡ used_of versions (entry_at entries k)

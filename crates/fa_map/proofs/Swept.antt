@@ -6,7 +6,7 @@ use Rattle.fa_map.specs.Entries.{retired, swept}
 use Rattle.fa_map.specs.declared.entries.Entry.{Entry}
 use Rattle.fa_map.specs.declared.entries.Entry.TheVariants.{Erased, Reserved, Current, Stale}
 use Rattle.fa_map.proofs.Chained.{place_or_none}
-use Rattle.fa_map.proofs.Changed.{place_cases}
+use Rattle.fa_map_calls.proofs.Changed.{place_cases}
 use Rattle.fa_map.proofs.Counted.{dies_from}
 use Rattle.fa_map.proofs.Tabled.{bare_entry}
 use Rattle.fa_map.proofs.Tallied.{entry_same, entry_other}

@@ -6,22 +6,22 @@ use Rattle.std.proofs.lemmas.Option.{none-some}
 use Rattle.fa_types.specs.declared.geometry.Geometry.{Geometry}
 use Rattle.fa_map.specs.Chains.{AreSeconds, IsRenewed, IsSeam, entry_at, entry_of, link_at, link_from, no_link, target}
 use Rattle.fa_map.specs.Entries.{AreTables, AreTallied, count_of, is_current_entry, is_same_state, no_counts, state_of_entry, with_head, with_link}
-use Rattle.fa_map.specs.Plain.{die_slots}
+use Rattle.fa_map_calls.specs.Plain.{die_slots}
 use Rattle.fa_map.specs.declared.entries.Entry.{Entry}
 use Rattle.fa_map.specs.declared.entries.Entry.TheVariants.{Erased, Current}
 use Rattle.fa_map.specs.declared.entries.Link.{Link}
 use Rattle.fa_map.specs.declared.entries.Second.{Second}
-use Rattle.fa_map.specs.declared.slots.BlockCounts.{BlockCounts}
+use Rattle.fa_map_calls.specs.declared.slots.BlockCounts.{BlockCounts}
 use Rattle.fa_map.proofs.Chained.{chained_alike, chained_with, chained_without, same_page, same_place, some_place}
-use Rattle.fa_map.proofs.Changed.{place_cases}
-use Rattle.fa_map.proofs.Indices.{index_apart, index_fits}
+use Rattle.fa_map_calls.proofs.Changed.{place_cases}
+use Rattle.fa_map_calls.proofs.Indices.{index_apart, index_fits}
 use Rattle.fa_map.proofs.Seconds.{seconds_kept}
-use Rattle.fa_map.specs.declared.slots.SlotState.{SlotState}
-use Rattle.fa_map.specs.declared.slots.SlotState.TheVariants as states
+use Rattle.fa_map_calls.specs.declared.slots.SlotState.{SlotState}
+use Rattle.fa_map_calls.specs.declared.slots.SlotState.TheVariants as states
 use Rattle.std.specs.List.{count_by, range_with_len}
 use Rattle.std.specs.Prelude.{if◌then◌else◌, replicate}
-use Rattle.fa_map.proofs.Written.{repeated}
-use Rattle.fa_map.proofs.Ranges.{count_same}
+use Rattle.fa_map_calls.proofs.Written.{repeated}
+use Rattle.fa_map_calls.proofs.Ranges.{count_same}
 use Rattle.fa_map.proofs.Tallied.{entry_same, entry_other}
 
 -- the same tables, told otherwise

@@ -6,15 +6,15 @@ use Rattle.std.proofs.Math.Nat.{div-lt_iff_lt-mul, div-mul-le_self, lt-div-mul-a
 use Rattle.fa_types.specs.declared.geometry.Geometry.{Geometry}
 use Rattle.fa_map.specs.Chains.{entry_of}
 use Rattle.fa_map.specs.Entries.{AreTallied, count_of, entries_in, is_same_state, no_counts, one_if, state_of_entry}
-use Rattle.fa_map.specs.Plain.{die_slots}
+use Rattle.fa_map_calls.specs.Plain.{die_slots}
 use Rattle.fa_map.specs.declared.entries.Entry.{Entry}
 use Rattle.fa_map.specs.declared.entries.Entry.TheVariants.{Erased}
-use Rattle.fa_map.specs.declared.slots.BlockCounts.{BlockCounts}
-use Rattle.fa_map.specs.declared.slots.SlotState.{SlotState}
-use Rattle.fa_map.specs.declared.slots.SlotState.TheVariants as states
-use Rattle.fa_map.proofs.Changed.{place_cases}
-use Rattle.fa_map.proofs.Indices.{die_fits, index_apart, index_fits}
-use Rattle.fa_map.proofs.Ranges.{bit, count_agree, count_changed, count_le, count_some}
+use Rattle.fa_map_calls.specs.declared.slots.BlockCounts.{BlockCounts}
+use Rattle.fa_map_calls.specs.declared.slots.SlotState.{SlotState}
+use Rattle.fa_map_calls.specs.declared.slots.SlotState.TheVariants as states
+use Rattle.fa_map_calls.proofs.Changed.{place_cases}
+use Rattle.fa_map_calls.proofs.Indices.{die_fits, index_apart, index_fits}
+use Rattle.fa_map_calls.proofs.Ranges.{bit, count_agree, count_changed, count_le, count_some}
 
 pub same_itself : (x : SlotState) → is_same_state x x ≡ true
 same_itself states.Erased = refl
@@ -28,9 +28,6 @@ block_low slot slots = div-mul-le_self slot slots
 
 pub block_high : (slot slots : ℕ) → 0 < slots → slot < slot / slots * slots + slots
 block_high slot slots some = lt-div-mul-add some
-
-pub block_of_slot : (slot blocks slots : ℕ) → 0 < slots → slot < blocks * slots → slot / slots < blocks
-block_of_slot slot blocks slots some fits = (div-lt_iff_lt-mul {k = slots} {x = slot} {y = blocks} some).1 fits
 
 -- an entry that was written, and the others
 pub entry_same : (entries : List Entry) (n die slot d s : ℕ) (e : Entry) → die * n + slot < length entries → d ≡ die → s ≡ slot

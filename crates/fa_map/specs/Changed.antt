@@ -1,7 +1,7 @@
 -- A page map's part of the array's state after one call.
 use Rattle.fa_machine.specs.declared.places.Used.TheVariants.{Reserved, Held, Stale}
 use Rattle.fa_machine.specs.State.{MapState}
-use Rattle.fa_map.specs.Changes.{with_used, made_current, renewed, brought_in, dropped, without_block}
+use Rattle.fa_map_calls.specs.Changes.{with_used, made_current, renewed, brought_in, dropped, without_block}
 use Rattle.fa_map.specs.declared.change.Change.{Change}
 use Rattle.fa_map.specs.declared.change.Change.TheVariants.{Take, MakeCurrent, Renew, Hold, MakeStale, BringIn, DropDie, EraseBlock}
 

@@ -3,29 +3,16 @@ use Rattle.std.specs.Coded.{Coded-set, coded_bool, coded_ℕ}
 use Rattle.std.specs.FinMap.{contains_key}
 use Rattle.std.specs.Prelude.{◌≡◌, ℕ, ◌+◌, ◌*◌, ◌<◌, ◌≤◌, ◌==◌, ◌&&◌, nat_lt, Bool, List, Option, Some, None, false, true, slice_index_or}
 use Rattle.fa_types.specs.declared.geometry.Geometry.{Geometry}
-use Rattle.fa_machine.specs.Collecting.{count_in}
-use Rattle.fa_machine.specs.Copies.{is_reserved_slot, is_stale_slot}
-use Rattle.fa_machine.specs.State.{MapState}
 use Rattle.fa_map.specs.Sets.{Sets}
 use Rattle.fa_map.specs.Chains.{entry_of}
 use Rattle.fa_map.specs.Entries.{is_erased_entry, no_counts}
-use Rattle.fa_map.specs.Plain.{die_slots}
+use Rattle.fa_map_calls.specs.Plain.{die_slots}
 use Rattle.fa_map.specs.declared.entries.Entry.{Entry}
-use Rattle.fa_map.specs.declared.slots.BlockCounts.{BlockCounts}
+use Rattle.fa_map_calls.specs.declared.slots.BlockCounts.{BlockCounts}
 
--- whether a block has a stale slot and none that is reserved
+-- whether a block has a stale slot and none that is reserved, by its counts
 abbrev pub is_clean : BlockCounts → Bool
 is_clean counts = nat_lt 0 counts.stale && counts.reserved == 0
-
-abbrev pub is_clean_block : MapState → ℕ → ℕ → Bool
-is_clean_block m die block = nat_lt 0 (count_in m die block is_stale_slot) && count_in m die block is_reserved_slot == 0
-
--- Of the numbers below a bound that pass, the one of the greatest weight, the lowest on ties. None where none passes.
-pub record IsGreatest (bound : ℕ) (passes : ℕ → Bool) (weight : ℕ → ℕ) (found : Option ℕ) : Type 0 where
-  pub inside : (k : ℕ) → found ≡ Some k → (k < bound) × (passes k ≡ true)
-  pub most : (k other : ℕ) → found ≡ Some k → other < bound → passes other ≡ true → weight other ≤ weight k
-  pub lowest : (k other : ℕ) → found ≡ Some k → other < k → passes other ≡ true → weight other < weight k
-  pub none : found ≡ None → (other : ℕ) → other < bound → passes other ≡ false
 
 -- where a block of which so many slots are not stale stands among the blocks
 abbrev pub rank_index : Geometry → ℕ → ℕ → ℕ → ℕ

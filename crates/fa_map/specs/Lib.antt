@@ -1,13 +1,9 @@
 pub mod Changed
-pub mod Changes
 pub mod Chains
-pub mod Codes
 pub mod Entries
 pub mod Few
 pub mod PageView
 pub mod Shown
-pub mod Slots
-pub mod Plain
 pub mod Rows
 pub mod Found
 pub mod Sets

@@ -6,7 +6,7 @@ use Rattle.fa_machine.specs.declared.places.Used.TheVariants.{Reserved as Reserv
 use Rattle.fa_machine.specs.declared.places.Version.{Version}
 use Rattle.fa_machine.specs.State.{MapState}
 use Rattle.fa_map.specs.Chains.{entry_of}
-use Rattle.fa_map.specs.Plain.{IsPlain, die_slots}
+use Rattle.fa_map_calls.specs.Plain.{IsPlain, die_slots}
 use Rattle.fa_map.specs.declared.entries.Entry.{Entry}
 use Rattle.fa_map.specs.declared.entries.Entry.TheVariants.{Erased, Reserved, Current, Stale}
 

@@ -61,8 +61,8 @@ pub struct MapShown {
 
 impl Model for MapShown {
     ghost use Rattle.fa_machine.specs.State.{MapState};
-    ghost use Rattle.fa_map.specs.Changes.{new_map};
-    ghost use Rattle.fa_map.specs.Codes.{map_state_code};
+    ghost use Rattle.fa_map_calls.specs.Changes.{new_map};
+    ghost use Rattle.fa_map_calls.specs.Codes.{map_state_code};
 
     ghost Value = { MapState };
 

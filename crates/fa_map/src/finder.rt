@@ -1,13 +1,13 @@
 //! Sets by which slots and blocks are found without a look at the others.
 ghost use Rattle.std.specs.Prelude.{◌≡◌, ℕ, ◌+◌, ◌*◌, ◌-◌, ◌<◌, ◌≤◌, ◌==◌, find, false, true, if◌then◌else◌, IfOk};
 ghost use Rattle.fa_map.specs.Found.{has_rank, is_clean as rule_clean, rank_index as rule_index};
-ghost use Rattle.fa_map.specs.Plain.{die_slots};
+ghost use Rattle.fa_map_calls.specs.Plain.{die_slots};
 ghost use Rattle.fa_set.specs.Members.{bound_of, is_in};
 ghost use Rattle.std.specs.FinMap.{contains_key};
 ghost use Rattle.std.specs.List.{range_with_len};
 
 use crate::few_copies::set_member;
-use crate::slots::BlockCounts;
+use fa_map_calls::BlockCounts;
 use fa_set::NumberSet;
 use fa_types::{Die, Geometry};
 use std::alloc::{AllocError, Allocator, Global};

@@ -7,15 +7,11 @@ mod entries;
 mod few_copies;
 mod finder;
 mod links;
-mod map;
 mod page_map;
 mod rows;
-mod slots;
 mod tables;
 mod tallies;
 
 pub use change::{Change, MapShown, note};
-pub use map::Map;
 pub use page_map::PageMap;
-pub use slots::{BlockCounts, SlotState};
 pub use tallies::less_one;

@@ -2,7 +2,7 @@
 ghost use Rattle.std.specs.Prelude.{◌≡◌, ℕ, ◌+◌, ◌*◌, ◌<◌, None, Some, true, false, is_some, length};
 ghost use Rattle.fa_map.specs.Chains.{AreInside, IsInside, IsRenewed, IsSecond, follower, link_at, second_at, target};
 ghost use Rattle.fa_map.specs.Entries.{rewritten, with_first_two, with_head, with_link};
-ghost use Rattle.fa_map.specs.Plain.{die_slots};
+ghost use Rattle.fa_map_calls.specs.Plain.{die_slots};
 
 use crate::entries::{Link, NO_LINK, Second};
 use crate::rows::{PageRows, SlotRows};

@@ -5,12 +5,11 @@ ghost use Rattle.fa_map.specs.Shown.{IsShown};
 
 use crate::change::{Change, MapShown, note};
 use crate::entries::{Entry, Link};
-use crate::map::Map;
-use crate::slots::{BlockCounts, SlotState};
 use crate::tables::{Found, Tables};
 use crate::tallies::{less_one, state_of};
 use fa_ghost::History;
 use fa_machine::{Block, Version};
+use fa_map_calls::{BlockCounts, Map, SlotState};
 use fa_types::{Die, Geometry, Page, Seq, Slot};
 use std::alloc::{AllocError, Allocator, Global};
 
@@ -36,7 +35,7 @@ pub struct PageMap<A: Allocator = Global> {
 }
 
 impl<A: Allocator + Copy> PageMap<A> {
-    ghost use Rattle.fa_map.specs.Changes.{new_map};
+    ghost use Rattle.fa_map_calls.specs.Changes.{new_map};
     ghost use Rattle.fa_map.specs.PageView.{page_view, looks_of};
 
     /// A map of dies none of which is live, and of pages none of which was written. The error is out of
@@ -61,7 +60,7 @@ impl<A: Allocator + Copy> PageMap<A> {
 impl<A: Allocator> PageMap<A> {
     ghost use Rattle.fa_machine.specs.Collecting.{move_place};
     ghost use Rattle.fa_machine.specs.State.{is_live};
-    ghost use Rattle.fa_map.specs.Changes.{taken, writers_slot};
+    ghost use Rattle.fa_map_calls.specs.Changes.{taken, writers_slot};
     ghost use Rattle.std.specs.FinMap.{get};
     ghost use Rattle.fa_map.specs.PageView.{page_view, looks_of};
     ghost use Rattle.fa_map.specs.Shown.{is_number};

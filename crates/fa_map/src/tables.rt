@@ -3,8 +3,9 @@ ghost use Rattle.std.specs.Prelude.{◌≡◌, ℕ, ◌+◌, ◌*◌, ◌/◌, �
 ghost use Rattle.fa_map.specs.Chains.{AreInside, AreSeconds, AreWritten, IsInside, IsNext, IsSeam, entry_at, entry_of, follower, link_from, target};
 ghost use Rattle.fa_map.specs.Entries.{AreTables, AreTallied, copies_in, count_of, erased_entry, is_current_entry, is_erased_entry, may_take, one_if, retired};
 ghost use Rattle.fa_map.specs.Few.{IsCounted, IsCounted-prop};
-ghost use Rattle.fa_map.specs.Found.{IsFound, IsFound-prop, IsGreatest};
-ghost use Rattle.fa_map.specs.Plain.{die_slots};
+ghost use Rattle.fa_map_calls.specs.Blocks.{IsGreatest};
+ghost use Rattle.fa_map.specs.Found.{IsFound, IsFound-prop};
+ghost use Rattle.fa_map_calls.specs.Plain.{die_slots};
 ghost use Rattle.fa_map.specs.Shown.{version_at};
 ghost use Rattle.std.specs.List.{range_with_len};
 ghost use Rattle.fa_machine.specs.Maps.{below};
@@ -14,9 +15,9 @@ use crate::few_copies::FewCopies;
 use crate::finder::Finder;
 use crate::links::{index_of, leads_to, relink};
 use crate::rows::{PageRows, SlotRows};
-use crate::slots::BlockCounts;
 use crate::tallies::{is_erased, moved, state_of};
 use fa_machine::Version;
+use fa_map_calls::BlockCounts;
 use fa_types::{Die, Geometry, Slot};
 use std::alloc::{AllocError, Allocator, Global};
 
@@ -151,7 +152,7 @@ impl<A: Allocator + Copy> Tables<A> {
 impl<A: Allocator> Tables<A> {
     ghost use Rattle.fa_map.specs.Entries.{entries_in};
     ghost use Rattle.fa_map.specs.declared.entries.Entry.TheVariants.{Current, Erased, Stale};
-    ghost use Rattle.fa_map.specs.declared.slots.SlotState.{SlotState};
+    ghost use Rattle.fa_map_calls.specs.declared.slots.SlotState.{SlotState};
 
     /// The entry of a slot.
     pub fn entry(&self, die: Die, slot: Slot) -> Entry

@@ -1,10 +1,10 @@
 //! How many slots of a block are in each state, kept as slots change.
 ghost use Rattle.std.specs.Prelude.{◌≡◌, ℕ, ◌+◌, ◌-◌, ◌<◌, ◌≤◌, ◌^◌, true, if◌then◌else◌};
-ghost use Rattle.fa_map.specs.declared.slots.SlotState.{SlotState};
+ghost use Rattle.fa_map_calls.specs.declared.slots.SlotState.{SlotState};
 ghost use Rattle.fa_map.specs.Entries.{count_of, one_if, is_same_state, state_of_entry};
 
 use crate::entries::Entry;
-use crate::slots::{BlockCounts, SlotState};
+use fa_map_calls::{BlockCounts, SlotState};
 
 /// The state of an entry, without its page.
 pub fn state_of(entry: Entry) -> SlotState

@@ -4,7 +4,7 @@ use Rattle.fa_machine.proofs.Orders.{order_once}
 use Rattle.fa_machine.specs.Among.{Among, tally}
 use Rattle.fa_machine.specs.Placement.{copies_asked, has_room, order_of, targets}
 use Rattle.fa_machine.specs.State.{MapState, is_live}
-use Rattle.fa_map.specs.Slots.{IsPageMap}
+use Rattle.fa_map_calls.specs.Slots.{IsPageMap}
 use Rattle.fa_mirror.specs.Chosen.{AreApart, TakesWrites}
 use Rattle.fa_mirror.specs.Order.{numbers_of}
 use Rattle.fa_types.specs.declared.numbers.Die.{Die}

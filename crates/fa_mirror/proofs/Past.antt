@@ -3,9 +3,9 @@ use Rattle.fa_machine.specs.Copies.{holders, holds_last, holds_page, is_current}
 use Rattle.fa_machine.specs.Placement.{copies_asked, is_thin}
 use Rattle.fa_machine.specs.State.{MapState, is_live, used_at}
 use Rattle.fa_machine.specs.declared.places.Version.{Version}
-use Rattle.fa_map.proofs.Holders.{holders_counted}
-use Rattle.fa_map.proofs.Ranges.{count_same, find_none}
-use Rattle.fa_map.specs.Slots.{IsPageMap}
+use Rattle.fa_map_calls.proofs.Holders.{holders_counted}
+use Rattle.fa_map_calls.proofs.Ranges.{count_same, find_none}
+use Rattle.fa_map_calls.specs.Slots.{IsPageMap}
 use Rattle.std.proofs.Common.{None, Option, Some, ap, arith, false, length, refl, ℕ, ◌*◌, ◌∙◌, ◌≡◌, ◌≤◌}
 use Rattle.std.proofs.lemmas.Bool.{and_left, and_right, le-ltb}
 use Rattle.std.specs.FinMap.{get}

@@ -1,8 +1,8 @@
 -- The slot that a writer takes.
 use Rattle.fa_machine.specs.Placement.{has_room, is_erased_slot, lowest_erased, room}
 use Rattle.fa_machine.specs.State.{MapState, is_live}
-use Rattle.fa_map.proofs.Ranges.{find_below}
-use Rattle.fa_map.specs.Changes.{writers_slot}
+use Rattle.fa_map_calls.proofs.Ranges.{find_below}
+use Rattle.fa_map_calls.specs.Changes.{writers_slot}
 use Rattle.std.proofs.Common.{None, Some, ap, arith, cond, true, ℕ, ◌*◌, ◌<◌, ◌≡◌}
 use Rattle.std.proofs.lemmas.Bool.{and_parts}
 use Rattle.std.specs.Prelude.{nat_lt}

@@ -4,7 +4,7 @@ ghost use Rattle.std.specs.List.{list_any};
 ghost use Rattle.fa_mirror.specs.Order.{first_of, homes_in_use, looks};
 
 use crate::home::homes;
-use fa_map::Map;
+use fa_map_calls::Map;
 use fa_types::{Copies, Die, Page};
 
 /// A page's homes, as many as it is to have copies, and then the other dies falling.

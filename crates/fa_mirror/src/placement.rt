@@ -8,7 +8,7 @@ ghost use Rattle.fa_mirror.specs.Order.{numbers_of, takes_copy as rule_takes};
 
 use crate::order::order_of;
 use crate::placing::Placing;
-use fa_map::Map;
+use fa_map_calls::Map;
 use fa_types::{Copies, Die, Page};
 
 /// The dies that a write of the page goes to, in the page's order: the first live dies with room, as many as a page is to have

@@ -4,7 +4,7 @@ ghost use Rattle.fa_machine.specs.Writing.{target_on};
 ghost use Rattle.fa_mirror.specs.Chosen.{MayReserve, TakesWrites};
 
 use fa_machine::Target;
-use fa_map::Map;
+use fa_map_calls::Map;
 use fa_types::{Die, Slot};
 
 /// The slot that a copy takes on a die that may be written to.

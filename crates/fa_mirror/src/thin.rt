@@ -6,7 +6,7 @@ ghost use Rattle.fa_machine.specs.Placement.{is_thin};
 ghost use Rattle.fa_mirror.specs.Firsts.{IsFirst, lower_of};
 
 use crate::placement::{copies_asked, copy_place, has_any_room};
-use fa_map::Map;
+use fa_map_calls::Map;
 use fa_types::{Copies, Die, Page};
 
 /// The lowest thin page that has a place to go, and that place. Where no live die has room it takes a look at each die, and else at

@@ -9,7 +9,7 @@ use Rattle.std.specs.FinMap.{contains_key, len, remove}
 use Rattle.std.specs.Int.{bit_at, bit_not}
 use Rattle.fa_mount_headers.specs.Rules.{is_in}
 use Rattle.fa_machine.specs.Maps.{Numbers}
-use Rattle.fa_map.proofs.Ranges.{bit, count_agree, count_more}
+use Rattle.fa_map_calls.proofs.Ranges.{bit, count_agree, count_more}
 use Rattle.fa_mount.specs.Closing.{how_many}
 use Rattle.fa_set.proofs.Changed.{removed_other}
 use Rattle.fa_core_state.proofs.Numbers.{len_less}

@@ -5,7 +5,7 @@ use Rattle.std.specs.FinMap.{get}
 use Rattle.std.specs.Prelude.{is_some, max}
 use Rattle.fa_machine.specs.State.{MapState}
 use Rattle.fa_machine.specs.declared.places.Version.{Version}
-use Rattle.fa_map.specs.Slots.{IsPageMap}
+use Rattle.fa_map_calls.specs.Slots.{IsPageMap}
 use Rattle.fa_mount.specs.Begins.{IsGreatestNumber, MayBegin, number_in}
 use Rattle.fa_mount_headers.specs.declared.judging.Standing.{Standing}
 

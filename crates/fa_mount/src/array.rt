@@ -4,7 +4,7 @@ ghost use Rattle.fa_mount.specs.Standings.{place_on};
 
 use crate::standings::place_at;
 use fa_core::Array;
-use fa_map::Map;
+use fa_map_calls::Map;
 use fa_mount_headers::Standing;
 use fa_types::Die;
 use std::alloc::{Allocator, Global};

@@ -9,7 +9,7 @@ ghost use Rattle.fa_set.specs.Members.{bound_of, members};
 
 use crate::array::MountedArray;
 use fa_core::Array;
-use fa_map::Map;
+use fa_map_calls::Map;
 use fa_mount_headers::{MountFault, MountRefused, Standing};
 use fa_mount_scan::Mounted;
 use fa_set::NumberSet;

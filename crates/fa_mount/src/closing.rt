@@ -14,7 +14,7 @@ use crate::masks::without;
 use crate::telling::{Told, mark_all, sync_all, unmark_all};
 use fa_core::Array;
 use fa_image::Image;
-use fa_map::Map;
+use fa_map_calls::Map;
 use fa_mount_headers::Standing;
 use fa_types::{Die, Page};
 use std::alloc::Allocator;

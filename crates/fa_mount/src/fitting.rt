@@ -7,7 +7,7 @@ ghost use Rattle.fa_mount.specs.Standings.{AreApart, HaveImages, SharePlace, pla
 use crate::array::MountedArray;
 use crate::standings::place_at;
 use fa_core::Array;
-use fa_map::Map;
+use fa_map_calls::Map;
 use fa_mount_headers::Standing;
 use fa_types::Die;
 use std::alloc::Allocator;

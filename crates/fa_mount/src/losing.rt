@@ -8,7 +8,7 @@ ghost use Rattle.fa_mount.specs.Closing.{is_held_in, is_lost_in, lowest_lost};
 
 use crate::masks::{is_in, with};
 use fa_core::Array;
-use fa_map::Map;
+use fa_map_calls::Map;
 use fa_types::{Die, Page};
 use std::alloc::Allocator;
 

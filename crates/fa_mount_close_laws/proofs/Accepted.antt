@@ -10,7 +10,7 @@ use Rattle.fa_mount_headers.specs.declared.found.HeaderFound.TheVariants.{Good}
 use Rattle.fa_mount_headers.specs.declared.seen.Seen.{Seen}
 use Rattle.fa_machine.proofs.Lists.{any_some}
 use Rattle.fa_machine.specs.Among.{Among}
-use Rattle.fa_map.proofs.Ranges.{find_none}
+use Rattle.fa_map_calls.proofs.Ranges.{find_none}
 use Rattle.fa_tag.specs.declared.header.Header.{Header}
 use Rattle.fa_types.specs.declared.geometry.Geometry.{Geometry}
 use Rattle.std.proofs.Common.{Bool, List, None, Option, Some, [], ap, arith, cond, eq-eqb, eqb-true, false, inl, inr, nat_lt, not, refl, slice_get}

@@ -23,7 +23,7 @@ ghost use Rattle.fa_mount_scan.specs.Mounting.{Mounts};
 ghost use Rattle.fa_mount_headers.specs.declared.judging.Standing.{Standing};
 ghost use Rattle.fa_mount_scan.specs.declared.slots.content.SlotContent.{SlotContent};
 ghost use Rattle.fa_mount_scan.specs.declared.slots.content.SlotContent.TheVariants.{Copy, Erased};
-ghost use Rattle.fa_map.specs.Slots.{IsPageMap};
+ghost use Rattle.fa_map_calls.specs.Slots.{IsPageMap};
 ghost use Rattle.fa_mount_scan.specs.Pages.{Written, places_of, written_pages};
 ghost use Rattle.fa_mount_scan.specs.Reported.{is_written};
 

@@ -12,9 +12,9 @@ use Rattle.fa_types.specs.declared.numbers.Page.{Page}
 use Rattle.fa_machine.specs.declared.places.Version.{Version}
 use Rattle.fa_machine.specs.State.{MapState, is_live, used_at}
 use Rattle.fa_machine.proofs.Maps.{get-insert_same, get-insert_other}
-use Rattle.fa_map.specs.Changes.{brought_in, new_map}
-use Rattle.fa_map.specs.Slots.{IsPageMap}
-use Rattle.fa_map.proofs.Changed.{used-new}
+use Rattle.fa_map_calls.specs.Changes.{brought_in, new_map}
+use Rattle.fa_map_calls.specs.Slots.{IsPageMap}
+use Rattle.fa_map_calls.proofs.Changed.{used-new}
 use Rattle.fa_mount_scan.specs.declared.slots.content.SlotContent.{SlotContent}
 use Rattle.fa_mount_scan.specs.declared.slots.content.SlotContent.TheVariants.{Copy}
 use Rattle.fa_mount_scan.specs.Content.{Contents, HasCopy, IsLastOf, IsMountedContent, IsStateOf, found_at, slots_on}

@@ -6,7 +6,7 @@ use Rattle.std.proofs.lemmas.List.Kept.{AllPairs-cons}
 use Rattle.std.proofs.lemmas.List.Sums.{sum_by-cons}
 use Rattle.std.specs.Prelude.{count_by, is_some}
 use Rattle.std.specs.List.{AllPairs, Contains, cons_option, filter_map, range_with_len, slice_index_or}
-use Rattle.fa_map.proofs.Ranges.{count_le}
+use Rattle.fa_map_calls.proofs.Ranges.{count_le}
 use Rattle.fa_mount_scan.specs.Pages.{given_from}
 
 pub next_number : (first end : ℕ) → first < end → range_with_len first (end - first) ≡ first ∷ range_with_len (first + 1) (end - (first + 1))

@@ -13,9 +13,9 @@ use Rattle.fa_machine.specs.declared.places.Version.{Version}
 use Rattle.fa_machine.specs.Copies.{copy_on, holds_last, is_current}
 use Rattle.fa_machine.specs.State.{MapState, is_live, slots_of, used_at}
 use Rattle.fa_machine.proofs.Maps.{get-insert_same, get-insert_other}
-use Rattle.fa_map.specs.Changes.{made_current, outdated, with_used}
-use Rattle.fa_map.specs.Slots.{IsPageMap}
-use Rattle.fa_map.proofs.Changed.{used-same, used-other, used-outdated, used-current}
+use Rattle.fa_map_calls.specs.Changes.{made_current, outdated, with_used}
+use Rattle.fa_map_calls.specs.Slots.{IsPageMap}
+use Rattle.fa_map_calls.proofs.Changed.{used-same, used-other, used-outdated, used-current}
 use Rattle.fa_mount_scan.specs.declared.slots.content.SlotContent.{SlotContent}
 use Rattle.fa_mount_scan.specs.declared.slots.content.SlotContent.TheVariants.{Erased, Copy, Stale}
 use Rattle.fa_mount_scan.specs.Content.{IsHolder, IsStateOf}

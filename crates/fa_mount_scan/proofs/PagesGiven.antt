@@ -13,10 +13,10 @@ use Rattle.fa_machine.specs.declared.places.Used.TheVariants.{Reserved, Held, St
 use Rattle.fa_machine.specs.declared.places.Version.{Version}
 use Rattle.fa_machine.specs.Copies.{copy_on, holds_last, is_current}
 use Rattle.fa_machine.specs.State.{MapState, is_live, slots_of, used_at}
-use Rattle.fa_map.specs.Plain.{holds}
-use Rattle.fa_map.specs.Slots.{IsPageMap}
-use Rattle.fa_map.proofs.Holders.{current_holds, still_some}
-use Rattle.fa_map.proofs.Ranges.{find_some}
+use Rattle.fa_map_calls.specs.Plain.{holds}
+use Rattle.fa_map_calls.specs.Slots.{IsPageMap}
+use Rattle.fa_map_calls.proofs.Holders.{current_holds, still_some}
+use Rattle.fa_map_calls.proofs.Ranges.{find_some}
 use Rattle.fa_machine.specs.Maps.{below}
 use Rattle.fa_mount_scan.specs.Reported.{is_written}
 use Rattle.fa_mount_scan.specs.Pages.{Written, place_at, place_on, places_from, places_of, written_at, written_from, written_pages}

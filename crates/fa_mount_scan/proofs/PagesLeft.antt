@@ -9,7 +9,7 @@ use Rattle.fa_types.specs.declared.numbers.Slot.{Slot}
 use Rattle.fa_machine.specs.declared.places.Version.{Version}
 use Rattle.fa_machine.specs.Copies.{copy_on, holds_page}
 use Rattle.fa_machine.specs.State.{MapState}
-use Rattle.fa_map.specs.Slots.{first_holder}
+use Rattle.fa_map_calls.specs.Slots.{first_holder}
 use Rattle.fa_mount_scan.specs.Pages.{place_at, place_on, places_from, places_left, places_of, written_at, written_from, Written}
 use Rattle.fa_mount_scan.proofs.GivenNumbers.{all_given, given_at_all, next_number, none_given, one_given}
 

@@ -2,7 +2,7 @@
 use Rattle.std.proofs.Common.{◌≡◌, ℕ, ◌+◌, ◌≤◌, Bool, true, false, cond, ap, ◌∙◌, arith}
 use Rattle.std.specs.List.{range_with_len}
 use Rattle.std.specs.Prelude.{count_by}
-use Rattle.fa_map.proofs.Ranges.{count_le, count_more}
+use Rattle.fa_map_calls.proofs.Ranges.{count_le, count_more}
 
 pub one_more_page : (test : ℕ → Bool) (page total one : ℕ) (is_so : Bool) → total ≡ count_by test (range_with_len 0 page)
     → one ≡ cond is_so 1 0 → is_so ≡ test page → total + one ≡ count_by test (range_with_len 0 (page + 1))

@@ -4,7 +4,7 @@ ghost use Rattle.fa_machine.specs.Maps.{below};
 ghost use Rattle.fa_machine.specs.Placement.{is_thin as is_thin_page};
 ghost use Rattle.fa_mount_scan.specs.Reported.{IsReportOf, is_spare as is_spare_die, is_written};
 
-use fa_map::Map;
+use fa_map_calls::Map;
 use fa_mirror::is_thin;
 use fa_mount_headers::Standing;
 use fa_types::{Copies, Page};

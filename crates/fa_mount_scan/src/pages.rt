@@ -5,7 +5,7 @@ ghost use Rattle.fa_mount_scan.specs.Pages.{written_pages};
 
 use crate::mounted::Mounted;
 use fa_machine::Version;
-use fa_map::Map;
+use fa_map_calls::Map;
 use fa_types::{Die, Page, Slot};
 use std::alloc::Allocator;
 use std::iter::FusedIterator;

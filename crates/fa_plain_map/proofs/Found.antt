@@ -7,9 +7,9 @@ use Rattle.fa_machine.specs.Maps.{below}
 use Rattle.fa_machine.specs.State.{MapState, slots_of, used_at}
 use Rattle.fa_machine.specs.declared.places.Used.{Used}
 use Rattle.fa_machine.specs.declared.places.Version.{Version}
-use Rattle.fa_map.proofs.Indices.{die_fits}
-use Rattle.fa_map.proofs.Ranges.{count_agree, count_shift, find_agree}
-use Rattle.fa_map.specs.Plain.{IsPlain, die_slots, slot_at}
+use Rattle.fa_map_calls.proofs.Indices.{die_fits}
+use Rattle.fa_map_calls.proofs.Ranges.{count_agree, count_shift, find_agree}
+use Rattle.fa_map_calls.specs.Plain.{IsPlain, die_slots, slot_at}
 use Rattle.fa_types.specs.declared.geometry.Geometry.{Geometry}
 
 module _ (m : MapState) (g : Geometry) (on : List Bool) (count : ℕ) (versions : List (Option Version)) (table : List (Option Used))

@@ -8,8 +8,8 @@ use Rattle.fa_machine.specs.Collecting.{count_in}
 use Rattle.fa_machine.specs.Copies.{is_reserved_slot, is_stale_slot}
 use Rattle.fa_machine.specs.Maps.{below}
 use Rattle.fa_machine.specs.State.{MapState, used_at}
-use Rattle.fa_map.specs.Found.{IsGreatest, is_clean_block}
-use Rattle.fa_map.proofs.Ranges.{count_le, find_is, none_is}
+use Rattle.fa_map_calls.specs.Blocks.{IsGreatest, is_clean_block}
+use Rattle.fa_map_calls.proofs.Ranges.{count_le, find_is, none_is}
 
 module _ (m : MapState) (die : ℕ) where
   abbrev pub stale : ℕ → ℕ

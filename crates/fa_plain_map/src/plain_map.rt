@@ -1,6 +1,6 @@
 //! The page map as plain lists, for tests.
 ghost use Rattle.std.specs.Prelude.{◌≡◌, ℕ, ◌*◌, ◌-◌, ◌<◌, ◌≤◌, ◌==◌, ◌&&◌, find, true, if◌then◌else◌, option_map, IfOk, IfSome, Some};
-ghost use Rattle.fa_map.specs.Plain.{IsPlain, die_slots};
+ghost use Rattle.fa_map_calls.specs.Plain.{IsPlain, die_slots};
 
 use crate::plain_slots::{
     count_erased, count_states, erase_all, erase_unreserved, find_copy, find_erased,
@@ -8,7 +8,8 @@ use crate::plain_slots::{
 };
 use fa_ghost::History;
 use fa_machine::{Block, Used, Version};
-use fa_map::{BlockCounts, Change, Map, MapShown, SlotState, less_one, note};
+use fa_map::{Change, MapShown, less_one, note};
+use fa_map_calls::{BlockCounts, Map, SlotState};
 use fa_types::{Die, Geometry, Page, Seq, Slot};
 use std::alloc::{AllocError, Allocator, Global};
 
@@ -29,7 +30,7 @@ pub struct PlainMap<A: Allocator = Global> {
 }
 
 impl<A: Allocator + Copy> PlainMap<A> {
-    ghost use Rattle.fa_map.specs.Changes.{new_map};
+    ghost use Rattle.fa_map_calls.specs.Changes.{new_map};
     ghost use Rattle.fa_plain_map.specs.PlainView.{plain_view};
 
     /// A map of dies none of which is live, and of pages none of which was written. The error is out of
@@ -56,8 +57,8 @@ impl<A: Allocator> PlainMap<A> {
     ghost use Rattle.fa_machine.specs.Copies.{copy_on, is_reserved_slot, is_stale_slot};
     ghost use Rattle.fa_machine.specs.Maps.{below};
     ghost use Rattle.fa_machine.specs.State.{is_live};
-    ghost use Rattle.fa_map.specs.Changes.{taken, writers_slot};
-    ghost use Rattle.fa_map.specs.Slots.{first_holder};
+    ghost use Rattle.fa_map_calls.specs.Changes.{taken, writers_slot};
+    ghost use Rattle.fa_map_calls.specs.Slots.{first_holder};
     ghost use Rattle.fa_plain_map.specs.PlainView.{plain_view};
 
     /// The lowest erased slot of the die, where a writer may take one.

@@ -4,11 +4,11 @@ ghost use Rattle.std.specs.List.{range_with_len};
 ghost use Rattle.fa_machine.specs.Copies.{is_held_slot, is_reserved_slot, is_stale_slot};
 ghost use Rattle.fa_machine.specs.Maps.{below};
 ghost use Rattle.fa_machine.specs.Writing.{without_page};
-ghost use Rattle.fa_map.specs.Changes.{outdated};
-ghost use Rattle.fa_map.specs.Plain.{holds, slot_at};
+ghost use Rattle.fa_map_calls.specs.Changes.{outdated};
+ghost use Rattle.fa_map_calls.specs.Plain.{holds, slot_at};
 
 use fa_machine::{Used, Version};
-use fa_map::BlockCounts;
+use fa_map_calls::BlockCounts;
 use fa_types::Page;
 
 /// Whether a slot in this state holds a copy of the page.

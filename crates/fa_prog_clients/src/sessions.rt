@@ -5,7 +5,7 @@ use crate::export::Export;
 use crate::host::Networked;
 use crate::socket::prepare;
 use fa_image::Image;
-use fa_map::Map;
+use fa_map_calls::Map;
 use fa_prog_host::tell;
 use fa_session::{SessionEnd, serve_stream};
 use fa_shared::{Hands, Seat, Shared};

@@ -7,7 +7,8 @@ ghost use Rattle.fa_mount_headers.specs.Found.{AreFound, IsReadOf};
 ghost use Rattle.fa_prog_inspect.specs.Mount.{MountsArray, RefusesArray, RefusesHeaders};
 
 use fa_image::{FileImage, Image};
-use fa_map::{Map, PageMap};
+use fa_map::PageMap;
+use fa_map_calls::Map;
 use fa_mount_headers::{Found, MountFault, MountRefused, expect, read_headers};
 use fa_mount_scan::{Mounted, scan_found_side_by_side};
 use fa_prog_host::printing::{DONE, REFUSED, print, refuse_for_memory};

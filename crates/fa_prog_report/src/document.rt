@@ -7,7 +7,7 @@ ghost use Rattle.fa_prog_report.specs.Documents.{WritesMember, check_data, docum
 
 use crate::table::DieRow;
 use fa_machine::Version;
-use fa_map::Map;
+use fa_map_calls::Map;
 use fa_mount_scan::{Mounted, Report, WrittenPage};
 use fa_types::{Die, Kind, Page, Slot};
 use serde::{Described, Serialize, Serializer};

@@ -3,7 +3,7 @@ ghost use Rattle.std.specs.Prelude.{◌≡◌, ◌++◌, Some, IfOk, OnOk, strin
 ghost use Rattle.fa_prog_report.specs.Lines.{place_text, head_text, copies_text, line_text, dump_text as text_of, kind_text};
 
 use fa_machine::Version;
-use fa_map::Map;
+use fa_map_calls::Map;
 use fa_mount_scan::{Mounted, WrittenPage};
 use fa_prog_host::printing::push_number;
 use fa_types::{Die, Kind, Page, Slot};

@@ -3,7 +3,7 @@ ghost use Rattle.std.specs.Prelude.{◌≡◌, ◌<◌, ℕ, length, map, string
 ghost use Rattle.fa_prog_report.specs.Table.{AreRowsFrom, IsRow, good_header as good, header_of as header_in, image_of as image_at, path_at, slots_on, slots_read as counts_read, standing_of as standing_in, state_text};
 
 use fa_machine::Block;
-use fa_map::Map;
+use fa_map_calls::Map;
 use fa_mount_headers::{Found, HeaderFound, Standing};
 use fa_mount_scan::Mounted;
 use fa_tag::Header;

@@ -5,7 +5,7 @@ ghost use Rattle.fa_prog_serve.specs.Serving.{TellsEnd, closed_line, closed_stat
 ghost use Rattle.std.specs.Fmt.{decimal};
 
 use fa_image::Image;
-use fa_map::Map;
+use fa_map_calls::Map;
 use fa_mount::{CloseFault, MountedArray, close_clean};
 use fa_prog_host::printing::{DONE, REFUSED, print, push_number, refuse_for_memory};
 use fa_shared::Fault;

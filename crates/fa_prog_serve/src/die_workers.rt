@@ -1,6 +1,6 @@
 //! Those who work for the dies of the array.
 use fa_image::Image;
-use fa_map::Map;
+use fa_map_calls::Map;
 use fa_mount::place_of;
 use fa_mount_headers::Standing;
 use fa_prog_clients::Networked;

@@ -6,7 +6,7 @@ use crate::die_workers::{DieWorkers, die_workers_of};
 use crate::serve::Serve;
 use crate::serving::Seats;
 use fa_image::Image;
-use fa_map::Map;
+use fa_map_calls::Map;
 use fa_mount::place_of;
 use fa_mount_headers::Standing;
 use fa_prog_clients::{AcceptQueue, Networked, Service, Session};

@@ -8,7 +8,8 @@ use crate::stop_line::wait_for_stop;
 use crate::watching::{sight_of, watch};
 use fa_core::Array;
 use fa_image::Image;
-use fa_map::{Map, PageMap};
+use fa_map::PageMap;
+use fa_map_calls::Map;
 use fa_prog_clients::{
     AcceptQueue, Networked, Session, accept_clients, serve_clients, stop_accepting,
 };

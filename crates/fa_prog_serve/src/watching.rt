@@ -1,6 +1,6 @@
 //! What is told of the array while it is served.
 use fa_core::Array;
-use fa_map::Map;
+use fa_map_calls::Map;
 use fa_prog_clients::Networked;
 use fa_prog_host::tell;
 use fa_shared::{Cause, Fault, Shared};

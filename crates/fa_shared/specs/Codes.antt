@@ -17,7 +17,7 @@ use Rattle.fa_machine.specs.declared.places.Booking.{Booking}
 use Rattle.fa_machine.specs.declared.places.Copying.{Copying}
 use Rattle.fa_machine.specs.declared.places.Target.{Target}
 use Rattle.fa_machine.specs.declared.places.Version.{Version}
-use Rattle.fa_map.specs.Codes.{map_state_code}
+use Rattle.fa_map_calls.specs.Codes.{map_state_code}
 use Rattle.fa_core_tables.specs.Codes.{base_code, waiting_code}
 use Rattle.fa_shared.specs.Locked.{LockedState}
 use Rattle.fa_types.specs.contracts.window.Window as WindowContract

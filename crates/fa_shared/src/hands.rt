@@ -4,7 +4,7 @@ ghost use Rattle.fa_shared.specs.Seats.{commits_with, number_of};
 
 use crate::locked::Locked;
 use crate::seat::Seat;
-use fa_map::Map;
+use fa_map_calls::Map;
 use std::alloc::Allocator;
 use std::sync::ledger::Ledger;
 

@@ -8,7 +8,7 @@ ghost use Rattle.fa_shared.specs.Seats.{commits_together};
 use crate::seat::Seat;
 use crate::sleepers::{Awaits, SeatSet, Sleepers};
 use fa_core::{Answer, Array, Call, Planned};
-use fa_map::Map;
+use fa_map_calls::Map;
 use fa_types::Page;
 use std::alloc::{Allocator, Global};
 use std::marker::Model;

@@ -9,7 +9,7 @@ use crate::locked::{Gathered, Locked, MAX_SEATS};
 use crate::seat::Seat;
 use crate::sleepers::{Awaits, SeatSet, Sleepers};
 use fa_core::Array;
-use fa_map::Map;
+use fa_map_calls::Map;
 use std::alloc::{AllocError, Allocator, Global};
 use std::sync::ledger::{Blank, Ledger};
 use std::sync::{Condvar, CondvarTimeouts, Mutex, MutexGuard, Wait};

@@ -4,7 +4,7 @@ ghost use Rattle.fa_core.specs.Array.{IsWhole};
 use crate::locked::MAX_SEATS;
 use fa_core::Array;
 use fa_machine::{BatchId, ClaimId, Flush, FlushState, ReadState};
-use fa_map::Map;
+use fa_map_calls::Map;
 use fa_types::Die;
 use std::alloc::{AllocError, Allocator, Global};
 use std::mem::replace;

@@ -16,7 +16,7 @@ use crate::making::make;
 use fa_core::{Answer, Call};
 use fa_core_dispatch::Job;
 use fa_core_outcome::Outcome;
-use fa_map::Map;
+use fa_map_calls::Map;
 use fa_shared::{Locked, Seat, plain};
 use fa_types::Die;
 use std::alloc::Allocator;

@@ -9,7 +9,7 @@ ghost use Rattle.fa_shared_events.specs.Rest.{Folds, LeavesRest};
 use crate::making::make;
 use fa_core::{Answer, Call};
 use fa_machine::{Flush, FlushRefused, FlushState};
-use fa_map::Map;
+use fa_map_calls::Map;
 use fa_shared::{Locked, Seat, plain};
 use std::alloc::Allocator;
 use std::sync::ledger::Ledger;

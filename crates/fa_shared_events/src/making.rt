@@ -6,7 +6,7 @@ ghost use Rattle.fa_shared_events.specs.Accounts.{IsAccounted};
 ghost use Rattle.fa_shared_events.specs.Rest.{IsNoCommit, LeavesRest};
 
 use fa_core::{Answer, Call};
-use fa_map::Map;
+use fa_map_calls::Map;
 use fa_shared::{Locked, Seat};
 use std::alloc::Allocator;
 use std::sync::ledger::Ledger;

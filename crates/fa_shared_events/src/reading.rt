@@ -12,7 +12,7 @@ use crate::making::make;
 use fa_core::{Answer, Call, Planned};
 use fa_core_read::Admitted;
 use fa_machine::{AdmitRefused, BatchId};
-use fa_map::Map;
+use fa_map_calls::Map;
 use fa_shared::{Locked, Seat, plain};
 use fa_types::Page;
 use std::alloc::Allocator;

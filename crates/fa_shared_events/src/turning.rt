@@ -11,7 +11,7 @@ use fa_core::{Answer, Call};
 use fa_machine::{
     AdvanceRefused, CommitCopyRefused, Copied, ReserveCopyRefused, SpareRefused, WindowRefused,
 };
-use fa_map::Map;
+use fa_map_calls::Map;
 use fa_shared::{Locked, Seat, plain};
 use fa_tag::Payload;
 use fa_types::{Die, Page, Round, Seq};

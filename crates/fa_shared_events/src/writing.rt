@@ -10,7 +10,7 @@ ghost use Rattle.fa_shared_events.specs.Rest.{LeavesRest};
 use crate::making::make;
 use fa_core::{Answer, Call};
 use fa_machine::{AbandonRefused, ClaimId, ClaimRefused, CommitRefused, ReserveRefused};
-use fa_map::Map;
+use fa_map_calls::Map;
 use fa_shared::{Locked, Seat, plain};
 use fa_tag::Payload;
 use fa_types::{Page, Seq};

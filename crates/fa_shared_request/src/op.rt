@@ -3,7 +3,7 @@
 use crate::kinds::{kind_of, turn_from};
 use crate::stages::{answer_len, memory_for, prepare_stage, turn_stage};
 use fa_machine::ReadState;
-use fa_map::Map;
+use fa_map_calls::Map;
 use fa_shared::{Awaits, Locked, Seat};
 use fa_shared_steps::{Fill, Request, Stage, Task, begin, content, fill_with};
 use fa_tag::Payload;

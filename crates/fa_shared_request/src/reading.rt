@@ -11,7 +11,7 @@ ghost use Rattle.fa_shared_steps.specs.declared.stage.Stage.TheVariants.{Asking,
 use fa_core::Planned;
 use fa_core_read::Admitted;
 use fa_machine::{AdmitRefused, BatchId, ReadState};
-use fa_map::Map;
+use fa_map_calls::Map;
 use fa_shared::{Locked, Seat};
 use fa_shared_events::{admit, end_batch, replan};
 use fa_shared_steps::{PageList, Purpose, Stage, stopped};

@@ -5,7 +5,7 @@ ghost use Rattle.fa_shared_request.specs.Founded.{may_collect, may_free as rule_
 
 use fa_core::Array;
 use fa_machine::JobKind;
-use fa_map::Map;
+use fa_map_calls::Map;
 use fa_types::Die;
 use std::alloc::Allocator;
 

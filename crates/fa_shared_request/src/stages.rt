@@ -10,7 +10,7 @@ use crate::gathering::sort_lent;
 use crate::reading::{ask, leave, read};
 use crate::syncing::{begin_flush, flush};
 use crate::writing::{abandon_wish, claim_page, commit_wish, release_page, reserve_wish};
-use fa_map::Map;
+use fa_map_calls::Map;
 use fa_shared::{Locked, Seat};
 use fa_shared_steps::{Purpose, Stage, Task, fill_page, list, sort_page};
 use fa_types::Page;

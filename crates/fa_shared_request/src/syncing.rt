@@ -5,7 +5,7 @@ ghost use Rattle.fa_shared_steps.specs.declared.request.Task.{Task};
 ghost use Rattle.fa_shared_steps.specs.declared.stage.Stage.TheVariants.{BeginningFlush, Flushing};
 
 use fa_machine::Flush;
-use fa_map::Map;
+use fa_map_calls::Map;
 use fa_shared::{Locked, Seat};
 use fa_shared_events::{flush_begin, flush_state};
 use fa_shared_steps::{Stage, begun, flushed};

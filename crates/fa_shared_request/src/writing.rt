@@ -7,7 +7,7 @@ ghost use Rattle.fa_shared_steps.specs.Ranges.{IsRange};
 ghost use Rattle.fa_shared_steps.specs.declared.stage.Stage.TheVariants.{Abandoning, Claiming, Committing, Releasing, Reserving};
 
 use crate::room::may_get_room;
-use fa_map::Map;
+use fa_map_calls::Map;
 use fa_shared::{Locked, Seat};
 use fa_shared_events::{
     abandon, claim, commit, fold, release, reserve, reserve_fewer, reserve_hole,

@@ -3,7 +3,7 @@ ghost use Rattle.std.specs.Prelude.{◌≤◌};
 
 use crate::context::Context;
 use crate::running::{finish, run, run_read, store_bytes};
-use fa_map::Map;
+use fa_map_calls::Map;
 use fa_shared::{Hands, Seat, Shared};
 use fa_shared_request::Op;
 use fa_shared_steps::Request;

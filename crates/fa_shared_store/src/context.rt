@@ -1,7 +1,7 @@
 //! What the requests of a store are made with.
 ghost use Rattle.std.specs.Prelude.{◌≤◌};
 
-use fa_map::Map;
+use fa_map_calls::Map;
 use fa_shared::Shared;
 use std::alloc::Allocator;
 use std::sync::ledger::Ledger;

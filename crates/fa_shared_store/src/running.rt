@@ -9,7 +9,7 @@ ghost use Rattle.fa_types.specs.declared.blocks.BlockFault.TheVariants.{NoRoom};
 
 use crate::context::Context;
 use crate::parts::run_parts;
-use fa_map::Map;
+use fa_map_calls::Map;
 use fa_shared::{Awaits, Hands, Locked, Seat};
 use fa_shared_request::{Op, Turn};
 use fa_shared_steps::Request;

@@ -7,7 +7,7 @@ ghost use Rattle.fa_solo_job.specs.Inner.{Does};
 use crate::jobs::work_off;
 use fa_image::Image;
 use fa_machine::WindowRefused;
-use fa_map::Map;
+use fa_map_calls::Map;
 use fa_shared_events::window;
 use fa_solo_job::Inner;
 use fa_types::{Die, Round};

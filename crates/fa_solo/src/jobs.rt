@@ -7,7 +7,7 @@ ghost use Rattle.fa_solo_job.specs.Inner.{Does};
 use fa_core::Array;
 use fa_image::Image;
 use fa_machine::{BatchId, ReadState};
-use fa_map::Map;
+use fa_map_calls::Map;
 use fa_shared_events::advance;
 use fa_solo_job::{Inner, run_next};
 use fa_types::Die;

@@ -13,7 +13,7 @@ use crate::jobs::{bring_in, work, work_off};
 use fa_core_read::Admitted;
 use fa_image::Image;
 use fa_machine::{AdmitRefused, BatchId, CommitCopyRefused, Copied, ReadState};
-use fa_map::Map;
+use fa_map_calls::Map;
 use fa_shared::Locked;
 use fa_shared_events::{admit, commit_copy, end_batch, reserve_copy};
 use fa_solo_job::Inner;

@@ -20,7 +20,7 @@ use crate::jobs::{bring_in, work, work_for};
 use fa_core::Array;
 use fa_image::Image;
 use fa_machine::{BatchId, WindowRefused};
-use fa_map::Map;
+use fa_map_calls::Map;
 use fa_shared::Awaits;
 use fa_shared_request::{Op, Turn};
 use fa_shared_steps::Request;

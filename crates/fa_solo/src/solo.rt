@@ -5,7 +5,7 @@ ghost use Rattle.fa_solo_job.specs.Inner.{house_in, house_of};
 
 use crate::whole::{call, call_flush, call_read};
 use fa_image::Image;
-use fa_map::Map;
+use fa_map_calls::Map;
 use fa_shared_steps::Request;
 use fa_solo_job::{Inner, Parts};
 use fa_types::{BlockFault, Blocks, Geometry, Round};

@@ -13,7 +13,7 @@ use crate::jobs::bring_in;
 use crate::rebuilding::tidy;
 use crate::requests::{run, run_read};
 use fa_image::Image;
-use fa_map::Map;
+use fa_map_calls::Map;
 use fa_shared_steps::Request;
 use fa_solo_job::Inner;
 use fa_types::BlockFault;

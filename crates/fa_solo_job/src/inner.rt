@@ -4,7 +4,7 @@ ghost use Rattle.fa_core.specs.Array.{IsWhole, number_of as array_number, state_
 ghost use Rattle.fa_mount.specs.Standings.{place_on};
 
 use fa_image::Image;
-use fa_map::Map;
+use fa_map_calls::Map;
 use fa_mount::{MountedArray, place_of};
 use fa_mount_headers::Standing;
 use fa_shared::{Locked, Seat};

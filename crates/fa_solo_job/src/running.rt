@@ -14,7 +14,7 @@ use fa_core_dispatch::Job;
 use fa_core_outcome::Outcome;
 use fa_image::Image;
 use fa_laws::steps::the_geometry_is_kept;
-use fa_map::Map;
+use fa_map_calls::Map;
 use fa_shared_events::{done, make_room, take};
 use fa_types::{Die, TAG_BYTES};
 use fa_workers::{Open, run_job};

@@ -3,7 +3,7 @@ ghost use Rattle.std.specs.Prelude.{◌≡◌, ◌<◌, false};
 ghost use Rattle.fa_shared_events.specs.Rest.{LeavesRest};
 ghost use Rattle.fa_workers.specs.Windows.{GivesWindow, GivesWindows};
 
-use fa_map::Map;
+use fa_map_calls::Map;
 use fa_shared::{Awaits, Locked, Seat, Shared};
 use fa_shared_events::window;
 use fa_types::Die;

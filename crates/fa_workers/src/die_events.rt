@@ -12,7 +12,7 @@ use crate::order::{Order, order_of};
 use fa_core::Array;
 use fa_core_outcome::Outcome;
 use fa_machine::AdvanceRefused;
-use fa_map::Map;
+use fa_map_calls::Map;
 use fa_shared::{Cause, Fault, Locked, Seat};
 use fa_shared_events::{advance, done, make_room, take};
 use fa_types::{Die, Round};

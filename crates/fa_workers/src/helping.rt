@@ -9,7 +9,7 @@ use crate::job_memory::JobMemory;
 use crate::order::Order;
 use fa_core_outcome::Outcome;
 use fa_image::Image;
-use fa_map::Map;
+use fa_map_calls::Map;
 use fa_shared::{Fault, Hands, Locked, Seat, Shared};
 use fa_tag::{Opened, open, open_all};
 use fa_types::Die;

@@ -9,7 +9,7 @@ use crate::rebuild_stage::{RebuildStage, ThinPage};
 use crate::spares::bring_in_spare;
 use fa_core::Admitted;
 use fa_machine::{AdmitRefused, BatchId, CommitCopyRefused, Copied, ReadState, ReserveCopyRefused};
-use fa_map::Map;
+use fa_map_calls::Map;
 use fa_shared::{Locked, Seat};
 use fa_shared_events::{admit, commit_copy, end_batch, reserve_copy};
 use fa_tag::Payload;

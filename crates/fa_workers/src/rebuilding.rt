@@ -1,7 +1,7 @@
 //! The worker that makes thin pages whole.
 use crate::rebuild_events::{Came, turn};
 use crate::rebuild_stage::{RebuildStage, ThinPage};
-use fa_map::Map;
+use fa_map_calls::Map;
 use fa_shared::{Awaits, Seat, Shared};
 use fa_tag::Payload;
 use fa_types::Page;

@@ -5,7 +5,7 @@ ghost use Rattle.fa_shared_events.specs.Rest.{LeavesRest};
 ghost use Rattle.fa_workers.specs.Spares.{BringsIn, BringsInOne, live_below, wants_spare as rule_wants};
 
 use fa_core::Array;
-use fa_map::Map;
+use fa_map_calls::Map;
 use fa_shared::{Locked, Seat};
 use fa_shared_events::spare_in;
 use fa_types::Die;

@@ -6,7 +6,7 @@ use crate::job_memory::JobMemory;
 use crate::order::Order;
 use fa_core_outcome::Outcome;
 use fa_image::Image;
-use fa_map::Map;
+use fa_map_calls::Map;
 use fa_shared::{Awaits, Seat, Shared};
 use fa_types::Die;
 use std::alloc::{Allocator, Global};

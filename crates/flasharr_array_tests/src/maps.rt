@@ -3,7 +3,8 @@
 ghost use Rattle.std.specs.Prelude.{◌≡◌, ◌<◌};
 
 use fa_machine::{Block, Version};
-use fa_map::{Map, PageMap};
+use fa_map::PageMap;
+use fa_map_calls::Map;
 use fa_plain_map::PlainMap;
 use fa_types::{Die, Geometry, Kind, Page, Seq, Slot};
 use flasharr_tests::ensure;

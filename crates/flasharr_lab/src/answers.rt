@@ -7,7 +7,7 @@ use crate::desk::Desk;
 use crate::told::Told;
 use fa_core::{Answer, Array, Job};
 use fa_machine::{AdmitRefused, BatchId, CommitCopyRefused, Copied, Flight, FlushState, Version};
-use fa_map::Map;
+use fa_map_calls::Map;
 use fa_types::{Kind, Page, Slot};
 use std::alloc::{AllocError, Allocator};
 use std::fmt::Display;

@@ -7,7 +7,7 @@ use fa_batch::{Batch, Closed, Place};
 use fa_cert::{Verdict, check};
 use fa_core::{Array, Planned};
 use fa_machine::BatchId;
-use fa_map::Map;
+use fa_map_calls::Map;
 use fa_types::{Die, Page};
 use std::alloc::{AllocError, Allocator};
 

@@ -14,7 +14,7 @@ use crate::taken::{Taken, taken_of};
 use crate::told::Told;
 use fa_core::{Answer, Array, Call, Outcome};
 use fa_image::{Image, ImageFault};
-use fa_map::Map;
+use fa_map_calls::Map;
 use fa_mount::MountedArray;
 use fa_tag::Opened;
 use fa_types::{Die, Geometry};

@@ -11,7 +11,7 @@ use crate::told::Told;
 use crate::words::{die_of, number_at};
 use fa_core::Array;
 use fa_machine::{BatchId, ClaimId, HistoryEntry, JobKind, ReadState};
-use fa_map::Map;
+use fa_map_calls::Map;
 use fa_types::{Die, Kind, Page, Round, Rounds};
 use std::alloc::{AllocError, Allocator};
 

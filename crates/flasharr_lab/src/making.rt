@@ -12,7 +12,7 @@ use crate::told::Told;
 use crate::words::{die_of, number_at};
 use fa_core::{Answer, Array, Call};
 use fa_machine::{BatchId, ClaimId};
-use fa_map::Map;
+use fa_map_calls::Map;
 use fa_types::{Die, Page, Seq};
 use std::alloc::Allocator;
 

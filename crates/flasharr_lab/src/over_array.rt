@@ -20,7 +20,7 @@ use crate::words::{die_of, number_at};
 use fa_batch::Batch;
 use fa_core::Array;
 use fa_image::Image;
-use fa_map::Map;
+use fa_map_calls::Map;
 use fa_mount::{CloseFault, MountedArray, close_clean};
 use fa_plan::plan;
 use fa_solo::Parts;

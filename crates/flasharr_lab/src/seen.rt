@@ -1,7 +1,7 @@
 //! What is seen of an array's dies and pages.
 use fa_core::Array;
 use fa_machine::{Block, JobKind, Version};
-use fa_map::Map;
+use fa_map_calls::Map;
 use fa_types::{Die, Page, Slot};
 use std::alloc::Allocator;
 

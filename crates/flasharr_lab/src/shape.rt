@@ -7,7 +7,7 @@ ghost use Rattle.flasharr_lab.specs.Apart.{AreApart};
 
 use crate::words::{die_of, number_at, small_at};
 use fa_core::Array;
-use fa_map::Map;
+use fa_map_calls::Map;
 use fa_set::NumberSet;
 use fa_types::{Copies, Die, Geometry, Seq};
 use std::alloc::{AllocError, Allocator};

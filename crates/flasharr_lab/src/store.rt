@@ -12,7 +12,7 @@ use crate::meter::Meter;
 use crate::order::{Ask, Order, Wish};
 use crate::script::Script;
 use crate::words::number_at;
-use fa_map::Map;
+use fa_map_calls::Map;
 use fa_session::serve_stream;
 use fa_solo::{Parts, Solo};
 use fa_types::{BlockFault, Blocks};

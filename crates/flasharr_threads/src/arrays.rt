@@ -7,7 +7,8 @@ ghost use Rattle.fa_image.specs.Wrong.{wrong_view};
 ghost use Rattle.fa_map.specs.PageView.{page_view};
 
 use fa_image::{Image, MemImage, WrongImage};
-use fa_map::{Map, PageMap};
+use fa_map::PageMap;
+use fa_map_calls::Map;
 use fa_mount::{CloseFault, MountedArray, close_clean, mount};
 use fa_mount_headers::format;
 use fa_mount_scan::{Report, scan};

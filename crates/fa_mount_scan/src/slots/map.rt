@@ -2,7 +2,7 @@
 ghost use Rattle.std.specs.Prelude.{◌≡◌, ◌≢◌, ℕ, ◌+◌, ◌*◌, ◌<◌, ◌↔◌, true, false, Some, None, length, IsTrue, IfOk, OnOk, OnErr, slice_get};
 ghost use Rattle.std.specs.FinMap.{get};
 ghost use Rattle.fa_types.specs.declared.numbers.Page.{Page};
-ghost use Rattle.fa_map.specs.Changes.{new_map};
+ghost use Rattle.fa_map_calls.specs.Changes.{new_map};
 ghost use Rattle.fa_machine.specs.declared.places.Version.{Version};
 ghost use Rattle.fa_machine.specs.declared.places.Used.TheVariants.{Held};
 ghost use Rattle.fa_machine.specs.State.{is_live, used_at};
@@ -11,7 +11,7 @@ ghost use Rattle.fa_mount_scan.specs.ContentMerging.{AreLastBefore, NamesPages, 
 
 use crate::slots::content::{DieContents, SlotContent};
 use fa_machine::Version;
-use fa_map::Map;
+use fa_map_calls::Map;
 use fa_types::{Die, Page, Slot};
 use std::alloc::{AllocError, Allocator};
 

@@ -1,6 +1,6 @@
 //! The array that images hold.
 ghost use Rattle.std.specs.Prelude.{◌≡◌, ◌≤◌, ◌⊎◌, List, map, true, false, length, MatchResult, IfOk, IfErr};
-ghost use Rattle.fa_map.specs.Changes.{new_map};
+ghost use Rattle.fa_map_calls.specs.Changes.{new_map};
 ghost use Rattle.fa_mount_headers.specs.Rules as rules;
 ghost use Rattle.fa_mount_scan.specs.Content.{AreContents, Contents, IsMountedContent};
 ghost use Rattle.fa_mount_scan.specs.ContentReading.{AreOutcomes, AreReadable};
@@ -14,7 +14,7 @@ use crate::slots::map::mount_content;
 use crate::slots::settle::{Settled, any_live, image_refusal, settle};
 use crate::slots::side_by_side::read_dies_side_by_side;
 use fa_image::Image;
-use fa_map::Map;
+use fa_map_calls::Map;
 use fa_mount_headers::{Judged, MountFault, MountRefused};
 use std::alloc::Allocator;
 use std::thread::Threads;

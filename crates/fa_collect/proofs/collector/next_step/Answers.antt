@@ -1,6 +1,6 @@
 use Rattle.fa_collect.proofs.collector.next_step.Goals as goal
 use Rattle.fa_machine.specs.declared.ids.Block.{Block}
-use Rattle.fa_map.proofs.Ranges.{find_below}
+use Rattle.fa_map_calls.proofs.Ranges.{find_below}
 use Rattle.std.proofs.Common.{ap, arith, sym, ◌∙◌}
 use Rattle.std.specs.Prelude.{option_map}
 

@@ -1,7 +1,7 @@
 use Rattle.std.proofs.Common.{◌≡◌, ap, arith, sym, true, inl, inr, ◌∙◌, ◌*◌}
 use Rattle.std.proofs.lemmas.Bool.{cases_eq}
 use Rattle.fa_collect.proofs.Held.{held_is, is_current_state, other_state}
-use Rattle.fa_map.proofs.Ranges.{find_none, find_some}
+use Rattle.fa_map_calls.proofs.Ranges.{find_none, find_some}
 use Rattle.fa_machine.specs.Copies.{is_held_slot}
 use Rattle.fa_machine.specs.State.{used_at}
 use Rattle.fa_machine.specs.declared.jobs.CollectorStep.TheVariants.{EraseBlock, MoveSlot}

@@ -4,7 +4,7 @@ use Rattle.fa_core_complete.proofs.collecting.move_done.Goals as goal
 use Rattle.fa_machine.specs.Copies.{is_current}
 use Rattle.fa_machine.specs.State.{Core, MapState, is_live}
 use Rattle.fa_machine.specs.declared.places.Used.TheVariants.{Stale}
-use Rattle.fa_map.specs.Changes.{MayKeep, with_used}
+use Rattle.fa_map_calls.specs.Changes.{MayKeep, with_used}
 use Rattle.fa_core_state.specs.Core.{core_of}
 use Rattle.std.proofs.Common.{Some, ap, subst, sym, true, ◌*◌, ◌<◌, ◌∙◌, ◌≡◌}
 

@@ -1,6 +1,6 @@
 use Rattle.fa_core_complete.proofs.collecting.settle.Goals as goal
 use Rattle.fa_machine.specs.declared.places.Used.TheVariants.{Held, Stale}
-use Rattle.fa_map.specs.Changes.{with_used}
+use Rattle.fa_map_calls.specs.Changes.{with_used}
 use Rattle.fa_core_state.specs.Core.{core_of}
 use Rattle.std.proofs.Common.{◌∙◌}
 use Rattle.std.specs.Prelude.{if◌then◌else◌}

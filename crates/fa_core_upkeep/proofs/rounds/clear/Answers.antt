@@ -1,4 +1,4 @@
-use Rattle.fa_map.proofs.Ranges.{find_is, none_is}
+use Rattle.fa_map_calls.proofs.Ranges.{find_is, none_is}
 use Rattle.fa_set.specs.Members.{is_in, members}
 use Rattle.fa_core_state.proofs.Numbers.{empty_below, len_less}
 use Rattle.std.proofs.Common.{ap, arith, sym, ◌-◌, ◌∙◌}

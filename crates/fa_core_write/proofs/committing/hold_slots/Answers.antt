@@ -1,6 +1,6 @@
 use Rattle.std.proofs.Common.{ap, get_or, subst, sym, ◌∙◌}
 use Rattle.fa_machine.specs.State.{MapState, is_live}
-use Rattle.fa_map.specs.Changes.{MayKeep}
+use Rattle.fa_map_calls.specs.Changes.{MayKeep}
 use Rattle.fa_core_write.proofs.Holding.{may_keep}
 use Rattle.fa_core_write.proofs.committing.hold_slots.Goals as goal
 

@@ -3,7 +3,7 @@ use Rattle.fa_core_tables.specs.Claims.{claims_of, targets_of}
 use Rattle.fa_machine.specs.Writing.{with_targets}
 use Rattle.fa_machine.specs.declared.answers.HistoryEntry.TheVariants.{Commit}
 use Rattle.fa_machine.specs.declared.places.Used.TheVariants.{Held}
-use Rattle.fa_map.specs.Changes.{renewed}
+use Rattle.fa_map_calls.specs.Changes.{renewed}
 use Rattle.fa_core_tables.specs.Logs.{history_of}
 use Rattle.fa_core_state.specs.Core.{core_of}
 use Rattle.fa_core_write.proofs.Live.{live_of}

@@ -2,7 +2,7 @@ use Rattle.std.proofs.Common.{◌≡◌, List, ap, length, set, sym, subst, ◌�
 use Rattle.std.proofs.lemmas.List.{get_or-set_same, get_or-set_other, length-set}
 use Rattle.fa_map.specs.Chains.{IsSecond, link_at, no_second, second_at, target}
 use Rattle.fa_map.specs.Entries.{with_head, with_link}
-use Rattle.fa_map.specs.Plain.{die_slots}
+use Rattle.fa_map_calls.specs.Plain.{die_slots}
 use Rattle.fa_map.specs.declared.entries.Link.{Link}
 use Rattle.fa_map.specs.declared.entries.Second.{Second}
 use Rattle.fa_map.proofs.Renewed.{second_chosen}

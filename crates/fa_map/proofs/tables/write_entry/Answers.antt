@@ -2,16 +2,16 @@ use Rattle.std.proofs.Common.{ℕ, ◌+◌, ◌*◌, ◌/◌, ◌<◌, Bool, Lis
 use Rattle.std.proofs.Math.Nat.{mul-le-mul}
 use Rattle.fa_map.specs.Entries.{AreTallied, count_of, is_erased_entry, is_same_state, no_counts, one_if, state_of_entry}
 use Rattle.fa_map.specs.declared.entries.Entry.{Entry}
-use Rattle.fa_map.specs.declared.slots.SlotState.{SlotState}
-use Rattle.fa_map.specs.declared.slots.SlotState.TheVariants as states
+use Rattle.fa_map_calls.specs.declared.slots.SlotState.{SlotState}
+use Rattle.fa_map_calls.specs.declared.slots.SlotState.TheVariants as states
 use Rattle.fa_map.proofs.Tallied.{free_few, free_some, its_block, set_few, tallied_set, tally_few, tally_some}
 use Rattle.std.specs.FinMap.{contains_key}
 use Rattle.std.specs.Prelude.{if◌then◌else◌, ◌==◌}
 use Rattle.fa_machine.specs.Maps.{Numbers}
 use Rattle.fa_map.specs.Found.{IsFound, rank_index}
-use Rattle.fa_map.specs.Plain.{die_slots}
+use Rattle.fa_map_calls.specs.Plain.{die_slots}
 use Rattle.fa_map.proofs.Found.{found_parts, found_set, found_whole}
-use Rattle.fa_map.proofs.Indices.{index_fits}
+use Rattle.fa_map_calls.proofs.Indices.{index_fits}
 use Rattle.fa_map.proofs.tables.write_entry.Goals as goal
 
 pub moved-after-requires-clause-from : goal.moved-after-requires-clause-from

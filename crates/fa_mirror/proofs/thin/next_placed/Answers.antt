@@ -1,7 +1,7 @@
 use Rattle.fa_machine.specs.Looks.{next_thin}
 use Rattle.fa_machine.specs.Placement.{copy_place, is_thin}
 use Rattle.fa_machine.specs.State.{MapState}
-use Rattle.fa_map.proofs.Ranges.{find_none, find_some}
+use Rattle.fa_map_calls.proofs.Ranges.{find_none, find_some}
 use Rattle.std.proofs.Common.{Bool, None, Some, ap, arith, false, inl, inr, sym, true, ℕ, ◌+◌, ◌<◌, ◌≡◌, ◌≤◌, ◌∙◌}
 use Rattle.std.proofs.lemmas.Bool.{and_from, and_right, cases_lt}
 use Rattle.std.specs.Prelude.{is_some, option_and_then, option_map, ◌&&◌}

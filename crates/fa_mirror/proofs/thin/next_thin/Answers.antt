@@ -3,7 +3,7 @@ use Rattle.fa_machine.specs.Maps.{below}
 use Rattle.fa_machine.specs.Placement.{copy_place, has_room, is_thin, order_of}
 use Rattle.fa_machine.specs.Copies.{holds_page}
 use Rattle.fa_machine.specs.State.{MapState}
-use Rattle.fa_map.proofs.Ranges.{find_none}
+use Rattle.fa_map_calls.proofs.Ranges.{find_none}
 use Rattle.std.proofs.Common.{Bool, List, None, [], ◌∷◌, Some, ap, cond, false, not, refl, sym, ℕ, ◌≡◌, ◌∙◌}
 use Rattle.std.proofs.lemmas.Bool.{and_right}
 use Rattle.std.specs.List.{find}

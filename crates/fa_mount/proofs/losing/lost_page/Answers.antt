@@ -1,6 +1,6 @@
 use Rattle.std.proofs.Common.{ap, arith, below_more, sym, ◌∙◌}
 use Rattle.fa_core.specs.Array.{state_of}
-use Rattle.fa_map.proofs.Ranges.{find_none, find_some}
+use Rattle.fa_map_calls.proofs.Ranges.{find_none, find_some}
 use Rattle.fa_mount.specs.Closing.{is_lost_in}
 use Rattle.fa_types.specs.declared.geometry.Geometry.{Geometry}
 use Rattle.fa_mount.proofs.losing.lost_page.Goals as goal

@@ -1,7 +1,7 @@
 use Rattle.std.proofs.Common.{◌+◌, is_none, arith}
 use Rattle.std.proofs.lemmas.Grind.{common_steps}
-use Rattle.fa_map.specs.Plain.{slot_at}
-use Rattle.fa_map.proofs.Ranges.{count_more}
+use Rattle.fa_map_calls.specs.Plain.{slot_at}
+use Rattle.fa_map_calls.proofs.Ranges.{count_more}
 use Rattle.fa_plain_map.proofs.plain_slots.count_erased.Goals as goal
 use Rattle.fa_plain_map.proofs.plain_slots.count_erased.Goals.{then-is_none, else-is_none}
 

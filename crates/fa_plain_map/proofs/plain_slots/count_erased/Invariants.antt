@@ -1,6 +1,6 @@
 use Rattle.std.proofs.Common.{◌≡◌, ◌+◌, ◌≤◌, count_by, is_none}
 use Rattle.fa_machine.specs.Maps.{below}
-use Rattle.fa_map.specs.Plain.{slot_at}
+use Rattle.fa_map_calls.specs.Plain.{slot_at}
 use Rattle.fa_plain_map.proofs.plain_slots.count_erased.Given as goal
 
 abbrev pub invariant-loop-slot : goal.invariant-loop-slot

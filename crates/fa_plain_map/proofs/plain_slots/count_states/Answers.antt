@@ -1,8 +1,8 @@
 use Rattle.std.proofs.Common.{◌+◌, is_none, arith}
 use Rattle.std.proofs.lemmas.Grind.{common_steps}
 use Rattle.fa_machine.specs.Copies.{is_held_slot, is_reserved_slot, is_stale_slot}
-use Rattle.fa_map.specs.Plain.{slot_at}
-use Rattle.fa_map.proofs.Ranges.{count_more}
+use Rattle.fa_map_calls.specs.Plain.{slot_at}
+use Rattle.fa_map_calls.proofs.Ranges.{count_more}
 use Rattle.fa_plain_map.proofs.plain_slots.count_states.Goals as goal
 use Rattle.fa_plain_map.proofs.plain_slots.count_states.Goals.{in-None, in-Some-Reserved, in-Some-Held, in-Some-Stale}
 

@@ -1,5 +1,5 @@
 use Rattle.std.proofs.Common.{◌≡◌, ℕ, ◌&&◌, nat_le, nat_lt, if◌then◌else◌, None}
-use Rattle.fa_map.specs.Plain.{slot_at}
+use Rattle.fa_map_calls.specs.Plain.{slot_at}
 use Rattle.fa_plain_map.proofs.plain_slots.erase_all.Given as goal
 
 abbrev pub invariant-loop-index : goal.invariant-loop-index

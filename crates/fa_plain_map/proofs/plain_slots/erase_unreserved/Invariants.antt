@@ -1,6 +1,6 @@
 use Rattle.std.proofs.Common.{◌≡◌, ℕ, ◌&&◌, not, nat_le, nat_lt, if◌then◌else◌, None}
 use Rattle.fa_machine.specs.Copies.{is_reserved_slot}
-use Rattle.fa_map.specs.Plain.{slot_at}
+use Rattle.fa_map_calls.specs.Plain.{slot_at}
 use Rattle.fa_plain_map.proofs.plain_slots.erase_unreserved.Given as goal
 
 abbrev pub invariant-loop-index : goal.invariant-loop-index

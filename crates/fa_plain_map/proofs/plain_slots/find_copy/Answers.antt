@@ -1,7 +1,7 @@
 use Rattle.std.proofs.Common.{◌≡◌, ℕ, ◌+◌, true, Bool, sym, arith}
 use Rattle.std.proofs.lemmas.Grind.{common_steps}
-use Rattle.fa_map.specs.Plain.{holds, slot_at}
-use Rattle.fa_map.proofs.Ranges.{find_none, find_some}
+use Rattle.fa_map_calls.specs.Plain.{holds, slot_at}
+use Rattle.fa_map_calls.proofs.Ranges.{find_none, find_some}
 use Rattle.fa_plain_map.proofs.plain_slots.find_copy.Goals as goal
 
 pub returns-then-holds_page : goal.returns-then-holds_page

@@ -1,5 +1,5 @@
 use Rattle.std.proofs.Common.{◌≡◌, ℕ, ◌+◌, ◌<◌, false}
-use Rattle.fa_map.specs.Plain.{holds, slot_at}
+use Rattle.fa_map_calls.specs.Plain.{holds, slot_at}
 use Rattle.fa_plain_map.proofs.plain_slots.find_copy.Given as goal
 
 abbrev pub invariant-loop-slot : goal.invariant-loop-slot

@@ -1,7 +1,7 @@
 use Rattle.std.proofs.Common.{◌≡◌, ℕ, ◌+◌, true, is_none, Bool, sym, arith}
 use Rattle.std.proofs.lemmas.Grind.{common_steps}
-use Rattle.fa_map.specs.Plain.{slot_at}
-use Rattle.fa_map.proofs.Ranges.{find_none, find_some}
+use Rattle.fa_map_calls.specs.Plain.{slot_at}
+use Rattle.fa_map_calls.proofs.Ranges.{find_none, find_some}
 use Rattle.fa_plain_map.proofs.plain_slots.find_erased.Goals as goal
 
 pub returns-then-is_none : goal.returns-then-is_none

@@ -1,5 +1,5 @@
 use Rattle.std.proofs.Common.{◌≡◌, ℕ, ◌+◌, ◌/◌, ◌<◌, ◌==◌, ◌&&◌, not, false, is_none}
-use Rattle.fa_map.specs.Plain.{slot_at}
+use Rattle.fa_map_calls.specs.Plain.{slot_at}
 use Rattle.fa_plain_map.proofs.plain_slots.find_erased_outside.Given as goal
 
 abbrev pub invariant-loop-slot : goal.invariant-loop-slot

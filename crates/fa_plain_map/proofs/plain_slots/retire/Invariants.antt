@@ -1,6 +1,6 @@
 use Rattle.std.proofs.Common.{◌≡◌, ℕ, nat_lt, if◌then◌else◌, option_map}
 use Rattle.fa_machine.specs.Writing.{without_page}
-use Rattle.fa_map.specs.Plain.{slot_at}
+use Rattle.fa_map_calls.specs.Plain.{slot_at}
 use Rattle.fa_plain_map.proofs.plain_slots.retire.Given as goal
 
 abbrev pub invariant-loop-index : goal.invariant-loop-index

@@ -3,7 +3,7 @@ use Rattle.std.specs.List.{count_by}
 use Rattle.fa_core.specs.Array.{state_of}
 use Rattle.fa_machine.specs.Maps.{below}
 use Rattle.fa_machine.specs.State.{is_live}
-use Rattle.fa_map.proofs.Ranges.{count_more}
+use Rattle.fa_map_calls.proofs.Ranges.{count_more}
 use Rattle.fa_workers.proofs.spares.count_live.Goals.{then-is_live, else-is_live}
 use Rattle.fa_workers.proofs.spares.count_live.Goals as goal
 

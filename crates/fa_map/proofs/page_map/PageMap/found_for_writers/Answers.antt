@@ -1,12 +1,12 @@
 use Rattle.std.proofs.Common.{ap, ◌∙◌, arith}
 use Rattle.std.proofs.Common.{None}
-use Rattle.fa_map.specs.Plain.{die_slots}
+use Rattle.fa_map_calls.specs.Plain.{die_slots}
 use Rattle.fa_types.specs.declared.geometry.Geometry.{Geometry}
 use Rattle.std.specs.Prelude.{find}
 use Rattle.fa_machine.specs.Maps.{below}
 use Rattle.fa_map.specs.Entries.{may_take}
 use Rattle.fa_map.proofs.Seen.{shown_lowest}
-use Rattle.fa_map.proofs.Taking.{writers_lowest}
+use Rattle.fa_map_calls.proofs.Taking.{writers_lowest}
 use Rattle.fa_map.proofs.page_map.PageMap.found_for_writers.Goals as goal
 
 pub returns-clause-slot : goal.returns-clause-slot

@@ -1,5 +1,5 @@
 use Rattle.std.proofs.Common.{◌*◌, refl, ap, ◌∙◌, arith}
-use Rattle.fa_map.specs.Plain.{die_slots}
+use Rattle.fa_map_calls.specs.Plain.{die_slots}
 use Rattle.fa_types.specs.declared.geometry.Geometry.{Geometry}
 use Rattle.fa_map.proofs.Seen.{shown_new, shown_told}
 use Rattle.fa_map.proofs.page_map.PageMap.new.Goals as goal

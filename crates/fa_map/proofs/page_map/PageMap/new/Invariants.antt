@@ -1,4 +1,4 @@
-use Rattle.fa_map.specs.Changes.{new_map}
+use Rattle.fa_map_calls.specs.Changes.{new_map}
 use Rattle.fa_map.proofs.page_map.PageMap.new.Given as goal
 
 abbrev pub ghost-begin : goal.ghost-begin

@@ -2,7 +2,7 @@ use Rattle.std.proofs.Common.{◌+◌, ◌<◌, true, refl, subst, set}
 use Rattle.fa_types.specs.declared.geometry.Geometry.{Geometry}
 use Rattle.std.specs.Prelude.{map}
 use Rattle.fa_map.specs.Shown.{used_of}
-use Rattle.fa_map.proofs.Plain.{plain_in, told}
+use Rattle.fa_map_calls.proofs.Plain.{plain_in, told}
 use Rattle.fa_map.proofs.page_map.PageMapMap.bring_in.Goals as goal
 
 pub invariant_of-self : goal.invariant_of-self

@@ -2,7 +2,7 @@ use Rattle.std.proofs.Common.{count_by, ap, ◌∙◌}
 use Rattle.fa_types.specs.declared.geometry.Geometry.{Geometry}
 use Rattle.fa_machine.specs.Maps.{below}
 use Rattle.fa_map.specs.Entries.{die_holds}
-use Rattle.fa_map.specs.Plain.{die_slots}
+use Rattle.fa_map_calls.specs.Plain.{die_slots}
 use Rattle.fa_map.proofs.Seen.{shown_holders}
 use Rattle.fa_map.proofs.page_map.PageMapMap.copies_of.Goals as goal
 

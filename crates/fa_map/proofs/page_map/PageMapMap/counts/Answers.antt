@@ -1,9 +1,9 @@
 use Rattle.std.proofs.Common.{◌*◌, ◌<◌, ap, subst, ◌∙◌}
-use Rattle.fa_map.specs.Plain.{die_slots}
+use Rattle.fa_map_calls.specs.Plain.{die_slots}
 use Rattle.fa_types.specs.declared.geometry.Geometry.{Geometry}
 use Rattle.fa_map.specs.Entries.{entries_in}
-use Rattle.fa_map.specs.declared.slots.SlotState.{SlotState}
-use Rattle.fa_map.specs.declared.slots.SlotState.TheVariants as states
+use Rattle.fa_map_calls.specs.declared.slots.SlotState.{SlotState}
+use Rattle.fa_map_calls.specs.declared.slots.SlotState.TheVariants as states
 use Rattle.fa_map.proofs.Seen.{shown_count_in}
 use Rattle.fa_map.proofs.page_map.PageMapMap.counts.Goals as goal
 

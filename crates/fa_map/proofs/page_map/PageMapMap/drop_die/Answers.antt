@@ -1,5 +1,5 @@
 use Rattle.std.proofs.Common.{◌≡◌, ℕ, ◌*◌, ◌-◌, ◌<◌, ◌==◌, if◌then◌else◌, Bool, false, get_or, refl, sym, ap, subst, ◌∙◌, arith}
-use Rattle.fa_map.specs.Plain.{die_slots}
+use Rattle.fa_map_calls.specs.Plain.{die_slots}
 use Rattle.fa_types.specs.declared.geometry.Geometry.{Geometry}
 use Rattle.std.proofs.lemmas.List.{get_or_default}
 use Rattle.fa_map.specs.Chains.{entry_of}

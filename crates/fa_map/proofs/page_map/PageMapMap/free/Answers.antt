@@ -1,7 +1,7 @@
 use Rattle.std.proofs.Common.{ℕ, ap, ◌∙◌}
-use Rattle.fa_map.specs.Plain.{die_slots}
+use Rattle.fa_map_calls.specs.Plain.{die_slots}
 use Rattle.fa_map.specs.Entries.{entries_in}
-use Rattle.fa_map.specs.declared.slots.SlotState.TheVariants as states
+use Rattle.fa_map_calls.specs.declared.slots.SlotState.TheVariants as states
 use Rattle.fa_map.proofs.Seen.{shown_free}
 use Rattle.fa_map.proofs.page_map.PageMapMap.free.Goals as goal
 

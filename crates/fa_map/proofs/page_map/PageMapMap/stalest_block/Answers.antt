@@ -4,11 +4,11 @@ use Rattle.fa_machine.specs.Collecting.{count_in}
 use Rattle.fa_machine.specs.Copies.{is_stale_slot}
 use Rattle.fa_types.specs.declared.geometry.Geometry.{Geometry}
 use Rattle.fa_map.specs.Entries.{entries_in}
-use Rattle.fa_map.specs.Found.{IsGreatest, is_clean_block}
-use Rattle.fa_map.specs.Plain.{die_slots}
+use Rattle.fa_map_calls.specs.Blocks.{IsGreatest, is_clean_block}
+use Rattle.fa_map_calls.specs.Plain.{die_slots}
 use Rattle.fa_map.specs.declared.page_map.PageMap.{PageMap}
-use Rattle.fa_map.specs.declared.slots.SlotState.{SlotState}
-use Rattle.fa_map.specs.declared.slots.SlotState.TheVariants as states
+use Rattle.fa_map_calls.specs.declared.slots.SlotState.{SlotState}
+use Rattle.fa_map_calls.specs.declared.slots.SlotState.TheVariants as states
 use Rattle.fa_map.proofs.Found.{greatest_told}
 use Rattle.fa_map.proofs.Seen.{shown_count_in}
 use Rattle.fa_map.proofs.page_map.PageMapMap.stalest_block.Goals as goal

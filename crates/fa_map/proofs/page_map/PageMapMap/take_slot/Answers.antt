@@ -1,4 +1,4 @@
-use Rattle.fa_map.proofs.Taking.{writers_fits}
+use Rattle.fa_map_calls.proofs.Taking.{writers_fits}
 use Rattle.fa_map.proofs.page_map.PageMapMap.take_slot.Goals as goal
 
 pub reserve-requires-clause-slot : goal.reserve-requires-clause-slot

@@ -1,4 +1,4 @@
-use Rattle.fa_map.proofs.Taking.{outside_fits}
+use Rattle.fa_map_calls.proofs.Taking.{outside_fits}
 use Rattle.fa_map.proofs.page_map.PageMapMap.take_slot_outside.Goals as goal
 
 pub reserve-requires-clause-slot : goal.reserve-requires-clause-slot

@@ -2,7 +2,7 @@ use Rattle.std.proofs.Common.{List, ap, ◌∙◌}
 use Rattle.std.specs.Prelude.{map}
 use Rattle.fa_map.specs.Rows.{last_write}
 use Rattle.fa_map.specs.declared.rows.PageRow.{PageRow}
-use Rattle.fa_map.proofs.Written.{map-replicate}
+use Rattle.fa_map_calls.proofs.Written.{map-replicate}
 use Rattle.fa_map.proofs.rows.PageRows.new.Goals as goal
 
 pub returns-clause-versions : goal.returns-clause-versions

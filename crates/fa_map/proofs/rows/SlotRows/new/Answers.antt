@@ -1,7 +1,7 @@
 use Rattle.std.proofs.Common.{List, ap, ◌∙◌}
 use Rattle.std.specs.Prelude.{map}
 use Rattle.fa_map.specs.declared.rows.SlotRow.{SlotRow}
-use Rattle.fa_map.proofs.Written.{map-replicate}
+use Rattle.fa_map_calls.proofs.Written.{map-replicate}
 use Rattle.fa_map.proofs.rows.SlotRows.new.Goals as goal
 
 pub returns-clause-entries : goal.returns-clause-entries

@@ -3,19 +3,19 @@ use Rattle.std.specs.Prelude.{is_some}
 use Rattle.std.proofs.lemmas.List.{length-set}
 use Rattle.fa_map.specs.Chains.{AreInside, AreSeconds, AreWritten, IsSecond, behind, entry_of, follower, link_at, second_at, target}
 use Rattle.fa_map.specs.Entries.{AreTallied, rewritten, with_head, with_link}
-use Rattle.fa_map.specs.Plain.{die_slots}
+use Rattle.fa_map_calls.specs.Plain.{die_slots}
 use Rattle.fa_map.specs.declared.entries.Entry.TheVariants.{Current}
 use Rattle.fa_map.specs.declared.entries.Link.{Link}
 use Rattle.fa_map.specs.Few.{IsCounted}
 use Rattle.fa_map.proofs.Chained.{same_place}
 use Rattle.fa_map.proofs.Few.{few_added, few_bound}
 use Rattle.fa_map.proofs.Found.{found_told}
-use Rattle.fa_map.proofs.Indices.{index_fits}
+use Rattle.fa_map_calls.proofs.Indices.{index_fits}
 use Rattle.fa_map.proofs.Renewed.{IsHolder, follower_above, follower_free, follower_written, leads, second_free}
 use Rattle.fa_map.proofs.Rewritten.{written_added, written_free}
 use Rattle.fa_map.proofs.Seconds.{inside_set}
 use Rattle.fa_map.proofs.Tabled.{bare_entry, copy_added, seconds_added, tables_told}
-use Rattle.fa_map.proofs.Written.{whole_part}
+use Rattle.fa_map_calls.proofs.Written.{whole_part}
 use Rattle.fa_map.proofs.tables.Tables.add_copy.Goals as goal
 
 pub relink-requires-clause-first : goal.relink-requires-clause-first

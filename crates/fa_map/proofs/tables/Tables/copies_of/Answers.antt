@@ -1,7 +1,7 @@
 use Rattle.std.proofs.Common.{arith}
 use Rattle.fa_map.specs.Entries.{die_holds}
-use Rattle.fa_map.specs.Plain.{die_slots}
-use Rattle.fa_map.proofs.Ranges.{count_le}
+use Rattle.fa_map_calls.specs.Plain.{die_slots}
+use Rattle.fa_map_calls.proofs.Ranges.{count_le}
 use Rattle.fa_map.proofs.tables.Tables.copies_of.Goals as goal
 
 pub returns : goal.returns

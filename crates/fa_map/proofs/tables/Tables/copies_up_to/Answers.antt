@@ -2,11 +2,11 @@ use Rattle.std.proofs.Common.{◌≡◌, ℕ, ◌-◌, Option, Some, count_by, a
 use Rattle.std.specs.List.{range_with_len}
 use Rattle.fa_map.specs.Chains.{entry_of, place_of, target}
 use Rattle.fa_map.specs.Entries.{die_holds}
-use Rattle.fa_map.specs.Plain.{die_slots}
+use Rattle.fa_map_calls.specs.Plain.{die_slots}
 use Rattle.fa_map.specs.declared.entries.Link.{Link}
 use Rattle.fa_map.proofs.Chained.{some_place}
 use Rattle.fa_map.proofs.Counted.{count_from, counted_here, counted_next, dies_from, fewer}
-use Rattle.fa_map.proofs.Ranges.{count_le}
+use Rattle.fa_map_calls.proofs.Ranges.{count_le}
 use Rattle.fa_map.proofs.tables.Tables.copies_up_to.Goals as goal
 
 -- the place that the loop has come to

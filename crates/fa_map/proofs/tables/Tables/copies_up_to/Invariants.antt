@@ -2,7 +2,7 @@ use Rattle.std.proofs.Common.{◌≡◌, ℕ, ◌+◌, ◌<◌, ◌≤◌, count
 use Rattle.fa_machine.specs.Maps.{below}
 use Rattle.fa_map.specs.Chains.{entry_of, target}
 use Rattle.fa_map.specs.Entries.{die_holds}
-use Rattle.fa_map.specs.Plain.{die_slots}
+use Rattle.fa_map_calls.specs.Plain.{die_slots}
 use Rattle.fa_map.specs.declared.entries.Entry.TheVariants.{Current}
 use Rattle.fa_map.proofs.Chained.{some_place}
 use Rattle.fa_map.proofs.Counted.{count_from, dies_from}

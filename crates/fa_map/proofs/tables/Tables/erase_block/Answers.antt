@@ -1,9 +1,9 @@
 use Rattle.std.proofs.Common.{◌≡◌, ◌+◌, ◌*◌, ◌<◌, ◌==◌, ◌&&◌, nat_le, nat_lt, if◌then◌else◌, Bool, sym, ap, subst, ◌∙◌, arith, set}
 use Rattle.fa_map.specs.Chains.{entry_of}
 use Rattle.fa_map.specs.Entries.{erased_entry}
-use Rattle.fa_map.specs.Plain.{die_slots}
+use Rattle.fa_map_calls.specs.Plain.{die_slots}
 use Rattle.fa_types.specs.declared.geometry.Geometry.{Geometry}
-use Rattle.fa_map.proofs.Indices.{die_fits, in_block, index_fits}
+use Rattle.fa_map_calls.proofs.Indices.{die_fits, in_block, index_fits}
 use Rattle.fa_map.proofs.Swept.{sweep_step}
 use Rattle.fa_map.proofs.tables.Tables.erase_block.Goals as goal
 

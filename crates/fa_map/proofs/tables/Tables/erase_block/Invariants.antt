@@ -1,7 +1,7 @@
 use Rattle.std.proofs.Common.{◌≡◌, ℕ, ◌<◌}
 use Rattle.fa_map.specs.Chains.{entry_of}
 use Rattle.fa_map.specs.Entries.{erased_entry, swept}
-use Rattle.fa_map.specs.Plain.{die_slots}
+use Rattle.fa_map_calls.specs.Plain.{die_slots}
 use Rattle.fa_map.proofs.tables.Tables.erase_block.Given as goal
 
 abbrev pub invariant-loop-slot : goal.invariant-loop-slot

@@ -1,9 +1,9 @@
 use Rattle.std.proofs.Common.{◌≡◌, ◌+◌, ◌*◌, ◌<◌, ◌==◌, ◌&&◌, nat_le, nat_lt, if◌then◌else◌, Bool, true, sym, ap, subst, ◌∙◌, arith, set}
 use Rattle.fa_map.specs.Chains.{entry_of}
-use Rattle.fa_map.specs.Plain.{die_slots}
+use Rattle.fa_map_calls.specs.Plain.{die_slots}
 use Rattle.fa_map.specs.declared.entries.Entry.TheVariants.{Erased}
 use Rattle.fa_types.specs.declared.geometry.Geometry.{Geometry}
-use Rattle.fa_map.proofs.Indices.{index_fits, inside}
+use Rattle.fa_map_calls.proofs.Indices.{index_fits, inside}
 use Rattle.fa_map.proofs.Swept.{sweep_step, with_true}
 use Rattle.fa_map.proofs.tables.Tables.erase_die.Goals as goal
 

@@ -1,7 +1,7 @@
 use Rattle.std.proofs.Common.{◌≡◌, ℕ, ◌<◌}
 use Rattle.fa_map.specs.Chains.{entry_of}
 use Rattle.fa_map.specs.Entries.{swept}
-use Rattle.fa_map.specs.Plain.{die_slots}
+use Rattle.fa_map_calls.specs.Plain.{die_slots}
 use Rattle.fa_map.specs.declared.entries.Entry.TheVariants.{Erased}
 use Rattle.fa_map.proofs.tables.Tables.erase_die.Given as goal
 

@@ -1,9 +1,9 @@
 use Rattle.std.proofs.Common.{◌*◌, ◌+◌, ◌-◌, ap, sym, ◌∙◌, arith}
 use Rattle.std.specs.List.{find, range_with_len}
 use Rattle.std.specs.FinMap.{contains_key}
-use Rattle.fa_map.specs.Plain.{die_slots}
+use Rattle.fa_map_calls.specs.Plain.{die_slots}
 use Rattle.fa_map.proofs.Found.{erased_at, erased_none, erased_past, found_parts}
-use Rattle.fa_map.proofs.Ranges.{find_is}
+use Rattle.fa_map_calls.proofs.Ranges.{find_is}
 use Rattle.fa_map.proofs.tables.Tables.erased_from.Goals as goal
 
 pub overflow_sub-result : goal.overflow_sub-result

@@ -3,9 +3,9 @@ use Rattle.std.proofs.Math.Nat.{mul-le-mul}
 use Rattle.std.specs.FinMap.{contains_key}
 use Rattle.fa_map.specs.Chains.{entry_of}
 use Rattle.fa_map.specs.Entries.{is_erased_entry}
-use Rattle.fa_map.specs.Plain.{die_slots}
+use Rattle.fa_map_calls.specs.Plain.{die_slots}
 use Rattle.fa_map.proofs.Found.{block_end, found_parts, outside_first, outside_later, outside_none}
-use Rattle.fa_map.proofs.Ranges.{find_below}
+use Rattle.fa_map_calls.proofs.Ranges.{find_below}
 use Rattle.fa_map.proofs.tables.Tables.erased_outside.Goals as goal
 
 pub erased_from-requires-in-Some-clause-from : goal.erased_from-requires-in-Some-clause-from

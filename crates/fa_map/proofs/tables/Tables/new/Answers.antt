@@ -2,16 +2,16 @@ use Rattle.std.proofs.Common.{◌≡◌, ℕ, ◌*◌, List, ap, get_or, refl, �
 use Rattle.std.specs.FinMap.{contains_key}
 use Rattle.fa_map.specs.Chains.{entry_at}
 use Rattle.fa_map.specs.Entries.{no_counts}
-use Rattle.fa_map.specs.Plain.{die_slots}
+use Rattle.fa_map_calls.specs.Plain.{die_slots}
 use Rattle.fa_map.specs.declared.entries.Entry.{Entry}
 use Rattle.fa_map.specs.declared.entries.Entry.TheVariants.{Erased}
-use Rattle.fa_map.specs.declared.slots.BlockCounts.{BlockCounts}
+use Rattle.fa_map_calls.specs.declared.slots.BlockCounts.{BlockCounts}
 use Rattle.fa_map.proofs.Few.{few_new}
 use Rattle.fa_map.proofs.Found.{found_whole, new_found, none_stale}
 use Rattle.fa_map.proofs.Rewritten.{new_written}
 use Rattle.fa_map.proofs.Seconds.{new_inside, new_seconds}
 use Rattle.fa_map.proofs.Tabled.{fresh, new_tables, tables_told}
-use Rattle.fa_map.proofs.Written.{repeated}
+use Rattle.fa_map_calls.proofs.Written.{repeated}
 use Rattle.fa_map.proofs.tables.Tables.new.Goals as goal
 
 pub invariant_of-result : goal.invariant_of-result

@@ -1,6 +1,6 @@
 use Rattle.std.proofs.Common.{◌+◌, ap, sym, subst, ◌∙◌}
 use Rattle.fa_map.specs.Chains.{IsNext, IsSecond, entry_of, link_at, target}
-use Rattle.fa_map.specs.Plain.{die_slots}
+use Rattle.fa_map_calls.specs.Plain.{die_slots}
 use Rattle.fa_map.proofs.Rewritten.{last_holder}
 use Rattle.fa_map.proofs.tables.Tables.next.Goals as goal
 

@@ -2,15 +2,15 @@ use Rattle.std.proofs.Common.{◌≡◌, ◌+◌, ◌*◌, ◌<◌, length, refl
 use Rattle.std.specs.Prelude.{is_some}
 use Rattle.fa_map.specs.Chains.{AreInside, AreSeconds, entry_of, link_at, target}
 use Rattle.fa_map.specs.Entries.{AreTallied, with_head, with_link}
-use Rattle.fa_map.specs.Plain.{die_slots}
+use Rattle.fa_map_calls.specs.Plain.{die_slots}
 use Rattle.fa_map.specs.Few.{IsCounted}
 use Rattle.fa_map.proofs.Few.{few_bound, few_removed, some_copies}
 use Rattle.fa_map.proofs.Found.{found_told}
-use Rattle.fa_map.proofs.Indices.{index_fits}
+use Rattle.fa_map_calls.proofs.Indices.{index_fits}
 use Rattle.fa_map.proofs.Renewed.{IsHolder, follower_above, leads, next_holder}
 use Rattle.fa_map.proofs.Rewritten.{stood, written_alike, written_kept}
 use Rattle.fa_map.proofs.Tabled.{copy_removed, seconds_removed, tables_told}
-use Rattle.fa_map.proofs.Written.{whole_part}
+use Rattle.fa_map_calls.proofs.Written.{whole_part}
 use Rattle.fa_map.proofs.tables.Tables.remove_copy.Goals as goal
 
 pub relink-requires-clause-first : goal.relink-requires-clause-first

@@ -2,12 +2,12 @@ use Rattle.std.proofs.Common.{◌≡◌, ℕ, ◌+◌, ◌*◌, ◌<◌, None, O
 use Rattle.fa_types.specs.declared.geometry.Geometry.{Geometry}
 use Rattle.fa_map.specs.Chains.{IsNext, entry_of, place_of, target}
 use Rattle.fa_map.specs.Entries.{retired}
-use Rattle.fa_map.specs.Plain.{die_slots}
+use Rattle.fa_map_calls.specs.Plain.{die_slots}
 use Rattle.fa_map.specs.declared.entries.Entry.TheVariants.{Current, Stale}
 use Rattle.fa_map.specs.declared.entries.Link.{Link}
 use Rattle.fa_map.proofs.Chained.{before_none, some_place}
 use Rattle.fa_map.proofs.Counted.{dies_from}
-use Rattle.fa_map.proofs.Indices.{index_fits}
+use Rattle.fa_map_calls.proofs.Indices.{index_fits}
 use Rattle.fa_map.proofs.Swept.{fewer_left, retired_alike, retired_other}
 use Rattle.fa_map.proofs.tables.Tables.retire.Goals as goal
 

@@ -1,7 +1,7 @@
 use Rattle.std.proofs.Common.{◌≡◌, ℕ, ◌<◌}
 use Rattle.fa_map.specs.Chains.{IsNext, entry_of, target}
 use Rattle.fa_map.specs.Entries.{retired}
-use Rattle.fa_map.specs.Plain.{die_slots}
+use Rattle.fa_map_calls.specs.Plain.{die_slots}
 use Rattle.fa_map.proofs.Counted.{dies_from}
 use Rattle.fa_map.proofs.tables.Tables.retire.Given as goal
 

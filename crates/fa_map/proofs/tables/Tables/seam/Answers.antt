@@ -1,7 +1,7 @@
 use Rattle.std.proofs.Common.{◌≡◌, ℕ, ◌<◌, Option, Some, sym, ap, subst, ◌∙◌, arith}
 use Rattle.std.proofs.lemmas.Option.{none-some}
 use Rattle.fa_map.specs.Chains.{IsNext, behind, entry_of, place_of, target}
-use Rattle.fa_map.specs.Plain.{die_slots}
+use Rattle.fa_map_calls.specs.Plain.{die_slots}
 use Rattle.fa_map.specs.declared.entries.Link.{Link}
 use Rattle.fa_map.proofs.Chained.{same_place, some_place}
 use Rattle.fa_map.proofs.tables.Tables.seam.Goals as goal

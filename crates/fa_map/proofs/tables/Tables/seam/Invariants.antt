@@ -1,6 +1,6 @@
 use Rattle.std.proofs.Common.{◌≡◌, ℕ, ◌-◌, ◌<◌}
 use Rattle.fa_map.specs.Chains.{IsNext, behind, entry_of, target}
-use Rattle.fa_map.specs.Plain.{die_slots}
+use Rattle.fa_map_calls.specs.Plain.{die_slots}
 use Rattle.fa_map.specs.declared.entries.Entry.TheVariants.{Current}
 use Rattle.fa_map.proofs.Chained.{some_place}
 use Rattle.fa_map.proofs.tables.Tables.seam.Given as goal

@@ -1,14 +1,14 @@
 use Rattle.std.proofs.Common.{◌≡◌, ◌+◌, ◌*◌, ◌<◌, ap, length, refl, sym, subst, ◌∙◌, arith, set}
 use Rattle.fa_map.specs.Chains.{AreInside, AreSeconds, entry_of}
 use Rattle.fa_map.specs.Entries.{AreTallied}
-use Rattle.fa_map.specs.Plain.{die_slots}
+use Rattle.fa_map_calls.specs.Plain.{die_slots}
 use Rattle.fa_map.specs.Few.{IsCounted}
 use Rattle.fa_map.proofs.Few.{few_plain}
 use Rattle.fa_map.proofs.Found.{found_told}
-use Rattle.fa_map.proofs.Indices.{index_fits}
+use Rattle.fa_map_calls.proofs.Indices.{index_fits}
 use Rattle.fa_map.proofs.Rewritten.{stood, written_alike}
 use Rattle.fa_map.proofs.Tabled.{plain_set, tables_told}
-use Rattle.fa_map.proofs.Written.{whole_part}
+use Rattle.fa_map_calls.proofs.Written.{whole_part}
 use Rattle.fa_map.proofs.tables.Tables.set_plain.Goals as goal
 
 pub invariant_of-self : goal.invariant_of-self

@@ -3,12 +3,13 @@ use Rattle.std.specs.List.{find, range_with_len}
 use Rattle.std.specs.Prelude.{nat_lt}
 use Rattle.std.specs.FinMap.{contains_key}
 use Rattle.fa_map.specs.Entries.{entries_in, no_counts}
-use Rattle.fa_map.specs.Found.{IsGreatest, is_clean}
-use Rattle.fa_map.specs.Plain.{die_slots}
-use Rattle.fa_map.specs.declared.slots.SlotState.TheVariants as states
+use Rattle.fa_map_calls.specs.Blocks.{IsGreatest}
+use Rattle.fa_map.specs.Found.{is_clean}
+use Rattle.fa_map_calls.specs.Plain.{die_slots}
+use Rattle.fa_map_calls.specs.declared.slots.SlotState.TheVariants as states
 use Rattle.fa_map.specs.declared.tables.Tables.{Tables}
 use Rattle.fa_map.proofs.Found.{found_parts, greatest_told, stalest_at, stalest_none, stalest_past}
-use Rattle.fa_map.proofs.Ranges.{count_le, find_is}
+use Rattle.fa_map_calls.proofs.Ranges.{count_le, find_is}
 use Rattle.fa_map.proofs.tables.Tables.stalest.Goals as goal
 
 module _ {A : Type 0} (s : Tables A) (die : ℕ) (low : die < s.geometry.dies) where

@@ -2,7 +2,7 @@ use Rattle.std.proofs.Common.{◌≡◌, ◌∙◌, ◌+◌, ◌*◌, ℕ, List,
 use Rattle.fa_types.specs.declared.geometry.Geometry.{Geometry}
 use Rattle.fa_machine.specs.State.{MapState}
 use Rattle.fa_machine.specs.declared.places.Version.{Version}
-use Rattle.fa_map.specs.Changes.{brought_in}
+use Rattle.fa_map_calls.specs.Changes.{brought_in}
 use Rattle.fa_mount_scan.specs.Content.{Contents, NamePages, slots_on}
 use Rattle.fa_mount_scan.specs.ContentMerging.{ChangesDie, IsMountedBefore}
 use Rattle.fa_mount_scan.specs.declared.slots.content.SlotContent.{SlotContent}

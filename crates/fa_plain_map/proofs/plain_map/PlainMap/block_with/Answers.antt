@@ -4,7 +4,7 @@ use Rattle.std.specs.List.{find}
 use Rattle.std.specs.Prelude.{◌&&◌}
 use Rattle.fa_machine.specs.Maps.{below}
 use Rattle.fa_types.specs.declared.geometry.Geometry.{Geometry}
-use Rattle.fa_map.proofs.Ranges.{find_none, find_some}
+use Rattle.fa_map_calls.proofs.Ranges.{find_none, find_some}
 use Rattle.fa_plain_map.proofs.Stalest.{with_stale}
 use Rattle.fa_plain_map.proofs.plain_map.PlainMap.block_with.Goals as goal
 

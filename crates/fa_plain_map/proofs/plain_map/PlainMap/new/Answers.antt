@@ -1,9 +1,9 @@
 use Rattle.std.proofs.Common.{◌≡◌, ℕ, ◌*◌, false, None, Some, Option, refl, sym, ap, subst, ◌∙◌}
 use Rattle.std.specs.Prelude.{replicate}
 use Rattle.fa_machine.specs.declared.places.Used.{Used}
-use Rattle.fa_map.specs.Changes.{new_map}
-use Rattle.fa_map.specs.Plain.{IsPlain}
-use Rattle.fa_map.proofs.Plain.{plain_new, told}
+use Rattle.fa_map_calls.specs.Changes.{new_map}
+use Rattle.fa_map_calls.specs.Plain.{IsPlain}
+use Rattle.fa_map_calls.proofs.Plain.{plain_new, told}
 use Rattle.fa_plain_map.proofs.plain_map.PlainMap.new.Goals as goal
 
 only_none : {X : Type 0} (R : Option X → Type 0) → ((x : X) → R (Some x) → ⊥) → (y : Option X) → R y → y ≡ None

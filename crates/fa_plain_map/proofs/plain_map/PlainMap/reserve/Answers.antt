@@ -1,7 +1,7 @@
 use Rattle.std.proofs.Common.{ℕ, ◌+◌, ◌*◌, ◌<◌, Some, refl, ap, subst, arith, set}
 use Rattle.std.specs.Prelude.{IfSome}
 use Rattle.fa_machine.specs.declared.places.Used.TheVariants.{Reserved}
-use Rattle.fa_map.proofs.Plain.{plain_used, slot_fits, told}
+use Rattle.fa_map_calls.proofs.Plain.{plain_used, slot_fits, told}
 use Rattle.fa_plain_map.proofs.plain_map.PlainMap.reserve.Goals as goal
 
 pub index_mut-requires : goal.index_mut-requires

@@ -3,10 +3,10 @@ use Rattle.std.proofs.Common.{◌≡◌, ℕ, ◌+◌, ◌*◌, ◌<◌, None, l
 use Rattle.fa_types.specs.declared.geometry.Geometry.{Geometry}
 use Rattle.std.specs.Prelude.{if◌then◌else◌, nat_le, nat_lt, not, ◌&&◌}
 use Rattle.fa_machine.specs.Copies.{is_reserved_slot}
-use Rattle.fa_map.specs.Plain.{die_slots, slot_at}
-use Rattle.fa_map.proofs.Indices.{die_fits, in_die_block}
-use Rattle.fa_map.proofs.Plain.{live_fits, plain_erased, told}
-use Rattle.fa_map.proofs.Written.{whole_part}
+use Rattle.fa_map_calls.specs.Plain.{die_slots, slot_at}
+use Rattle.fa_map_calls.proofs.Indices.{die_fits, in_die_block}
+use Rattle.fa_map_calls.proofs.Plain.{live_fits, plain_erased, told}
+use Rattle.fa_map_calls.proofs.Written.{whole_part}
 use Rattle.fa_plain_map.proofs.plain_map.PlainMapMap.block_erased.Goals as goal
 
 pub erase_unreserved-requires : goal.erase_unreserved-requires

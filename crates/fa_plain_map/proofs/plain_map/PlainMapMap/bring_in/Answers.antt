@@ -1,6 +1,6 @@
 use Rattle.std.proofs.Common.{◌+◌, ◌<◌, refl, true, subst, set}
 use Rattle.fa_types.specs.declared.geometry.Geometry.{Geometry}
-use Rattle.fa_map.proofs.Plain.{plain_in, told}
+use Rattle.fa_map_calls.proofs.Plain.{plain_in, told}
 use Rattle.fa_plain_map.proofs.plain_map.PlainMapMap.bring_in.Goals as goal
 
 pub invariant_of-self : goal.invariant_of-self

@@ -3,8 +3,8 @@ use Rattle.fa_types.specs.declared.geometry.Geometry.{Geometry}
 use Rattle.std.specs.Prelude.{count_by, is_some}
 use Rattle.fa_machine.specs.Copies.{holds_page}
 use Rattle.fa_machine.specs.Maps.{below}
-use Rattle.fa_map.proofs.Holders.{holders_counted, still_some}
-use Rattle.fa_map.proofs.Ranges.{bit, count_more}
+use Rattle.fa_map_calls.proofs.Holders.{holders_counted, still_some}
+use Rattle.fa_map_calls.proofs.Ranges.{bit, count_more}
 use Rattle.fa_plain_map.proofs.plain_map.PlainMapMap.copies_of.Goals.{then-is_some, else-is_some}
 use Rattle.fa_plain_map.proofs.plain_map.PlainMapMap.copies_of.Goals as goal
 

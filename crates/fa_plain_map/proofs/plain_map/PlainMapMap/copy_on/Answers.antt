@@ -1,6 +1,6 @@
 use Rattle.std.proofs.Common.{sym, ◌∙◌}
-use Rattle.fa_map.specs.Plain.{holds}
-use Rattle.fa_map.proofs.Holders.{copy_found}
+use Rattle.fa_map_calls.specs.Plain.{holds}
+use Rattle.fa_map_calls.proofs.Holders.{copy_found}
 use Rattle.fa_plain_map.proofs.Found.{plain_found}
 use Rattle.fa_plain_map.proofs.plain_map.PlainMapMap.copy_on.Goals as goal
 

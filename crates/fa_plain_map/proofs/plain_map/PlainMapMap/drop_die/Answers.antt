@@ -2,10 +2,10 @@ use Rattle.std.proofs.Common.{◌≡◌, ℕ, ◌+◌, ◌*◌, ◌<◌, Bool, f
 use Rattle.fa_types.specs.declared.geometry.Geometry.{Geometry}
 use Rattle.std.specs.Prelude.{if◌then◌else◌, nat_le, nat_lt, ◌&&◌, ◌-◌}
 use Rattle.std.proofs.lemmas.List.{get_or_default}
-use Rattle.fa_map.specs.Plain.{die_slots, slot_at}
-use Rattle.fa_map.proofs.Indices.{in_die}
-use Rattle.fa_map.proofs.Plain.{plain_dropped, told}
-use Rattle.fa_map.proofs.Written.{whole_part}
+use Rattle.fa_map_calls.specs.Plain.{die_slots, slot_at}
+use Rattle.fa_map_calls.proofs.Indices.{in_die}
+use Rattle.fa_map_calls.proofs.Plain.{plain_dropped, told}
+use Rattle.fa_map_calls.proofs.Written.{whole_part}
 use Rattle.fa_plain_map.proofs.plain_map.PlainMapMap.drop_die.Goals as goal
 
 pub invariant_of-self : goal.invariant_of-self

@@ -2,10 +2,10 @@ use Rattle.std.proofs.Common.{◌≡◌, ℕ, ◌*◌, ◌+◌, Some, Option, Li
 use Rattle.std.specs.Prelude.{option_map}
 use Rattle.fa_machine.specs.declared.places.Used.{Used}
 use Rattle.fa_machine.specs.declared.places.Used.TheVariants.{Held}
-use Rattle.fa_map.specs.Changes.{outdated}
-use Rattle.fa_map.specs.Plain.{die_slots, slot_at}
-use Rattle.fa_map.proofs.Plain.{plain_current, slot_fits, told}
-use Rattle.fa_map.proofs.Written.{whole_part}
+use Rattle.fa_map_calls.specs.Changes.{outdated}
+use Rattle.fa_map_calls.specs.Plain.{die_slots, slot_at}
+use Rattle.fa_map_calls.proofs.Plain.{plain_current, slot_fits, told}
+use Rattle.fa_map_calls.proofs.Written.{whole_part}
 use Rattle.fa_plain_map.proofs.plain_map.PlainMapMap.make_current.Goals as goal
 
 pub index_mut-requires : goal.index_mut-requires

@@ -3,7 +3,7 @@ use Rattle.std.proofs.lemmas.Bool.{cases_lt, ne_eqb}
 use Rattle.std.specs.List.{find, range_with_len}
 use Rattle.fa_types.specs.declared.geometry.Geometry.{Geometry}
 use Rattle.fa_machine.specs.Copies.{holders}
-use Rattle.fa_map.proofs.Ranges.{find_none, find_some}
+use Rattle.fa_map_calls.proofs.Ranges.{find_none, find_some}
 use Rattle.fa_plain_map.proofs.plain_map.PlainMapMap.next_with.Goals as goal
 
 pub returns-then-copies_of-count : goal.returns-then-copies_of-count

@@ -2,9 +2,9 @@ use Rattle.std.proofs.Common.{◌≡◌, ℕ, ◌+◌, ◌*◌, Some, Option, Li
 use Rattle.std.specs.Prelude.{option_map}
 use Rattle.fa_machine.specs.declared.places.Used.{Used}
 use Rattle.fa_machine.specs.Writing.{without_page}
-use Rattle.fa_map.specs.Plain.{die_slots, slot_at}
-use Rattle.fa_map.proofs.Plain.{plain_renewed, told}
-use Rattle.fa_map.proofs.Written.{whole_part}
+use Rattle.fa_map_calls.specs.Plain.{die_slots, slot_at}
+use Rattle.fa_map_calls.proofs.Plain.{plain_renewed, told}
+use Rattle.fa_map_calls.proofs.Written.{whole_part}
 use Rattle.fa_plain_map.proofs.plain_map.PlainMapMap.renew.Goals as goal
 
 pub invariant_of-self : goal.invariant_of-self

@@ -1,6 +1,6 @@
 use Rattle.std.proofs.Common.{ℕ, ◌+◌, Some, refl, ap, arith, set}
 use Rattle.fa_machine.specs.declared.places.Used.TheVariants.{Reserved}
-use Rattle.fa_map.proofs.Plain.{plain_used, slot_fits, told}
+use Rattle.fa_map_calls.proofs.Plain.{plain_used, slot_fits, told}
 use Rattle.fa_plain_map.proofs.plain_map.PlainMapMap.reserve_slot.Goals as goal
 
 pub index_mut-requires : goal.index_mut-requires

@@ -1,4 +1,4 @@
-use Rattle.fa_map.proofs.Taking.{outside_fits}
+use Rattle.fa_map_calls.proofs.Taking.{outside_fits}
 use Rattle.fa_plain_map.proofs.plain_map.PlainMapMap.take_slot_outside.Goals as goal
 
 pub reserve-requires-clause-slot : goal.reserve-requires-clause-slot

@@ -15,12 +15,12 @@ use Rattle.fa_machine.specs.Copies.{is_held_slot}
 use Rattle.fa_machine.specs.State.{MapState, is_live, used_at}
 use Rattle.fa_machine.proofs.Maps.{has_some, get-insert_same, get-insert_other, get-remove_same, get-remove_other}
 use Rattle.fa_machine.specs.Writing.{without_page}
-use Rattle.fa_map.specs.Changes.{new_map, with_used, made_current, outdated, renewed, brought_in, dropped, without_block, MayHold, MayKeep}
-use Rattle.fa_map.specs.Plain.{holds}
-use Rattle.fa_map.specs.Slots.{IsPageMap}
-use Rattle.fa_map.proofs.Holders.{copy_found}
-use Rattle.fa_map.proofs.Ranges.{found_some}
-use Rattle.fa_map.proofs.Changed.{place_cases, passed_some, mapped_some, used-new, used-same, used-other, used-outdated, used-current, used-renewed, used-dropped, used-erased}
+use Rattle.fa_map_calls.specs.Changes.{new_map, with_used, made_current, outdated, renewed, brought_in, dropped, without_block, MayHold, MayKeep}
+use Rattle.fa_map_calls.specs.Plain.{holds}
+use Rattle.fa_map_calls.specs.Slots.{IsPageMap}
+use Rattle.fa_map_calls.proofs.Holders.{copy_found}
+use Rattle.fa_map_calls.proofs.Ranges.{found_some}
+use Rattle.fa_map_calls.proofs.Changed.{place_cases, passed_some, mapped_some, used-new, used-same, used-other, used-outdated, used-current, used-renewed, used-dropped, used-erased}
 
 pub whole-new : (g : Geometry) → IsPageMap (new_map g)
 whole-new g = record {

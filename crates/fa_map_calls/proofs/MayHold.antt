@@ -10,11 +10,11 @@ use Rattle.fa_machine.specs.declared.places.Used.TheVariants.{Reserved, Held, St
 use Rattle.fa_machine.specs.declared.places.Version.{Version}
 use Rattle.fa_machine.specs.Copies.{copy_on, is_held_slot}
 use Rattle.fa_machine.specs.State.{MapState, is_live, used_at}
-use Rattle.fa_map.specs.Changes.{MayHold}
-use Rattle.fa_map.specs.Slots.{IsPageMap, copy_in}
-use Rattle.fa_map.specs.Plain.{holds}
-use Rattle.fa_map.proofs.Holders.{copy_found}
-use Rattle.fa_map.proofs.Ranges.{count_none, find_counted}
+use Rattle.fa_map_calls.specs.Changes.{MayHold}
+use Rattle.fa_map_calls.specs.Slots.{IsPageMap, copy_in}
+use Rattle.fa_map_calls.specs.Plain.{holds}
+use Rattle.fa_map_calls.proofs.Holders.{copy_found}
+use Rattle.fa_map_calls.proofs.Ranges.{count_none, find_counted}
 
 pub held_copy : (used : Option Used) → is_some (copy_in used) ≡ is_held_slot used
 held_copy None = refl

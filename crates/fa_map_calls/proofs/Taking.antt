@@ -6,8 +6,8 @@ use Rattle.std.specs.Prelude.{IfSome, nat_lt}
 use Rattle.fa_machine.specs.Collecting.{is_erased_outside, move_place}
 use Rattle.fa_machine.specs.Placement.{is_erased_slot, lowest_erased, room}
 use Rattle.fa_machine.specs.State.{MapState}
-use Rattle.fa_map.specs.Changes.{writers_slot}
-use Rattle.fa_map.proofs.Ranges.{find_below}
+use Rattle.fa_map_calls.specs.Changes.{writers_slot}
+use Rattle.fa_map_calls.proofs.Ranges.{find_below}
 
 pub writers_fits : (m : MapState) (die : ℕ) (slot : Option ℕ) → slot ≡ writers_slot m die → IfSome slot (λ s. s < m.geometry.blocks * m.geometry.slots)
 writers_fits m die None e = tt

@@ -17,13 +17,13 @@ use Rattle.fa_machine.specs.Copies.{is_held_slot, is_reserved_slot}
 use Rattle.fa_machine.specs.State.{MapState, is_live, used_at}
 use Rattle.fa_machine.specs.Writing.{without_page}
 use Rattle.fa_machine.proofs.Maps.{passed, get-insert_same, get-insert_other, get-remove_same, get-remove_other}
-use Rattle.fa_map.specs.Changes.{new_map, with_used, made_current, outdated, renewed, brought_in, dropped, without_block, MayHold, MayKeep}
-use Rattle.fa_map.specs.Plain.{IsPlain, die_slots, slot_at}
-use Rattle.fa_map.specs.Slots.{IsPageMap}
-use Rattle.fa_map.proofs.Changed.{place_cases, used-new, used-same, used-other, used-outdated, used-current, used-renewed, used-dropped, used-erased}
-use Rattle.fa_map.proofs.Indices.{index_apart, index_fits}
-use Rattle.fa_map.proofs.Written.{repeated}
-use Rattle.fa_map.proofs.Kept.{whole-new, whole-used, whole-current, whole-renewed, whole-kept, whole-in, whole-dropped, whole-erased}
+use Rattle.fa_map_calls.specs.Changes.{new_map, with_used, made_current, outdated, renewed, brought_in, dropped, without_block, MayHold, MayKeep}
+use Rattle.fa_map_calls.specs.Plain.{IsPlain, die_slots, slot_at}
+use Rattle.fa_map_calls.specs.Slots.{IsPageMap}
+use Rattle.fa_map_calls.proofs.Changed.{place_cases, used-new, used-same, used-other, used-outdated, used-current, used-renewed, used-dropped, used-erased}
+use Rattle.fa_map_calls.proofs.Indices.{index_apart, index_fits}
+use Rattle.fa_map_calls.proofs.Written.{repeated}
+use Rattle.fa_map_calls.proofs.Kept.{whole-new, whole-used, whole-current, whole-renewed, whole-kept, whole-in, whole-dropped, whole-erased}
 
 -- a slot that was written, and the others
 table_same : (table : List (Option Used)) (die slot d s n : ℕ) (u : Used) → die * n + slot < length table → d ≡ die → s ≡ slot

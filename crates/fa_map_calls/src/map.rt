@@ -6,10 +6,10 @@ ghost use Rattle.fa_machine.specs.Collecting.{count_in, move_place};
 ghost use Rattle.fa_machine.specs.Copies.{copy_on, holders, is_stale_slot};
 ghost use Rattle.fa_machine.specs.Placement.{free, room};
 ghost use Rattle.fa_machine.specs.State.{MapState, is_live, used_at};
-ghost use Rattle.fa_map.specs.Changes.{with_used, writers_slot, taken, made_current, renewed, brought_in, dropped, without_block};
-ghost use Rattle.fa_map.specs.Changes.{MayHold, MayKeep};
-ghost use Rattle.fa_map.specs.Found.{IsGreatest, is_clean_block};
-ghost use Rattle.fa_map.specs.Slots.{IsPageMap, AreCounts, state_of, copy_in, first_holder};
+ghost use Rattle.fa_map_calls.specs.Changes.{with_used, writers_slot, taken, made_current, renewed, brought_in, dropped, without_block};
+ghost use Rattle.fa_map_calls.specs.Changes.{MayHold, MayKeep};
+ghost use Rattle.fa_map_calls.specs.Blocks.{IsGreatest, is_clean_block};
+ghost use Rattle.fa_map_calls.specs.Slots.{IsPageMap, AreCounts, state_of, copy_in, first_holder};
 
 use crate::slots::{BlockCounts, SlotState};
 use fa_machine::{Block, Used, Version};

@@ -1,7 +1,7 @@
 -- Where slots stand in a list of all slots, die by die.
 use Rattle.std.proofs.Common.{◌≡◌, ℕ, ◌+◌, ◌*◌, ◌/◌, ◌<◌, ◌≤◌, ◌==◌, ◌&&◌, true, false, nat_le, nat_lt, ap, inl, inr, sym, ◌∙◌, arith}
 use Rattle.std.proofs.lemmas.Bool.{and_from, and_left, and_parts, and_right, both_ways, cases_Bool, cases_lt, cases_order, eq-eqb, le-leb, leb-true, lt-leb, lt-ltb, ltb-true, le-ltb, ne_eqb}
-use Rattle.std.proofs.Math.Nat.{mul-le-mul_right, div-eq_of_lt-le, lt-div-mul-add, div-mul-le_self}
+use Rattle.std.proofs.Math.Nat.{div-lt_iff_lt-mul, mul-le-mul_right, div-eq_of_lt-le, lt-div-mul-add, div-mul-le_self}
 
 pub inside : (a b k : ℕ) → a ≤ k → k < b → (nat_le a k && nat_lt k b) ≡ true
 inside a b k low high = and_from (nat_le a k) (nat_lt k b) (le-leb a k low) (lt-ltb k b high)
@@ -109,3 +109,6 @@ in_die_block d s die block blocks slots some low fits =
             ∙ sym (and_left (d == die) (s / slots == block) (ne_eqb d die (λ is. omega (arith, is, more))))
       ]
     ]
+
+pub block_of_slot : (slot blocks slots : ℕ) → 0 < slots → slot < blocks * slots → slot / slots < blocks
+block_of_slot slot blocks slots some fits = (div-lt_iff_lt-mul {k = slots} {x = slot} {y = blocks} some).1 fits

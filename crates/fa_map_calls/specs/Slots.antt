@@ -9,9 +9,9 @@ use Rattle.fa_machine.specs.Collecting.{count_in}
 use Rattle.fa_machine.specs.Copies.{holds_page, is_held_slot, is_reserved_slot, is_stale_slot}
 use Rattle.fa_machine.specs.State.{MapState, is_live, used_at}
 use Rattle.fa_types.specs.declared.numbers.Page.{Page}
-use Rattle.fa_map.specs.declared.slots.BlockCounts.{BlockCounts}
-use Rattle.fa_map.specs.declared.slots.SlotState.{SlotState}
-use Rattle.fa_map.specs.declared.slots.SlotState.TheVariants.{Erased, Reserved, Current, Stale}
+use Rattle.fa_map_calls.specs.declared.slots.BlockCounts.{BlockCounts}
+use Rattle.fa_map_calls.specs.declared.slots.SlotState.{SlotState}
+use Rattle.fa_map_calls.specs.declared.slots.SlotState.TheVariants.{Erased, Reserved, Current, Stale}
 use Rattle.std.specs.Prelude.{is_none}
 
 -- the state of a slot, without what it holds

@@ -6,7 +6,7 @@ use Rattle.fa_machine.specs.declared.places.Used.{Used}
 use Rattle.fa_machine.specs.declared.places.Used.TheVariants.{Held}
 use Rattle.fa_machine.specs.declared.places.Version.{Version}
 use Rattle.fa_machine.specs.State.{MapState, is_live, used_at}
-use Rattle.fa_map.specs.Slots.{IsPageMap}
+use Rattle.fa_map_calls.specs.Slots.{IsPageMap}
 
 -- whether a slot holds a copy of the page
 abbrev pub holds : ℕ → Option Used → Bool

@@ -11,9 +11,9 @@ use Rattle.fa_machine.specs.declared.places.Version.{Version}
 use Rattle.fa_machine.specs.Copies.{copy_on, holders, holds_last, holds_page, is_current}
 use Rattle.fa_machine.specs.Maps.{below}
 use Rattle.fa_machine.specs.State.{MapState, is_live, slots_of, used_at}
-use Rattle.fa_map.specs.Slots.{IsPageMap}
-use Rattle.fa_map.specs.Plain.{holds}
-use Rattle.fa_map.proofs.Ranges.{find_agree}
+use Rattle.fa_map_calls.specs.Slots.{IsPageMap}
+use Rattle.fa_map_calls.specs.Plain.{holds}
+use Rattle.fa_map_calls.proofs.Ranges.{find_agree}
 
 no_last : (page : ℕ) (number : Option Version) (used : Option Used) → holds page used ≡ false → holds_last page number used ≡ false
 no_last page None used e = refl

@@ -15,7 +15,7 @@ use Rattle.fa_machine.specs.Maps.{place_cmp}
 use Rattle.fa_machine.specs.State.{MapState, used_at}
 use Rattle.fa_machine.proofs.Maps.{place_cmp_total, place_same, passed, get-keep, get-change, get-place_same, get-place_other}
 use Rattle.fa_machine.specs.Writing.{without_page}
-use Rattle.fa_map.specs.Changes.{new_map, with_used, made_current, outdated, renewed, dropped, without_block}
+use Rattle.fa_map_calls.specs.Changes.{new_map, with_used, made_current, outdated, renewed, dropped, without_block}
 
 -- two places are one, or not
 pub place_cases : (d s die slot : ℕ) → ((d ≡ die) × (s ≡ slot)) ⊎ (d ≡ die → s ≡ slot → ⊥)

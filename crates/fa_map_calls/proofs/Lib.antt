@@ -1,0 +1,9 @@
+pub mod Changed
+pub mod Holders
+pub mod Indices
+pub mod Kept
+pub mod MayHold
+pub mod Plain
+pub mod Ranges
+pub mod Taking
+pub mod Written
