@@ -18,6 +18,7 @@ use Rattle.fa_core.specs.declared.call.Call.TheVariants.{FlushBegin, FlushState,
 use Rattle.fa_core_outcome.specs.Outcomes.{outcome_of}
 use Rattle.fa_machine.specs.Cells.{is_of_kind}
 use Rattle.fa_machine.specs.Conditions.{batch_open, claim_open, copy_open, history_full, is_reserved}
+use Rattle.fa_machine.specs.Reading.{left_of, to_read}
 use Rattle.fa_machine.specs.State.{Core}
 use Rattle.fa_machine.specs.Step.{Step, is_die, is_distinct, is_page, is_sized, Claim as ActClaim, Release as ActRelease}
 use Rattle.fa_machine.specs.Step.{Reserve as ActReserve, ReserveHole as ActReserveHole, ReserveFewer as ActReserveFewer}
@@ -25,7 +26,7 @@ use Rattle.fa_machine.specs.Step.{Commit as ActCommit, Abandon as ActAbandon, Ad
 use Rattle.fa_machine.specs.Step.{EndBatch as ActEndBatch, Take as ActTake, Done as ActDone, Window as ActWindow, Advance as ActAdvance}
 use Rattle.fa_machine.specs.Step.{SpareIn as ActSpareIn, ReserveCopy as ActReserveCopy, CommitCopy as ActCommitCopy}
 use Rattle.fa_machine.specs.Step.{FlushBegin as ActFlushBegin, FlushState as ActFlushState, Fold as ActFold}
-use Rattle.fa_core_read.specs.Answers.{admit_answer, plan_answer}
+use Rattle.fa_core_read.specs.Answers.{IsHandedOut, admit_answer, plan_answer}
 use Rattle.fa_core_dispatch.specs.Fits.{IsJobFor}
 use Rattle.fa_core_dispatch.specs.Handed.{handed_of}
 use Rattle.fa_types.specs.declared.geometry.Geometry.{Geometry}
@@ -93,6 +94,13 @@ module _ {A : Type 0} where
   abbrev pub FitsAnswer : Geometry → List ℕ → Call A → Answer A → Type 0
   FitsAnswer geometry number (Take die) (GaveTake (Some job)) = IsJobFor geometry number die.0 (handed_of job)
   FitsAnswer geometry number call answer = Unit {0}
+
+  -- A plan that is handed out tells its own rounds, and how many searches and looks it took for the pages that it is for.
+  abbrev pub HandsOutWhole : Core → Call A → Answer A → Type 0
+  HandsOutWhole old (Admit pages) (GaveAdmit (Ok admitted)) =
+      IsHandedOut (length (to_read old.page_map (map (λ (page : Page). page.0) pages.now))) admitted.planned
+  HandsOutWhole old (Replan batch) (GaveReplan (Ok planned)) = IsHandedOut (length (left_of old batch.0)) planned
+  HandsOutWhole old call answer = Unit {0}
 
   -- how many Commits were accepted
   abbrev pub commits_of_answer : Answer A → ℕ

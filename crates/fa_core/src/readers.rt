@@ -3,10 +3,10 @@ ghost use Rattle.std.specs.Prelude.{◌≡◌, ℕ, ◌<◌, ◌≤◌, length, 
 ghost use Rattle.std.specs.List.{All};
 ghost use Rattle.fa_batch.specs.Closed.{current_of, is_closed};
 ghost use Rattle.fa_machine.specs.Conditions.{batch_open};
-ghost use Rattle.fa_machine.specs.Reading.{released, results as rule_results};
+ghost use Rattle.fa_machine.specs.Reading.{left_of, released, results as rule_results, to_read};
 ghost use Rattle.fa_machine.specs.Rounds.{is_taken};
 ghost use Rattle.fa_machine.specs.Step.{Admit, EndBatch, Replan, Step, is_distinct};
-ghost use Rattle.fa_core_read.specs.Answers.{admit_answer, plan_answer};
+ghost use Rattle.fa_core_read.specs.Answers.{IsHandedOut, admit_answer, plan_answer};
 ghost use Rattle.fa_machine.specs.Looks.{counts as rule_counts};
 
 use crate::array::Array;
@@ -32,6 +32,8 @@ impl<M: Map, A: Allocator + Copy> Array<M, A> {
         requires whole { IsWhole M.view self.old }
         ensures step { Step (state_of M.view self.old) (Admit (map (λ page. page.0) pages.now) (admit_answer result))
             (state_of M.view self.new) }
+        ensures handed { IfOk result (λ admitted. IsHandedOut
+            (length (to_read (state_of M.view self.old).page_map (map (λ page. page.0) pages.now))) admitted.planned) }
         ensures number { number_of self.new ≡ number_of self.old }
         ensures whole { IsWhole M.view self.new }
     {
@@ -46,6 +48,7 @@ impl<M: Map, A: Allocator + Copy> Array<M, A> {
         requires open { batch_open (state_of M.view self.old) batch.0 ≡ true }
         requires whole { IsWhole M.view self.old }
         ensures step { Step (state_of M.view self.old) (Replan batch.0 (plan_answer result)) (state_of M.view self.new) }
+        ensures handed { IfOk result (λ planned. IsHandedOut (length (left_of (state_of M.view self.old) batch.0)) planned) }
         ensures number { number_of self.new ≡ number_of self.old }
         ensures whole { IsWhole M.view self.new }
     {
@@ -125,12 +128,13 @@ impl<M: Map, A: Allocator + Clone> Array<M, A> {
 
 impl<M: Map, A: Allocator + Copy> Array<M, A> {
     ghost use Rattle.fa_core.specs.Array.{IsWhole, number_of, state_of};
-    ghost use Rattle.fa_core.specs.Calls.{Makes, commits_of_answer};
+    ghost use Rattle.fa_core.specs.Calls.{HandsOutWhole, Makes, commits_of_answer};
 
     /// An Admit.
     pub(crate) fn make_admit(&mut self, alloc: A, pages: &[Page]) -> Answer<A>
         requires { IsWhole M.view self.old }
         ensures event { (seat : ℕ) → Makes (state_of M.view self.old) seat (Call.Admit pages.entry) result (state_of M.view self.new) }
+        ensures handed { HandsOutWhole (state_of M.view self.old) (Call.Admit pages.entry) result }
         ensures number { number_of self.new ≡ number_of self.old }
         ensures whole { IsWhole M.view self.new }
         ensures commits { (rule_counts (state_of M.view self.new)).0 ≡ (rule_counts (state_of M.view self.old)).0 + commits_of_answer result }
@@ -147,6 +151,7 @@ impl<M: Map, A: Allocator + Copy> Array<M, A> {
     pub(crate) fn make_replan(&mut self, alloc: A, batch: BatchId) -> Answer<A>
         requires { IsWhole M.view self.old }
         ensures event { (seat : ℕ) → Makes (state_of M.view self.old) seat (Call.Replan batch) result (state_of M.view self.new) }
+        ensures handed { HandsOutWhole (state_of M.view self.old) (Call.Replan batch) result }
         ensures number { number_of self.new ≡ number_of self.old }
         ensures whole { IsWhole M.view self.new }
         ensures commits { (rule_counts (state_of M.view self.new)).0 ≡ (rule_counts (state_of M.view self.old)).0 + commits_of_answer result }

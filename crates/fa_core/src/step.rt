@@ -9,7 +9,7 @@ use std::alloc::Allocator;
 
 impl<M: Map, A: Allocator + Copy> Array<M, A> {
     ghost use Rattle.fa_core.specs.Array.{IsWhole, number_of, state_of};
-    ghost use Rattle.fa_core.specs.Calls.{FitsAnswer, Makes, commits_of_answer};
+    ghost use Rattle.fa_core.specs.Calls.{FitsAnswer, HandsOutWhole, Makes, commits_of_answer};
 
     /// One event, made by a seat. Where a condition of the event does not hold, the answer is Stranger and nothing has changed.
     pub fn step(&mut self, alloc: A, seat: u32, call: Call<'_, A>) -> Answer<A>
@@ -18,6 +18,7 @@ impl<M: Map, A: Allocator + Copy> Array<M, A> {
         ensures number { number_of self.new ≡ number_of self.old }
         ensures whole { IsWhole M.view self.new }
         ensures fits { FitsAnswer (state_of M.view self.old).page_map.geometry (number_of self.old) call.entry result }
+        ensures handed { HandsOutWhole (state_of M.view self.old) call.entry result }
         ensures commits { (counts (state_of M.view self.new)).0 ≡ (counts (state_of M.view self.old)).0 + commits_of_answer result }
     {
         match call {

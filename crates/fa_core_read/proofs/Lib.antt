@@ -15,3 +15,4 @@ pub mod Same
 pub mod Sound
 pub mod Stands
 pub mod Tracked
+pub mod Handed

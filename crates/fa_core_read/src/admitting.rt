@@ -12,7 +12,7 @@ ghost use Rattle.fa_machine.specs.Rounds.{is_closed, is_taken_with};
 ghost use Rattle.fa_machine.specs.Step.{is_distinct};
 ghost use Rattle.fa_core_state.specs.Core.{core_of};
 ghost use Rattle.fa_core_state.specs.Fitted.{IsFitted};
-ghost use Rattle.fa_core_read.specs.Answers.{admit_answer, planned_of};
+ghost use Rattle.fa_core_read.specs.Answers.{IsHandedOut, admit_answer, planned_of};
 ghost use Rattle.fa_core_read.specs.Opened.{new_batch, opened_state};
 ghost use Rattle.fa_types.specs.Open.{FewClosed};
 ghost use Rattle.fa_types.specs.Windows.{IsFull};
@@ -52,6 +52,8 @@ pub fn admit<M: Map, A: Allocator + Copy>(
     requires few { length pages.now ≤ 1024 }
     requires fitted { IsFitted M.view state.old }
     ensures admits { Admits (core_of M.view state.old) (map (λ page. page.0) pages.now) (admit_answer result) (core_of M.view state.new) }
+    ensures handed { IfOk result (λ admitted. IsHandedOut
+        (length (to_read (M.view state.old.page_map) (map (λ page. page.0) pages.now))) admitted.planned) }
     ensures fitted { IsFitted M.view state.new }
 {
     if let Some(page) = first_lost(&state.page_map, pages) {
@@ -80,8 +82,11 @@ fn admit_planned<M: Map, A: Allocator + Copy>(
     requires early { rule_late (calendar_of state.old.bookings) ≡ false }
     requires planned { IsPlanned (M.view state.old.page_map) (calendar_of state.old.bookings)
         (to_read (M.view state.old.page_map) (map (λ page. page.0) pages.now)) (planned_of planned) }
+    requires handed { IsHandedOut (length (to_read (M.view state.old.page_map) (map (λ page. page.0) pages.now))) planned }
     requires fitted { IsFitted M.view state.old }
     ensures admits { Admits (core_of M.view state.old) (map (λ page. page.0) pages.now) (admit_answer result) (core_of M.view state.new) }
+    ensures handed { IfOk result (λ admitted. IsHandedOut
+        (length (to_read (M.view state.old.page_map) (map (λ page. page.0) pages.now))) admitted.planned) }
     ensures fitted { IsFitted M.view state.new }
 {
     match open_new(alloc, state, pages) {

@@ -5,6 +5,7 @@
 mod admitting;
 mod booking;
 mod ending;
+pub mod laws;
 mod planner;
 mod planning;
 mod replanning;

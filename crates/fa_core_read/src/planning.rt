@@ -5,7 +5,7 @@ ghost use Rattle.fa_core_bookings.specs.Bookings.{calendar_of};
 ghost use Rattle.fa_machine.specs.Copies.{is_lost};
 ghost use Rattle.fa_machine.specs.Reading.{IsPlanned, is_late as rule_late, to_read};
 ghost use Rattle.fa_machine.specs.Step.{is_distinct};
-ghost use Rattle.fa_core_read.specs.Answers.{planned_of};
+ghost use Rattle.fa_core_read.specs.Answers.{IsHandedOut, planned_of};
 
 use crate::planner::Planner;
 use fa_core_bookings::Bookings;
@@ -36,8 +36,10 @@ pub fn plan_written<M: Map, A: Allocator + Copy>(
     requires few { length pages.now ≤ 1024 }
     requires held { find (is_lost (M.view state.now.page_map)) (map (λ page. page.0) pages.now) ≡ None }
     requires early { rule_late (calendar_of state.now.bookings) ≡ false }
-    ensures { IfOk result (λ planned. IsPlanned (M.view state.now.page_map) (calendar_of state.now.bookings)
+    ensures planned { IfOk result (λ planned. IsPlanned (M.view state.now.page_map) (calendar_of state.now.bookings)
         (to_read (M.view state.now.page_map) (map (λ page. page.0) pages.now)) (planned_of planned)) }
+    ensures handed { IfOk result (λ planned. IsHandedOut
+        (length (to_read (M.view state.now.page_map) (map (λ page. page.0) pages.now))) planned) }
 {
     list_written(&state.page_map, pages, &mut planner.entries)?;
     plan_in(

@@ -1,5 +1,5 @@
 //! Batches that are planned anew.
-ghost use Rattle.std.specs.Prelude.{◌≡◌, ◌<◌, ◌≤◌, ◌&&◌, IfOk, IsErrOf, ℕ, find, is_some, map, option_map, false, true, None, OnErr, OnOk};
+ghost use Rattle.std.specs.Prelude.{◌≡◌, ◌<◌, ◌≤◌, ◌&&◌, IfOk, IsErrOf, ℕ, find, is_some, length, map, option_map, false, true, None, OnErr, OnOk};
 ghost use Rattle.std.specs.FinMap.{contains_key};
 ghost use Rattle.std.specs.List.{All, AllByRecursion};
 ghost use Rattle.fa_batch.specs.Closed.{current_of, is_closed};
@@ -15,7 +15,7 @@ ghost use Rattle.fa_machine.specs.Reading.{Replans, IsPlanned, booked, entries_f
 ghost use Rattle.fa_machine.specs.Rounds.{is_closed as is_closed_in, is_taken, is_taken_with};
 ghost use Rattle.fa_core_state.specs.Core.{core_of};
 ghost use Rattle.fa_core_state.specs.Fitted.{IsFitted};
-ghost use Rattle.fa_core_read.specs.Answers.{plan_answer, planned_of};
+ghost use Rattle.fa_core_read.specs.Answers.{IsHandedOut, plan_answer, planned_of};
 ghost use Rattle.fa_core_read_pages.specs.Left.{is_left as rule_left, left_among, places_among};
 ghost use Rattle.fa_types.specs.Open.{FewClosed};
 ghost use Rattle.fa_types.specs.Windows.{IsFull};
@@ -45,6 +45,7 @@ pub fn replan<M: Map, A: Allocator + Copy>(
     requires open { batch_open (core_of M.view state.old) batch.0 ≡ true }
     requires fitted { IsFitted M.view state.old }
     ensures replans { Replans (core_of M.view state.old) batch.0 (plan_answer result) (core_of M.view state.new) }
+    ensures handed { IfOk result (λ planned. IsHandedOut (length (left_of (core_of M.view state.old) batch.0)) planned) }
     ensures fitted { IsFitted M.view state.new }
 {
     if let Some(page) = lost_page(state, batch) {
@@ -72,8 +73,10 @@ fn replan_with<M: Map, A: Allocator + Copy>(
     requires early { rule_late (calendar_of state.old.bookings) ≡ false }
     requires planned { IsPlanned (M.view state.old.page_map) (released batch.0 (calendar_of state.old.bookings))
         (left_of (core_of M.view state.old) batch.0) (planned_of planned) }
+    requires handed { IsHandedOut (length (left_of (core_of M.view state.old) batch.0)) planned }
     requires fitted { IsFitted M.view state.old }
     ensures replans { Replans (core_of M.view state.old) batch.0 (plan_answer result) (core_of M.view state.new) }
+    ensures handed { IfOk result (λ planned. IsHandedOut (length (left_of (core_of M.view state.old) batch.0)) planned) }
     ensures fitted { IsFitted M.view state.new }
 {
     match book_again(alloc, state, batch, planned.plan.places.as_slice()) {
@@ -194,8 +197,9 @@ fn plan_left<M: Map, A: Allocator + Copy>(
     requires open { contains_key (batches_of state.now.batches) batch.0 ≡ true }
     requires early { rule_late (calendar_of state.now.bookings) ≡ false }
     requires fitted { IsFitted M.view state.now }
-    ensures { IfOk result (λ planned. IsPlanned (M.view state.now.page_map) (released batch.0 (calendar_of state.now.bookings))
+    ensures planned { IfOk result (λ planned. IsPlanned (M.view state.now.page_map) (released batch.0 (calendar_of state.now.bookings))
         (left_of (core_of M.view state.now) batch.0) (planned_of planned)) }
+    ensures handed { IfOk result (λ planned. IsHandedOut (length (left_of (core_of M.view state.now) batch.0)) planned) }
 {
     let closed = closed_without(alloc, state, batch)?;
     list_entries(state, batch, &mut planner.entries)?;

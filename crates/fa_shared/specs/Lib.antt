@@ -3,3 +3,4 @@ pub mod Codes
 pub mod Faults
 pub mod Locked
 pub mod Seats
+pub mod Only

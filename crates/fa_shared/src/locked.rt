@@ -68,9 +68,10 @@ impl<L: Ledger, M: Map + Drop, A: Allocator + Copy> Model for Locked<L, M, A> {
 
 impl<L: Ledger, M: Map + Drop, A: Allocator + Copy> Locked<L, M, A> {
     ghost use Rattle.fa_core.specs.Array.{IsWhole, number_of as array_number, state_of};
-    ghost use Rattle.fa_core.specs.Calls.{FitsAnswer, Makes};
+    ghost use Rattle.fa_core.specs.Calls.{FitsAnswer, HandsOutWhole, Makes};
     ghost use Rattle.fa_laws.specs.Counted.{HasHistory};
     ghost use Rattle.fa_shared.specs.Locked.{LockedState};
+    ghost use Rattle.fa_shared.specs.Only.{IsAdvance, MakesOnly};
     ghost use Rattle.fa_shared.specs.Seats.{commits_with, number_of};
 
     /// An array to be shared, of which no Commit was made yet, with a ledger of 257 parts that nothing else names.
@@ -151,6 +152,7 @@ impl<L: Ledger, M: Map + Drop, A: Allocator + Copy> Locked<L, M, A> {
         ensures commits { commits_with seat.new ≡ commits_with seat.old + commits_of_answer result }
         ensures number { number_of seat.new ≡ number_of seat.old }
         ensures fits { FitsAnswer self.old.core.page_map.geometry self.old.number call.entry result }
+        ensures handed { HandsOutWhole self.old.core call.entry result }
     {
         let answer = self.array.step(self.alloc, seat.number, call);
         if is_commit(&answer) {
@@ -161,6 +163,7 @@ impl<L: Ledger, M: Map + Drop, A: Allocator + Copy> Locked<L, M, A> {
 
     /// Lets rounds pass, with a seat of the array, until one is refused.
     pub fn settle(&mut self, seat: &mut Seat<L>)
+        ensures only { MakesOnly IsAdvance self.old.core self.new.core }
         ensures rest { self.new ≡ record self.old { core = self.new.core } }
         ensures commits { commits_with seat.new ≡ commits_with seat.old }
         ensures number { number_of seat.new ≡ number_of seat.old }
@@ -174,6 +177,7 @@ impl<L: Ledger, M: Map + Drop, A: Allocator + Copy> Locked<L, M, A> {
 
     /// Lets a round pass, if it may. Whether it passed.
     fn pass(&mut self, seat: &mut Seat<L>) -> bool
+        ensures only { MakesOnly IsAdvance self.old.core self.new.core }
         ensures rest { self.new ≡ record self.old { core = self.new.core } }
         ensures commits { commits_with seat.new ≡ commits_with seat.old }
         ensures number { number_of seat.new ≡ number_of seat.old }

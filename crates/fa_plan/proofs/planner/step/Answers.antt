@@ -27,8 +27,8 @@ returns-in_ok-pages-clause-progress g c =
     let same = c.as_slice.ensures.value ∙ c.in_ok-is_given.ensures.same c.if-not-is_given.true in
     let are = subst (λ v. AreReached batch v c.give.new.walk c.in_ok-pages.pages) same c.in_ok-pages.ensures in
     raised batch (g.R.Rounds.current c.args.calendar.now) (g.R.Rounds.closed c.args.calendar.now) c.requires.sound p c.requires.progress c.requires.next c.give.new.walk c.in_ok-is_given.ensures.walk
-    c.give.new.given c.give.new.tables.loads c.count_rooms-progress.result c.rounds_for-progress.result c.in_ok-pages.pages
-    (c.in_ok-is_given.ensures.same c.if-not-is_given.true) (c.in_ok-is_given.ensures.loads c.if-not-is_given.true) c.count_rooms-progress.ensures
+    c.give.new.given c.give.new.tables.loads c.count_open-progress.result c.rounds_for-progress.result c.in_ok-pages.pages
+    (c.in_ok-is_given.ensures.same c.if-not-is_given.true) (c.in_ok-is_given.ensures.loads c.if-not-is_given.true) c.count_open-progress.ensures
     (reached_are_few batch p.given.items c.give.new.walk c.in_ok-pages.pages c.requires.next are)
     (subst (λ v. IsRaised batch (g.R.Rounds.current c.args.calendar.now) (g.R.Rounds.closed c.args.calendar.now) v p.rounds c.rounds_for-progress.result) c.as_slice-then-not-is_given.ensures c.rounds_for-progress.ensures)
 
