@@ -2,6 +2,8 @@
 import fcntl
 import hashlib
 import os
+import shutil
+import subprocess
 
 import advice
 from cases import Case, Run, document
@@ -221,6 +223,22 @@ def locked(path, runs):
 HELD = {}
 
 
+def started(path):
+    """A step that makes a file a program and starts it. It ends by itself."""
+    def start(folder):
+        there = os.path.join(folder, path)
+        shutil.copy("/bin/sleep", there)
+        HELD[folder] = subprocess.Popen(["sleep", "30"], executable=there)
+    return start
+
+
+def ended(folder):
+    """A step that ends it."""
+    process = HELD.pop(folder)
+    process.kill()
+    process.wait()
+
+
 def paths():
     held = f"d1.img: {advice.HELD}"
     yield Case("paths/an_image_that_is_held", [
@@ -259,6 +277,17 @@ def paths():
     yield Case("paths/an_image_that_is_missing", [
         *refused(7, missing),
         check(lines(4, 2, 1, 1, False), "--unclean", errors=(missing,))], files(headers={2: None}))
+    folder = advice.image("d1.img", "Is a directory")
+    yield Case("paths/a_folder_as_an_image", [
+        lambda where: os.mkdir(os.path.join(where, "d1.img")), *refused(7, folder),
+        check(lines(4, 2, 1, 1, False), "--unclean", errors=(folder,))], files(headers={1: None}))
+    # Nobody may write the file of a running program. Who may write all files may write one that is not to be written too.
+    busy = advice.image("d2.img", "Text file busy")
+    yield Case("paths/a_running_program", [started("d2.img"), *refused(7, busy), ended], files(headers={2: None}))
+    denied = advice.image("d1.img", "Permission denied")
+    yield Case("paths/an_image_that_may_not_be_written", [
+        lambda where: os.chmod(os.path.join(where, "d1.img"), 0o444),
+        *([check(lines(4, 3, 1, 1, True))] if os.geteuid() == 0 else refused(7, denied))], files())
     nothing = [advice.image(path, "No such file or directory") for path in DIES]
     yield Case("paths/no_image_at_all", [
         check("mount: 6 no die live\n", "--unclean", status=1, errors=(*nothing, "no die live"))],

@@ -243,6 +243,20 @@ TRIMS = [
 ]
 
 
+# A client that asks for the list, goes on, writes a page, reads two and disconnects, and what is said to it. Where each magic number of the
+# client begins, how long it is, and how many bytes are said before it is read.
+LISTED = [FLAGS, "49484156454f5054 00000003 00000000", GO, """
+    25609513 0001 0001 0000000000000001 0000000000000100 00000200 11x512
+    25609513 0000 0000 0000000000000002 0000000000000000 00000400
+    25609513 0000 0002 0000000000000003 0000000000000000 00000000"""]
+LISTED_ANSWER = [GREETING, """
+    0003e889045565a9 00000003 00000002 00000008 00000004 6469736b
+    0003e889045565a9 00000003 00000001 00000000""", GONE, """
+    67446698 00000000 0000000000000001
+    67446698 00000000 0000000000000002 00x256 11x512 00x256"""]
+MAGICS = [(4, 8, 18), (20, 8, 66), (42, 4, 118), (582, 4, 134), (610, 4, 1174)]
+
+
 def conversation(name, client, server, end):
     answer = b"".join(spelled(part) for part in server)
     return Case(name, [Run(("talk",), f"{answer.hex()}\nend {end}\n",
@@ -257,6 +271,13 @@ def decision(name, command, flags, offset, length, error):
                         [GREETING, GONE, f"67446698 {error:08x} 0102030405060708 {found}"], DISCONNECTED)
 
 
+def changed(at, before):
+    """The connection is closed where a byte of a magic number is changed."""
+    said = b"".join(map(spelled, LISTED))
+    said = said[:at] + bytes([said[at] ^ 0x20]) + said[at + 1:]
+    return conversation(f"changed/byte_{at}", [said.hex()], [b"".join(map(spelled, LISTED_ANSWER))[:before].hex()], CLOSED)
+
+
 def trim(offset, length, pages):
     requests = f"""25609513 0000 0001 0000000000000001 0000000000000000 00000800 01x2048
                    25609513 0000 0004 0000000000000002 {offset:016x} {length:08x}
@@ -268,4 +289,5 @@ def trim(offset, length, pages):
 
 def cases():
     return ([conversation(*row) for row in CONVERSATIONS] + [decision(*row) for row in DECISIONS]
-            + [trim(*row) for row in TRIMS])
+            + [trim(*row) for row in TRIMS] + [conversation("listed_and_served", LISTED, LISTED_ANSWER, DISCONNECTED)]
+            + [changed(at, before) for begin, length, before in MAGICS for at in range(begin, begin + length)])

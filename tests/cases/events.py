@@ -143,6 +143,11 @@ def pages_at(places, seqs=None):
     return looks
 
 
+def admitted(count):
+    """So many batches of page 0 from the first one on, which die 0 alone holds: a round for each."""
+    return [("admit 0", f"batch {batch} rounds {batch + 1} least {batch + 1} place 0 0 {batch + 1} short 0") for batch in range(count)]
+
+
 def out_by_sync(*dies, live):
     """A flush is begun, and the sync of each of these dies meets a fault. The headers of those left are written again."""
     taken = [(f"take {die}", "sync") for die in dies]
@@ -406,7 +411,11 @@ def reads():
         done 1 fault -> done
         results 0 -> torn
         array -> round 2 epoch 3 busy no copy
+        closed 1 4 -> closed 1
+        closed 2 4 -> closed 2 2
         replan 0 -> rounds 3 least 3 place 4 0 3 place 5 2 3 place 6 0 4 short 4 5 6
+        closed 0 4 -> closed 0 2 3 4
+        closed 2 4 -> closed 2 2 3
         results 0 -> waiting
         next thin -> page 0 to 2
     """) + headers(3, 0, 2) + [("advance", "round 3")] + read(0, 4, 5, 3, 14) + read(2, 5, 6, 3, 15) + [("advance", "round 4")]
@@ -486,8 +495,7 @@ def reads():
 
     # Ten batches read page 0 of die 0 alone, a round each. The second, fourth, sixth and eighth end, which takes no memory, and the
     # rounds beside theirs stay booked.
-    tenfold = [("admit 0", f"batch {batch} rounds {batch + 1} least {batch + 1} place 0 0 {batch + 1} short 0") for batch in range(10)]
-    yield case("rounds_are_released_amid_others", THREE, alone + tenfold + pairs("""
+    yield case("rounds_are_released_amid_others", THREE, alone + admitted(10) + pairs("""
         closed 0 11 -> closed 0 1 2 3 4 5 6 7 8 9 10
         closed without 3 0 11 -> closed 0 1 2 3 5 6 7 8 9 10
         end 1 -> pages 0
@@ -616,6 +624,30 @@ def windows():
         window 2 1 -> round 2
         closed 2 4 -> closed 2 2
     """), ("claim", "reserve", "admit", "window"))
+
+    # A window ends at round 65 where round 67 is booked: of the first 65 rounds one is open, and behind them 66 and 68 are.
+    ended = [(f"end {batch}", "pages 0") for batch in range(66)]
+    closed = " ".join(map(str, [*range(2, 66), 67]))
+    yield case("a_window_up_to_a_booking", THREE, alone + admitted(67) + ended + pairs(f"""
+        window 0 64 -> round 2
+        closed 0 69 -> closed 0 {closed}
+        admit 0 4 6 -> batch 67 rounds 68 least 68 place 0 0 1 place 4 0 66 place 6 0 68 short 0 4 6
+    """), ("claim", "reserve", "admit"))
+
+    # A window is closed until its last round has passed, and then the die takes another one.
+    yield case("a_window_passes", THREE, alone + [*admitted(1), ("window 0 2", "round 2"), ("closed 0 4", "closed 0 1 2 3")]
+               + read(0, 0, 1, 0, 10) + pairs("""
+        advance -> round 2
+        closed 0 4 -> closed 0 2 3
+        window 0 1 -> refused: the die has a window
+        advance -> round 3
+        closed 0 4 -> closed 0 3
+        window 0 1 -> refused: the die has a window
+        advance -> round 4
+        closed 0 4 -> closed 0
+        window 0 1 -> round 5
+        closed 0 4 -> closed 0 5
+    """), ("claim", "reserve", "admit"))
 
     small, filled = shape(2, blocks=4, slots=4, pages=8), filled_dies()
     yield case("two_blocks_are_collected", small, filled + pairs("""

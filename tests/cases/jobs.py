@@ -474,6 +474,75 @@ def mounting():
     """))
 
 
+def images_alone():
+    """What images count and tell while no array is mounted."""
+    # A program that meets a slot which is not erased is counted, and no sync forgets it.
+    yield case("programs_over_others_are_counted", THREE, FRESH + pairs("""
+        put 0 8 0 1 8 -> written
+        put 0 15 0 1 15 -> written
+        put 0 16 0 1 16 -> written
+        overwrites -> overwrites 0
+        put 0 8 0 1 9 -> written
+        overwrites -> overwrites 1
+        flush begin -> flush 1
+        take 0 -> sync
+        run 0 -> done ok
+        take 1 -> sync
+        run 1 -> done ok
+        take 2 -> sync
+        run 2 -> done ok
+        flush state 1 -> synced
+        overwrites -> overwrites 1
+        put 1 8 0 1 8 -> written
+        overwrites -> overwrites 1
+        slot 0 8 -> page 0 seq 1 of 9
+        slot 0 15 -> page 0 seq 1 of 15
+        slot 0 127 -> erased
+    """))
+
+    # Of the reads the second alone gives wrong bytes, and no other call does.
+    yield case("one_read_lies", THREE, pairs("""
+        put 0 16 0 1 90 -> written
+        slot 0 16 -> page 0 seq 1 of 90
+        lie 0 2 -> armed
+        header 0 -> format 2 epoch 1 live 0 1 2 clean
+        slot 0 16 -> page 0 seq 1 of 90
+        faults -> faults 0 0 0 0 0 0 0 0 0
+        slot 0 16 -> bad
+        faults -> faults 0 0 1 0 0 0 0 0 0
+        slot 0 16 -> page 0 seq 1 of 90
+        slot 0 9 -> erased
+        lie 0 1 -> armed
+        slot 0 9 -> bad
+        slot 0 9 -> erased
+        faults -> faults 0 0 1 0 0 0 0 0 0
+    """))
+
+    # The call that a fuse is armed for is refused, and no other; a second one behind it counts the calls that come through.
+    yield case("a_fuse_blows_once", THREE, pairs("""
+        put 0 16 0 1 90 -> written
+        arm 0 1 -> armed
+        put 0 9 0 1 8 -> not written
+        slot 0 9 -> erased
+        arm 0 3 -> armed
+        slot 0 16 -> page 0 seq 1 of 90
+        header 0 -> format 2 epoch 1 live 0 1 2 clean
+        slot 0 16 -> refused: a slot could not be read
+        slot 0 16 -> page 0 seq 1 of 90
+        rig 0 3 0 -> armed
+        slot 0 16 -> page 0 seq 1 of 90
+        header 0 -> format 2 epoch 1 live 0 1 2 clean
+        faults -> faults 0 0 0 0 0 0 0 0 0
+        header 0 -> refused: the header could not be read
+        faults -> faults 1 1 0 0 0 0 0 0 0
+        arm 0 1 -> armed
+        header 0 -> refused: the header could not be read
+        faults -> faults 2 1 0 0 0 0 0 0 0
+        arm 0 0 -> armed
+        header 0 -> format 2 epoch 1 live 0 1 2 clean
+    """))
+
+
 def wrong_lines():
     fresh = THREE + "\nmount 2\n"
     for name, text, told in (
@@ -490,5 +559,5 @@ def wrong_lines():
 
 
 def cases():
-    return [*dies_that_fail(), *reads(), *rebuilding(), *collecting(), *three_copies(), *older_format(), *closing(), *mounting(),
+    return [*dies_that_fail(), *reads(), *rebuilding(), *collecting(), *three_copies(), *older_format(), *closing(), *mounting(), *images_alone(),
             *wrong_lines()]

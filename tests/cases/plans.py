@@ -1,6 +1,8 @@
 """Batches that `plan` plans or refuses. Each plan is given to `verify` behind its batch."""
 from cases import Case, Run, between
 
+LAB = "flasharr_lab"
+
 # Name, batch, least rounds, and the whole plan or its two ends. The plans were made by hand.
 PLANS = [
     ("two_on_one_die", "batch\npage 1 on 0\npage 2 on 0\nend\n", 2,
@@ -24,15 +26,19 @@ PLANS = [
     ("closed_for_a_million_rounds",
      "batch\npage 1 on 0 1\npage 2 on 0 1\npage 3 on 0 1\nclosed 0 1 1000000\nclosed 1 1 1000000\nend\n", 1000002,
      ("rounds 1000002\n", "short 1 2 3\nend\n")),
-    # Rounds 2 to 9 of die 0 are closed, by runs that overlap and touch.
+    # Rounds 2 to 9 of die 0 are closed, by runs that overlap and touch, and round 1 of die 1.
     ("overlapping_runs", "batch\npage 1 on 0\npage 2 on 0\nclosed 0 5 7\nclosed 0 2 3\nclosed 0 6 9\nclosed 0 4 4\nend\n", 10,
      "rounds 10\nplace 1 0 1\nplace 2 0 10\nshort 1 2\nend\n"),
+    ("rounds_behind_overlapping_runs", "batch\n" + "".join(f"page {n} on 0\n" for n in range(1, 5))
+     + "closed 0 5 7\nclosed 1 1 1\nclosed 0 2 3\nclosed 0 6 9\nclosed 0 4 4\nend\n", 12,
+     "rounds 12\nplace 1 0 1\nplace 2 0 10\nplace 3 0 11\nplace 4 0 12\nshort 1 2 3 4\nend\n"),
     ("a_die_that_is_closed_behind_its_reads", "batch\npage 1 on 0\nclosed 0 2 1000000\nend\n", 1,
      "rounds 1\nplace 1 0 1\nshort 1\nend\n"),
     ("rounds_between_two_windows", "batch\n" + "".join(f"page {n} on 0\n" for n in range(3)) + "closed 0 2 3\nclosed 0 5 5\nend\n",
      6, "rounds 6\nplace 0 0 1\nplace 1 0 4\nplace 2 0 6\nshort 0 1 2\nend\n"),
     ("pages_that_fall", "batch\npage 9 on 0\npage 4 on 1\npage 6 on 2\nend\n", 1,
      ("rounds 1\nplace 4 1 1\nplace 6 2 1\nplace 9 0 1\nshort ", "\nend\n")),
+    ("a_shortage_that_falls", "batch\npage 20 on 0\npage 3 on 0\nend\n", 2, ("rounds 2\nplace 3 0 ", "short 3 20\nend\n")),
     ("last_page_and_die", "batch\npage 1048575 on 63\nend\n", 1, "rounds 1\nplace 1048575 63 1\nshort 1048575\nend\n"),
     # The largest batch: 1,024 pages, on one die, and on all 64 dies with 64 runs of 100 closed rounds for each.
     ("most_pages_on_one_die", "batch\n" + "".join(f"page {n} on 0\n" for n in range(1024)) + "end\n", 1024,
@@ -55,6 +61,14 @@ REFUSED = [
 ]
 
 
+# Batches of which the laboratory tells what a plan took, its front and its end: a search for each page, and one more for each that fails.
+COUNTED = [
+    ("a_full_batch_on_one_die", "batch\n" + "".join(f"page {n} on 0\n" for n in range(1024)) + "end\n",
+     "least 1024 searches 1024 looks ", "\n"),
+    ("one_failed_search", "batch\npage 0 on 0\npage 1 on 0\npage 2 on 1 2\nend\n", "least 2 searches 4 looks 5\n", ""),
+]
+
+
 def planned(name, batch, least, plan):
     printed = between(*plan) if isinstance(plan, tuple) else plan
     return Case(name, [
@@ -67,3 +81,5 @@ def cases():
         yield planned(*row)
     for name, text, told in REFUSED:
         yield Case(f"refused/{name}", [Run(("plan",), told, 2, input=text)])
+    for name, batch, *ends in COUNTED:
+        yield Case(f"counted/{name}", [Run((), between(*ends), input=f"plan text {'/'.join(batch.splitlines())}\n")], program=LAB)

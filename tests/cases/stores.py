@@ -92,6 +92,13 @@ def rows():
                look("live", "live 0 2 3"))
 
 
+    # The third call of a die is a sync behind its header and the program of its copy: a write with FUA makes it, and another one does not.
+    for flags, live in ((0, "0 1 2 3"), (1, "0 2 3")):
+        yield case(f"a_sync_fails_with_flags_{flags}", 2, arm(1, count=3),
+                   client(f"25609513 {flags:04x} 0001 0000000000000001 0000000000000000 00000200 aax512", reply(1, "")),
+                   look("live", f"live {live}"))
+
+
 def over_stores(copies):
     """The conversations with `talk`, each over a store of its own."""
     for told in conversations.cases():

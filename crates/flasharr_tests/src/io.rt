@@ -1,6 +1,6 @@
-//! Streams that are slow, that are interrupted and that fail.
+//! Streams that are interrupted and that fail, and how often they are called.
 use fa_io::faulty::{Failing, Interrupted, Piecewise};
-use fa_io::{Calls, ReadEnd, SendFailed, cut_line, fill, read_some, send, send_all, skip};
+use fa_io::{Calls, ReadEnd, SendFailed, fill, send, send_all, skip};
 use std::alloc::Global;
 use std::io::ErrorKind;
 use std::test::Fail;
@@ -8,41 +8,28 @@ use std::test::Fail;
 /// The bytes that are read and written.
 const BYTES: &[u8] = b"twenty bytes or some";
 
-/// Whether the first line of the input is this, with this behind it.
-fn cuts(input: &[u8], line: &[u8], behind: &[u8]) -> bool {
-    match cut_line(input) {
-        Some((first, rest)) => first == line && rest == behind,
-        None => false,
-    }
+/// Whether all bytes are read through interruptions, by so many calls.
+fn reads_through(reads: u64) -> bool {
+    let mut calls = Calls::new();
+    let mut reader = Interrupted::new(Piecewise::new(BYTES, 7));
+    let mut into = [0u8; 20];
+    fill(&mut reader, &mut calls, &mut into) == Ok(())
+        && into.as_slice() == BYTES
+        && calls.reads == reads
 }
 
-#[test]
-fn cuts_lines() -> Result<(), Fail> {
-    ensure!(
-        cuts(b"one\n\ntwo", b"one", b"\ntwo")
-            && cuts(b"\ntwo", b"", b"two")
-            && cuts(b"two", b"two", b"")
-            && cut_line(b"").is_none()
-    );
-    Ok(())
+/// Whether all bytes are written through interruptions, by so many calls.
+fn writes_through(alloc: Global, writes: u64) -> bool {
+    let mut calls = Calls::new();
+    let mut writer = Interrupted::new(Piecewise::new(Vec::new(alloc), 1));
+    send(&mut writer, &mut calls, BYTES) == Ok(())
+        && writer.inner.inner.as_slice() == BYTES
+        && calls.writes == writes
 }
 
 #[test]
 fn reads_and_writes_through_interruptions(rt: HostRuntime) -> Result<(), Fail> {
-    let mut calls = Calls::new();
-    let mut reader = Interrupted::new(Piecewise::new(BYTES, 7));
-    let mut into = [0u8; 20];
-    let filled = fill(&mut reader, &mut calls, &mut into);
-    let mut writer = Interrupted::new(Piecewise::new(Vec::new(rt.alloc()), 1));
-    let sent = send(&mut writer, &mut calls, BYTES);
-    ensure!(
-        filled == Ok(())
-            && into.as_slice() == BYTES
-            && calls.reads == 6
-            && sent == Ok(())
-            && writer.inner.inner.as_slice() == BYTES
-            && calls.writes == 40
-    );
+    ensure!(reads_through(6) && writes_through(rt.alloc(), 40));
     Ok(())
 }
 
@@ -72,6 +59,17 @@ fn write_fails(alloc: Global, fails_at: u64, written: usize) -> bool {
     }
 }
 
+/// Whether a writer that takes nothing is called once, and that is told.
+fn fails_where_nothing_is_taken(alloc: Global) -> bool {
+    let mut writer = Piecewise::new(Vec::new(alloc), 0);
+    match send_all(&mut writer, BYTES) {
+        Err(SendFailed::Failed(fault)) => {
+            fault.kind() == ErrorKind::WriteZero && writer.calls == 1
+        }
+        _ => false,
+    }
+}
+
 #[test]
 fn fails_with_what_was_read_or_written(rt: HostRuntime) -> Result<(), Fail> {
     for (fails_at, left, written) in [(1, 20, 0), (2, 13, 7), (3, 6, 14)] {
@@ -80,35 +78,14 @@ fn fails_with_what_was_read_or_written(rt: HostRuntime) -> Result<(), Fail> {
             at fails_at
         );
     }
-    Ok(())
-}
-
-#[test]
-fn tells_the_end_of_input() -> Result<(), Fail> {
-    let mut reader = BYTES;
-    let mut calls = Calls::new();
-    ensure!(
-        skip(&mut reader, &mut calls, 20) == Ok(())
-            && read_some(&mut reader, &mut calls, &mut [0; 4]) == Err(ReadEnd::EndOfInput)
-    );
-    Ok(())
-}
-
-#[test]
-fn fails_where_a_writer_takes_nothing(rt: HostRuntime) -> Result<(), Fail> {
-    let mut writer = Piecewise::new(Vec::new(rt.alloc()), 0);
-    let is_refused = match send_all(&mut writer, BYTES) {
-        Err(SendFailed::Failed(fault)) => fault.kind() == ErrorKind::WriteZero,
-        _ => false,
-    };
-    ensure!(is_refused && writer.calls == 1);
+    ensure!(fails_where_nothing_is_taken(rt.alloc()));
     Ok(())
 }
 
 /// Bytes that are dropped are asked for 4,096 at a time.
 #[test]
-fn skips_as_much_as_the_buffer_holds(rt: HostRuntime) -> Result<(), Fail> {
-    let bytes = vec![in rt.alloc(); 0u8; 9000]?;
+fn skips_as_much_as_the_buffer_holds() -> Result<(), Fail> {
+    let bytes = [0u8; 9000];
     let mut reader = bytes.as_slice();
     let mut calls = Calls::new();
     ensure!(

@@ -1,11 +1,9 @@
-//! The tests of the lower crates, over their public calls: what no clause says and no process shows. They stand in a crate
-//! of their own, since a crate with tests is proved once with them and once without. What the tests of the page map, of
-//! sessions and of the program need too is public.
+//! The tests of the crates' public calls: what no clause says and no process shows. They stand in a crate of their own, since a crate with
+//! tests is proved once with them and once without.
 #![tactic(auto)]
 
 /// Ends a test with an error, unless the condition holds: `ensure!(CONDITION)`, and in a loop
 /// `ensure!(CONDITION, at WHERE)`.
-#[macro_export]
 macro_rules! ensure {
     ($is_so:expr) => {
         if !$is_so {
@@ -26,28 +24,34 @@ mod cert;
 #[cfg(test)]
 mod cmds;
 #[cfg(test)]
+mod commands;
+#[cfg(test)]
+mod fails;
+#[cfg(test)]
+mod formats;
+#[cfg(test)]
 mod image;
 #[cfg(test)]
 mod io;
 #[cfg(test)]
-mod lanes;
+mod maps;
 #[cfg(test)]
 mod nego;
 #[cfg(test)]
-mod plans;
-#[cfg(test)]
 mod reopened;
 #[cfg(test)]
-mod sets;
+mod rows;
 #[cfg(test)]
 mod settings;
 #[cfg(test)]
 mod sockets;
-pub mod spelling;
 #[cfg(test)]
-mod tag;
+mod spelling;
 #[cfg(test)]
 mod texts;
-pub mod told;
+#[cfg(test)]
+mod told;
 #[cfg(test)]
 mod types;
+#[cfg(test)]
+mod wire;

@@ -1,161 +1,47 @@
-//! What a negotiation uses and wants of its input, in every cutting, and what it keeps where memory is refused. The export is
-//! `disk`, of 32,768 bytes.
+//! Why a negotiation closes, what it keeps where memory is refused, and how far it hears a piece that goes on behind an item. The
+//! export is `disk`, of 32,768 bytes.
 use crate::spelling::spelled;
-use fa_nego::{CloseCause, Fed, Nego, Step};
+use fa_nego::{CloseCause, Fed, Nego};
 use linked_list_allocator::LocalHeap;
 use std::alloc::{AllocError, Global};
 use std::test::Fail;
 
-/// What a client sends, and what it has to come to.
-#[derive(Clone, Copy)]
-struct Case<'a> {
-    input: &'a [u8],
-    output: &'a [u8],
-    step: Step,
-    cause: Option<CloseCause>,
-    /// How many bytes of the input are used.
-    used: usize,
-}
-
-/// What a client's bytes came to.
-#[derive(Drop)]
-struct Conversation {
-    output: Vec<u8>,
-    step: Step,
-    cause: Option<CloseCause>,
-    used: usize,
-}
-
-/// Feeds a piece until all of it is used, or the negotiation uses no more.
-fn feed_piece(
-    alloc: Global,
-    nego: &mut Nego,
-    piece: &[u8],
-    talk: &mut Conversation,
-) -> Result<(), AllocError> {
-    let mut rest = piece;
-    for _ in 0..piece.len() {
+/// How many bytes of the input a negotiation that has just begun hears up to its end.
+fn heard(alloc: Global, nego: &mut Nego, input: &[u8]) -> Result<usize, AllocError> {
+    let mut rest = input;
+    for _ in 0..3 {
         let fed = nego.feed(alloc, rest)?;
-        talk.output.extend_from_slice(&fed.out)?;
-        talk.step = fed.step;
-        talk.used = talk.used.saturating_add(fed.used);
         rest = &rest[fed.used.min(rest.len())..];
     }
-    Ok(())
+    Ok(input.len().saturating_sub(rest.len()))
 }
 
-/// Feeds the input in pieces of this length.
-fn talk_in_pieces(alloc: Global, input: &[u8], len: usize) -> Result<Conversation, AllocError> {
+/// Whether a negotiation closes for this cause, and leaves the last byte of the input.
+fn closes_for(alloc: Global, input: &[u8], cause: CloseCause) -> Result<bool, AllocError> {
     let mut nego = Nego::new(alloc, "disk", 32768);
-    let mut talk = Conversation {
-        output: Vec::new(alloc),
-        step: Step::More,
-        cause: None,
-        used: 0,
-    };
-    for piece in input.chunks(len.max(1)) {
-        feed_piece(alloc, &mut nego, piece, &mut talk)?;
-    }
-    talk.cause = nego.close_cause();
-    Ok(talk)
-}
-
-/// Whether a conversation came to what the case wants.
-fn is_as_wanted(talk: &Conversation, case: &Case) -> bool {
-    talk.output.as_slice() == case.output
-        && talk.step == case.step
-        && talk.cause == case.cause
-        && talk.used == case.used
-}
-
-/// The case holds in pieces of every length.
-fn holds(alloc: Global, case: &Case) -> Result<(), Fail> {
-    for len in 1..=case.input.len().min(1000) {
-        let talk = talk_in_pieces(alloc, case.input, len)?;
-        ensure!(is_as_wanted(&talk, case), at len);
-    }
-    Ok(())
-}
-
-/// A case with which the server closes the connection with no word.
-fn closes<'a>(input: &'a [u8], cause: CloseCause, used: usize) -> Case<'a> {
-    Case {
-        input,
-        output: b"",
-        step: Step::Closed(cause),
-        cause: Some(cause),
-        used,
-    }
-}
-
-/// Whether a piece is used so far, and so many bytes are wanted then.
-fn uses(
-    alloc: Global,
-    nego: &mut Nego,
-    piece: &[u8],
-    used: usize,
-    wanted: usize,
-) -> Result<bool, AllocError> {
-    let fed = nego.feed(alloc, piece)?;
-    Ok(fed.used == used && nego.wanted() == wanted)
-}
-
-/// Feeds a negotiation that has just begun, in pieces that end within and behind items.
-fn wants_each_next(alloc: Global, nego: &mut Nego) -> Result<(), Fail> {
-    let feeds: [(&[u8], usize, usize); 6] = [
-        (b"\x00\x00", 2, 2),
-        (b"\x00\x03IHAVEOPT", 2, 16),
-        (b"IHAVEOPT\x00\x00\x00\x07\x00\x00\x00", 15, 1),
-        (b"\x06\x00\x00\x00\x00\x00\x00", 1, 6),
-        (b"\x00\x00\x00\x00\x00", 5, 1),
-        (b"\x00IHAVEOPT", 1, 0),
-    ];
-    ensure!(nego.wanted() == 4);
-    for (piece, used, wanted) in feeds {
-        ensure!(uses(alloc, nego, piece, used, wanted)?, at used);
-    }
-    Ok(())
-}
-
-#[test]
-fn wants_the_next_item(rt: HostRuntime) -> Result<(), Fail> {
-    wants_each_next(rt.alloc(), &mut Nego::new(rt.alloc(), "disk", 32768))
-}
-
-#[test]
-fn old_way_begins_transmission(rt: HostRuntime) -> Result<(), Fail> {
-    let case = Case {
-        input: b"\x00\x00\x00\x02IHAVEOPT\x00\x00\x00\x01\x00\x00\x00\x04disk\x25\x60",
-        output: b"\x00\x00\x00\x00\x00\x00\x80\x00\x01\x6d",
-        step: Step::Go,
-        cause: None,
-        used: 24,
-    };
-    holds(rt.alloc(), &case)
+    let heard = heard(alloc, &mut nego, input)?;
+    Ok(heard.saturating_add(1) == input.len() && nego.close_cause() == Some(cause))
 }
 
 #[test]
 fn closes_for_each_cause(rt: HostRuntime) -> Result<(), Fail> {
-    let cases = [
-        closes(b"\x00\x00\x00\x04IHAVEOPT", CloseCause::UnknownFlag, 4),
-        closes(
+    let cases: [(&[u8], CloseCause); 4] = [
+        (b"\x00\x00\x00\x04I", CloseCause::UnknownFlag),
+        (
             b"\x00\x00\x00\x03IHAVEOPS\x00\x00\x00\x07\x00\x00\x00\x06\x00",
             CloseCause::WrongMagic,
-            20,
         ),
-        closes(
+        (
             b"\x00\x00\x00\x03IHAVEOPT\x00\x00\x00\x07\x00\x01\x00\x01\x00",
             CloseCause::TooLong,
-            20,
         ),
-        closes(
+        (
             b"\x00\x00\x00\x03IHAVEOPT\x00\x00\x00\x01\x00\x00\x00\x04dusk\x00",
             CloseCause::UnknownName,
-            24,
         ),
     ];
-    for case in cases.iter() {
-        holds(rt.alloc(), case)?;
+    for (input, cause) in cases {
+        ensure!(closes_for(rt.alloc(), input, cause)?, at input.len());
     }
     Ok(())
 }
@@ -176,8 +62,23 @@ fn feed_again<'a>(
     Ok((nego.feed(large, piece)?, true))
 }
 
+/// Feeds all that is left of the input, of which the next item is used, and tells how many bytes are used, how many are said, which are
+/// the first of those that are wanted, and whether the small heap refused the answer.
+fn hears_next<'a>(
+    nego: &mut Nego<&'a LocalHeap>,
+    small: &'a LocalHeap,
+    large: &'a LocalHeap,
+    rest: &[u8],
+    unsaid: &[u8],
+) -> Result<(usize, usize, bool), Fail> {
+    let wanted = nego.wanted();
+    let (fed, is_refused) = feed_again(nego, small, large, rest)?;
+    ensure!(fed.used == wanted && unsaid.starts_with(fed.out.as_slice()), at rest.len());
+    Ok((fed.used, fed.out.len(), is_refused))
+}
+
 /// Feeds the flags and the options, each answered in the small heap if it can be, and tells how many
-/// answers that heap refused.
+/// answers that heap refused. What stands behind them is left.
 fn refused_of<'a>(
     nego: &mut Nego<&'a LocalHeap>,
     small: &'a LocalHeap,
@@ -189,15 +90,15 @@ fn refused_of<'a>(
     let mut unsaid = output;
     let mut refused = 0u32;
     for _ in 0..5 {
-        let piece = &rest[..nego.wanted().min(rest.len())];
-        let (fed, is_refused) = feed_again(nego, small, large, piece)?;
-        unsaid = unsaid
-            .strip_prefix(fed.out.as_slice())
-            .ok_or("another answer")?;
-        rest = &rest[fed.used.min(rest.len())..];
+        let (used, said, is_refused) = hears_next(nego, small, large, rest, unsaid)?;
+        rest = &rest[used.min(rest.len())..];
+        unsaid = &unsaid[said.min(unsaid.len())..];
         refused = refused.saturating_add(u32::from(is_refused));
     }
-    ensure!(unsaid.is_empty() && nego.wanted() == 0, at refused);
+    ensure!(
+        unsaid.is_empty() && nego.wanted() == 0 && rest == b"next".as_slice(),
+        at refused
+    );
     Ok(refused)
 }
 
@@ -214,14 +115,26 @@ fn refused_answers(
     refused_of(&mut nego, &small, large, input, output)
 }
 
-// The small heap grows by little from run to run, so that each growth is refused in some run.
+/// In how many runs answers were refused, and how many of them in the last one. The small heap grows by little from run to run, so
+/// that each growth is refused in some run.
+fn refused_in_all(alloc: Global, input: &[u8], output: &[u8]) -> Result<(u32, u32), Fail> {
+    let large = LocalHeap::new(alloc, 16_384)?;
+    let mut refused = 0u32;
+    let mut refused_last = 1u32;
+    for room in 0..64usize {
+        refused_last = refused_answers(alloc, &large, room * 16, input, output)?;
+        refused = refused.saturating_add(refused_last);
+    }
+    Ok((refused, refused_last))
+}
+
 #[test]
 fn refused_answers_are_said_later(rt: HostRuntime) -> Result<(), Fail> {
     let input = spelled(
         rt.alloc(),
         "00000001 49484156454f5054 00000003 00000000
         49484156454f5054 00000006 0000000a 00000000 0002 0001 0003
-        49484156454f5054 00000001 00000000",
+        49484156454f5054 00000001 00000000 6e657874",
     )?;
     let output = spelled(
         rt.alloc(),
@@ -233,13 +146,7 @@ fn refused_answers_are_said_later(rt: HostRuntime) -> Result<(), Fail> {
         0003e889045565a9 00000006 00000001 00000000
         0000000000008000 016d 00x124",
     )?;
-    let large = LocalHeap::new(rt.alloc(), 16_384)?;
-    let mut refused = 0u32;
-    let mut refused_last = 1u32;
-    for room in 0..64usize {
-        refused_last = refused_answers(rt.alloc(), &large, room * 16, &input, &output)?;
-        refused = refused.saturating_add(refused_last);
-    }
+    let (refused, refused_last) = refused_in_all(rt.alloc(), &input, &output)?;
     ensure!(refused > 20 && refused_last == 0);
     Ok(())
 }

@@ -2,25 +2,35 @@
 use std::alloc::Global;
 use std::test::Fail;
 
+/// Puts the bytes that a word spells behind others.
+fn spell(alloc: Global, word: &str, bytes: &mut Vec<u8>) -> Result<(), Fail> {
+    let (digits, count) = word.split_once('x').unwrap_or((word, "1"));
+    let count = count.parse::<u32>()?;
+    let part = hex::decode(alloc, digits)?;
+    for _ in 0..count {
+        bytes.extend_from_slice(part.as_slice())?;
+    }
+    Ok(())
+}
+
+/// Puts the bytes that the words of a text spell behind others.
+pub fn spell_all(alloc: Global, text: &str, bytes: &mut Vec<u8>) -> Result<(), Fail> {
+    for word in text.split_whitespace() {
+        spell(alloc, word, bytes)?;
+    }
+    Ok(())
+}
+
 /// The bytes that the words spell.
 pub fn spelled(alloc: Global, text: &str) -> Result<Vec<u8>, Fail> {
-    let mut bytes = Vec::new(alloc);
-    for word in text.split_whitespace() {
-        let (digits, count) = word.split_once('x').unwrap_or((word, "1"));
-        let part = hex::decode(alloc, digits)?;
-        for _ in 0..count.parse::<u32>()? {
-            bytes.extend_from_slice(part.as_slice())?;
-        }
-    }
-    Ok(bytes)
+    joined(alloc, &[text])
 }
 
 /// Texts, one behind the other.
 pub fn joined(alloc: Global, texts: &[&str]) -> Result<Vec<u8>, Fail> {
     let mut bytes = Vec::new(alloc);
     for text in texts {
-        let part = spelled(alloc, text)?;
-        bytes.extend_from_slice(part.as_slice())?;
+        spell_all(alloc, text, &mut bytes)?;
     }
     Ok(bytes)
 }

@@ -5,7 +5,7 @@ use Rattle.fa_types.specs.declared.geometry.Geometry.{Geometry}
 use Rattle.fa_machine.specs.Copies.{copy_on, is_held_slot}
 use Rattle.fa_machine.specs.State.{is_live, used_at}
 use Rattle.fa_map_calls.proofs.MayHold.{held_copy, may_hold_more, none_mapped}
-use Rattle.flasharr_array_tests.proofs.maps.copy_more.Goals as goal
+use Rattle.flasharr_tests.proofs.maps.copy_more.Goals as goal
 
 pub make_current-requires : goal.make_current-requires
 make_current-requires g c =

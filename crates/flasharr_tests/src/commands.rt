@@ -1,7 +1,6 @@
 //! The commands that work on text where memory is refused, or their input or their output fails.
 use fa_io::faulty::{Failing, Piecewise};
 use fa_prog_text::{run_talk, run_verify};
-use flasharr_tests::ensure;
 use linked_list_allocator::LocalHeap;
 use std::alloc::{Allocator, Global};
 use std::io::{Read, Write};

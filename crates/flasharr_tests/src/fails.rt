@@ -1,10 +1,9 @@
 //! Connections whose memory, reader or writer fails.
 use crate::rows::{FLAGS, GO, GONE, GREETING, are, end_of, served};
+use crate::spelling::{joined, spell_all, spelled};
 use fa_io::faulty::Piecewise;
 use fa_session::SessionEnd;
 use fa_types::MemBlocks;
-use flasharr_tests::ensure;
-use flasharr_tests::spelling::{joined, spelled};
 use linked_list_allocator::LocalHeap;
 use std::alloc::{AllocError, Global};
 use std::test::Fail;
@@ -34,13 +33,18 @@ fn client(alloc: Global) -> Result<Vec<u8>, Fail> {
     joined(alloc, &[FLAGS, GO, REQUESTS])
 }
 
+/// Whether the connection of a client ends at the first write, with nothing read, where the writer takes nothing.
+fn ends_at_once(alloc: Global, said: &[u8]) -> bool {
+    let mut reader = Piecewise::new(said, 4096);
+    let mut writer = Piecewise::new(Vec::new(alloc), 0);
+    let ended = served(alloc, &mut reader, &mut writer);
+    ended == SessionEnd::WriteFailed && writer.calls == 1 && reader.calls == 0
+}
+
 #[test]
 fn a_writer_that_takes_nothing(rt: HostRuntime) -> Result<(), Fail> {
     let said = client(rt.alloc())?;
-    let mut reader = Piecewise::new(said.as_slice(), 4096);
-    let mut writer = Piecewise::new(Vec::new(rt.alloc()), 0);
-    let ended = served(rt.alloc(), &mut reader, &mut writer)?;
-    ensure!(ended == SessionEnd::WriteFailed && writer.calls == 1 && reader.calls == 0);
+    ensure!(ends_at_once(rt.alloc(), &said));
     Ok(())
 }
 
@@ -119,7 +123,7 @@ fn each_allocation_fails(rt: HostRuntime) -> Result<(), Fail> {
 fn said_around(alloc: Global, before: &[&str], data: &[u8], behind: &str) -> Result<Vec<u8>, Fail> {
     let mut said = joined(alloc, before)?;
     said.extend_from_slice(data)?;
-    said.extend_from_slice(spelled(alloc, behind)?.as_slice())?;
+    spell_all(alloc, behind, &mut said)?;
     Ok(said)
 }
 
@@ -132,65 +136,73 @@ fn numbers(alloc: Global) -> Result<Vec<u8>, AllocError> {
     Ok(bytes)
 }
 
-/// A client that writes the data and reads it is answered by few calls.
-fn reads_back(alloc: Global, said: &[u8], data: &[u8]) -> Result<(), Fail> {
-    let replies = "67446698 00000000 0000000000000001 67446698 00000000 0000000000000002";
-    let replies = spelled(alloc, replies)?;
-    let mut store = MemBlocks::new(alloc, 33_554_432)?;
+/// Whether a client that writes the data and reads it is answered by few calls: the replies, and then the data.
+fn reads_back(
+    alloc: Global,
+    store: &mut MemBlocks,
+    said: &[u8],
+    data: &[u8],
+    replies: &[u8],
+) -> bool {
     let mut reader = Piecewise::new(said, 1_000_000);
     let mut writer = Piecewise::new(Vec::new(alloc), 1_000_000);
-    let ended = end_of(alloc, &mut reader, &mut writer, &mut store);
+    let ended = end_of(alloc, &mut reader, &mut writer, store);
     let front = writer.inner.strip_suffix(data).unwrap_or(&[]);
     // A call takes a million bytes: 33 or so for the data, and few for all else.
-    ensure!(
-        ended == SessionEnd::InputEnded
-            && front.ends_with(replies.as_slice())
-            && reader.calls < 50
-            && writer.calls < 50
-    );
-    Ok(())
+    ended == SessionEnd::InputEnded
+        && front.ends_with(replies)
+        && reader.calls < 50
+        && writer.calls < 50
 }
 
 #[test]
 fn the_longest_read_and_write(rt: HostRuntime) -> Result<(), Fail> {
     let write = "25609513 0000 0001 0000000000000001 0000000000000000 02000000";
     let read = "25609513 0000 0000 0000000000000002 0000000000000000 02000000";
+    let replies = "67446698 00000000 0000000000000001 67446698 00000000 0000000000000002";
     let data = numbers(rt.alloc())?;
     let said = said_around(rt.alloc(), &[FLAGS, GO, write], &data, read)?;
-    reads_back(rt.alloc(), &said, &data)
-}
-
-/// A client is answered so, by fewer reads than this, until its input ends.
-fn is_answered(alloc: Global, said: &[u8], replies: &str, reads: u64) -> Result<(), Fail> {
-    let answer = joined(alloc, &[GREETING, GONE, replies])?;
-    let mut reader = Piecewise::new(said, 1_000_000);
-    let mut writer = Vec::new(alloc);
-    let ended = served(alloc, &mut reader, &mut writer)?;
-    ensure!(
-        ended == SessionEnd::InputEnded
-            && writer.as_slice() == answer.as_slice()
-            && reader.calls < reads
-    );
+    let replies = spelled(rt.alloc(), replies)?;
+    let mut store = MemBlocks::new(rt.alloc(), 33_554_432)?;
+    ensure!(reads_back(rt.alloc(), &mut store, &said, &data, &replies));
     Ok(())
 }
 
-// The data of a WRITE that reaches past the end is dropped by few reads, and the next request is answered.
-#[test]
-fn the_data_of_a_refused_write(rt: HostRuntime) -> Result<(), Fail> {
-    let write = "25609513 0000 0001 0000000000000001 0000000000007e00 000f4240 11x1000000";
-    let read = "25609513 0000 0000 0000000000000002 0000000000000000 00000001";
-    let replies = "67446698 0000001c 0000000000000001 67446698 00000000 0000000000000002 00";
-    let said = joined(rt.alloc(), &[FLAGS, GO, write, read])?;
-    is_answered(rt.alloc(), &said, replies, 40)
+/// Whether a client is answered so, by fewer reads than this, until its input ends.
+fn is_answered(alloc: Global, said: &[u8], answer: &[u8], reads: u64) -> bool {
+    let mut reader = Piecewise::new(said, 1_000_000);
+    let mut writer = Vec::new(alloc);
+    let ended = served(alloc, &mut reader, &mut writer);
+    ended == SessionEnd::InputEnded && writer.as_slice() == answer && reader.calls < reads
 }
 
-// One byte more than a WRITE may have: all of it is dropped, 64 KiB a read.
-#[test]
-fn the_data_of_a_write_that_is_too_long(rt: HostRuntime) -> Result<(), Fail> {
-    let write = "25609513 0000 0001 0000000000000001 0000000000000000 02000001";
+/// Whether a client that writes these data and reads a byte is answered so, by fewer reads than this.
+fn is_refused(
+    alloc: Global,
+    write: &str,
+    data: &[u8],
+    replies: &str,
+    reads: u64,
+) -> Result<bool, Fail> {
     let read = "25609513 0000 0000 0000000000000002 0000000000000000 00000001";
-    let replies = "67446698 00000016 0000000000000001 67446698 00000000 0000000000000002 00";
+    let said = said_around(alloc, &[FLAGS, GO, write], data, read)?;
+    let answer = joined(alloc, &[GREETING, GONE, replies])?;
+    Ok(is_answered(alloc, &said, &answer, reads))
+}
+
+// The data of a WRITE that is refused are dropped by few reads, 64 KiB at a time, and the next request is answered: one that
+// reaches past the end, and one that has a byte more than a WRITE may have.
+#[test]
+fn the_data_of_refused_writes(rt: HostRuntime) -> Result<(), Fail> {
+    let past = "25609513 0000 0001 0000000000000001 0000000000007e00 000f4240";
+    let long = "25609513 0000 0001 0000000000000001 0000000000000000 02000001";
+    let no_space = "67446698 0000001c 0000000000000001 67446698 00000000 0000000000000002 00";
+    let invalid = "67446698 00000016 0000000000000001 67446698 00000000 0000000000000002 00";
     let data = vec![in rt.alloc(); 0x11u8; 33_554_433]?;
-    let said = said_around(rt.alloc(), &[FLAGS, GO, write], &data, read)?;
-    is_answered(rt.alloc(), &said, replies, 540)
+    let million = data.get(..1_000_000).unwrap_or(&[]);
+    ensure!(
+        is_refused(rt.alloc(), past, million, no_space, 40)?
+            && is_refused(rt.alloc(), long, &data, invalid, 540)?
+    );
+    Ok(())
 }

@@ -1,5 +1,4 @@
-//! The page map in tables beside the plain one: 10,000 calls, the last slots of a large die, and memory
-//! that is refused.
+//! The page map in tables beside the plain one: 10,000 calls, and the last slots of a large die.
 ghost use Rattle.std.specs.Prelude.{◌≡◌, ◌<◌};
 
 use fa_machine::{Block, Version};
@@ -7,8 +6,7 @@ use fa_map::PageMap;
 use fa_map_calls::Map;
 use fa_plain_map::PlainMap;
 use fa_types::{Die, Geometry, Kind, Page, Seq, Slot};
-use flasharr_tests::ensure;
-use linked_list_allocator::LocalHeap;
+use std::alloc::Global;
 use std::test::Fail;
 
 /// Numbers that look random, the same in each run.
@@ -40,25 +38,6 @@ struct Call {
     block: u32,
     page: u64,
     seq: u64,
-}
-
-/// The kinds of some calls: a slot becomes stale, a page is written anew, and one more copy is held.
-const STALE: u64 = 43;
-
-const RENEWED: u64 = 109;
-
-const HELD: u64 = 129;
-
-/// A call that concerns page 40, and block 0.
-fn about_page_40(kind: u64, die: u8, slot: u32, seq: u64) -> Call {
-    Call {
-        kind,
-        die,
-        slot,
-        block: 0,
-        page: 40,
-        seq,
-    }
 }
 
 fn drawn(draws: &mut Draws, seq: u64) -> Call {
@@ -304,50 +283,17 @@ fn answer_alike<A: Map, B: Map>(a: &mut A, b: &mut B) -> Result<(), Fail> {
     Ok(())
 }
 
+/// The same of a new map in lists beside another one.
+fn answers_as_lists<M: Map>(alloc: Global, map: &mut M, geometry: Geometry) -> Result<(), Fail> {
+    let mut plain = PlainMap::new(alloc, geometry)?;
+    answer_alike(map, &mut plain)
+}
+
 #[test]
 fn ten_thousand_calls(rt: HostRuntime) -> Result<(), Fail> {
     let geometry = Geometry::new(4, 0, 12, 4, 512, 64)?;
     let mut tables = PageMap::new(rt.alloc(), geometry)?;
-    let mut plain = PlainMap::new(rt.alloc(), geometry)?;
-    answer_alike(&mut tables, &mut plain)
-}
-
-/// Makes calls of a new map of four dies, and looks for page 40 after each: whether it is found with one copy,
-/// and with two.
-fn copies_come_and_go<M: Map>(map: &mut M) -> Result<(), Fail> {
-    for die in 0..4u8 {
-        make(map, about_page_40(0, die, 0, 0));
-    }
-    let page = Some(Page(40));
-    let steps = [
-        (RENEWED, 0, 0, 1, None, None),
-        (HELD, 2, 5, 1, page, None),
-        (HELD, 0, 5, 1, None, page),
-        (HELD, 1, 0, 1, None, None),
-        (HELD, 3, 15, 1, None, None),
-        (STALE, 1, 0, 1, None, None),
-        (STALE, 0, 5, 1, None, page),
-        (STALE, 3, 15, 1, page, None),
-        (RENEWED, 0, 0, 2, None, None),
-    ];
-    for (kind, die, slot, seq, one, two) in steps {
-        make(map, about_page_40(kind, die, slot, seq));
-        ensure!(
-            has_few(map, 0, (one, two))
-                && has_few(map, 40, (one, two))
-                && has_few(map, 41, (None, None)),
-            at slot
-        );
-    }
-    ensure!(map.live_dies() == 4);
-    Ok(())
-}
-
-// A page is found with one copy, with two, with neither when it has a third, and again as its copies go.
-#[test]
-fn pages_with_few_copies(rt: HostRuntime) -> Result<(), Fail> {
-    let mut map = PageMap::new(rt.alloc(), Geometry::new(4, 0, 12, 4, 512, 64)?)?;
-    copies_come_and_go(&mut map)
+    answers_as_lists(rt.alloc(), &mut tables, geometry)
 }
 
 /// The slot that a writer takes of the die, if it is live.
@@ -359,10 +305,18 @@ fn take<M: Map>(map: &mut M, die: Die) -> Option<Slot> {
     }
 }
 
+/// Brings die 0 in, if it is out.
+fn bring_in<M: Map>(map: &mut M) {
+    if map.geometry().dies == 0 || map.is_live(Die(0)) {
+        return;
+    }
+    map.bring_in(Die(0));
+}
+
 /// Takes the slots of die 0 of a new map in their order, so many, each with this many looks, until the die has no
 /// room, which takes one look.
 fn slots_come_in_order(map: &mut PageMap, slots: u32, least: u32, most: u32) -> Result<(), Fail> {
-    make(map, about_page_40(0, 0, 0, 1));
+    bring_in(map);
     ensure!(map.last_looks() == 0);
     for slot in 0..slots {
         let taken = take(map, Die(0));
@@ -376,34 +330,24 @@ fn slots_come_in_order(map: &mut PageMap, slots: u32, least: u32, most: u32) -> 
     Ok(())
 }
 
-#[test]
-fn the_last_slot_of_a_large_die(rt: HostRuntime) -> Result<(), Fail> {
-    let mut map = PageMap::new(rt.alloc(), Geometry::new(2, 0, 64, 64, 512, 64)?)?;
-    slots_come_in_order(&mut map, 4_032, 1, 129)
+/// The same of a new map.
+fn slots_of_a_map_come_in_order(
+    alloc: Global,
+    geometry: Geometry,
+    slots: u32,
+    least: u32,
+    most: u32,
+) -> Result<(), Fail> {
+    let mut map = PageMap::new(alloc, geometry)?;
+    slots_come_in_order(&mut map, slots, least, most)
 }
 
 // A slot is found by the die's count and a look at the erased slots. Where the die has no room, its count is all
-// that is read.
+// that is read. The die of the first map is large, and the last slot that a writer takes is 4,031.
 #[test]
 fn looks_for_a_slot(rt: HostRuntime) -> Result<(), Fail> {
-    let mut map = PageMap::new(rt.alloc(), Geometry::new(2, 0, 4, 4, 512, 4)?)?;
-    slots_come_in_order(&mut map, 12, 2, 2)
-}
-
-// The map's memory is a heap that grows by little from run to run, so that each of its allocations is the
-// first that doesn't fit in some run.
-#[test]
-fn each_allocation_of_a_map_fails(rt: HostRuntime) -> Result<(), Fail> {
-    let geometry = Geometry::new(4, 0, 12, 4, 512, 64)?;
-    let mut refused = false;
-    let mut made = false;
-    for number in 0..100usize {
-        let heap = LocalHeap::new(rt.alloc(), 64 + number * 128)?;
-        match PageMap::new(&heap, geometry) {
-            Ok(_) => made = true,
-            Err(_) => refused = true,
-        }
-    }
-    ensure!(made && refused);
-    Ok(())
+    let large = Geometry::new(2, 0, 64, 64, 512, 64)?;
+    let small = Geometry::new(2, 0, 4, 4, 512, 4)?;
+    slots_of_a_map_come_in_order(rt.alloc(), large, 4_032, 1, 129)?;
+    slots_of_a_map_come_in_order(rt.alloc(), small, 12, 2, 2)
 }

@@ -1,11 +1,10 @@
 //! Conversations in pieces of each length, cut after each byte, and over streams that are interrupted. The others
 //! stand in tests/cases/conversations.py.
+use crate::spelling::{joined, spelled};
 use fa_io::WriteBoth;
 use fa_io::faulty::{Interrupted, Piecewise};
 use fa_session::{SessionEnd, serve_stream};
 use fa_types::{Blocks, MemBlocks};
-use flasharr_tests::ensure;
-use flasharr_tests::spelling::{joined, spelled};
 use std::alloc::{Allocator, Global};
 use std::io::Read;
 use std::test::Fail;
@@ -41,73 +40,64 @@ pub fn are(alloc: Global, bytes: &[u8], text: &str) -> Result<bool, Fail> {
 }
 
 /// What the server says to a client's bytes over a plain store of 64 pages of 512 zeros, and how the
-/// connection ends.
-pub fn served<R: Read, W: WriteBoth>(
-    alloc: Global,
-    reader: &mut R,
-    writer: &mut W,
-) -> Result<SessionEnd, Fail> {
-    let mut store = MemBlocks::new(alloc, 64 * 512)?;
-    Ok(end_of(alloc, reader, writer, &mut store))
+/// connection ends. Where there is no memory for the store, that is how it ends.
+pub fn served<R: Read, W: WriteBoth>(alloc: Global, reader: &mut R, writer: &mut W) -> SessionEnd {
+    match MemBlocks::new(alloc, 64 * 512) {
+        Ok(store) => {
+            let mut store = store;
+            end_of(alloc, reader, writer, &mut store)
+        }
+        Err(_) => SessionEnd::NoMemory,
+    }
 }
 
-/// Tries one conversation in pieces of a length, with a writer that takes one byte a call.
-fn converses_in_pieces(
-    alloc: Global,
-    said: &[u8],
-    most: usize,
-    answer: &[u8],
-    end: u8,
-) -> Result<(), Fail> {
+/// Whether a conversation goes well in pieces of a length, with a writer that takes one byte a call.
+fn converses_in_pieces(alloc: Global, said: &[u8], most: usize, answer: &[u8], end: u8) -> bool {
     let mut reader = Piecewise::new(said, most);
     let mut writer = Piecewise::new(Vec::new(alloc), 1);
-    let ended = served(alloc, &mut reader, &mut writer)?;
-    ensure!(ended.number() == end && writer.inner.as_slice() == answer, at most);
-    Ok(())
+    let ended = served(alloc, &mut reader, &mut writer);
+    ended.number() == end && writer.inner.as_slice() == answer
 }
 
-/// Tries one conversation over streams that are interrupted at every other call.
-fn converses_through_interruptions(
-    alloc: Global,
-    said: &[u8],
-    answer: &[u8],
-    end: u8,
-) -> Result<(), Fail> {
+/// Whether a conversation goes well over streams that are interrupted at every other call.
+fn converses_through_interruptions(alloc: Global, said: &[u8], answer: &[u8], end: u8) -> bool {
     let mut reader = Interrupted::new(Piecewise::new(said, 7));
     let mut writer = Interrupted::new(Piecewise::new(Vec::new(alloc), 5));
-    let ended = served(alloc, &mut reader, &mut writer)?;
-    ensure!(ended.number() == end && writer.inner.inner.as_slice() == answer);
-    Ok(())
+    let ended = served(alloc, &mut reader, &mut writer);
+    ended.number() == end && writer.inner.inner.as_slice() == answer
 }
 
-/// What of the answer is written where the client's bytes are cut off.
+/// How much of the answer is written where the client's bytes are cut off. None where something else is, or the connection ends
+/// otherwise.
 fn answered_to_a_cut(
     alloc: Global,
     said: &[u8],
     cut: usize,
     answer: &[u8],
     end: u8,
-) -> Result<usize, Fail> {
+) -> Option<usize> {
     let mut reader = &said[..cut.min(said.len())];
     let mut writer = Vec::new(alloc);
-    let ended = served(alloc, &mut reader, &mut writer)?;
-    ensure!(
-        answer.starts_with(writer.as_slice())
-            && (ended == SessionEnd::InputEnded || ended.number() == end),
-        at cut
-    );
-    Ok(writer.len())
+    let ended = served(alloc, &mut reader, &mut writer);
+    if answer.starts_with(writer.as_slice())
+        && (ended == SessionEnd::InputEnded || ended.number() == end)
+    {
+        Some(writer.len())
+    } else {
+        None
+    }
 }
 
-/// Tries one conversation: in pieces of each length, over streams that are interrupted, and cut after each byte.
+/// Tries one conversation: in pieces of each length, over streams that are interrupted, and cut after each byte, which never takes back
+/// what was said.
 fn converses_anyhow(alloc: Global, said: &[u8], answer: &[u8], end: u8) -> Result<(), Fail> {
-    converses_through_interruptions(alloc, said, answer, end)?;
+    ensure!(converses_through_interruptions(alloc, said, answer, end));
     for most in 1..=said.len() {
-        converses_in_pieces(alloc, said, most, answer, end)?;
+        ensure!(converses_in_pieces(alloc, said, most, answer, end), at most);
     }
     let mut before = 0;
     for cut in 0..said.len() {
-        let written = answered_to_a_cut(alloc, said, cut, answer, end)?;
+        let written = answered_to_a_cut(alloc, said, cut, answer, end).ok_or("another answer")?;
         ensure!(before <= written, at cut);
         before = written;
     }
@@ -191,8 +181,16 @@ fn export_name(rt: HostRuntime) -> Result<(), Fail> {
     )
 }
 
+// Flags that are unknown, an option with a wrong magic number, one that announces too much data, and another name.
 #[test]
-fn export_name_of_no_export(rt: HostRuntime) -> Result<(), Fail> {
-    let option = "49484156454f5054 00000001 00000004 6469736c";
-    converses(rt.alloc(), &[FLAGS, option], &[GREETING], 3)
+fn closed_for_each_cause(rt: HostRuntime) -> Result<(), Fail> {
+    for said in [
+        "00000004",
+        "00000003 49484156454f5053 00000007 00000006",
+        "00000003 49484156454f5054 00000007 00010001",
+        "00000003 49484156454f5054 00000001 00000004 6469736c",
+    ] {
+        converses(rt.alloc(), &[said], &[GREETING], 3)?;
+    }
+    Ok(())
 }
