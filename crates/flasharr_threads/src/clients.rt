@@ -1,7 +1,7 @@
 //! Users that are clients of a session over streams in memory, and vanish.
 use crate::arrays::PAGE_BYTES;
 use crate::gate::Holding;
-use crate::host::Machine;
+use crate::host::ThreadHost;
 use crate::users::User;
 use crate::wire::{Asked, ask, hello};
 use fa_io::faulty::Failing;
@@ -100,7 +100,7 @@ impl<'a, C: Clock> LoopbackUser<'a, C> {
 }
 
 impl<'a, C: Clock> User for LoopbackUser<'a, C> {
-    fn act<R: Machine, B: Blocks>(&mut self, rt: &R, blocks: &mut B) {
+    fn act<R: ThreadHost, B: Blocks>(&mut self, rt: &R, blocks: &mut B) {
         match self {
             LoopbackUser::Client(session) => session.serve(rt.alloc(), blocks),
             LoopbackUser::GateKeeper(gate) => {

@@ -10,6 +10,8 @@ mod lent;
 mod loopback;
 mod pages;
 mod scenarios;
+mod side_by_side;
+mod site;
 mod turns;
 mod users;
 mod wire;

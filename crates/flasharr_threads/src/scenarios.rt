@@ -1,11 +1,12 @@
 //! The scenarios.
-use crate::array_threads::{Left, Meanwhile, run, syncs_of};
+use crate::array_threads::{Left, run, syncs_of};
 use crate::arrays::{DieImage, Shape, Start, formatted, report};
 use crate::clients::{LoopbackUser, Session};
 use crate::gate::{Held, Holding};
 use crate::host::Machine;
 use crate::loopback::{Served, serve_client};
 use crate::pages::{Pages, Step};
+use crate::site::Meanwhile;
 use crate::turns::{Desk, InTurn};
 use crate::wrong::{Came, Wrong};
 use fa_prog_serve::ServerHost;
