@@ -26,6 +26,20 @@ def written_and_read_back(make):
 
 
 @case
+def serve_over_loopback(make):
+    """One client writes a page, reads it back and disconnects; then comes the stop. What the server prints, and what `check` tells, are exact."""
+    array = make(sessions=4)
+    page, data = 3 * 512, b"\x5a" * 512
+    with array.serve() as server:
+        with server.client() as client:
+            client.write(page, data)
+            same_bytes(client.read(page, 512), data, "the page")
+        server.says("stop")
+        equal(server.end(), (0, ["closed clean"]), "how it ends")
+    array.wanted("dies 4 live 4 spare 0\nepoch 2 clean\nwritten 1 thin 0\n", "check")
+
+
+@case
 def any_offset_and_any_length(make):
     """A thousand requests of one client, of any offset and length, beside a plain disk."""
     array = make()

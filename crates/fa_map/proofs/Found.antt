@@ -21,9 +21,9 @@ use Rattle.fa_map.specs.declared.entries.Entry.TheVariants.{Current, Erased, Res
 use Rattle.fa_map_calls.specs.declared.slots.BlockCounts.{BlockCounts}
 use Rattle.fa_map_calls.proofs.Changed.{place_cases}
 use Rattle.fa_map.proofs.Few.{member_put}
-use Rattle.fa_map_calls.proofs.Indices.{die_fits, index_apart, index_fits, later}
+use Rattle.fa_map_calls.proofs.Indices.{block_of_slot, die_fits, index_apart, index_fits, later}
 use Rattle.fa_map_calls.proofs.Ranges.{find_is, find_none, find_some, none_is}
-use Rattle.fa_map.proofs.Tallied.{block_of_slot, entry_same, entry_other}
+use Rattle.fa_map.proofs.Tallied.{entry_same, entry_other}
 
 -- the one entry of an erased slot
 pub erased_entry_is : (e : Entry) → is_erased_entry e ≡ true → e ≡ Erased

@@ -13,7 +13,7 @@ use Rattle.fa_map_calls.specs.declared.slots.BlockCounts.{BlockCounts}
 use Rattle.fa_map_calls.specs.declared.slots.SlotState.{SlotState}
 use Rattle.fa_map_calls.specs.declared.slots.SlotState.TheVariants as states
 use Rattle.fa_map_calls.proofs.Changed.{place_cases}
-use Rattle.fa_map_calls.proofs.Indices.{die_fits, index_apart, index_fits}
+use Rattle.fa_map_calls.proofs.Indices.{block_of_slot, die_fits, index_apart, index_fits}
 use Rattle.fa_map_calls.proofs.Ranges.{bit, count_agree, count_changed, count_le, count_some}
 
 pub same_itself : (x : SlotState) → is_same_state x x ≡ true

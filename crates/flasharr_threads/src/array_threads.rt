@@ -1,12 +1,11 @@
-//! The threads of an array: a worker for each die, the collector, the rebuilder, and the users. What depends on how the array is shared
-//! and worked for stands in this file alone.
+//! An array from where it is mounted to where it is closed, worked for and used by threads meanwhile.
 ghost use Rattle.std.specs.Prelude.{◌≡◌};
-ghost use Rattle.std.specs.Thread.{IsSend, IsSync};
 ghost use Rattle.fa_core.specs.Array.{IsWhole};
-ghost use Rattle.fa_map.specs.PageView.{page_view};
 
 use crate::arrays::{DieImage, Start, close_array, mounted};
 use crate::host::Machine;
+use crate::side_by_side::work_side_by_side;
+use crate::site::{DieTask, Done, Meanwhile, Session, Site, Task};
 use crate::users::User;
 use fa_core::Array;
 use fa_image::Image;
@@ -14,37 +13,20 @@ use fa_map::PageMap;
 use fa_map_calls::Map;
 use fa_mount::{CloseFault, MountedArray};
 use fa_mount_headers::Standing;
-use fa_shared::{Fault, Hands, NoHands, Seat, Shared};
-use fa_shared_store::ArrayBlocks;
+use fa_shared::{Fault, Seat, Shared};
 use fa_types::Die;
-use fa_workers::{
-    Gate, Helper, HelperMemory, ImageTable, JobMemory, collector_worker, die_worker, rebuild_worker,
-};
+use fa_workers::{Gate, HelperMemory, ImageTable, JobMemory};
 use std::alloc::{AllocError, Global};
 use std::marker::Brand;
 use std::sync::ledger::{Blank, Ledger};
-use std::thread;
-use std::thread::{JoinHandle, Threads};
-
-/// How many rounds a collector's window has.
-const WINDOW_ROUNDS: u64 = 8;
-
-/// What sessions do while their requests wait for dies.
-#[derive(Clone, Copy)]
-pub(crate) enum Meanwhile {
-    /// They make jobs of dies, as those of the server do.
-    Help,
-    /// Nothing, so that each die's worker makes its jobs.
-    Sleep,
-}
 
 /// What is left when all threads have ended and the array was closed.
 #[derive(Drop)]
-pub(crate) struct Left<U: Drop> {
-    /// The users, in their order.
+pub(crate) struct Left<U: Drop, I: Drop = DieImage> {
+    /// The users.
     pub(crate) users: Vec<U>,
     /// The images.
-    pub(crate) images: Vec<DieImage>,
+    pub(crate) images: Vec<I>,
     /// How often each image had been synced before the array was closed.
     pub(crate) syncs: Vec<u64>,
     /// Why the array was not closed, if it was not.
@@ -71,26 +53,41 @@ pub(crate) fn run<R: Machine, G: Gate + Sync, U: User + Send>(
     if let Some(image) = wrong.and_then(|index| images.get_mut(index)) {
         image.arm(1);
     }
-    run_over::<Brand, R, G, U>(rt, Blank::new(257), mounted, images, gate, meanwhile, users)
+    run_over::<Brand, R, PageMap, DieImage, G, U>(
+        rt,
+        Blank::new(257),
+        mounted,
+        images,
+        gate,
+        meanwhile,
+        users,
+    )
 }
 
 /// The same of an array that was mounted, over a ledger of 257 parts that nothing else names.
-fn run_over<L: Ledger + Send, R: Machine, G: Gate + Sync, U: User + Send>(
+fn run_over<
+    L: Ledger + Send,
+    R: Machine,
+    M: Map + Send + Drop,
+    I: Image + Send + Drop,
+    G: Gate + Sync,
+    U: User + Send,
+>(
     rt: &R,
     blank: Blank,
-    mounted: MountedArray<PageMap>,
-    images: Vec<DieImage>,
+    mounted: MountedArray<M>,
+    images: Vec<I>,
     gate: &G,
     meanwhile: Meanwhile,
     users: Vec<U>,
-) -> Option<Left<U>>
+) -> Option<Left<U, I>>
     requires name { blank.name ≡ L.name }
     requires parts { (blank.parts ≡ L.parts) × (blank.parts ≡ 257) }
-    requires whole { IsWhole page_view mounted.array }
+    requires whole { IsWhole M.view mounted.array }
 {
     let MountedArray { array, dies } = mounted;
     let page_bytes = array.geometry().page_bytes;
-    let shared = share::<L, PageMap>(rt.alloc(), blank, array)?;
+    let shared = share::<L, M>(rt.alloc(), blank, array)?;
     let worked = work_for(
         rt,
         &shared,
@@ -122,11 +119,11 @@ fn share<L: Ledger, M: Map + Drop>(
 }
 
 /// Takes back the array that was worked for, and closes it.
-fn close_shared<L: Ledger, M: Map + Drop, U: Drop>(
+fn close_shared<L: Ledger, M: Map + Drop, I: Image + Drop, U: Drop>(
     shared: Shared<L, M>,
     dies: Vec<Standing>,
-    worked: Option<Worked<U>>,
-) -> Option<Left<U>> {
+    worked: Option<Worked<U, I>>,
+) -> Option<Left<U, I>> {
     let mounted = MountedArray {
         array: shared.into_array(),
         dies,
@@ -136,18 +133,18 @@ fn close_shared<L: Ledger, M: Map + Drop, U: Drop>(
 
 /// What is left when all threads have ended.
 #[derive(Drop)]
-struct Worked<U: Drop> {
+struct Worked<U: Drop, I: Drop> {
     users: Vec<U>,
-    images: Vec<DieImage>,
+    images: Vec<I>,
     syncs: Vec<u64>,
     faults: Vec<Fault>,
 }
 
 /// Closes the array that was worked for.
-fn close<M: Map + Drop, U: Drop>(
+fn close<M: Map + Drop, I: Image + Drop, U: Drop>(
     mounted: &MountedArray<M>,
-    worked: Option<Worked<U>>,
-) -> Option<Left<U>>
+    worked: Option<Worked<U, I>>,
+) -> Option<Left<U, I>>
     requires { IsWhole M.view mounted.now.array }
 {
     let Worked {
@@ -168,30 +165,48 @@ fn close<M: Map + Drop, U: Drop>(
 
 /// Works for a shared array until all users have done what they do. It stands apart from whoever owns the array, so that no exit of it drops
 /// one.
-fn work_for<L: Ledger + Send, R: Machine, G: Gate + Sync, U: User + Send>(
+fn work_for<
+    L: Ledger + Send,
+    R: Machine,
+    M: Map + Send + Drop,
+    I: Image + Send + Drop,
+    G: Gate + Sync,
+    U: User + Send,
+>(
     rt: &R,
-    shared: &Shared<L, PageMap>,
+    shared: &Shared<L, M>,
     dies: &[Standing],
     page_bytes: u32,
-    images: Vec<DieImage>,
+    images: Vec<I>,
     gate: &G,
     meanwhile: Meanwhile,
     users: Vec<U>,
-) -> Option<Worked<U>>
+) -> Option<Worked<U, I>>
     requires { L.parts ≡ 257 }
 {
     let count = images.len();
     let image_table = image_table_of(rt, dies, images)?;
-    let tasks = tasks_of(rt, shared, dies, page_bytes)?;
-    let sessions = sessions_of(rt, shared, users, meanwhile, page_bytes)?;
-    let Back { users, seats } = run_threads(rt, shared, &image_table, tasks, gate, sessions)?;
+    let tasks = tasks_of(rt, shared, dies, page_bytes, meanwhile, users)?;
+    let back = back_of(rt, shared, &image_table, gate, tasks)?;
     let images = lifted(rt, image_table, count, dies.len())?;
-    let gathered = shared.gather(rt, seats).is_ok();
-    let syncs = syncs_of(rt.alloc(), images.as_slice()).ok()?;
-    let faults = shared.faults(rt, rt.alloc()).ok()?;
-    if !gathered {
+    worked_of(rt, shared, back, images)
+}
+
+/// What is left of threads that have ended. None where a seat is missing, or memory is refused.
+fn worked_of<L: Ledger, R: Machine, M: Map + Drop, I: Image + Drop, U: Drop>(
+    rt: &R,
+    shared: &Shared<L, M>,
+    back: Back<L, U>,
+    images: Vec<I>,
+) -> Option<Worked<U, I>>
+    requires { L.parts ≡ 257 }
+{
+    let Back { users, seats } = back;
+    if shared.gather(rt, seats).is_err() {
         return None;
     }
+    let syncs = syncs_of(rt.alloc(), images.as_slice()).ok()?;
+    let faults = shared.faults(rt, rt.alloc()).ok()?;
     Some(Worked {
         users,
         images,
@@ -201,7 +216,7 @@ fn work_for<L: Ledger + Send, R: Machine, G: Gate + Sync, U: User + Send>(
 }
 
 /// How often each image was synced. The error is out of memory.
-pub(crate) fn syncs_of(alloc: Global, images: &[DieImage]) -> Result<Vec<u64>, AllocError> {
+pub(crate) fn syncs_of<I: Image>(alloc: Global, images: &[I]) -> Result<Vec<u64>, AllocError> {
     let mut syncs = Vec::new(alloc);
     for image in images {
         syncs.push(image.syncs())?;
@@ -209,20 +224,12 @@ pub(crate) fn syncs_of(alloc: Global, images: &[DieImage]) -> Result<Vec<u64>, A
     Ok(syncs)
 }
 
-/// What the worker of a die has of its own.
-#[derive(Drop)]
-struct Task<L: Ledger + Send> {
-    die: Die,
-    seat: Seat<L>,
-    memory: JobMemory,
-}
-
 /// The images by their dies' numbers. All of them are of live dies, and in the order of these.
-fn image_table_of<R: Machine>(
+fn image_table_of<R: Machine, I: Image + Drop>(
     rt: &R,
     dies: &[Standing],
-    images: Vec<DieImage>,
-) -> Option<ImageTable<DieImage>> {
+    images: Vec<I>,
+) -> Option<ImageTable<I>> {
     let mut left = images.into_iter();
     let mut manned = Vec::with_capacity(rt.alloc(), dies.len()).ok()?;
     for standing in dies {
@@ -237,12 +244,12 @@ fn image_table_of<R: Machine>(
 }
 
 /// The images again, so many of them, of an array of so many dies. None where one is missing.
-fn lifted<R: Machine>(
+fn lifted<R: Machine, I: Image + Drop>(
     rt: &R,
-    image_table: ImageTable<DieImage>,
+    image_table: ImageTable<I>,
     count: usize,
     dies: usize,
-) -> Option<Vec<DieImage>> {
+) -> Option<Vec<I>> {
     let mut image_table = image_table;
     let mut images = Vec::with_capacity(rt.alloc(), count).ok()?;
     for number in 0..dies {
@@ -260,29 +267,62 @@ fn lifted<R: Machine>(
     }
 }
 
-/// A task for each live die.
-fn tasks_of<L: Ledger + Send, R: Machine, M: Map + Drop>(
+/// What all threads are to do.
+#[derive(Drop)]
+struct Tasks<L: Ledger, U: Drop> {
+    /// First the tasks of those who work for the array, and then those of users.
+    tasks: Vec<Task<L, U>>,
+    /// How many are of those who work for the array.
+    workers: usize,
+}
+
+/// A task for each live die, for the collector, the rebuilder and each user.
+fn tasks_of<L: Ledger, R: Machine, M: Map + Drop, U: User>(
     rt: &R,
     shared: &Shared<L, M>,
     dies: &[Standing],
     page_bytes: u32,
-) -> Option<Vec<Task<L>>> {
-    let mut tasks = Vec::with_capacity(rt.alloc(), dies.len()).ok()?;
+    meanwhile: Meanwhile,
+    users: Vec<U>,
+) -> Option<Tasks<L, U>> {
+    let mut tasks = Vec::new(rt.alloc());
+    add_workers(rt, shared, dies, page_bytes, &mut tasks)?;
+    let workers = tasks.len();
+    add_users(rt, shared, users, meanwhile, page_bytes, &mut tasks)?;
+    Some(Tasks { tasks, workers })
+}
+
+/// Adds a task for each live die, for the collector and for the rebuilder.
+fn add_workers<L: Ledger, R: Machine, M: Map + Drop, U: User>(
+    rt: &R,
+    shared: &Shared<L, M>,
+    dies: &[Standing],
+    page_bytes: u32,
+    tasks: &mut Vec<Task<L, U>>,
+) -> Option<()> {
     for number in 0..dies.len() {
         let Ok(die) = u8::try_from(number) else {
             break;
         };
         if is_live(dies[number]) {
-            tasks
-                .push(Task {
-                    die: Die(die),
-                    seat: shared.seat(rt)?,
-                    memory: JobMemory::new(rt.alloc(), page_bytes).ok()?,
-                })
-                .ok()?;
+            let task = die_task(rt, shared, Die(die), page_bytes)?;
+            tasks.push(Task::Die(task)).ok()?;
         }
     }
-    Some(tasks)
+    tasks.push(Task::Collect(shared.seat(rt)?)).ok()?;
+    tasks.push(Task::Rebuild(shared.seat(rt)?)).ok()
+}
+
+/// The task of a die's worker.
+fn die_task<L: Ledger, R: Machine, M: Map + Drop>(
+    rt: &R,
+    shared: &Shared<L, M>,
+    die: Die,
+    page_bytes: u32,
+) -> Option<DieTask<L>> {
+    let memory = JobMemory::new(rt.alloc(), page_bytes).ok()?;
+    let seat = shared.seat(rt)?;
+    Some(DieTask { die, seat, room })
 }
 
 /// Whether a die that stands so is live.
@@ -290,264 +330,80 @@ fn is_live(standing: Standing) -> bool {
     matches!(standing, Standing::Live(_))
 }
 
-/// What comes back when all threads have ended.
-#[derive(Drop)]
-struct Back<L: Ledger + Send, U: Drop> {
-    users: Vec<U>,
-    seats: Vec<Seat<L>>,
-}
-
-/// What a user has of its own.
-#[derive(Drop)]
-struct Session<L: Ledger + Send, U: Drop> {
-    user: U,
-    seat: Seat<L>,
-    memory: HelperMemory,
-    meanwhile: Meanwhile,
-}
-
-/// Work that was given to a thread, or that was done here since no thread could be had.
-#[derive(Drop)]
-enum Work<T: Drop> {
-    /// A thread is at it.
-    Runs(JoinHandle<T>),
-    /// It came to this.
-    Done(T),
-}
-
-impl<T: Drop> Work<T> {
-    /// What it came to, which is waited for.
-    fn end<R: Threads>(self, rt: &R) -> T {
-        match self {
-            Work::Runs(handle) => handle.join(rt),
-            Work::Done(result) => result,
-        }
-    }
-}
-
-/// A seat and memory for each user.
-fn sessions_of<L: Ledger + Send, R: Machine, M: Map + Drop, U: User>(
+/// Adds a task for each user, with a seat and memory of its own.
+fn add_users<L: Ledger, R: Machine, M: Map + Drop, U: User>(
     rt: &R,
     shared: &Shared<L, M>,
     users: Vec<U>,
     meanwhile: Meanwhile,
     page_bytes: u32,
-) -> Option<Vec<Session<L, U>>> {
-    let mut sessions = Vec::with_capacity(rt.alloc(), users.len()).ok()?;
+    tasks: &mut Vec<Task<L, U>>,
+) -> Option<()> {
     for user in users {
-        let seat = shared.seat(rt)?;
-        let memory = HelperMemory::new(rt.alloc(), page_bytes).ok()?;
-        sessions
-            .push(Session {
-                user,
-                seat,
-                memory,
-                meanwhile,
-            })
-            .ok()?;
+        let session = session(rt, shared, user, meanwhile, page_bytes)?;
+        tasks.push(Task::Use(session)).ok()?;
     }
-    Some(sessions)
+    Some(())
 }
 
-/// Starts all threads, and takes them in once the users have done what they do. Where a thread cannot be had the array is stopped.
-fn run_threads<L: Ledger + Send, R: Machine, G: Gate + Sync, U: User + Send>(
-    rt: &R,
-    shared: &Shared<L, PageMap>,
-    image_table: &ImageTable<DieImage>,
-    tasks: Vec<Task<L>>,
-    gate: &G,
-    sessions: Vec<Session<L, U>>,
-) -> Option<Back<L, U>> {
-    let collector = shared.seat(rt)?;
-    let rebuilder = shared.seat(rt)?;
-    let mut workers = Vec::with_capacity(rt.alloc(), tasks.len()).ok()?;
-    let mut back = Back {
-        users: Vec::with_capacity(rt.alloc(), sessions.len()).ok()?,
-        seats: Vec::with_capacity(rt.alloc(), tasks.len().saturating_add(sessions.len())).ok()?,
-    };
-    Some(thread::scope(
-        thread::scope_env(),
-        rt,
-        |scope| -> Back<L, U>
-            requires { IsSend U.row × IsSync G.row }
-        {
-            for task in tasks {
-                let work = match scope.spawn(move || work_die(
-                    rt,
-                    shared,
-                    image_table,
-                    gate,
-                    task,
-                )) {
-                    Ok(handle) => Work::Runs(handle),
-                    Err(refused) => {
-                        shared.stop(rt);
-                        Work::Done((refused.value)())
-                    }
-                };
-                let _ = workers.push(work);
-            }
-            let collector = match scope.spawn(move || collect(rt, shared, collector)) {
-                Ok(handle) => Work::Runs(handle),
-                Err(refused) => {
-                    shared.stop(rt);
-                    Work::Done((refused.value)())
-                }
-            };
-            let rebuilder = match scope.spawn(move || rebuild(rt, shared, rebuilder)) {
-                Ok(handle) => Work::Runs(handle),
-                Err(refused) => {
-                    shared.stop(rt);
-                    Work::Done((refused.value)())
-                }
-            };
-            use_all(rt, shared, image_table, gate, sessions, &mut back);
-            shared.stop(rt);
-            for work in workers {
-                let _ = back.seats.push(work.end(rt));
-            }
-            let _ = back.seats.push(collector.end(rt));
-            let _ = back.seats.push(rebuilder.end(rt));
-            back
-        },
-    ))
-}
-
-/// Has all users do what they do, each in a thread, and takes them in.
-fn use_all<L: Ledger + Send, R: Machine, G: Gate + Sync, U: User + Send>(
-    rt: &R,
-    shared: &Shared<L, PageMap>,
-    image_table: &ImageTable<DieImage>,
-    gate: &G,
-    sessions: Vec<Session<L, U>>,
-    back: &mut Back<L, U>,
-) {
-    let Ok(mut works) = Vec::with_capacity(rt.alloc(), sessions.len()) else {
-        return;
-    };
-    let works = thread::scope(
-        thread::scope_env(),
-        rt,
-        |scope| -> Vec<Work<(U, Seat<L>)>>
-            requires { IsSend U.row × IsSync G.row }
-        {
-            for session in sessions {
-                let work = match scope.spawn(move || use_store(
-                    rt,
-                    shared,
-                    image_table,
-                    gate,
-                    session,
-                )) {
-                    Ok(handle) => Work::Runs(handle),
-                    Err(refused) => {
-                        shared.stop(rt);
-                        Work::Done((refused.value)())
-                    }
-                };
-                let _ = works.push(work);
-            }
-            works
-        },
-    );
-    for work in works {
-        let (user, seat) = work.end(rt);
-        let _ = back.users.push(user);
-        let _ = back.seats.push(seat);
-    }
-}
-
-/// Has a user do what it does, over a store of its own.
-fn use_store<L: Ledger + Send, R: Machine, M: Map + Drop, I: Image + Drop, G: Gate, U: User>(
+/// A user with a seat and memory of its own.
+fn session<L: Ledger, R: Machine, M: Map + Drop, U: User>(
     rt: &R,
     shared: &Shared<L, M>,
-    image_table: &ImageTable<I>,
-    gate: &G,
-    session: Session<L, U>,
-) -> (U, Seat<L>) {
-    let Session {
-        mut user,
+    user: U,
+    meanwhile: Meanwhile,
+    page_bytes: u32,
+) -> Option<Session<L, U>> {
+    let memory = HelperMemory::new(rt.alloc(), page_bytes).ok()?;
+    let seat = shared.seat(rt)?;
+    Some(Session {
+        user,
         seat,
         memory,
         meanwhile,
-    } = session;
-    let seat = match meanwhile {
-        Meanwhile::Help => help(rt, shared, image_table, gate, seat, memory, &mut user),
-        Meanwhile::Sleep => act_with(rt, shared, seat, NoHands, &mut user),
-    };
-    (user, seat)
+    })
 }
 
-/// The same where the session makes jobs of dies while a request waits.
-fn help<L: Ledger + Send, R: Machine, M: Map + Drop, I: Image + Drop, G: Gate, U: User>(
+/// What comes back when all threads have ended.
+#[derive(Drop)]
+struct Back<L: Ledger, U: Drop> {
+    users: Vec<U>,
+    seats: Vec<Seat<L>>,
+}
+
+/// Has all tasks done, and takes in what is left of them.
+fn back_of<
+    L: Ledger + Send,
+    R: Machine,
+    M: Map + Send + Drop,
+    I: Image + Send + Drop,
+    G: Gate + Sync,
+    U: User + Send,
+>(
     rt: &R,
     shared: &Shared<L, M>,
     image_table: &ImageTable<I>,
     gate: &G,
-    seat: Seat<L>,
-    memory: HelperMemory,
-    user: &mut U,
-) -> Seat<L> {
-    let helper = Helper::new(rt, rt.alloc(), shared, image_table, gate, memory);
-    act_with(rt, shared, seat, helper, user)
-}
-
-/// The same over the store of a seat, with somebody who makes jobs of dies while a request waits. It is a function of its own, so that no
-/// type is written that has the helper's inside of the store's.
-fn act_with<L: Ledger + Send, R: Machine, M: Map + Drop, H: Hands<L, M, Global> + Drop, U: User>(
-    rt: &R,
-    shared: &Shared<L, M>,
-    seat: Seat<L>,
-    hands: H,
-    user: &mut U,
-) -> Seat<L> {
-    let mut blocks = ArrayBlocks::new(rt, rt.alloc(), shared, seat, hands);
-    user.act(rt, &mut blocks);
-    blocks.into_seat()
-}
-
-/// Works for a die until the array is to end.
-fn work_die<L: Ledger + Send, R: Machine, M: Map + Drop, I: Image + Drop, G: Gate>(
-    rt: &R,
-    shared: &Shared<L, M>,
-    image_table: &ImageTable<I>,
-    gate: &G,
-    task: Task<L>,
-) -> Seat<L> {
-    let Task {
-        die,
-        mut seat,
-        memory,
-    } = task;
-    die_worker(
-        rt,
-        rt.alloc(),
+    tasks: Tasks<L, U>,
+) -> Option<Back<L, U>> {
+    let Tasks { tasks, workers } = tasks;
+    let site = Site {
         shared,
-        &mut seat,
-        die,
         image_table,
-        memory,
         gate,
-    );
-    seat
+    };
+    taken_in(rt, work_side_by_side(rt, &site, tasks, workers)?)
 }
 
-/// Collects until the array is to end.
-fn collect<L: Ledger + Send, R: Machine, M: Map + Drop>(
-    rt: &R,
-    shared: &Shared<L, M>,
-    mut seat: Seat<L>,
-) -> Seat<L> {
-    collector_worker(rt, rt.alloc(), shared, &mut seat, WINDOW_ROUNDS);
-    seat
-}
-
-/// Rebuilds until the array is to end.
-fn rebuild<L: Ledger + Send, R: Machine, M: Map + Drop>(
-    rt: &R,
-    shared: &Shared<L, M>,
-    mut seat: Seat<L>,
-) -> Seat<L> {
-    rebuild_worker(rt, rt.alloc(), shared, &mut seat);
-    seat
+/// What is left of all tasks, the users apart from the seats. None where memory is refused.
+fn taken_in<L: Ledger, R: Machine, U: Drop>(rt: &R, done: Vec<Done<L, U>>) -> Option<Back<L, U>> {
+    let mut users = Vec::with_capacity(rt.alloc(), done.len()).ok()?;
+    let mut seats = Vec::with_capacity(rt.alloc(), done.len()).ok()?;
+    for Done { seat, user } in done {
+        let _ = seats.push(seat);
+        if let Some(user) = user {
+            let _ = users.push(user);
+        }
+    }
+    Some(Back { users, seats })
 }

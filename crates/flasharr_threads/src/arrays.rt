@@ -119,9 +119,9 @@ fn copies_of(images: &[DieImage]) -> Option<Copies> {
 }
 
 /// Closes an array, or tells why not. One of which a live die has no image is refused as busy.
-pub(crate) fn close_array<M: Map + Drop>(
+pub(crate) fn close_array<M: Map + Drop, I: Image>(
     mounted: &MountedArray<M>,
-    images: &mut [DieImage],
+    images: &mut [I],
 ) -> Option<CloseFault>
     requires { IsWhole M.view mounted.now.array }
 {

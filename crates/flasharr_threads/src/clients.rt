@@ -1,7 +1,7 @@
 //! Users that are clients of a session over streams in memory, and vanish.
 use crate::arrays::PAGE_BYTES;
 use crate::gate::Holding;
-use crate::host::Machine;
+use crate::host::ThreadHost;
 use crate::users::User;
 use crate::wire::{Asked, ask, hello};
 use fa_io::faulty::Failing;
@@ -82,28 +82,28 @@ impl Session {
 
 /// Who has to do with vanishing clients.
 #[derive(Drop)]
-pub(crate) enum LoopbackUser<'a, C: Clock> {
+pub(crate) enum Visitor<'a, C: Clock> {
     /// A client and its session.
     Client(Session),
     /// Who opens the gate once enough calls of images are held.
     GateKeeper(&'a Holding<'a, C>),
 }
 
-impl<'a, C: Clock> LoopbackUser<'a, C> {
+impl<'a, C: Clock> Visitor<'a, C> {
     /// Whether all was as it is to be.
     pub(crate) fn is_right(&self) -> bool {
         match self {
-            LoopbackUser::Client(session) => session.end == Some(session.due),
-            LoopbackUser::GateKeeper(gate) => !gate.is_late(),
+            Visitor::Client(session) => session.end == Some(session.due),
+            Visitor::GateKeeper(gate) => !gate.is_late(),
         }
     }
 }
 
-impl<'a, C: Clock> User for LoopbackUser<'a, C> {
-    fn act<R: Machine, B: Blocks>(&mut self, rt: &R, blocks: &mut B) {
+impl<'a, C: Clock> User for Visitor<'a, C> {
+    fn act<R: ThreadHost, B: Blocks>(&mut self, rt: &R, blocks: &mut B) {
         match self {
-            LoopbackUser::Client(session) => session.serve(rt.alloc(), blocks),
-            LoopbackUser::GateKeeper(gate) => {
+            Visitor::Client(session) => session.serve(rt.alloc(), blocks),
+            Visitor::GateKeeper(gate) => {
                 gate.await_calls();
                 gate.open();
             }

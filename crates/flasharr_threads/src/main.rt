@@ -6,18 +6,17 @@ mod arrays;
 mod clients;
 mod gate;
 mod host;
-mod lent;
-mod loopback;
 mod pages;
 mod scenarios;
+mod side_by_side;
+mod site;
 mod turns;
 mod users;
 mod wire;
 mod wrong;
 
+use crate::host::Machine;
 use crate::scenarios::{NAMES, play};
-use fa_prog_serve::ServerHost;
-use std::net::{TcpListener, TcpStream};
 use std::process::ExitCode;
 use std::{env, io};
 
@@ -28,8 +27,6 @@ const WRONG: u8 = 1;
 const FAULTY: u8 = 2;
 
 fn main(rt: HostRuntime) -> io::Result<ExitCode> {
-    // The proof of a call over this runtime's sockets wants their types among those of the caller.
-    let _sockets: Option<(TcpListener, TcpStream)> = None;
     let words: Vec<String> = env::args(&rt)?.skip(1).collect(rt.alloc())?;
     let mut status = 0;
     for name in NAMES {
@@ -47,7 +44,7 @@ fn main(rt: HostRuntime) -> io::Result<ExitCode> {
 }
 
 /// Plays a scenario and prints what came of it. The answer is a status.
-fn told<R: ServerHost + Print>(rt: &R, name: &str) -> io::Result<u8> {
+fn told<R: Machine + Print>(rt: &R, name: &str) -> io::Result<u8> {
     match play(rt, name) {
         Some(Ok(())) => {
             println!(rt; "{name}: right")?;

@@ -1,7 +1,7 @@
 //! Users that write and read whole pages.
 use crate::arrays::PAGE_BYTES;
 use crate::gate::Holding;
-use crate::host::Machine;
+use crate::host::ThreadHost;
 use crate::users::{User, read, write};
 use fa_types::Blocks;
 use std::alloc::Global;
@@ -114,7 +114,7 @@ impl<'a, R: Clock> Pages<'a, R> {
 }
 
 impl<'a, C: Clock> User for Pages<'a, C> {
-    fn act<R: Machine, B: Blocks>(&mut self, rt: &R, blocks: &mut B) {
+    fn act<R: ThreadHost, B: Blocks>(&mut self, rt: &R, blocks: &mut B) {
         let steps = self.steps;
         for step in steps {
             if !self.make(rt.alloc(), blocks, *step) {

@@ -1,20 +1,19 @@
 //! The scenarios.
-use crate::array_threads::{Left, Meanwhile, run, syncs_of};
+use crate::array_threads::{Left, run, syncs_of};
 use crate::arrays::{DieImage, Shape, Start, formatted, report};
-use crate::clients::{LoopbackUser, Session};
+use crate::clients::{Session, Visitor};
 use crate::gate::{HeldCalls, Holding};
 use crate::host::Machine;
-use crate::loopback::{Served, serve_client};
 use crate::pages::{Pages, Step};
+use crate::site::Meanwhile;
 use crate::turns::{Desk, InTurn};
 use crate::wrong::{Came, Wrong};
-use fa_prog_serve::ServerHost;
 use fa_shared::Cause;
 use fa_types::Die;
 use std::alloc::{AllocError, Global};
 
 /// The scenario of a name.
-pub(crate) fn play<R: ServerHost>(rt: &R, name: &str) -> Option<Came> {
+pub(crate) fn play<R: Machine>(rt: &R, name: &str) -> Option<Came> {
     match name {
         "two_sessions_read_back" => Some(two_sessions_read_back(rt)),
         "two_dies_read_in_one_round" => Some(two_dies_read_in_one_round(rt)),
@@ -23,13 +22,12 @@ pub(crate) fn play<R: ServerHost>(rt: &R, name: &str) -> Option<Came> {
         "workers_collect_and_rebuild" => Some(workers_collect_and_rebuild(rt)),
         "vanished_client_leaves_nothing" => Some(vanished_client_leaves_nothing(rt)),
         "wrong_bytes_take_the_die_out" => Some(wrong_bytes_take_the_die_out(rt)),
-        "serve_over_loopback" => Some(serve_over_loopback(rt)),
         _ => None,
     }
 }
 
 /// The names of all scenarios, in their order.
-pub(crate) const NAMES: [&str; 8] = [
+pub(crate) const NAMES: [&str; 7] = [
     "two_sessions_read_back",
     "two_dies_read_in_one_round",
     "admit_page_by_page",
@@ -37,7 +35,6 @@ pub(crate) const NAMES: [&str; 8] = [
     "workers_collect_and_rebuild",
     "vanished_client_leaves_nothing",
     "wrong_bytes_take_the_die_out",
-    "serve_over_loopback",
 ];
 
 /// Two sessions make calls in turn, and each is answered as a plain store answers it.
@@ -180,7 +177,7 @@ fn vanished_client_leaves_nothing<R: Machine>(rt: &R) -> Came {
     let images = written(rt, Shape::of(3))?;
     let gate = Holding::new(rt, HeldCalls::Slots, 1);
     gate.shut();
-    let mut images = with_loopback_users(rt, Start::of(images), &gate)?;
+    let mut images = with_visitors(rt, Start::of(images), &gate)?;
     let told = report(rt.alloc(), images.as_mut_slice()).ok_or(Wrong::NoArray)?;
     if told.written != 9 {
         return Err(Wrong::Written);
@@ -189,12 +186,12 @@ fn vanished_client_leaves_nothing<R: Machine>(rt: &R) -> Came {
 }
 
 /// Has clients vanish while the gate is shut, and closes the array.
-fn with_loopback_users<R: Machine>(
+fn with_visitors<R: Machine>(
     rt: &R,
     start: Start,
     gate: &Holding<'_, R>,
 ) -> Result<Vec<DieImage>, Wrong> {
-    let users = users_of_loopback(rt.alloc(), gate)?;
+    let users = visitors(rt.alloc(), gate)?;
     let left = run(rt, start, gate, Meanwhile::Help, users).ok_or(Wrong::NoThreads)?;
     if left.users.len() != 3 || left.users.iter().any(|user| !user.is_right()) {
         return Err(Wrong::Answer);
@@ -203,14 +200,14 @@ fn with_loopback_users<R: Machine>(
 }
 
 /// A client that reads pages 0 to 2, one that writes page 9 and begins to write the next, and who opens the gate. The error is out of memory.
-fn users_of_loopback<'a, R: Machine>(
+fn visitors<'a, R: Machine>(
     alloc: Global,
     gate: &'a Holding<'a, R>,
-) -> Result<Vec<LoopbackUser<'a, R>>, AllocError> {
+) -> Result<Vec<Visitor<'a, R>>, AllocError> {
     let mut users = Vec::new(alloc);
-    users.push(LoopbackUser::Client(Session::reading(alloc, 3)?))?;
-    users.push(LoopbackUser::Client(Session::writing(alloc, 9)?))?;
-    users.push(LoopbackUser::GateKeeper(gate))?;
+    users.push(Visitor::Client(Session::reading(alloc, 3)?))?;
+    users.push(Visitor::Client(Session::writing(alloc, 9)?))?;
+    users.push(Visitor::GateKeeper(gate))?;
     Ok(users)
 }
 
@@ -230,32 +227,6 @@ fn wrong_bytes_take_the_die_out<R: Machine>(rt: &R) -> Came {
     };
     closed(left)?;
     if is_told { Ok(()) } else { Err(Wrong::Fault) }
-}
-
-/// A server serves a client over a socket, and closes the array when it is stopped.
-fn serve_over_loopback<R: ServerHost>(rt: &R) -> Came {
-    let mut images = formatted(rt.alloc(), Shape::of(4)).ok_or(Wrong::NoArray)?;
-    let served = served(rt, images.as_mut_slice())?;
-    if !served.is_answered {
-        return Err(Wrong::Answer);
-    }
-    if !served.is_told {
-        return Err(Wrong::Printed);
-    }
-    let told = report(rt.alloc(), images.as_mut_slice()).ok_or(Wrong::NoArray)?;
-    let is_right = told.dies == 4 && told.live == 4 && told.spares == 0;
-    if !is_right || told.epoch != 2 || !told.clean || told.written != 1 || told.thin != 0 {
-        return Err(Wrong::Written);
-    }
-    Ok(())
-}
-
-/// What came of a server and its client over these images.
-fn served<R: ServerHost>(rt: &R, images: &mut [DieImage]) -> Result<Served, Wrong> {
-    match serve_client(rt, images) {
-        Ok(served) => Ok(served),
-        Err(_) => Err(Wrong::NoSocket),
-    }
 }
 
 /// A new array of this shape.

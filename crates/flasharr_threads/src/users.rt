@@ -1,14 +1,14 @@
 //! Those who use an array, each in a thread of its own.
 ghost use Rattle.std.specs.Prelude.{◌≡◌, ◌+◌, ◌≤◌, true};
 
-use crate::host::Machine;
+use crate::host::ThreadHost;
 use fa_types::Blocks;
 use std::alloc::Global;
 
 /// Who uses an array by a store of its own.
 pub(crate) trait User: Drop {
     /// Does what there is to do.
-    fn act<R: Machine, B: Blocks>(&mut self, rt: &R, blocks: &mut B);
+    fn act<R: ThreadHost, B: Blocks>(&mut self, rt: &R, blocks: &mut B);
 }
 
 /// Whether a range lies within so many bytes.

@@ -10,18 +10,11 @@ const HELLO: [u8; 26] = [
 /// What a request begins with.
 const MAGIC: u32 = 0x2560_9513;
 
-/// How many bytes the server says before the first reply: the greeting, and the two answers to the GO.
-pub(crate) const GREETED_BYTES: usize = 18 + 32 + 20;
-
-/// How many bytes a reply has before its data.
-pub(crate) const REPLY_BYTES: usize = 16;
-
 /// What a request asks for.
 #[derive(Clone, Copy)]
 pub(crate) enum Asked {
     Read,
     Write,
-    Disconnect,
 }
 
 /// The beginning of a client. The error is out of memory.
@@ -41,7 +34,6 @@ pub(crate) fn ask(
     let kind: u16 = match asked {
         Asked::Read => 0,
         Asked::Write => 1,
-        Asked::Disconnect => 2,
     };
     said.extend_from_slice(&MAGIC.to_be_bytes())?;
     said.extend_from_slice(&[0, 0])?;

@@ -9,7 +9,6 @@ pub(crate) type Came = Result<(), Wrong>;
 pub(crate) enum Wrong {
     NoArray,
     NoThreads,
-    NoSocket,
     Answer,
     Late,
     NotClosed,
@@ -17,7 +16,6 @@ pub(crate) enum Wrong {
     Thin,
     Written,
     Fault,
-    Printed,
 }
 
 impl Wrong {
@@ -26,7 +24,6 @@ impl Wrong {
         match self {
             Wrong::NoArray => "an array could not be made or mounted",
             Wrong::NoThreads => "a thread or memory was refused",
-            Wrong::NoSocket => "there was no socket",
             Wrong::Answer => "an answer was wrong",
             Wrong::Late => "something was waited for in vain",
             Wrong::NotClosed => "the array was not closed",
@@ -34,7 +31,6 @@ impl Wrong {
             Wrong::Thin => "a page is thin",
             Wrong::Written => "the images do not hold what was written",
             Wrong::Fault => "another fault is kept than that die 1 gave wrong bytes",
-            Wrong::Printed => "the server printed something else, or ended with another status",
         }
     }
 }

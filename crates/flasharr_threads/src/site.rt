@@ -1,0 +1,196 @@
+//! A shared array as its threads see it, and what they do: those who work for it, and its users.
+use crate::host::ThreadHost;
+use crate::side_by_side::Workplace;
+use crate::users::User;
+use fa_image::Image;
+use fa_map_calls::Map;
+use fa_shared::{Hands, NoHands, Seat, Shared};
+use fa_shared_store::ArrayBlocks;
+use fa_types::Die;
+use fa_workers::{
+    Gate, Helper, HelperMemory, ImageTable, JobMemory, collector_worker, die_worker, rebuild_worker,
+};
+use std::alloc::Global;
+use std::sync::ledger::Ledger;
+
+/// How many rounds a collector's window has.
+const WINDOW_ROUNDS: u64 = 8;
+
+/// What sessions do while their requests wait for dies.
+#[derive(Clone, Copy)]
+pub(crate) enum Meanwhile {
+    /// They make jobs of dies, as those of the server do.
+    Help,
+    /// Nothing, so that each die's worker makes its jobs.
+    Sleep,
+}
+
+/// What a thread is to do at a shared array.
+#[derive(Drop)]
+pub(crate) enum Task<L: Ledger, U: Drop> {
+    /// Work for a die.
+    Die(DieTask<L>),
+    /// Collect.
+    Collect(Seat<L>),
+    /// Rebuild.
+    Rebuild(Seat<L>),
+    /// Have a user do what it does.
+    Use(Session<L, U>),
+}
+
+/// What the worker of a die has of its own.
+#[derive(Drop)]
+pub(crate) struct DieTask<L: Ledger> {
+    pub(crate) die: Die,
+    pub(crate) seat: Seat<L>,
+    pub(crate) memory: JobMemory,
+}
+
+/// What a user has of its own.
+#[derive(Drop)]
+pub(crate) struct Session<L: Ledger, U: Drop> {
+    pub(crate) user: U,
+    pub(crate) seat: Seat<L>,
+    pub(crate) memory: HelperMemory,
+    pub(crate) meanwhile: Meanwhile,
+}
+
+/// What is left of a task.
+#[derive(Drop)]
+pub(crate) struct Done<L: Ledger, U: Drop> {
+    pub(crate) seat: Seat<L>,
+    /// The user, if it was one's task.
+    pub(crate) user: Option<U>,
+}
+
+/// A shared array, with what its threads work with.
+#[derive(Drop)]
+pub(crate) struct Site<'a, L: Ledger, M: Map + Drop, I: Image + Drop, G: Gate> {
+    pub(crate) shared: &'a Shared<L, M>,
+    pub(crate) image_table: &'a ImageTable<I>,
+    /// The gate at each call of an image.
+    pub(crate) gate: &'a G,
+}
+
+impl<'a, L: Ledger, M: Map + Drop, I: Image + Drop, G: Gate, U: User> Workplace<
+    Task<L, U>,
+    Done<L, U>,
+> for Site<'a, L, M, I, G> {
+    fn work<R: ThreadHost>(&self, rt: &R, task: Task<L, U>) -> Done<L, U> {
+        match task {
+            Task::Die(task) => left(work_die(rt, self.shared, self.image_table, self.gate, task)),
+            Task::Collect(seat) => left(collect(rt, self.shared, seat)),
+            Task::Rebuild(seat) => left(rebuild(rt, self.shared, seat)),
+            Task::Use(session) => {
+                use_store(rt, self.shared, self.image_table, self.gate, session)
+            }
+        }
+    }
+
+    fn stop<R: ThreadHost>(&self, rt: &R) {
+        self.shared.stop(rt);
+    }
+}
+
+/// What is left of a task that is no user's.
+fn left<L: Ledger, U: Drop>(seat: Seat<L>) -> Done<L, U> {
+    Done { seat, user: None }
+}
+
+/// Has a user do what it does, over a store of its own.
+fn use_store<L: Ledger, R: ThreadHost, M: Map + Drop, I: Image + Drop, G: Gate, U: User>(
+    rt: &R,
+    shared: &Shared<L, M>,
+    image_table: &ImageTable<I>,
+    gate: &G,
+    session: Session<L, U>,
+) -> Done<L, U> {
+    let Session {
+        mut user,
+        seat,
+        memory,
+        meanwhile,
+    } = session;
+    let seat = match meanwhile {
+        Meanwhile::Help => help(rt, shared, image_table, gate, seat, memory, &mut user),
+        Meanwhile::Sleep => act_with(rt, shared, seat, NoHands, &mut user),
+    };
+    Done {
+        seat,
+        user: Some(user),
+    }
+}
+
+/// The same where the session makes jobs of dies while a request waits.
+fn help<L: Ledger, R: ThreadHost, M: Map + Drop, I: Image + Drop, G: Gate, U: User>(
+    rt: &R,
+    shared: &Shared<L, M>,
+    image_table: &ImageTable<I>,
+    gate: &G,
+    seat: Seat<L>,
+    memory: HelperMemory,
+    user: &mut U,
+) -> Seat<L> {
+    let helper = Helper::new(rt, rt.alloc(), shared, image_table, gate, memory);
+    act_with(rt, shared, seat, helper, user)
+}
+
+/// The same over the store of a seat, with somebody who makes jobs of dies while a request waits. It is a function of its own, so that no
+/// type is written that has the helper's inside of the store's.
+fn act_with<L: Ledger, R: ThreadHost, M: Map + Drop, H: Hands<L, M, Global> + Drop, U: User>(
+    rt: &R,
+    shared: &Shared<L, M>,
+    seat: Seat<L>,
+    hands: H,
+    user: &mut U,
+) -> Seat<L> {
+    let mut blocks = ArrayBlocks::new(rt, rt.alloc(), shared, seat, hands);
+    user.act(rt, &mut blocks);
+    blocks.into_seat()
+}
+
+/// Works for a die until the array is to end.
+fn work_die<L: Ledger, R: ThreadHost, M: Map + Drop, I: Image + Drop, G: Gate>(
+    rt: &R,
+    shared: &Shared<L, M>,
+    image_table: &ImageTable<I>,
+    gate: &G,
+    task: DieTask<L>,
+) -> Seat<L> {
+    let DieTask {
+        die,
+        mut seat,
+        memory,
+    } = task;
+    die_worker(
+        rt,
+        rt.alloc(),
+        shared,
+        &mut seat,
+        die,
+        image_table,
+        memory,
+        gate,
+    );
+    seat
+}
+
+/// Collects until the array is to end.
+fn collect<L: Ledger, R: ThreadHost, M: Map + Drop>(
+    rt: &R,
+    shared: &Shared<L, M>,
+    mut seat: Seat<L>,
+) -> Seat<L> {
+    collector_worker(rt, rt.alloc(), shared, &mut seat, WINDOW_ROUNDS);
+    seat
+}
+
+/// Rebuilds until the array is to end.
+fn rebuild<L: Ledger, R: ThreadHost, M: Map + Drop>(
+    rt: &R,
+    shared: &Shared<L, M>,
+    mut seat: Seat<L>,
+) -> Seat<L> {
+    rebuild_worker(rt, rt.alloc(), shared, &mut seat);
+    seat
+}
