@@ -49,9 +49,7 @@ pub(crate) fn run<R: Machine, G: Gate + Sync, U: User + Send>(
         wrong,
     } = start;
     let mounted = mounted(rt.alloc(), images.as_mut_slice(), unclean)?;
-    if let Some(image) = wrong.and_then(|index| images.get_mut(index)) {
-        image.arm(1);
-    }
+    arm(images.as_mut_slice(), wrong);
     run_over::<Brand, R, PageMap, DieImage, G, U>(
         rt,
         Blank::new(257),
@@ -61,6 +59,13 @@ pub(crate) fn run<R: Machine, G: Gate + Sync, U: User + Send>(
         meanwhile,
         users,
     )
+}
+
+/// Has the image of this place give wrong bytes at its next read.
+fn arm(images: &mut [DieImage], wrong: Option<usize>) {
+    if let Some(image) = wrong.and_then(|index| images.get_mut(index)) {
+        image.arm(1);
+    }
 }
 
 /// The same of an array that was mounted, over a ledger of 257 parts that nothing else names.
