@@ -50,9 +50,7 @@ pub(crate) fn run<R: Machine, G: Gate + Sync, U: User + Send>(
         wrong,
     } = start;
     let mounted = mounted(rt.alloc(), images.as_mut_slice(), unclean)?;
-    if let Some(image) = wrong.and_then(|index| images.get_mut(index)) {
-        image.arm(1);
-    }
+    arm(images.as_mut_slice(), wrong);
     run_over::<Brand, R, PageMap, DieImage, G, U>(
         rt,
         Blank::new(257),
@@ -62,6 +60,13 @@ pub(crate) fn run<R: Machine, G: Gate + Sync, U: User + Send>(
         meanwhile,
         users,
     )
+}
+
+/// Has the image of this place give wrong bytes at its next read.
+fn arm(images: &mut [DieImage], wrong: Option<usize>) {
+    if let Some(image) = wrong.and_then(|index| images.get_mut(index)) {
+        image.arm(1);
+    }
 }
 
 /// The same of an array that was mounted, over a ledger of 257 parts that nothing else names.
@@ -322,7 +327,7 @@ fn die_task<L: Ledger, R: Machine, M: Map + Drop>(
 ) -> Option<DieTask<L>> {
     let memory = JobMemory::new(rt.alloc(), page_bytes).ok()?;
     let seat = shared.seat(rt)?;
-    Some(DieTask { die, seat, room })
+    Some(DieTask { die, seat, memory })
 }
 
 /// Whether a die that stands so is live.

@@ -8,8 +8,7 @@ use crate::pages::{Pages, Step};
 use crate::site::Meanwhile;
 use crate::turns::{Desk, InTurn};
 use crate::wrong::{Came, Wrong};
-use fa_shared::Cause;
-use fa_types::Die;
+use fa_shared::{Cause, Fault};
 use std::alloc::{AllocError, Global};
 
 /// The scenario of a name.
@@ -61,10 +60,7 @@ fn take_turns<R: Machine>(rt: &R, meanwhile: Meanwhile) -> Came {
 
 /// The two who make calls in turn. The error is out of memory.
 fn turns_of(alloc: Global, desk: &Desk) -> Result<Vec<InTurn<'_>>, AllocError> {
-    let mut users = Vec::new(alloc);
-    users.push(InTurn::new(desk, 0))?;
-    users.push(InTurn::new(desk, 1))?;
-    Ok(users)
+    Ok(vec![in alloc; InTurn::new(desk, 0), InTurn::new(desk, 1)]?)
 }
 
 /// A read of two pages on two dies is at both dies at once, whichever is first: each read of a die waits for that of the other.
@@ -106,13 +102,23 @@ fn flush_without_sync<R: Machine>(rt: &R) -> Came {
     let start = new_array(rt, Shape::of(3))?;
     let before = syncs_of(rt.alloc(), start.images.as_slice())?;
     let left = by_steps(rt, start, &gate, Meanwhile::Help, &[Step::Flush], 0)?;
+    let are_synced = are_synced(before.as_slice(), left.syncs.as_slice());
+    closed(left)?;
+    if are_synced {
+        Ok(())
+    } else {
+        Err(Wrong::NotSynced)
+    }
+}
+
+/// Whether each of three images was synced between these two times, by how often it had been synced at each.
+fn are_synced(before: &[u64], after: &[u64]) -> bool {
     for die in 0..3usize {
-        if before.get(die) == left.syncs.get(die) {
-            return Err(Wrong::NotSynced);
+        if die >= before.len() || die >= after.len() || before[die] == after[die] {
+            return false;
         }
     }
-    closed(left)?;
-    Ok(())
+    true
 }
 
 /// Four dies of 16 slots each, for 8 pages.
@@ -204,11 +210,9 @@ fn visitors<'a, R: Machine>(
     alloc: Global,
     gate: &'a Holding<'a, R>,
 ) -> Result<Vec<Visitor<'a, R>>, AllocError> {
-    let mut users = Vec::new(alloc);
-    users.push(Visitor::Client(Session::reading(alloc, 3)?))?;
-    users.push(Visitor::Client(Session::writing(alloc, 9)?))?;
-    users.push(Visitor::GateKeeper(gate))?;
-    Ok(users)
+    let reading = Visitor::Client(Session::reading(alloc, 3)?);
+    let writing = Visitor::Client(Session::writing(alloc, 9)?);
+    Ok(vec![in alloc; reading, writing, Visitor::GateKeeper(gate)]?)
 }
 
 /// A die whose image gives wrong bytes goes out, and what is read is right.
@@ -221,12 +225,17 @@ fn wrong_bytes_take_the_die_out<R: Machine>(rt: &R) -> Came {
     };
     let gate = Holding::new(rt, HeldCalls::Reads, 0);
     let left = by_steps(rt, start, &gate, Meanwhile::Help, &[Step::Read(0, 8)], 8)?;
-    let is_told = match left.faults.as_slice() {
-        [fault] => fault.die == Die(1) && fault.cause == Cause::Wrong,
-        _ => false,
-    };
+    let is_told = is_of_wrong_bytes(left.faults.as_slice());
     closed(left)?;
     if is_told { Ok(()) } else { Err(Wrong::Fault) }
+}
+
+/// Whether the only fault is that die 1 gave wrong bytes.
+fn is_of_wrong_bytes(faults: &[Fault]) -> bool {
+    match faults {
+        [fault] => fault.die.0 == 1 && matches!(fault.cause, Cause::Wrong),
+        _ => false,
+    }
 }
 
 /// A new array of this shape.
@@ -267,9 +276,7 @@ fn only<'a, R: Machine>(
     alloc: Global,
     user: Pages<'a, R>,
 ) -> Result<Vec<Pages<'a, R>>, AllocError> {
-    let mut users = Vec::new(alloc);
-    users.push(user)?;
-    Ok(users)
+    Ok(vec![in alloc; user]?)
 }
 
 /// The same, and what is left of the images of an array that was closed.
