@@ -1,4 +1,1 @@
-mod Bodies
 mod Few
-mod Parts
-mod Refusals

@@ -1,52 +1,28 @@
 //! Makes images, an array over them and what an array does, as the lines of its input ask for it.
 #![tactic(auto)]
 
-mod answers;
-mod bare;
-mod beside;
-mod certified;
-mod client;
-mod content;
-mod desk;
-mod digests;
-mod heap;
-mod images;
-mod jobs;
+mod bare_jobs;
+mod image_lines;
 mod lab;
-mod lent;
-mod looks;
-mod making;
-mod meter;
 mod mounting;
-mod naming;
-mod order;
 mod over_array;
-mod plans;
+mod owning;
 mod scanning;
 mod script;
-mod seen;
-mod session;
 mod shape;
-mod slots;
 mod store;
-mod taken;
-mod told;
-mod touching;
-mod unmounted;
-mod words;
+mod turn;
+mod without_array;
 
-use crate::heap::new_heap;
-use crate::images::{DieImage, Fused, Yard};
 use crate::lab::Lab;
 use crate::mounting::run_lines;
 use crate::script::Script;
+use crate::turn::FAULTY;
 use fa_image::{FileImage, MemImage};
+use flasharr_lab_parts::{DieImage, Fused, Yard, new_heap};
 use std::process::ExitCode;
 use std::thread::Threads;
 use std::{env, io};
-
-/// The status where the words are none of this program's.
-const FAULTY: u8 = 2;
 
 fn main(rt: HostRuntime) -> io::Result<ExitCode> {
     let words: Vec<String> = env::args(&rt)?.skip(1).collect(rt.alloc())?;
@@ -61,7 +37,7 @@ fn main(rt: HostRuntime) -> io::Result<ExitCode> {
 }
 
 /// Does what the lines of the input ask for, with images of this kind.
-fn run<T: Threads + Sync, I: DieImage>(
+fn run<T: Threads + Sync, I: DieImage + Send>(
     rt: &HostRuntime,
     threads: &T,
     folder: &str,
@@ -75,5 +51,5 @@ fn run<T: Threads + Sync, I: DieImage>(
         bare: None,
     };
     run_lines(threads, &mut script, &mut lab, &mut yard);
-    Ok(script.finish(&mut lab))
+    Ok(script.turn.finish(&mut lab.tools))
 }

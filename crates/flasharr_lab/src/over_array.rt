@@ -1,37 +1,23 @@
 //! Lines over an array.
 ghost use Rattle.fa_core.specs.Array.{IsWhole};
 
-use crate::answers::show_live;
-use crate::bare::bare;
-use crate::beside::free;
-use crate::certified::held_pages;
-use crate::heap::Heap;
-use crate::images::{DieImage, Yard};
-use crate::jobs::{make_job, run_job_of, work_all};
+use crate::bare_jobs::do_bare;
+use crate::image_lines::touch_images;
 use crate::lab::Lab;
-use crate::looks::show;
-use crate::making::run_event;
-use crate::order::{Order, Wish, Work};
 use crate::script::Script;
-use crate::seen::MAX_DIES;
-use crate::told::Told;
-use crate::touching::touch;
-use crate::words::{die_of, number_at};
-use fa_batch::Batch;
-use fa_core::Array;
 use fa_image::Image;
 use fa_map_calls::Map;
 use fa_mount::{CloseFault, MountedArray, close_clean};
-use fa_plan::plan;
 use fa_solo::Parts;
-use fa_types::{Die, Rounds};
-use std::alloc::{AllocError, Allocator};
+use fa_types::Die;
+use flasharr_lab_array::{Desk, make_job, plan_pages, run_event, run_job_of, show_look, work_all};
+use flasharr_lab_calls::do_free;
+use flasharr_lab_parts::{DieImage, Heap, Tools, Yard};
+use flasharr_lab_words::{MAX_DIES, Order, Output, Wish, Work, die_of, number_at, show_live};
+use std::alloc::Allocator;
 use std::io::BufRead;
 
-/// Until this round batches are planned.
-const LAST_ROUND: u64 = (1 << 56) - (1 << 24);
-
-/// Does what lines ask of an array, up to one that lets it go, or one that asks for a store of it: then how many rounds its windows have.
+/// Does what lines ask of an array, up to one by which it is dropped, or one that asks for a store of it: then how many rounds its windows have.
 pub(crate) fn over_array<'a, R: BufRead + Drop, M: Map + Drop, I: DieImage>(
     script: &mut Script<R>,
     lab: &mut Lab<'a>,
@@ -42,20 +28,24 @@ pub(crate) fn over_array<'a, R: BufRead + Drop, M: Map + Drop, I: DieImage>(
     ensures { IsWhole M.view parts.new.mounted.array }
 {
     'lines: for _ in 0..u64::MAX {
-        if !script.turn(lab) {
+        if !script.goes_on(&mut lab.tools) {
             return None;
         }
-        match script.order.wish {
+        match script.turn.order.wish {
             Wish::Begin(_) => return None,
-            Wish::Work(Work::Solo)
-                if parts.mounted.has_images(parts.images.len()) && !parts.images.is_empty() => {
-                return Some(number_at(script.order.numbers.as_slice(), 0));
+            Wish::Work(Work::Solo) if has_images(parts) => {
+                return Some(number_at(script.turn.order.numbers.as_slice(), 0));
             }
-            _ => do_line(&script.order, lab, yard, parts),
+            _ => do_line(&script.turn.order, lab, yard, parts),
         }
-        script.done(lab);
+        script.turn.done(&mut lab.tools);
     }
     None
+}
+
+/// Whether there are images, and each live die has one.
+fn has_images<M: Map + Drop, I: Image, A: Allocator + Copy>(parts: &Parts<M, I, A>) -> bool {
+    parts.mounted.has_images(parts.images.len()) && !parts.images.is_empty()
 }
 
 /// Does what a line asks for.
@@ -68,21 +58,27 @@ fn do_line<'a, M: Map + Drop, I: DieImage>(
     requires { IsWhole M.view parts.old.mounted.array }
     ensures { IsWhole M.view parts.new.mounted.array }
 {
+    let Lab {
+        tools,
+        desk,
+        beside,
+    } = lab;
     let numbers = order.numbers.as_slice();
     match order.wish {
-        Wish::Make(event) => run_event(&mut parts.mounted.array, lab, event, numbers),
-        Wish::Show(look) => show(&parts.mounted.array, lab, look, numbers),
+        Wish::Make(event) => run_event(&mut parts.mounted.array, tools, desk, event, numbers),
+        Wish::Show(look) => show_look(&parts.mounted.array, tools, desk, look, numbers),
         Wish::Work(work) => do_work(
             &mut parts.mounted,
             parts.images.as_mut_slice(),
-            lab,
+            tools,
+            desk,
             work,
             numbers,
         ),
-        Wish::Touch(deed) => touch(order, deed, lab, &mut parts.images),
-        Wish::Bare(wish) => bare(wish, numbers, lab, yard),
-        Wish::Free(wish) => free(order, wish, lab),
-        Wish::Ask(_) => lab.told.word("no store"),
+        Wish::Touch(deed) => touch_images(order, deed, tools, &mut parts.images),
+        Wish::Bare(wish) => do_bare(wish, numbers, tools, yard),
+        Wish::Free(wish) => do_free(order, wish, tools, beside),
+        Wish::Ask(_) => tools.output.word("no store"),
         Wish::Begin(_) => {}
     }
 }
@@ -91,7 +87,8 @@ fn do_line<'a, M: Map + Drop, I: DieImage>(
 fn do_work<'a, M: Map + Drop, I: Image>(
     mounted: &mut MountedArray<M, &'a Heap>,
     images: &mut [I],
-    lab: &mut Lab<'a>,
+    tools: &mut Tools<'a>,
+    desk: &mut Desk<'a>,
     work: Work,
     numbers: &[u64],
 )
@@ -100,25 +97,18 @@ fn do_work<'a, M: Map + Drop, I: Image>(
 {
     let die = die_of(number_at(numbers, 0));
     match work {
-        Work::Make => make_job(mounted, images, lab, die),
+        Work::Make => make_job(mounted, images, tools, desk, die),
         Work::Run => {
-            let _ = run_job_of(mounted, images, lab, die);
+            let _ = run_job_of(mounted, images, tools, desk, die);
         }
         Work::All => {
-            let count = work_all(mounted, images, lab);
-            lab.told.pair("worked", count);
+            let count = work_all(mounted, images, tools, desk);
+            tools.output.pair("worked", count);
         }
-        Work::Close => {
-            let closed = close(mounted, images);
-            show_closed(closed, &mut lab.told);
-        }
-        Work::Places => show_places(mounted, &mut lab.told),
-        Work::Plan => {
-            if plan_pages(&mounted.array, lab, numbers).is_err() {
-                lab.told.fail();
-            }
-        }
-        Work::Solo => lab.told.word("no image"),
+        Work::Close => show_closing(close(mounted, images), &mut tools.output),
+        Work::Places => show_image_places(mounted, &mut tools.output),
+        Work::Plan => plan_pages(&mounted.array, tools, numbers),
+        Work::Solo => tools.output.word("no image"),
     }
 }
 
@@ -137,64 +127,41 @@ fn close<M: Map + Drop, A: Allocator + Copy, I: Image>(
 }
 
 /// Tells which dies are marked, or why the array is not closed.
-fn show_closed(closed: Result<u64, CloseFault>, told: &mut Told) {
+fn show_closing(closed: Result<u64, CloseFault>, output: &mut Output) {
     match closed {
         Ok(mask) => {
-            told.word("closed");
-            show_live(mask, told);
+            output.word("closed");
+            show_live(mask, output);
         }
-        Err(fault) => {
-            told.refusal(&fault);
-            if let CloseFault::Lost(page) = fault {
-                told.number(page.0);
-            }
+        Err(CloseFault::Lost(page)) => {
+            output.refusal(&CloseFault::Lost(page));
+            output.number(page.0);
         }
+        Err(fault) => output.refusal(&fault),
     }
 }
 
 /// Tells where the image of each die stands.
-fn show_places<M: Map + Drop, A: Allocator + Copy>(mounted: &MountedArray<M, A>, told: &mut Told) {
-    told.word("places");
-    for die in 0..MAX_DIES {
-        let die = Die(die as u8);
-        if mounted.array.is_die(die) {
-            match mounted.image_of(die) {
-                Some(place) => told.number(place as u64),
-                None => told.word("-"),
-            }
-        }
-    }
-}
-
-/// Plans pages as the array holds them, and admits nothing. The error is out of memory.
-fn plan_pages<'a, M: Map>(
-    array: &Array<M, &'a Heap>,
-    lab: &mut Lab<'a>,
-    numbers: &[u64],
-) -> Result<(), AllocError> {
-    let heap = lab.heap();
-    let closed = array.closed(heap)?;
-    let batch = held_pages(array, heap, numbers)?;
-    plan_held(heap, &batch, &closed, lab);
-    Ok(())
-}
-
-/// Plans a batch against closed rounds.
-fn plan_held<R: Rounds, A: Allocator + Copy>(
-    heap: A,
-    batch: &Batch<A>,
-    rounds: &R,
-    lab: &mut Lab<'_>,
+fn show_image_places<M: Map + Drop, A: Allocator + Copy>(
+    mounted: &MountedArray<M, A>,
+    output: &mut Output,
 ) {
-    if !batch.is_sound() || rounds.now().0 > LAST_ROUND {
-        lab.told.word("unsound");
-        return;
+    output.word("places");
+    for die in 0..MAX_DIES {
+        show_image_place(mounted, Die(die as u8), output);
     }
-    let start = lab.meter.start();
-    let planned = plan(heap, batch, rounds);
-    lab.meter.stop(start);
-    match planned {
-        Ok(planned) => lab.told.pair("rounds", planned.rounds),
-        Err(error) => lab.told.refusal(&error),
+}
+
+/// Tells where the image of a die stands, if the array has the die.
+fn show_image_place<M: Map + Drop, A: Allocator + Copy>(
+    mounted: &MountedArray<M, A>,
+    die: Die,
+    output: &mut Output,
+) {
+    if mounted.array.is_die(die) {
+        match mounted.image_of(die) {
+            Some(place) => output.number(place as u64),
+            None => output.word("-"),
+        }
     }
 }

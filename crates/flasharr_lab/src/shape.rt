@@ -5,16 +5,17 @@ ghost use Rattle.fa_core.specs.Array.{IsWhole};
 ghost use Rattle.fa_set.specs.Members.{bound_of, members};
 ghost use Rattle.flasharr_lab.specs.Apart.{AreApart};
 
-use crate::words::{die_of, number_at, small_at};
 use fa_core::Array;
 use fa_map_calls::Map;
 use fa_set::NumberSet;
 use fa_types::{Copies, Die, Geometry, Seq};
+use flasharr_lab_words::{die_of, number_at, small_at};
 use std::alloc::{AllocError, Allocator};
 
-/// The greatest epoch and the greatest sequence number that an array may begin with. The least epoch is 1.
+/// The greatest epoch that an array may begin with. The least is 1.
 const MAX_EPOCH: u64 = 1 << 61;
 
+/// The greatest sequence number that an array may begin with.
 const MAX_LAST: u64 = (1 << 62) - 1;
 
 /// What an array begins with.
@@ -37,10 +38,7 @@ pub(crate) fn shape_of(numbers: &[u64]) -> Option<Shape> {
     };
     let epoch = number_at(numbers, 7);
     let last = number_at(numbers, 8);
-    if epoch < 1 {
-        return None;
-    }
-    if epoch > MAX_EPOCH || last > MAX_LAST {
+    if epoch < 1 || epoch > MAX_EPOCH || last > MAX_LAST {
         return None;
     }
     Some(Shape {
