@@ -3,7 +3,7 @@
 ghost use Rattle.std.specs.Prelude.{◌≡◌, ℕ, ◌+◌, ◌-◌, ◌≤◌, List, []};
 ghost use Rattle.fa_batch.specs.Plan.{rounds_of};
 ghost use Rattle.fa_batch.specs.declared.plan.Place.{Place};
-ghost use Rattle.fa_solo_laws.specs.Standing.{IsWorldOf};
+ghost use Rattle.fa_laws.specs.Reached.{IsReached};
 ghost use Rattle.fa_machine.specs.State.{Core};
 ghost use Rattle.fa_machine.specs.Step.{Act, Step};
 ghost use Rattle.fa_machine.specs.World.{World};
@@ -25,19 +25,19 @@ pub fn the_epoch_counts_dies()
 
 /// A read of the store of one thread that is answered raises the round by no more than the rounds of any plan of its pages, each at a die that
 /// holds it, against the calendar as it stood when the call began: so it takes the least number of rounds. The read is of at most 1,024
-/// pages, and no die goes out or comes in meanwhile, so that the epoch stays. As the call begins no job and no batch is open, and the
-/// array is at rest: no live die wants a window, none that has one has a block to collect, and no page is thin. All that holds again as
-/// the call ends.
+/// pages, and no die goes out or comes in meanwhile, so that the epoch stays. As the call begins the array is in a state to which a run
+/// leads, no job and no batch is open, and the array is at rest: no live die wants a window, none that has one has a block to collect, and
+/// no page is thin. All that holds again as the call ends.
 pub fn a_read_takes_the_least_rounds<L, M, I: Image, A>()
-    ensures rounds { (old new : Inner L M I A) (offset len : ℕ) (given : List ℕ) (places : List Place) (w : World) → IsWorldOf I.view old w
-        → IsIdle old.locked.core → IsAtRest old.locked.core
+    ensures rounds { (old new : Inner L M I A) (offset len : ℕ) (given : List ℕ) (places : List Place) (w : World) → IsReached w
+        → w.core ≡ old.locked.core → IsIdle old.locked.core → IsAtRest old.locked.core
         → past_page (range_in old.locked.core offset len) - first_page (range_in old.locked.core offset len) ≤ 1024
         → MakesWhole I.made (task_of old.locked.core.page_map.geometry.page_bytes (Read offset len)) [] (Gave given) old new
         → new.locked.core.epoch ≡ old.locked.core.epoch
         → IsPlanFor old.locked.core (pages_of (range_in old.locked.core offset len)) places
         → new.locked.core.calendar.round ≤ old.locked.core.calendar.round + rounds_of old.locked.core.calendar.round places }
-    ensures rest { (old new : Inner L M I A) (offset len : ℕ) (given : List ℕ) (w : World) → IsWorldOf I.view old w
-        → IsIdle old.locked.core → IsAtRest old.locked.core
+    ensures rest { (old new : Inner L M I A) (offset len : ℕ) (given : List ℕ) (w : World) → IsReached w
+        → w.core ≡ old.locked.core → IsIdle old.locked.core → IsAtRest old.locked.core
         → past_page (range_in old.locked.core offset len) - first_page (range_in old.locked.core offset len) ≤ 1024
         → MakesWhole I.made (task_of old.locked.core.page_map.geometry.page_bytes (Read offset len)) [] (Gave given) old new
         → new.locked.core.epoch ≡ old.locked.core.epoch

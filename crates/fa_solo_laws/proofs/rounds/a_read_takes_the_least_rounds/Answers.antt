@@ -56,17 +56,17 @@ planned_least law first pages places is_plan old new admitted before step =
 
 pub returns : goal.returns
 returns g c = record {
-  rounds = λ old new offset len given places w of_old idle rest few whole same is_plan.
+  rounds = λ old new offset len given places w reached is idle rest few whole same is_plan.
       let core : Core = old.locked.core in
       let behind = whole_behind g.I.Image.made old new offset len given
-      (quiet_at w core of_old.reached of_old.core idle rest) rest.windows rest.copies
+      (quiet_at w core reached is idle rest) rest.windows rest.copies
       (λ round. round ≤ core.calendar.round + rounds_of core.calendar.round places) (omega arith)
       (planned_least c.certificate_is_least.ensures core (pages_of (range_in core offset len)) places is_plan)
       (omega (arith, few)) whole same in
       let low = behind.round in let in_time = behind.is_in_time in omega (arith, low, in_time);
-  rest = λ old new offset len given w of_old idle rest few whole same.
+  rest = λ old new offset len given w reached is idle rest few whole same.
       let core : Core = old.locked.core in
       rests_at core new.locked.core rest
-      (whole_behind g.I.Image.made old new offset len given (quiet_at w core of_old.reached of_old.core idle rest) rest.windows rest.copies
+      (whole_behind g.I.Image.made old new offset len given (quiet_at w core reached is idle rest) rest.windows rest.copies
       (λ round. Unit {0}) tt (λ before after admitted is step. tt) (omega (arith, few)) whole same).quiet;
 }
