@@ -106,5 +106,11 @@ def over_stores(copies):
         yield case(f"{copies}_copies/{told.name}", copies, served(run.input(b""), run.output), long=told.long)
 
 
+def windows():
+    """A store whose windows would have no round, or more than 64, is not made, and the array is as before."""
+    for rounds, told in ((0, "no window"), (1, "store"), (64, "store"), (65, "no window"), (2 ** 64 - 1, "no window")):
+        yield case(f"windows_of_{rounds}_rounds", 2, [(f"solo {rounds}", told), ("close", "closed live 0 1 2 3")])
+
+
 def cases():
-    return [*rows(), *over_stores(2), *over_stores(3)]
+    return [*rows(), *windows(), *over_stores(2), *over_stores(3)]

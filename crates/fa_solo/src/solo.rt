@@ -37,6 +37,7 @@ impl<L: Ledger, M: Map + Drop, I: Image, A: Allocator + Copy> Solo<L, M, I, A> {
         requires name { blank.name ≡ L.name }
         requires parts { (blank.parts ≡ L.parts) × (blank.parts ≡ 257) }
         requires whole { IsWhole M.view parts.mounted.array }
+        requires window { (1 ≤ window_rounds) × (window_rounds ≤ 64) }
         ensures house { IfOk result (λ store. house_of store.inner ≡ house_in M.view parts) }
         ensures number { IfOk result (λ store. store.inner.locked.number ≡ array_number parts.mounted.array) }
         ensures dies { IfOk result (λ store. store.inner.dies ≡ parts.mounted.dies) }

@@ -45,11 +45,17 @@ fn show_tried<M: Map + Drop, A: Allocator + Copy>(
     made: Result<MountedArray<M, A>, MountRefused>,
     output: &mut Output,
 ) {
-    match &made {
-        Ok(mounted) => {
-            show_mounted(&mounted.array, output);
-            show_map(&mounted.array, output);
-        }
-        Err(refused) => show_unmounted(refused, output),
+    match made {
+        Ok(mounted) => show_beside(mounted, output),
+        Err(refused) => show_unmounted(&refused, output),
     }
+}
+
+/// Tells what was mounted, and drops it.
+fn show_beside<M: Map + Drop, A: Allocator + Copy>(
+    mounted: MountedArray<M, A>,
+    output: &mut Output,
+) {
+    show_mounted(&mounted.array, output);
+    show_map(&mounted.array, output);
 }

@@ -20,6 +20,9 @@ use std::io::BufRead;
 use std::marker::Brand;
 use std::sync::ledger::Blank;
 
+/// The most rounds that a window of the collector has.
+const MAX_WINDOW_ROUNDS: u64 = 64;
+
 /// Does what lines ask of an array that was mounted until it is dropped, or tells why none was. Its images are left.
 pub(crate) fn own_mounted<'a, R: BufRead + Drop, M: Map + Drop, I: DieImage>(
     script: &mut Script<R>,
@@ -131,7 +134,7 @@ fn own<'a, R: BufRead + Drop, M: Map + Drop, I: DieImage>(
     images
 }
 
-/// Does what lines ask of a store of the array, until a line is none of a store's.
+/// Does what lines ask of a store of the array, until a line is none of a store's. There is none where its windows would have no round, or too many.
 fn with_store<'a, R: BufRead + Drop, M: Map + Drop, I: DieImage>(
     script: &mut Script<R>,
     lab: &mut Lab<'a>,
@@ -142,6 +145,11 @@ fn with_store<'a, R: BufRead + Drop, M: Map + Drop, I: DieImage>(
     requires { IsWhole M.view parts.mounted.array }
     ensures { IsWhole M.view result.mounted.array }
 {
+    if rounds == 0 || rounds > MAX_WINDOW_ROUNDS {
+        lab.tools.output.word("no window");
+        script.turn.done(&mut lab.tools);
+        return parts;
+    }
     let heap = lab.heap();
     over_store::<Brand, R, M, I, &'a Heap>(heap, Blank::new(257), script, lab, yard, parts, rounds)
 }

@@ -1,5 +1,5 @@
 //! A store of one thread over an array.
-ghost use Rattle.std.specs.Prelude.{◌≡◌};
+ghost use Rattle.std.specs.Prelude.{◌≡◌, ◌≤◌};
 ghost use Rattle.fa_core.specs.Array.{IsWhole};
 
 use crate::bare_jobs::do_bare;
@@ -36,6 +36,7 @@ pub(crate) fn over_store<
     requires name { blank.name ≡ L.name }
     requires parts { (blank.parts ≡ L.parts) × (blank.parts ≡ 257) }
     requires whole { IsWhole M.view parts.mounted.array }
+    requires window { (1 ≤ rounds) × (rounds ≤ 64) }
     ensures { IsWhole M.view result.mounted.array }
 {
     let start = lab.tools.meter.start();
