@@ -38,7 +38,7 @@ def hashed(message):
 
 
 def others(message, count):
-    """So many messages of a message's length, which all differ unless they are empty."""
+    """As many messages as are asked for, of a message's length, which all differ unless they are empty."""
     return [hashlib.shake_128(b"%d" % number + message).digest(len(message)) for number in range(count)]
 
 

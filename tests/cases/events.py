@@ -144,7 +144,7 @@ def pages_at(places, seqs=None):
 
 
 def admitted(count):
-    """So many batches of page 0 from the first one on, which die 0 alone holds: a round for each."""
+    """As many batches of page 0 as are asked for, from the first one on, which die 0 alone holds: a round for each."""
     return [("admit 0", f"batch {batch} rounds {batch + 1} least {batch + 1} place 0 0 {batch + 1} short 0") for batch in range(count)]
 
 

@@ -252,7 +252,7 @@ def each_read_refused(desk):
 
 
 def each_request_refused(desk):
-    """Each request for memory is refused alone, and then all of more than so many bytes."""
+    """Each request for memory is refused alone, and then all of more than a given number of bytes."""
     for number in range(1, 1_000):
         desk.ask(f"heap refuse {number}", "heap")
         answer = desk.lab.ask("try mount 2")
