@@ -202,7 +202,7 @@ fn serve_mounted<
     }
 }
 
-/// An array that was just mounted, to be shared over a ledger of 257 parts that nothing else names. None where memory is refused.
+/// An array to be shared over a ledger of 257 parts that nothing else names. None where memory is refused.
 fn share<L: Ledger, M: Map + Drop>(
     alloc: Global,
     blank: Blank,
@@ -212,10 +212,6 @@ fn share<L: Ledger, M: Map + Drop>(
     requires parts { (blank.parts ≡ L.parts) × (blank.parts ≡ 257) }
     requires whole { IsWhole M.view array }
 {
-    // No event was made of an array that was just mounted.
-    if array.counts().0 != 0 {
-        return None;
-    }
     Shared::<L, M>::new(alloc, blank, array).ok()
 }
 

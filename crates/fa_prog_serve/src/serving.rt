@@ -14,7 +14,8 @@ use fa_prog_clients::{
     AcceptQueue, Networked, Session, accept_clients, serve_clients, stop_accepting,
 };
 use fa_prog_host::tell;
-use fa_shared::{Seat, Shared};
+use fa_shared::Shared;
+use fa_shared_lock::Seat;
 use fa_types::Die;
 use fa_workers::ImageTable;
 use std::alloc::AllocError;

@@ -1,15 +1,13 @@
 //! The array that threads share.
-ghost use Rattle.std.specs.Prelude.{◌≡◌, IfErr, IfSome};
-ghost use Rattle.fa_core.specs.Array.{IsWhole, state_of};
-ghost use Rattle.fa_machine.specs.Looks.{counts as rule_counts};
-ghost use Rattle.fa_shared.specs.Seats.{commits_with, number_of};
+ghost use Rattle.std.specs.Prelude.{◌≡◌, ℕ, ◌+◌, IfErr, IfOk, IfSome};
+ghost use Rattle.fa_core.specs.Array.{IsWhole};
+ghost use Rattle.fa_core_tables.specs.Counted.{capped};
+ghost use Rattle.fa_shared_lock.specs.Seats.{commits_together, commits_with, number_of};
 
 use crate::faults::{Fault, Faults};
-use crate::locked::{Gathered, Locked, MAX_SEATS};
-use crate::seat::Seat;
-use crate::sleepers::{Awaits, SeatSet, Sleepers};
 use fa_core::Array;
 use fa_map_calls::Map;
+use fa_shared_lock::{Awaits, Gathered, Locked, MAX_SEATS, Seat, SeatSet};
 use std::alloc::{AllocError, Allocator, Global};
 use std::sync::ledger::{Blank, Ledger};
 use std::sync::{Condvar, CondvarTimeouts, Mutex, MutexGuard, Wait};
@@ -31,20 +29,19 @@ pub struct Shared<L: Ledger, M: Map + Drop, A: Allocator + Copy = Global> {
 }
 
 impl<L: Ledger, M: Map + Drop, A: Allocator + Copy> Shared<L, M, A> {
-    /// An array to be shared, of which no Commit was made yet, with a ledger of 257 parts that nothing else names. Where memory is refused
-    /// the array is handed back.
+    /// An array to be shared, with a ledger of 257 parts that nothing else names. The book begins with the Commits that were made before. Where
+    /// memory is refused, or so many Commits were made that a count of 64 bits does not tell them, the array is handed back.
     pub fn new(alloc: A, blank: Blank, array: Array<M, A>) -> Result<Shared<L, M, A>, Array<M, A>>
         requires name { blank.name ≡ L.name }
         requires parts { (blank.parts ≡ L.parts) × (blank.parts ≡ 257) }
         requires whole { IsWhole M.view array }
-        requires fresh { (rule_counts (state_of M.view array)).0 ≡ 0 }
         ensures refused { IfErr result (λ back. back ≡ array) }
     {
-        let Ok((faults, bells, sleepers)) = make_parts(alloc) else {
+        let Ok((faults, bells)) = make_parts(alloc) else {
             return Err(array);
         };
         Ok(Shared {
-            locked: Mutex::new(Locked::new(alloc, blank, array, sleepers)),
+            locked: Mutex::new(Locked::new(alloc, blank, array)?),
             faults: Mutex::new(faults),
             bells,
         })
@@ -79,7 +76,7 @@ impl<L: Ledger, M: Map + Drop, A: Allocator + Copy> Shared<L, M, A> {
         ensures commits { commits_with seat.new ≡ commits_with seat.old }
         ensures number { number_of seat.new ≡ number_of seat.old }
     {
-        let number = seat.number;
+        let number = seat.number();
         let mut guard = guard;
         guard.settle(seat);
         guard.lie_down(number, awaits);
@@ -150,6 +147,8 @@ impl<L: Ledger, M: Map + Drop, A: Allocator + Copy> Shared<L, M, A> {
         seats: Vec<Seat<L>, B>,
     ) -> Result<u64, Gathered<L, B>>
         requires parts { L.parts ≡ 257 }
+        ensures sum { IfOk result (λ count. (before : ℕ) × (count ≡ capped (before + commits_together seats.items))) }
+        ensures missing { IfErr result (λ refused. refused ≡ Gathered.Missing seats) }
     {
         self.locked.lock(rt).gather(seats)
     }
@@ -163,16 +162,14 @@ impl<L: Ledger, M: Map + Drop, A: Allocator + Copy> Shared<L, M, A> {
     }
 }
 
-/// What a shared array has besides the array: its faults, what wakes those who sleep, and who they are. The error is out of memory.
-fn make_parts<A: Allocator + Copy>(
-    alloc: A,
-) -> Result<(Faults<A>, Vec<Condvar, A>, Sleepers<A>), AllocError> {
+/// The faults of a shared array, and what wakes those who sleep. The error is out of memory.
+fn make_parts<A: Allocator + Copy>(alloc: A) -> Result<(Faults<A>, Vec<Condvar, A>), AllocError> {
     let faults = Faults::new(alloc)?;
     let mut bells = Vec::with_capacity(alloc, MAX_SEATS as usize)?;
     for _ in 0..MAX_SEATS {
         bells.push(Condvar::new())?;
     }
-    Ok((faults, bells, Sleepers::new(alloc)?))
+    Ok((faults, bells))
 }
 
 /// How long somebody who waits so sleeps at most.

@@ -2,15 +2,14 @@
 ghost use Rattle.std.specs.Prelude.{◌≡◌, false};
 ghost use Rattle.fa_machine.specs.Conditions.{history_full};
 ghost use Rattle.fa_machine.specs.Step.{FlushBegin, FlushState as StateFlush, Fold, Step};
-ghost use Rattle.fa_shared.specs.Seats.{commits_with};
-ghost use Rattle.fa_shared_events.specs.Accounts.{IsAccounted};
-ghost use Rattle.fa_shared_events.specs.Rest.{Folds, LeavesRest};
+ghost use Rattle.fa_shared_lock.specs.Seats.{commits_with};
+ghost use Rattle.fa_shared_lock.specs.Accounts.{IsAccounted};
+ghost use Rattle.fa_shared_lock.specs.Rest.{Folds, LeavesRest};
 
-use crate::making::make;
 use fa_core::{Answer, Call};
 use fa_machine::{Flush, FlushRefused, FlushState};
 use fa_map_calls::Map;
-use fa_shared::{Locked, Seat, plain};
+use fa_shared_lock::{Locked, Seat, make, plain};
 use std::alloc::Allocator;
 use std::sync::ledger::Ledger;
 

@@ -3,15 +3,14 @@ ghost use Rattle.std.specs.Prelude.{◌≡◌, ◌+◌, ◌&&◌, not, false, If
 ghost use Rattle.fa_machine.specs.Conditions.{claim_open, history_full, is_reserved};
 ghost use Rattle.fa_machine.specs.Step.{Step, is_page, is_sized};
 ghost use Rattle.fa_machine.specs.Step.{Abandon, Claim, Commit, Release, Reserve, ReserveFewer, ReserveHole};
-ghost use Rattle.fa_shared.specs.Seats.{commits_with, number_of};
-ghost use Rattle.fa_shared_events.specs.Accounts.{IsAccounted, commits_in};
-ghost use Rattle.fa_shared_events.specs.Rest.{LeavesRest};
+ghost use Rattle.fa_shared_lock.specs.Seats.{commits_with, number_of};
+ghost use Rattle.fa_shared_lock.specs.Accounts.{IsAccounted, commits_in};
+ghost use Rattle.fa_shared_lock.specs.Rest.{LeavesRest};
 
-use crate::making::make;
 use fa_core::{Answer, Call};
 use fa_machine::{AbandonRefused, ClaimId, ClaimRefused, CommitRefused, ReserveRefused};
 use fa_map_calls::Map;
-use fa_shared::{Locked, Seat, plain};
+use fa_shared_lock::{Locked, Seat, make, plain};
 use fa_tag::Payload;
 use fa_types::{Page, Seq};
 use std::alloc::Allocator;

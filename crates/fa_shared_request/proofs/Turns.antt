@@ -8,7 +8,7 @@ use Rattle.fa_machine.specs.State.{Core}
 use Rattle.fa_machine.specs.Step.{Step, Abandon, EndBatch, Fold}
 use Rattle.fa_machine.specs.declared.ids.BatchId.{BatchId}
 use Rattle.fa_machine.specs.declared.refusals.AbandonRefused.{AbandonRefused}
-use Rattle.fa_shared_events.specs.Accounts.{IsAccounted}
+use Rattle.fa_shared_lock.specs.Accounts.{IsAccounted}
 use Rattle.fa_shared_request.specs.Moves.{Turned, Moved, Rested, Strayed}
 use Rattle.fa_shared_request.specs.Ops.{OpView, stage_of, task_in}
 use Rattle.fa_shared_steps.specs.Stages.{stopped}
@@ -17,9 +17,9 @@ use Rattle.fa_shared_steps.specs.declared.stage.PageClaim.{PageClaim}
 use Rattle.fa_shared_steps.specs.declared.stage.Purpose.{Purpose}
 use Rattle.fa_shared_steps.specs.declared.stage.Stage.{Stage}
 use Rattle.fa_shared_steps.specs.declared.stage.Stage.TheVariants.{Leaving, Releasing}
-use Rattle.fa_shared.specs.Locked.{LockedState}
-use Rattle.fa_shared.specs.Seats.{commits_with}
-use Rattle.fa_shared.specs.declared.seat.Seat.{Seat}
+use Rattle.fa_shared_lock.specs.Locked.{LockedState}
+use Rattle.fa_shared_lock.specs.Seats.{commits_with}
+use Rattle.fa_shared_lock.specs.declared.seat.Seat.{Seat}
 use Rattle.fa_types.specs.declared.blocks.BlockFault.{BlockFault}
 
 -- a turn at a stage that is the same

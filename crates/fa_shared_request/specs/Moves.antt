@@ -4,7 +4,7 @@ use Rattle.fa_machine.specs.Conditions.{batch_open, claim_open, history_full, is
 use Rattle.fa_machine.specs.State.{Core}
 use Rattle.fa_machine.specs.Step.{Act, Step, is_page, Claim, Release, Reserve, ReserveHole, ReserveFewer, Commit, Abandon}
 use Rattle.fa_machine.specs.Step.{Admit, Replan, EndBatch, FlushBegin, FlushState, Fold}
-use Rattle.fa_shared_events.specs.Accounts.{commits_in}
+use Rattle.fa_shared_lock.specs.Accounts.{commits_in}
 use Rattle.fa_shared_request.specs.Founded.{IsBarred, IsFounded}
 use Rattle.fa_shared_steps.specs.Stages.{AfterAdmit, AfterPlanned, AfterReserve, IsSorting, after_abandon, after_begin, after_claim, after_commit, after_release}
 use Rattle.fa_shared_steps.specs.Stages.{after_state, stopped}
@@ -13,8 +13,8 @@ use Rattle.fa_shared_steps.specs.declared.stage.Stage.{Stage}
 use Rattle.fa_shared_steps.specs.declared.stage.Stage.TheVariants.{Asking, Reading, Leaving, Claiming, Reserving}
 use Rattle.fa_shared_steps.specs.declared.stage.Stage.TheVariants.{Committing, Abandoning, Releasing, BeginningFlush, Flushing, Ended}
 use Rattle.fa_shared_steps.specs.declared.stage.Wish.TheVariants.{Data, Fewer, Hole}
-use Rattle.fa_shared.specs.Seats.{commits_with, number_of}
-use Rattle.fa_shared.specs.declared.seat.Seat.{Seat}
+use Rattle.fa_shared_lock.specs.Seats.{commits_with, number_of}
+use Rattle.fa_shared_lock.specs.declared.seat.Seat.{Seat}
 use Rattle.fa_types.specs.declared.blocks.BlockFault.TheVariants.{Lost}
 
 module _ {A : Type 0} where

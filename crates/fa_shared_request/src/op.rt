@@ -4,7 +4,7 @@ use crate::kinds::{kind_of, turn_from};
 use crate::stages::{answer_len, memory_for, prepare_stage, turn_stage};
 use fa_machine::ReadState;
 use fa_map_calls::Map;
-use fa_shared::{Awaits, Locked, Seat};
+use fa_shared_lock::{Awaits, Locked, Seat};
 use fa_shared_steps::{Fill, Request, Stage, Task, begin, content, fill_with};
 use fa_tag::Payload;
 use fa_types::{BlockFault, Page};
@@ -51,7 +51,7 @@ impl<A: Allocator, B: Allocator> Model for Op<A, B> {
 
 impl<A: Allocator + Copy, B: Allocator> Op<A, B> {
     ghost use Rattle.std.specs.Prelude.{◌≡◌, ℕ, ◌^◌, ◌<◌, ◌≤◌, [], IfErr, IfOk};
-    ghost use Rattle.fa_shared_events.specs.Accounts.{IsAccounted};
+    ghost use Rattle.fa_shared_lock.specs.Accounts.{IsAccounted};
     ghost use Rattle.fa_shared_request.specs.Moves.{Turned};
     ghost use Rattle.fa_shared_request.specs.Ops.{Prepares, answer_of, ended as rule_ended, stage_of, task_in};
     ghost use Rattle.fa_shared_steps.specs.Stages.{beginning};

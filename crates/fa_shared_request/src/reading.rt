@@ -1,7 +1,7 @@
 //! Batches of pages, asked for, waited for and ended.
 ghost use Rattle.std.specs.Prelude.{◌≡◌};
 ghost use Rattle.fa_machine.specs.Reading.{results as rule_results};
-ghost use Rattle.fa_shared_events.specs.Accounts.{IsAccounted};
+ghost use Rattle.fa_shared_lock.specs.Accounts.{IsAccounted};
 ghost use Rattle.fa_shared_request.specs.Moves.{Turned};
 ghost use Rattle.fa_shared_steps.specs.Stages.{AfterAdmit, AfterPlanned};
 ghost use Rattle.fa_core_read.specs.Answers.{admit_answer, plan_answer};
@@ -12,8 +12,8 @@ use fa_core::Planned;
 use fa_core_read::Admitted;
 use fa_machine::{AdmitRefused, BatchId, ReadState};
 use fa_map_calls::Map;
-use fa_shared::{Locked, Seat};
 use fa_shared_events::{admit, end_batch, replan};
+use fa_shared_lock::{Locked, Seat};
 use fa_shared_steps::{PageList, Purpose, Stage, stopped};
 use fa_types::BlockFault;
 use std::alloc::Allocator;

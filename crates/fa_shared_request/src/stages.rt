@@ -1,6 +1,6 @@
 //! A turn at each stage, and what is prepared at each.
 ghost use Rattle.std.specs.Prelude.{◌≡◌, ◌<◌, [], IfErr, IfOk};
-ghost use Rattle.fa_shared_events.specs.Accounts.{IsAccounted};
+ghost use Rattle.fa_shared_lock.specs.Accounts.{IsAccounted};
 ghost use Rattle.fa_shared_request.specs.Moves.{Turned};
 ghost use Rattle.fa_shared_request.specs.Ops.{Prepares};
 ghost use Rattle.fa_shared_steps.specs.Ranges.{IsRange};
@@ -11,7 +11,7 @@ use crate::reading::{ask, leave, read};
 use crate::syncing::{begin_flush, flush};
 use crate::writing::{abandon_wish, claim_page, commit_wish, release_page, reserve_wish};
 use fa_map_calls::Map;
-use fa_shared::{Locked, Seat};
+use fa_shared_lock::{Locked, Seat};
 use fa_shared_steps::{Purpose, Stage, Task, fill_page, list, sort_page};
 use fa_types::Page;
 use std::alloc::{AllocError, Allocator};

@@ -1,13 +1,13 @@
 //! Flushes, begun and waited for.
-ghost use Rattle.fa_shared_events.specs.Accounts.{IsAccounted};
+ghost use Rattle.fa_shared_lock.specs.Accounts.{IsAccounted};
 ghost use Rattle.fa_shared_request.specs.Moves.{Turned};
 ghost use Rattle.fa_shared_steps.specs.declared.request.Task.{Task};
 ghost use Rattle.fa_shared_steps.specs.declared.stage.Stage.TheVariants.{BeginningFlush, Flushing};
 
 use fa_machine::Flush;
 use fa_map_calls::Map;
-use fa_shared::{Locked, Seat};
 use fa_shared_events::{flush_begin, flush_state};
+use fa_shared_lock::{Locked, Seat};
 use fa_shared_steps::{Stage, begun, flushed};
 use std::alloc::Allocator;
 use std::sync::ledger::Ledger;

@@ -1,17 +1,17 @@
 //! Pages, claimed, written and released.
 ghost use Rattle.std.specs.Prelude.{◌≡◌, true, false};
 ghost use Rattle.fa_machine.specs.Conditions.{history_full, is_reserved};
-ghost use Rattle.fa_shared_events.specs.Accounts.{IsAccounted};
+ghost use Rattle.fa_shared_lock.specs.Accounts.{IsAccounted};
 ghost use Rattle.fa_shared_request.specs.Moves.{Turned};
 ghost use Rattle.fa_shared_steps.specs.Ranges.{IsRange};
 ghost use Rattle.fa_shared_steps.specs.declared.stage.Stage.TheVariants.{Abandoning, Claiming, Committing, Releasing, Reserving};
 
 use crate::room::may_get_room;
 use fa_map_calls::Map;
-use fa_shared::{Locked, Seat};
 use fa_shared_events::{
     abandon, claim, commit, fold, release, reserve, reserve_fewer, reserve_hole,
 };
+use fa_shared_lock::{Locked, Seat};
 use fa_shared_steps::{
     PageClaim, Stage, Task, Wish, abandoned, claimed, committed, released, reserved,
 };

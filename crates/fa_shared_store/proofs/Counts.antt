@@ -34,7 +34,7 @@ use Rattle.fa_shared_request.proofs.Begun.{left_from, none_refused}
 use Rattle.fa_shared_request.specs.Tallies.{Tally, left, left_for, pages_in, refusals, refusals_by, tally_at, tally_of}
 use Rattle.fa_shared_request.specs.Moves.{Moves, Strays, Turned, Rested, Moved, Folded, Strayed}
 use Rattle.fa_shared_steps.specs.Stages.{AfterAdmit, AfterPlanned, AfterReserve}
-use Rattle.fa_shared_events.specs.Accounts.{commits_in}
+use Rattle.fa_shared_lock.specs.Accounts.{commits_in}
 use Rattle.fa_shared_steps.specs.Stages.{after_abandon, after_begin, after_claim, after_commit, after_release, after_state}
 use Rattle.fa_shared_steps.specs.Stages.{opened, stopped}
 use Rattle.fa_shared_steps.specs.Stages.{IsSorting, with_fewer}
@@ -52,8 +52,8 @@ use Rattle.fa_shared_steps.specs.Tasks.{task_of}
 use Rattle.fa_shared_steps.specs.declared.request.Request.{Request}
 use Rattle.fa_shared_steps.specs.Prepared.{IsFilled, IsListed, IsMerged, SortsAnswer, SortsPage, after_batch}
 use Rattle.fa_shared_steps.specs.declared.range.Range.{Range}
-use Rattle.fa_shared.specs.Seats.{commits_with, number_of}
-use Rattle.fa_shared.specs.declared.seat.Seat.{Seat}
+use Rattle.fa_shared_lock.specs.Seats.{commits_with, number_of}
+use Rattle.fa_shared_lock.specs.declared.seat.Seat.{Seat}
 use Rattle.fa_types.specs.declared.blocks.BlockFault.{BlockFault}
 use Rattle.fa_types.specs.declared.blocks.BlockFault.TheVariants.{Lost, NoMemory, Spent}
 use Rattle.fa_types.specs.declared.numbers.Page.{Page}

@@ -15,8 +15,8 @@ use Rattle.fa_shared_request.specs.Tallies.{left, tally_of}
 use Rattle.fa_shared_steps.specs.declared.request.Task.{Task}
 use Rattle.fa_shared_steps.specs.declared.stage.Stage.{Stage}
 use Rattle.fa_shared_steps.specs.declared.stage.Stage.TheVariants.{Ended}
-use Rattle.fa_shared.specs.Seats.{commits_with, number_of}
-use Rattle.fa_shared.specs.declared.seat.Seat.{Seat}
+use Rattle.fa_shared_lock.specs.Seats.{commits_with, number_of}
+use Rattle.fa_shared_lock.specs.declared.seat.Seat.{Seat}
 use Rattle.fa_types.specs.declared.blocks.BlockFault.{BlockFault}
 
 -- sums of which one term changes

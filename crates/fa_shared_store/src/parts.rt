@@ -8,7 +8,7 @@ ghost use Rattle.fa_shared_steps.specs.Tasks.{end_of, task_of};
 use crate::context::Context;
 use crate::running::{pass_time, turn_on};
 use fa_map_calls::Map;
-use fa_shared::{Awaits, Hands, Locked, Seat};
+use fa_shared_lock::{Awaits, Hands, Locked, Seat};
 use fa_shared_request::{Op, Turn};
 use fa_shared_steps::Request;
 use fa_tag::Payload;

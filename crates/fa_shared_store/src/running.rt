@@ -4,13 +4,13 @@ ghost use Rattle.fa_shared_store.specs.Counts.{GoesOn, IsMade};
 ghost use Rattle.fa_shared_request.specs.Ops.{ended, stage_of};
 ghost use Rattle.fa_shared_request.specs.Tallies.{pages_in};
 ghost use Rattle.fa_shared_steps.specs.Tasks.{end_of, task_of};
-ghost use Rattle.fa_shared.specs.Seats.{commits_with, number_of};
+ghost use Rattle.fa_shared_lock.specs.Seats.{commits_with, number_of};
 ghost use Rattle.fa_types.specs.declared.blocks.BlockFault.TheVariants.{NoRoom};
 
 use crate::context::Context;
 use crate::parts::run_parts;
 use fa_map_calls::Map;
-use fa_shared::{Awaits, Hands, Locked, Seat};
+use fa_shared_lock::{Awaits, Hands, Locked, Seat};
 use fa_shared_request::{Op, Turn};
 use fa_shared_steps::Request;
 use fa_types::{BlockFault, Geometry};

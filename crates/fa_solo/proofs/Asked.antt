@@ -5,7 +5,7 @@ use Rattle.fa_shared_store.proofs.Counts.{goes_further, prepared_on, turned_on}
 use Rattle.fa_shared_store.specs.Counts.{Counts, GoesOn, IsMade}
 use Rattle.fa_mount_headers.specs.declared.judging.Standing.{Standing}
 use Rattle.fa_image.specs.Image.{ImageAnswer, ImageCall}
-use Rattle.fa_shared_events.specs.Accounts.{IsAccounted}
+use Rattle.fa_shared_lock.specs.Accounts.{IsAccounted}
 use Rattle.fa_shared_request.specs.Moves.{Turned}
 use Rattle.fa_shared_request.specs.Ops.{OpView, Prepares, answer_of, stage_of, task_in}
 use Rattle.fa_shared_request.specs.Tallies.{Tally, pages_in, tally_at, tally_of}
@@ -15,9 +15,9 @@ use Rattle.fa_shared_request.specs.Waiting.{HasNoWindow, awaits_flush, waits, wi
 use Rattle.fa_shared_steps.specs.declared.request.Task.{Task}
 use Rattle.fa_shared_steps.specs.declared.stage.Stage.{Stage}
 use Rattle.fa_shared_steps.specs.declared.stage.Stage.TheVariants.{Reserving}
-use Rattle.fa_shared.specs.Locked.{LockedState}
-use Rattle.fa_shared.specs.Seats.{commits_with, number_of}
-use Rattle.fa_shared.specs.declared.seat.Seat.{Seat}
+use Rattle.fa_shared_lock.specs.Locked.{LockedState}
+use Rattle.fa_shared_lock.specs.Seats.{commits_with, number_of}
+use Rattle.fa_shared_lock.specs.declared.seat.Seat.{Seat}
 use Rattle.fa_solo_job.specs.Deeds.{Goes, IsMeanwhile}
 use Rattle.fa_solo_job.specs.Inner.{Does, house_of}
 use Rattle.fa_solo.specs.Turns.{Asking, Asks, Begins, Readies, Refuses, RunsOn, Turns, Waits, asking_of}

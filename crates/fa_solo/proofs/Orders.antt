@@ -12,16 +12,17 @@ use Rattle.fa_machine.specs.declared.ids.BatchId.{BatchId}
 use Rattle.fa_machine.specs.declared.places.Version.{Version}
 use Rattle.fa_machine.specs.declared.refusals.AdmitRefused.{AdmitRefused}
 use Rattle.fa_machine.specs.declared.refusals.ReserveCopyRefused.{ReserveCopyRefused}
-use Rattle.fa_shared.specs.Locked.{LockedState}
-use Rattle.fa_shared.specs.Seats.{number_of}
-use Rattle.fa_solo_job.proofs.Chains.{does_event, does_more, does_same, does_wider, for_order, goes_by, join_rest, requests_for_order, rest_same}
+use Rattle.fa_shared_lock.specs.Locked.{LockedState}
+use Rattle.fa_shared_lock.specs.Seats.{number_of}
+use Rattle.fa_solo_job.proofs.Chains.{does_event, does_more, does_same, does_wider, for_order, goes_by, requests_for_order}
+use Rattle.fa_shared_lock.proofs.Holds.{join_rest, rest_same}
 use Rattle.fa_solo_job.specs.Deeds.{IsDue, IsForDies, IsForOrder, IsForRequests}
 use Rattle.fa_solo_job.specs.House.{House}
 use Rattle.fa_solo_job.specs.Orders.{Copies, CopiesPage, Deals, Orders, Rests, Settles}
 use Rattle.fa_solo_job.specs.Inner.{Does, DoesOne, ReservesCopy, Tidies, TriesCopy, house_of}
 use Rattle.fa_solo_job.specs.declared.inner.Inner.{Inner}
 use Rattle.fa_types.specs.declared.numbers.Seq.{Seq}
-use Rattle.fa_shared_events.specs.Rest.{LeavesRest}
+use Rattle.fa_shared_lock.specs.Rest.{LeavesRest}
 
 module _ {I : Type 0} (made : I → ImageCall → ImageAnswer → I → Type 0) (array : List ℕ) (dies : List Standing) (seat : ℕ) where
   orders_more : (a b c : House I) → Orders made array dies seat a b → Orders made array dies seat b c → Orders made array dies seat a c

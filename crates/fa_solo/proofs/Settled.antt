@@ -8,15 +8,16 @@ use Rattle.fa_machine.specs.declared.answers.Copied.{Copied}
 use Rattle.fa_machine.specs.declared.places.Copying.{Copying}
 use Rattle.fa_machine.specs.declared.refusals.CommitCopyRefused.{CommitCopyRefused}
 use Rattle.fa_machine.specs.declared.refusals.CommitCopyRefused.TheVariants.{Pending}
-use Rattle.fa_shared.specs.Locked.{LockedState}
-use Rattle.fa_shared.specs.Seats.{number_of}
-use Rattle.fa_solo_job.proofs.Chains.{goes_by, join_rest, rest_same}
+use Rattle.fa_shared_lock.specs.Locked.{LockedState}
+use Rattle.fa_shared_lock.specs.Seats.{number_of}
+use Rattle.fa_solo_job.proofs.Chains.{goes_by}
+use Rattle.fa_shared_lock.proofs.Holds.{join_rest, rest_same}
 use Rattle.fa_solo_job.specs.Deeds.{IsForDies}
 use Rattle.fa_solo_job.specs.House.{House}
 use Rattle.fa_solo_job.specs.Orders.{Commits, Endless, IsOver, Looks, NoLook, OneMore, Settles}
 use Rattle.fa_solo_job.specs.Inner.{Does, DoesOne, SettlesCopy, house_of}
 use Rattle.fa_solo_job.specs.declared.inner.Inner.{Inner}
-use Rattle.fa_shared_events.specs.Rest.{LeavesRest}
+use Rattle.fa_shared_lock.specs.Rest.{LeavesRest}
 
 none_open : (copying : Option Copying) → is_some copying ≡ false → copying ≡ None
 none_open None is_none = refl

@@ -8,8 +8,8 @@ use Rattle.fa_shared_request.specs.Ops.{OpView, Prepares, answer_of, stage_of, t
 use Rattle.fa_shared_request.specs.Waiting.{HasNoWindow, awaits_flush, waits, without_room}
 use Rattle.fa_shared_steps.specs.declared.request.Task.{Task}
 use Rattle.fa_shared_steps.specs.declared.stage.Stage.{Stage}
-use Rattle.fa_shared.specs.Seats.{commits_with, number_of}
-use Rattle.fa_shared.specs.declared.seat.Seat.{Seat}
+use Rattle.fa_shared_lock.specs.Seats.{commits_with, number_of}
+use Rattle.fa_shared_lock.specs.declared.seat.Seat.{Seat}
 use Rattle.fa_solo_job.specs.Deeds.{Goes, IsMeanwhile}
 use Rattle.fa_solo_job.specs.House.{House}
 use Rattle.fa_solo_job.specs.Inner.{house_of}

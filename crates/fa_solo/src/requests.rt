@@ -21,7 +21,7 @@ use fa_core::Array;
 use fa_image::Image;
 use fa_machine::{BatchId, WindowRefused};
 use fa_map_calls::Map;
-use fa_shared::Awaits;
+use fa_shared_lock::Awaits;
 use fa_shared_request::{Op, Turn};
 use fa_shared_steps::Request;
 use fa_solo_job::Inner;

@@ -7,27 +7,16 @@ use Rattle.fa_machine.specs.State.{Core}
 use Rattle.fa_machine.specs.Step.{Act, Advance, Fold, SpareIn, Step, Take, Window}
 use Rattle.fa_machine.specs.declared.refusals.SpareRefused.{SpareRefused}
 use Rattle.fa_machine.specs.declared.refusals.WindowRefused.{WindowRefused}
-use Rattle.fa_shared.specs.Locked.{LockedState}
-use Rattle.fa_shared.specs.Seats.{number_of}
-use Rattle.fa_shared.specs.declared.seat.Seat.{Seat}
+use Rattle.fa_shared_lock.specs.Locked.{LockedState}
+use Rattle.fa_shared_lock.specs.Seats.{number_of}
 use Rattle.fa_solo_job.specs.Deeds.{Goes, IsDue, IsForDies, IsForOrder, IsForRequests, IsMeanwhile, Makes, Runs, Stays}
 use Rattle.fa_solo_job.specs.House.{House}
 use Rattle.fa_solo_job.specs.Inner.{Does, house_of}
 use Rattle.fa_solo_job.specs.declared.inner.Inner.{Inner}
 use Rattle.fa_types.specs.declared.numbers.Round.{Round}
-use Rattle.fa_shared_events.specs.Rest.{Folded, Folds, HadRoom, LeavesRest}
+use Rattle.fa_shared_lock.proofs.Holds.{join_rest, rest_same}
+use Rattle.fa_shared_lock.specs.Rest.{Folded, Folds, HadRoom, LeavesRest}
 use Rattle.fa_workers.specs.Spares.{BringsIn, HasNone, Lowest, WantsNone}
-
--- one after the other
-pub join_rest : {L : Type 0} {a b c : LockedState} {s t u : Seat L} → LeavesRest a s b t → LeavesRest b t c u → LeavesRest a s c u
-join_rest {a = a} {b = b} {c = c} one two = record {
-  rest = two.rest ∙ ap (λ (l : LockedState). record l { core = c.core }) one.rest;
-  commits = two.commits ∙ one.commits;
-  number = two.number ∙ one.number;
-}
-
-pub rest_same : {L : Type 0} (a : LockedState) (s : Seat L) → LeavesRest a s a s
-rest_same a s = record { rest = refl; commits = refl; number = refl }
 
 module _ {I : Type 0} (made : I → ImageCall → ImageAnswer → I → Type 0) (array : List ℕ) (dies : List Standing) (seat : ℕ) where
   pub goes_more : (P : Act → Type 0) (a b c : House I) → Goes made array dies seat P a b → Goes made array dies seat P b c

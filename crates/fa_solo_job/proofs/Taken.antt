@@ -13,15 +13,15 @@ use Rattle.fa_machine.specs.Step.{Step, Take}
 use Rattle.fa_machine.specs.Taking.{Handed, after_urgent, begins, handed, is_idle, other_job, urgent_job, without_stale_booking}
 use Rattle.fa_machine.specs.declared.jobs.Flight.{Flight}
 use Rattle.fa_mount.specs.Standings.{place_on}
-use Rattle.fa_shared.specs.Locked.{LockedState}
-use Rattle.fa_shared.specs.Seats.{number_of}
-use Rattle.fa_solo_job.proofs.Chains.{join_rest}
+use Rattle.fa_shared_lock.specs.Locked.{LockedState}
+use Rattle.fa_shared_lock.specs.Seats.{number_of}
+use Rattle.fa_shared_lock.proofs.Holds.{join_rest}
 use Rattle.fa_solo_job.specs.Deeds.{IsForDies, Runs, Stays}
 use Rattle.fa_solo_job.specs.Inner.{Does, EndsAt, house_of}
 use Rattle.fa_solo_job.specs.declared.inner.Inner.{Inner}
 use Rattle.fa_core_dispatch.specs.Fits.{IsJobFor}
 use Rattle.fa_types.specs.declared.geometry.Geometry.{Geometry}
-use Rattle.fa_shared_events.specs.Rest.{LeavesRest}
+use Rattle.fa_shared_lock.specs.Rest.{LeavesRest}
 use Rattle.fa_workers.specs.Made.{Ran}
 
 from_begins : (die seat : ℕ) (core : Core) (given : Option Handed) (job : Handed) (new : Core)

@@ -7,13 +7,13 @@ use Rattle.fa_machine.specs.State.{MapState}
 use Rattle.fa_machine.specs.Step.{Act, Done, ReserveCopy, Step}
 use Rattle.fa_machine.specs.Taking.{Handed}
 use Rattle.fa_mount.specs.Standings.{place_on}
-use Rattle.fa_shared.specs.Seats.{number_of}
+use Rattle.fa_shared_lock.specs.Seats.{number_of}
 use Rattle.fa_solo_job.specs.Deeds.{Goes, IsForOrder}
 use Rattle.fa_solo_job.specs.House.{House}
 use Rattle.fa_solo_job.specs.Orders.{Orders, Settles}
 use Rattle.fa_solo_job.specs.declared.inner.Parts.{Parts}
 use Rattle.fa_solo_job.specs.declared.inner.Inner.{Inner}
-use Rattle.fa_shared_events.specs.Rest.{LeavesRest}
+use Rattle.fa_shared_lock.specs.Rest.{LeavesRest}
 use Rattle.fa_workers.specs.Made.{Ran}
 
 -- an array with its images that is not in use

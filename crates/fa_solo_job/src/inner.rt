@@ -7,7 +7,7 @@ use fa_image::Image;
 use fa_map_calls::Map;
 use fa_mount::{MountedArray, place_of};
 use fa_mount_headers::Standing;
-use fa_shared::{Locked, Seat};
+use fa_shared_lock::{Locked, Seat};
 use fa_types::{Die, Geometry, TAG_BYTES};
 use std::alloc::{AllocError, Allocator, Global};
 use std::sync::ledger::{Blank, Ledger};
@@ -78,7 +78,7 @@ impl<L: Ledger, M: Map + Drop, I: Image, A: Allocator + Copy> Inner<L, M, I, A> 
                 images,
             });
         };
-        match Locked::alone(alloc, blank, array) {
+        match Locked::new(alloc, blank, array) {
             Ok(locked) => Ok(seated(
                 alloc,
                 locked,

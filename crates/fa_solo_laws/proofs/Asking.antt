@@ -23,8 +23,8 @@ use Rattle.fa_shared_steps.specs.declared.stage.Stage.{Stage}
 use Rattle.fa_shared_steps.specs.declared.stage.Stage.TheVariants.{Flushing, Reserving}
 use Rattle.fa_shared_steps.specs.declared.stage.Wish.TheVariants.{Data, Fewer, Hole}
 use Rattle.fa_mount_close_laws.specs.Drives.{AreHonest, AreImages, events_of}
-use Rattle.fa_shared.specs.Seats.{number_of}
-use Rattle.fa_shared.specs.declared.seat.Seat.{Seat}
+use Rattle.fa_shared_lock.specs.Seats.{number_of}
+use Rattle.fa_shared_lock.specs.declared.seat.Seat.{Seat}
 use Rattle.fa_solo_job.specs.Deeds.{IsForRequests, IsMeanwhile}
 use Rattle.fa_solo_job.specs.House.{House}
 use Rattle.fa_solo.specs.Turns.{Asking, Asks, Begins, GivesUp as IsGivenUp, MakesReady, MakesTurn, PassesTime, Readies as ReadiesIt, Refuses, Turns, Waits}

@@ -13,8 +13,8 @@ use Rattle.fa_shared_steps.specs.declared.request.Task.{Task}
 use Rattle.fa_shared_steps.specs.declared.stage.Stage.{Stage}
 use Rattle.fa_shared_steps.specs.declared.stage.Stage.TheVariants.{Flushing, Reserving}
 use Rattle.fa_shared_steps.specs.declared.stage.Wish.TheVariants.{Data, Fewer, Hole}
-use Rattle.fa_shared.specs.Seats.{number_of}
-use Rattle.fa_shared.specs.declared.seat.Seat.{Seat}
+use Rattle.fa_shared_lock.specs.Seats.{number_of}
+use Rattle.fa_shared_lock.specs.declared.seat.Seat.{Seat}
 use Rattle.std.proofs.Common.{List, None, Option, Some, [], ap, refl, suc, sym, ℕ, ◌∷◌, ◌≡◌}
 use Rattle.std.specs.Prelude.{Err, Ok}
 

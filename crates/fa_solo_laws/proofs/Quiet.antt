@@ -28,7 +28,7 @@ use Rattle.fa_mount_close_laws.specs.Drives.{AreHonest, AreImages, events_of}
 use Rattle.fa_solo_job.specs.Deeds.{Goes, IsForDies, IsForOrder, IsForRequests}
 use Rattle.fa_solo_job.specs.House.{House}
 use Rattle.fa_solo_job.specs.Orders.{Copies, CopiesPage, Deals, Orders, Rests}
-use Rattle.fa_shared.specs.Seats.{number_of}
+use Rattle.fa_shared_lock.specs.Seats.{number_of}
 use Rattle.fa_solo_job.specs.Inner.{Does, Tidies, house_of}
 use Rattle.fa_solo_job.specs.declared.inner.Inner.{Inner}
 use Rattle.fa_types.specs.Plain.{export}

@@ -22,7 +22,7 @@ use Rattle.fa_shared_steps.specs.declared.request.Task.{Task}
 use Rattle.fa_shared_steps.specs.declared.stage.Stage.{Stage}
 use Rattle.fa_shared_steps.specs.declared.stage.Stage.TheVariants.{Ended}
 use Rattle.fa_mount_close_laws.specs.Drives.{AreHonest, AreImages}
-use Rattle.fa_shared.specs.Seats.{number_of}
+use Rattle.fa_shared_lock.specs.Seats.{number_of}
 use Rattle.fa_solo.specs.Calls.{Ended as EndedSo, Endless, EndsBy, IsRefused, Made, MakesRequest, NoMemory, OfOtherLength}
 use Rattle.fa_solo.specs.Calls.{WithoutMemory, WithoutRoom}
 use Rattle.fa_solo_job.specs.Inner.{house_of}

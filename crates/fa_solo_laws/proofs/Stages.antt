@@ -23,8 +23,8 @@ use Rattle.fa_solo_laws.proofs.Ending.{end_read, never_torn}
 use Rattle.fa_solo_laws.proofs.Epochs.{From, from_step}
 use Rattle.fa_solo_laws.proofs.Waiting.{IsRead, read_fold}
 use Rattle.fa_solo_laws.specs.Rest.{pages_of}
-use Rattle.fa_shared.specs.Seats.{number_of}
-use Rattle.fa_shared.specs.declared.seat.Seat.{Seat}
+use Rattle.fa_shared_lock.specs.Seats.{number_of}
+use Rattle.fa_shared_lock.specs.declared.seat.Seat.{Seat}
 use Rattle.fa_types.specs.declared.blocks.BlockFault.TheVariants.{Lost}
 use Rattle.fa_types.specs.declared.numbers.Page.{Page}
 use Rattle.std.proofs.Common.{Bool, List, None, Some, [], ap, arith, false, inl, inr, length, map, refl, subst, sym, true, ℕ, ◌+◌, ◌-◌}

@@ -25,7 +25,7 @@ use Rattle.fa_shared_steps.specs.declared.request.Task.{Task}
 use Rattle.fa_shared_steps.specs.declared.stage.Stage.{Stage}
 use Rattle.fa_shared_steps.specs.declared.stage.Stage.TheVariants.{Ended}
 use Rattle.fa_mount_close_laws.specs.Drives.{AreHonest}
-use Rattle.fa_shared.specs.Seats.{number_of}
+use Rattle.fa_shared_lock.specs.Seats.{number_of}
 use Rattle.fa_solo.specs.Calls.{EndsBy, Made, MakesRequest, MakesWhole, NoMemory}
 use Rattle.fa_solo_job.specs.Deeds.{IsForRequests}
 use Rattle.fa_solo_job.specs.Inner.{Does, house_of}

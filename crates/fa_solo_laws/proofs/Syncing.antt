@@ -19,8 +19,8 @@ use Rattle.fa_shared_request.specs.Moves.{Folded, Moved, Rested, Strayed, Turned
 use Rattle.fa_shared_steps.specs.declared.request.Task.{Task}
 use Rattle.fa_shared_steps.specs.declared.stage.Stage.{Stage}
 use Rattle.fa_mount_close_laws.specs.Drives.{AreHonest}
-use Rattle.fa_shared.specs.Seats.{number_of}
-use Rattle.fa_shared.specs.declared.seat.Seat.{Seat}
+use Rattle.fa_shared_lock.specs.Seats.{number_of}
+use Rattle.fa_shared_lock.specs.declared.seat.Seat.{Seat}
 use Rattle.fa_solo_job.specs.House.{House}
 use Rattle.fa_solo.specs.Turns.{Asking, Asks, Begins, Readies, Refuses, Turns, Waits}
 use Rattle.fa_types.specs.declared.geometry.Geometry.{Geometry}

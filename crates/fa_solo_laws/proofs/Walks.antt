@@ -18,8 +18,8 @@ use Rattle.fa_shared_steps.specs.declared.stage.Stage.{Stage}
 use Rattle.fa_shared_steps.specs.declared.stage.Stage.TheVariants.{Reserving}
 use Rattle.fa_shared_steps.specs.declared.stage.Wish.TheVariants.{Data, Fewer, Hole}
 use Rattle.fa_mount_close_laws.specs.Drives.{AreHonest}
-use Rattle.fa_shared.specs.Seats.{number_of}
-use Rattle.fa_shared.specs.declared.seat.Seat.{Seat}
+use Rattle.fa_shared_lock.specs.Seats.{number_of}
+use Rattle.fa_shared_lock.specs.declared.seat.Seat.{Seat}
 use Rattle.fa_solo_job.specs.Deeds.{Goes, IsForDies, IsForOrder, IsMeanwhile}
 use Rattle.fa_solo_job.specs.House.{House}
 use Rattle.fa_solo_job.specs.Orders.{Copies, CopiesPage, Deals, Orders, Rests}

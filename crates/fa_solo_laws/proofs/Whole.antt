@@ -21,7 +21,7 @@ use Rattle.fa_shared_steps.specs.Tasks.{end_of, task_of}
 use Rattle.fa_shared_steps.specs.declared.request.Request.{Request}
 use Rattle.fa_shared_steps.specs.declared.request.Task.{Task}
 use Rattle.fa_mount_close_laws.specs.Drives.{AreHonest}
-use Rattle.fa_shared.specs.Seats.{number_of}
+use Rattle.fa_shared_lock.specs.Seats.{number_of}
 use Rattle.fa_solo.specs.Calls.{Made, MakesRequest, MakesWhole, NoMemory}
 use Rattle.fa_solo_job.specs.Inner.{house_of}
 use Rattle.fa_solo_job.specs.declared.inner.Inner.{Inner}

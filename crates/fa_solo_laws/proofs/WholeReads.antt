@@ -24,7 +24,7 @@ use Rattle.fa_solo_laws.proofs.Epochs.{From, epoch_rises, from_step}
 use Rattle.fa_solo_laws.proofs.Stages.{ArePlannedInTime, At, IsBefore, IsBehind, before_still, behind_still, ends_early, ready_at, turn_at}
 use Rattle.fa_solo_laws.proofs.Waiting.{IsRead, read_advance, read_fold, read_job_ends, read_no_job}
 use Rattle.fa_solo_laws.specs.Rest.{pages_of}
-use Rattle.fa_shared.specs.Seats.{number_of}
+use Rattle.fa_shared_lock.specs.Seats.{number_of}
 use Rattle.fa_solo.specs.Calls.{Made, MakesRequest, MakesWhole, NoMemory}
 use Rattle.fa_solo_job.specs.Deeds.{ForReads, ForStep, Goes, IsDue, IsForOrder, IsForRequests, IsMeanwhile, Makes, MakesJob, Runs, Stays}
 use Rattle.fa_solo_job.specs.House.{House}

@@ -23,7 +23,7 @@ use Rattle.fa_mount_close_laws.proofs.Following.{images_follow}
 use Rattle.fa_mount_close_laws.proofs.JobCalls.{job_runs, value_here}
 use Rattle.fa_mount_close_laws.specs.Drives.{AreHonest}
 use Rattle.fa_mount_close_laws.specs.Images.{IsImageOf}
-use Rattle.fa_shared.specs.Seats.{number_of}
+use Rattle.fa_shared_lock.specs.Seats.{number_of}
 use Rattle.fa_solo_job.specs.Deeds.{Goes, Makes, MakesJob, Runs, Stays}
 use Rattle.fa_solo_job.specs.House.{House}
 use Rattle.fa_solo_job.specs.Orders.{CopiesPage}

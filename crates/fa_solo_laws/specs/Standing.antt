@@ -6,7 +6,7 @@ use Rattle.fa_laws.specs.Reached.{IsReached}
 use Rattle.fa_machine.specs.World.{World}
 use Rattle.fa_shared_steps.specs.declared.request.Task.{Task}
 use Rattle.fa_mount_close_laws.specs.Drives.{AreImages}
-use Rattle.fa_shared.specs.Seats.{number_of}
+use Rattle.fa_shared_lock.specs.Seats.{number_of}
 use Rattle.fa_solo.specs.Calls.{Made, MakesRequest, MakesWhole, NoMemory}
 use Rattle.fa_solo_job.specs.Orders.{looks_in}
 use Rattle.fa_solo_job.specs.Inner.{house_of}

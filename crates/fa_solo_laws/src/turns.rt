@@ -7,8 +7,8 @@ ghost use Rattle.fa_shared_request.specs.Moves.{Turned};
 ghost use Rattle.fa_shared_request.specs.Ops.{Prepares};
 ghost use Rattle.fa_shared_steps.specs.declared.request.Task.{Task};
 ghost use Rattle.fa_shared_steps.specs.declared.stage.Stage.{Stage};
-ghost use Rattle.fa_shared.specs.Seats.{number_of};
-ghost use Rattle.fa_shared.specs.declared.seat.Seat.{Seat};
+ghost use Rattle.fa_shared_lock.specs.Seats.{number_of};
+ghost use Rattle.fa_shared_lock.specs.declared.seat.Seat.{Seat};
 
 /// A turn of a request, as `fa_shared_request::Op::turn` tells it, is none, one or two turns of what becomes of the request, over a world with the
 /// array's state: a Fold first, where one was made. The images and the jobs of dies stay. What `fa_shared_request::Op::prepare` makes is a turn too.

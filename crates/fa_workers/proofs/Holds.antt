@@ -1,27 +1,9 @@
--- What one event leaves for the next of the same hold.
-use Rattle.std.proofs.Common.{◌≡◌, ◌∙◌, ℕ, Err, ap, refl}
+-- Dies of the array, whatever event was made.
+use Rattle.std.proofs.Common.{◌≡◌, ℕ, Err, ap}
 use Rattle.fa_machine.specs.State.{Core}
 use Rattle.fa_machine.specs.Step.{Advance, Step, is_die}
 use Rattle.fa_machine.specs.declared.refusals.AdvanceRefused.{AdvanceRefused}
-use Rattle.fa_shared.specs.Locked.{LockedState}
-use Rattle.fa_shared.specs.declared.seat.Seat.{Seat}
-use Rattle.fa_shared_events.specs.Rest.{Folded, Folds, HadRoom, LeavesRest}
-
--- one after the other
-pub join_rest : {L : Type 0} {a b c : LockedState} {s t u : Seat L} → LeavesRest a s b t → LeavesRest b t c u → LeavesRest a s c u
-join_rest {a = a} {b = b} {c = c} one two = record {
-  rest = two.rest ∙ ap (λ (l : LockedState). record l { core = c.core }) one.rest;
-  commits = two.commits ∙ one.commits;
-  number = two.number ∙ one.number;
-}
-
--- where nothing has changed
-pub rest_same : {L : Type 0} (a : LockedState) (s : Seat L) → LeavesRest a s a s
-rest_same a s = record { rest = refl; commits = refl; number = refl }
-
--- where the state has not, nothing has
-pub all_same : {L : Type 0} {a b : LockedState} {s t : Seat L} → LeavesRest a s b t → b.core ≡ a.core → b ≡ a
-all_same {a = a} rest same = rest.rest ∙ ap (λ (c : Core). record a { core = c }) same
+use Rattle.fa_shared_lock.specs.Rest.{Folded, Folds, HadRoom}
 
 -- a Fold leaves the dies
 pub fold_keeps_dies : (old new : Core) (die : ℕ) → Folds old new → is_die new die ≡ is_die old die

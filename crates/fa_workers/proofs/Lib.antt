@@ -1,4 +1,6 @@
+mod Begun
 mod Deeds
 mod Dies
+mod Held
 mod Holds
 mod Rebuilds

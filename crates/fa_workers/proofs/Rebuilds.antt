@@ -3,7 +3,7 @@ use Rattle.std.proofs.Common.{◌≡◌, ◌∙◌, ℕ, Bool, true, false, List
 use Rattle.fa_machine.specs.State.{Core}
 use Rattle.fa_machine.specs.Step.{SpareIn}
 use Rattle.fa_machine.specs.declared.answers.ReadState.{ReadState}
-use Rattle.fa_shared.specs.Locked.{LockedState}
+use Rattle.fa_shared_lock.specs.Locked.{LockedState}
 use Rattle.fa_workers.specs.Rebuilding.{AfterBatch, Moved, Rebuilds}
 use Rattle.fa_workers.specs.Spares.{BringsIn, HasNone, Lowest, WantsNone}
 use Rattle.fa_workers.specs.declared.rebuild_stage.RebuildStage.{RebuildStage}

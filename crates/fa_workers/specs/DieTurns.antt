@@ -16,7 +16,7 @@ use Rattle.fa_shared.specs.declared.faults.Fault.{Fault}
 use Rattle.fa_core_dispatch.specs.Handed.{handed_of}
 use Rattle.fa_types.specs.declared.numbers.Die.{Die}
 use Rattle.fa_types.specs.declared.numbers.Round.{Round}
-use Rattle.fa_shared_events.specs.Rest.{MakesFolded}
+use Rattle.fa_shared_lock.specs.Rest.{MakesFolded}
 use Rattle.fa_workers.specs.declared.die_events.Next.{Next}
 use Rattle.fa_workers.specs.declared.die_events.Next.TheVariants.{Run, Again, Rest}
 use Rattle.fa_workers.specs.declared.order.Order.{Order}
@@ -35,7 +35,7 @@ module _ {A : Type 0} where
 
   -- The die takes its next job, or rests where there is none.
   pub data TakesNext (die seat : ℕ) (before : AdvanceRefused) (old : Core) (next : Next A) (new : Core) : Type 0 where
-    Took : (order : Order A) → next ≡ Run order → MakesFolded old (Take die seat (Some (handed_of order.job))) new
+    Took : (order : Order A) → next ≡ Run order → order.die.0 ≡ die → MakesFolded old (Take die seat (Some (handed_of order.job))) new
         → TakesNext die seat before old next new
     TookNone : (between : Core) → MakesFolded old (Take die seat None) between → Rests before between next new
         → TakesNext die seat before old next new

@@ -13,7 +13,7 @@ use Rattle.fa_machine.specs.declared.refusals.CommitCopyRefused.{CommitCopyRefus
 use Rattle.fa_machine.specs.declared.refusals.CommitCopyRefused.TheVariants.{Pending, Failed}
 use Rattle.fa_machine.specs.declared.refusals.ReserveCopyRefused.{ReserveCopyRefused}
 use Rattle.fa_machine.specs.declared.refusals.ReserveCopyRefused.TheVariants.{Gone, NoRoom, Busy, NoMemory}
-use Rattle.fa_shared.specs.Locked.{LockedState}
+use Rattle.fa_shared_lock.specs.Locked.{LockedState}
 use Rattle.fa_workers.specs.declared.rebuild_stage.RebuildStage.{RebuildStage}
 use Rattle.fa_workers.specs.declared.rebuild_stage.RebuildStage.TheVariants.{Looking, Pausing, Reading, Read, Reserving, Copying, Ended}
 use Rattle.fa_workers.specs.declared.rebuild_stage.ThinPage.{ThinPage}

@@ -1,11 +1,12 @@
 //! The worker that gives dies their windows.
 ghost use Rattle.std.specs.Prelude.{◌≡◌, ◌<◌, false};
-ghost use Rattle.fa_shared_events.specs.Rest.{LeavesRest};
+ghost use Rattle.fa_shared_lock.specs.Rest.{LeavesRest};
 ghost use Rattle.fa_workers.specs.Windows.{GivesWindow, GivesWindows};
 
 use fa_map_calls::Map;
-use fa_shared::{Awaits, Locked, Seat, Shared};
-use fa_shared_events::window;
+use fa_shared::Shared;
+use fa_shared_die_events::window;
+use fa_shared_lock::{Awaits, Locked, Seat};
 use fa_types::Die;
 use std::alloc::Allocator;
 use std::sync::Wait;

@@ -1,20 +1,24 @@
 //! What a die's worker does while it holds the array's lock.
-ghost use Rattle.std.specs.Prelude.{◌≡◌, true, false, IfSome, option_map};
+ghost use Rattle.std.specs.Prelude.{◌≡◌, [], true, false, IfSome, option_map};
 ghost use Rattle.fa_machine.specs.Conditions.{history_full};
 ghost use Rattle.fa_machine.specs.Step.{Step, Take, is_die};
-ghost use Rattle.fa_shared.specs.Seats.{number_of};
+ghost use Rattle.fa_shared_lock.specs.Only.{TakesJobs};
+ghost use Rattle.fa_shared_lock.specs.Seats.{number_of};
 ghost use Rattle.fa_core_dispatch.specs.Handed.{handed_of};
 ghost use Rattle.fa_workers.specs.DieTurns.{Ends, Rests, TakesNext, Turns};
 ghost use Rattle.fa_workers.specs.DieTurns.{after_look as rule_look, cause_of as rule_cause, fault_of, noted};
-ghost use Rattle.fa_shared_events.specs.Rest.{LeavesRest};
+ghost use Rattle.fa_workers.specs.Held.{die_taken, order_in as rule_order};
+ghost use Rattle.fa_shared_lock.specs.Rest.{LeavesRest};
 
 use crate::order::{Order, order_of};
 use fa_core::Array;
 use fa_core_outcome::Outcome;
 use fa_machine::AdvanceRefused;
 use fa_map_calls::Map;
-use fa_shared::{Cause, Fault, Locked, Seat};
-use fa_shared_events::{advance, done, make_room, take};
+use fa_shared::{Cause, Fault};
+use fa_shared_die_events::{advance, done, take};
+use fa_shared_events::make_room;
+use fa_shared_lock::{Locked, Seat};
 use fa_types::{Die, Round};
 use std::alloc::{Allocator, Global};
 use std::sync::ledger::Ledger;
@@ -68,7 +72,8 @@ pub(crate) fn take_job<L: Ledger, M: Map + Drop, A: Allocator + Copy>(
     seat: &mut Seat<L>,
     die: Die,
 ) -> Option<Order<A>>
-    ensures { LeavesRest locked.old seat.old locked.new seat.new }
+    ensures takes { TakesJobs (number_of seat.old) locked.old.core [] locked.new.core (die_taken result) }
+    ensures account { LeavesRest locked.old seat.old locked.new seat.new }
 {
     if !has_job(locked.array(), die) {
         return None;
@@ -76,7 +81,14 @@ pub(crate) fn take_job<L: Ledger, M: Map + Drop, A: Allocator + Copy>(
     if !locked.array().is_die(die) {
         return None;
     }
-    match take_next(alloc, locked, seat, die, AdvanceRefused::Idle) {
+    order_in(take_next(alloc, locked, seat, die, AdvanceRefused::Idle))
+}
+
+/// The job that is to be run, if one is.
+fn order_in<A: Allocator>(next: Next<A>) -> Option<Order<A>>
+    ensures { result ≡ rule_order next }
+{
+    match next {
         Next::Run(order) => Some(order),
         Next::Again | Next::Rest => None,
     }

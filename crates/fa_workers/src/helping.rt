@@ -1,5 +1,12 @@
 //! Those who work for dies while they wait for something else.
-ghost use Rattle.fa_shared_events.specs.Rest.{LeavesRest};
+ghost use Rattle.std.specs.Prelude.{◌≡◌, ◌∷◌, ◌++◌, [], ◌<◌, ◌≤◌, IfSome, slice_index_or, length, take, vec_capacity};
+ghost use Rattle.fa_shared_lock.specs.Only.{EndsJob, TakesJobs};
+ghost use Rattle.fa_shared_lock.specs.Seats.{number_of};
+ghost use Rattle.fa_shared_lock.specs.Rest.{LeavesRest};
+ghost use Rattle.fa_tag.specs.SlotGrammar.{IsOpened};
+ghost use Rattle.fa_tag.specs.declared.tag.Opened.{Opened};
+ghost use Rattle.fa_workers.specs.Begun.{AreOpenedAt, OpensRead, OpensReads, bytes_at};
+ghost use Rattle.fa_workers.specs.Held.{dies_of};
 
 use crate::die_events::{Ended, end_job, take_job};
 use crate::gate::Gate;
@@ -10,7 +17,8 @@ use crate::order::Order;
 use fa_core_outcome::Outcome;
 use fa_image::Image;
 use fa_map_calls::Map;
-use fa_shared::{Fault, Hands, Locked, Seat, Shared};
+use fa_shared::{Fault, Shared};
+use fa_shared_lock::{Hands, Locked, Seat};
 use fa_tag::{Opened, open, open_all};
 use fa_types::Die;
 use std::alloc::{AllocError, Allocator, Global};
@@ -117,6 +125,10 @@ impl<
     B: Allocator,
     G: Gate,
 > Hands<L, M, A> for Helper<'a, R, L, M, A, I, B, G> {
+    ghost use Rattle.fa_workers.specs.Held.{dies_of};
+
+    ghost held = { λ helper. dies_of helper.memory.orders.items };
+
     fn take(&mut self, locked: &mut Locked<L, M, A>, seat: &mut Seat<L>) -> bool {
         locked.settle(seat);
         let most = if self.is_quick { MAX_JOBS } else { 1 };
@@ -146,21 +158,19 @@ impl<
             outcomes,
             faults,
         } = &mut self.memory;
-        for ((order, memory), outcome) in orders
-            .iter()
-            .zip(memories.iter_mut())
-            .zip(outcomes.iter())
-        {
-            let buffer = replace(&mut memory.buffer, Vec::new(self.alloc));
-            let Ended { buffer, fault } = end_job(
+        for (index, order) in orders.iter().enumerate() {
+            let outcome = match outcomes.get(index) {
+                Some(outcome) => *outcome,
+                None => order.refused(),
+            };
+            let fault = end_with(
                 self.alloc,
                 locked,
                 seat,
                 order.die(),
-                *outcome,
-                buffer,
+                outcome,
+                memories.get_mut(index),
             );
-            memory.buffer = buffer;
             if let Some(fault) = fault {
                 let _ = faults.push(fault);
             }
@@ -175,6 +185,27 @@ impl<
         }
         self.memory.faults.clear();
     }
+}
+
+/// Ends a job of a die, with the buffer of its memory. Why the die went out, if it did.
+fn end_with<L: Ledger, M: Map + Drop, A: Allocator + Copy>(
+    alloc: A,
+    locked: &mut Locked<L, M, A>,
+    seat: &mut Seat<L>,
+    die: Die,
+    outcome: Outcome,
+    memory: Option<&mut JobMemory<A>>,
+) -> Option<Fault>
+    ensures job { EndsJob die.0 locked.old.core locked.new.core }
+    ensures account { LeavesRest locked.old seat.old locked.new seat.new }
+{
+    let Some(memory) = memory else {
+        return end_job(alloc, locked, seat, die, outcome, Vec::new(alloc)).fault;
+    };
+    let buffer = replace(&mut memory.buffer, Vec::new(alloc));
+    let Ended { buffer, fault } = end_job(alloc, locked, seat, die, outcome, buffer);
+    memory.buffer = buffer;
+    fault
 }
 
 /// Whether the calls of so many jobs, begun then, took little time.
@@ -196,54 +227,92 @@ fn take_jobs<L: Ledger, M: Map + Drop, A: Allocator + Copy>(
     most: usize,
     orders: &mut Vec<Order<A>, A>,
 )
-    ensures { LeavesRest locked.old seat.old locked.new seat.new }
+    ensures takes { TakesJobs (number_of seat.old) locked.old.core (dies_of orders.old.items) locked.new.core (dies_of orders.new.items) }
+    ensures account { LeavesRest locked.old seat.old locked.new seat.new }
 {
     for number in 0..locked.array().geometry().dies {
-        if orders.len() >= most || orders.len() == orders.capacity() {
+        if orders.len() >= most || orders.len() >= orders.capacity() {
             return;
         }
         if let Some(order) = take_job(alloc, locked, seat, Die(number as u8)) {
-            let _ = orders.push(order);
+            add(orders, order);
         }
     }
 }
 
+/// Adds an order, for which there is memory.
+fn add<A: Allocator>(orders: &mut Vec<Order<A>, A>, order: Order<A>)
+    requires { length orders.old.items < vec_capacity orders.old }
+    ensures { orders.new.items ≡ orders.old.items ++ order ∷ [] }
+{
+    let _ = orders.push(order);
+}
+
 /// Opens what reads gave, and hands out the payloads. A read whose slot is not opened yet stands as one of a bad slot. Where several jobs
 /// are reads their slots are hashed side by side.
-fn open_reads<A: Allocator>(memories: &mut [JobMemory<A>], outcomes: &mut [Outcome]) {
+fn open_reads<A: Allocator>(memories: &mut [JobMemory<A>], outcomes: &mut [Outcome])
+    ensures { OpensReads memories.old outcomes.old memories.new outcomes.new }
+{
+    let together = opened_together(memories, outcomes);
+    for index in 0..memories.len().min(outcomes.len()) {
+        let outcome = outcomes[index];
+        outcomes[index] = open_read(&mut memories[index], outcome, together.as_ref(), index);
+    }
+}
+
+/// What stands in all memories, as slots, where several jobs are reads.
+fn opened_together<A: Allocator>(
+    memories: &[JobMemory<A>],
+    outcomes: &[Outcome],
+) -> Option<[Opened; MAX_JOBS]>
+    ensures { IfSome result (λ all. AreOpenedAt memories.now all) }
+{
     let reads = outcomes
         .iter()
         .filter(|outcome| matches!(outcome, Outcome::Read(_)))
         .count();
     if reads < FEW_READS {
-        open_each(memories, outcomes);
-        return;
-    }
-    let opened = open_slots(memories);
-    for ((memory, outcome), opened) in memories
-        .iter_mut()
-        .zip(outcomes.iter_mut())
-        .zip(opened.iter())
-    {
-        if matches!(outcome, Outcome::Read(_)) {
-            *outcome = Outcome::Read(*opened);
-            hand_out(memory);
-        }
+        None
+    } else {
+        Some(open_slots(memories))
     }
 }
 
-/// The same, one by one.
-fn open_each<A: Allocator>(memories: &mut [JobMemory<A>], outcomes: &mut [Outcome]) {
-    for (memory, outcome) in memories.iter_mut().zip(outcomes.iter_mut()) {
-        if matches!(outcome, Outcome::Read(_)) {
-            *outcome = Outcome::Read(open(memory.scratch.as_slice()));
+/// Opens what one read gave, and hands out its payload, where the memory has room for it. It is opened already where all were together.
+fn open_read<A: Allocator>(
+    memory: &mut JobMemory<A>,
+    outcome: Outcome,
+    together: Option<&[Opened; MAX_JOBS]>,
+    index: usize,
+) -> Outcome
+    requires { IfSome together (λ all. (d : Opened) → index < 8 → IsOpened memory.old.scratch.items (slice_index_or all.now index d)) }
+    ensures { OpensRead memory.old outcome memory.new result }
+{
+    match outcome {
+        Outcome::Read(_) => {
+            let opened = opened_at(together, index, memory.scratch.as_slice());
             hand_out(memory);
+            Outcome::Read(opened)
         }
+        other => other,
+    }
+}
+
+/// What these bytes are as a slot, which was opened already where all were together.
+fn opened_at(together: Option<&[Opened; MAX_JOBS]>, index: usize, bytes: &[u8]) -> Opened
+    requires { IfSome together (λ all. (d : Opened) → index < 8 → IsOpened bytes.now (slice_index_or all.now index d)) }
+    ensures { IsOpened bytes.now result }
+{
+    match together {
+        Some(all) if index < MAX_JOBS => all[index],
+        _ => open(bytes),
     }
 }
 
 /// What stands in all memories, as slots, hashed side by side.
-fn open_slots<A: Allocator>(memories: &[JobMemory<A>]) -> [Opened; MAX_JOBS] {
+fn open_slots<A: Allocator>(memories: &[JobMemory<A>]) -> [Opened; MAX_JOBS]
+    ensures { AreOpenedAt memories.now result }
+{
     let mut opened = [Opened::Bad; MAX_JOBS];
     open_all(
         &[
@@ -262,15 +331,20 @@ fn open_slots<A: Allocator>(memories: &[JobMemory<A>]) -> [Opened; MAX_JOBS] {
 }
 
 /// What stands for a slot in the memory of this place. None there has no bytes.
-fn slot_in<A: Allocator>(memories: &[JobMemory<A>], place: usize) -> &[u8] {
-    match memories.get(place) {
-        Some(memory) => memory.scratch.as_slice(),
-        None => &[],
+fn slot_in<A: Allocator>(memories: &[JobMemory<A>], place: usize) -> &[u8]
+    ensures { result.now ≡ bytes_at memories.now place }
+{
+    if place >= memories.len() {
+        return &[];
     }
+    memories[place].scratch.as_slice()
 }
 
 /// The payload of the slot that was read goes to where a read hands it out.
-fn hand_out<A: Allocator>(memory: &mut JobMemory<A>) {
+fn hand_out<A: Allocator>(memory: &mut JobMemory<A>)
+    ensures { length memory.old.buffer.items ≤ length memory.old.scratch.items
+        → memory.new.buffer.items ≡ take (length memory.old.buffer.items) memory.old.scratch.items }
+{
     if memory.buffer.len() <= memory.scratch.len() {
         hand_over(&mut memory.scratch, &mut memory.buffer);
     }

@@ -3,10 +3,12 @@ ghost use Rattle.std.specs.Prelude.{◌≡◌, ◌+◌, IfSome, length, option_m
 ghost use Rattle.fa_core_outcome.specs.Outcomes.{outcome_of};
 ghost use Rattle.fa_core_dispatch.specs.Fits.{IsJobFor};
 ghost use Rattle.fa_core_dispatch.specs.Handed.{handed_of};
+ghost use Rattle.fa_workers.specs.Begun.{Begins};
 ghost use Rattle.fa_workers.specs.Made.{Ran};
 ghost use Rattle.fa_workers.specs.Orders.{IsJobFor-prop};
 
-use crate::gate::{Gate, ImageCallKind};
+use crate::gate::Gate;
+use crate::reading::begin_read;
 use crate::running::run_job;
 use fa_core_dispatch::Job;
 use fa_core_outcome::Outcome;
@@ -104,6 +106,10 @@ impl<A: Allocator> Order<A> {
         buffer: &mut Vec<u8, B>,
         gate: &G,
     ) -> Outcome
+        ensures begins { (I.view image.old).geometry ≡ self.now.geometry → length scratch.old.items ≡ self.now.geometry.page_bytes + 64
+            → length buffer.old.items ≡ self.now.geometry.page_bytes
+            → Begins I.made self.now.geometry self.now.array self.now.die.0 (handed_of self.now.job) result scratch.new.items
+            buffer.new.items image.old image.new }
         ensures scratch { length scratch.new.items ≡ length scratch.old.items }
         ensures buffer { length buffer.new.items ≡ length buffer.old.items }
     {
@@ -114,10 +120,7 @@ impl<A: Allocator> Order<A> {
         if geometry != self.geometry || scratch.len() != self.slot_len() {
             return self.refused();
         }
-        gate.before(self.die, ImageCallKind::ReadSlot);
-        let read = image.read_slot(slot, scratch.as_mut_slice());
-        gate.after(self.die, ImageCallKind::ReadSlot);
-        match read {
+        match begin_read(self.die, image, slot, scratch, gate) {
             Ok(()) => Outcome::Read(Opened::Bad),
             Err(fault) => Outcome::Fault(fault),
         }

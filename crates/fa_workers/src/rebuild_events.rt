@@ -1,7 +1,7 @@
 //! What the rebuilder does while it holds the array's lock.
 ghost use Rattle.std.specs.Prelude.{◌≡◌, false, map, IfSome};
 ghost use Rattle.fa_core_read.specs.Answers.{admit_answer};
-ghost use Rattle.fa_shared_events.specs.Rest.{LeavesRest};
+ghost use Rattle.fa_shared_lock.specs.Rest.{LeavesRest};
 ghost use Rattle.fa_workers.specs.Rebuilding.{AfterBatch, IsNumbered, Rebuilds, after_admit, after_commit as rule_commit, after_reserve};
 ghost use Rattle.fa_workers.specs.declared.rebuild_stage.RebuildStage.TheVariants.{Looking, Pausing, Reading, Reserving, Copying};
 
@@ -10,8 +10,9 @@ use crate::spares::bring_in_spare;
 use fa_core::Admitted;
 use fa_machine::{AdmitRefused, BatchId, CommitCopyRefused, Copied, ReadState, ReserveCopyRefused};
 use fa_map_calls::Map;
-use fa_shared::{Locked, Seat};
-use fa_shared_events::{admit, commit_copy, end_batch, reserve_copy};
+use fa_shared_die_events::{commit_copy, reserve_copy};
+use fa_shared_events::{admit, end_batch};
+use fa_shared_lock::{Locked, Seat};
 use fa_tag::Payload;
 use fa_types::Page;
 use std::alloc::{Allocator, Global};

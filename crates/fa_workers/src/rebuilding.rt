@@ -2,7 +2,8 @@
 use crate::rebuild_events::{Came, turn};
 use crate::rebuild_stage::{RebuildStage, ThinPage};
 use fa_map_calls::Map;
-use fa_shared::{Awaits, Seat, Shared};
+use fa_shared::Shared;
+use fa_shared_lock::{Awaits, Seat};
 use fa_tag::Payload;
 use fa_types::Page;
 use std::alloc::Allocator;

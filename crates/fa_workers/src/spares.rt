@@ -1,13 +1,13 @@
 //! Spares that are brought in.
 ghost use Rattle.std.specs.Prelude.{◌≡◌, ◌<◌, true, false};
 ghost use Rattle.fa_core.specs.Array.{state_of};
-ghost use Rattle.fa_shared_events.specs.Rest.{LeavesRest};
+ghost use Rattle.fa_shared_lock.specs.Rest.{LeavesRest};
 ghost use Rattle.fa_workers.specs.Spares.{BringsIn, BringsInOne, live_below, wants_spare as rule_wants};
 
 use fa_core::Array;
 use fa_map_calls::Map;
-use fa_shared::{Locked, Seat};
-use fa_shared_events::spare_in;
+use fa_shared_die_events::spare_in;
+use fa_shared_lock::{Locked, Seat};
 use fa_types::Die;
 use std::alloc::Allocator;
 use std::sync::ledger::Ledger;

@@ -3,10 +3,6 @@ ghost use Rattle.std.specs.Prelude.{◌≡◌, IfOk};
 ghost use Rattle.std.specs.FinMap.{empty, len};
 ghost use Rattle.fa_core.specs.Array.{IsWhole};
 
-use crate::lab::Lab;
-use crate::over_array::over_array;
-use crate::script::Script;
-use crate::shape::{Shape, array_over};
 use crate::store::over_store;
 use fa_core::Array;
 use fa_map_calls::Map;
@@ -14,6 +10,7 @@ use fa_mount::MountedArray;
 use fa_mount_headers::MountRefused;
 use fa_solo::Parts;
 use flasharr_lab_array::show_mounted;
+use flasharr_lab_lines::{Lab, Script, Shape, array_over, over_array};
 use flasharr_lab_parts::{DieImage, Heap, Images, Yard, show_unmounted};
 use std::alloc::AllocError;
 use std::io::BufRead;
@@ -123,14 +120,19 @@ fn own<'a, R: BufRead + Drop, M: Map + Drop, I: DieImage>(
 ) -> Images<'a, I>
     requires { IsWhole M.view parts.mounted.array }
 {
-    let mut parts = parts;
+    let Parts { mounted, images } = parts;
+    let mut mounted = mounted;
+    let mut images = images;
     'stores: for _ in 0..u64::MAX {
-        match over_array(script, lab, yard, &mut parts) {
-            Some(rounds) => parts = with_store(script, lab, yard, parts, rounds),
+        match over_array(script, lab, yard, &mut mounted, &mut images) {
+            Some(rounds) => {
+                let parts = with_store(script, lab, yard, Parts { mounted, images }, rounds);
+                mounted = parts.mounted;
+                images = parts.images;
+            }
             None => break 'stores,
         }
     }
-    let Parts { images, .. } = parts;
     images
 }
 

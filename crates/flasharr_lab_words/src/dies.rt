@@ -23,7 +23,7 @@ pub struct LiveDie {
     pub has_window: bool,
     /// Whether a Take finds work.
     pub has_job: bool,
-    /// What it is at.
+    /// Its job.
     pub job: Option<JobKind>,
 }
 

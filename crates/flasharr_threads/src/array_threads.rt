@@ -4,7 +4,6 @@ ghost use Rattle.fa_core.specs.Array.{IsWhole};
 
 use crate::arrays::{DieImage, Start, close_array, mounted};
 use crate::host::Machine;
-use crate::side_by_side::work_side_by_side;
 use crate::site::{DieTask, Done, Meanwhile, Session, Site, Task};
 use crate::users::User;
 use fa_core::Array;
@@ -13,7 +12,9 @@ use fa_map::PageMap;
 use fa_map_calls::Map;
 use fa_mount::{CloseFault, MountedArray};
 use fa_mount_headers::Standing;
-use fa_shared::{Fault, Seat, Shared};
+use fa_shared::{Fault, Shared};
+use fa_shared_lock::Seat;
+use fa_threads::work_side_by_side;
 use fa_types::Die;
 use fa_workers::{Gate, HelperMemory, ImageTable, JobMemory};
 use std::alloc::{AllocError, Global};
@@ -106,7 +107,7 @@ fn run_over<
     close_shared(shared, dies, worked)
 }
 
-/// An array that was just mounted, to be shared over a ledger of 257 parts that nothing else names. None where memory is refused.
+/// An array to be shared over a ledger of 257 parts that nothing else names. None where memory is refused.
 fn share<L: Ledger, M: Map + Drop>(
     alloc: Global,
     blank: Blank,
@@ -116,10 +117,6 @@ fn share<L: Ledger, M: Map + Drop>(
     requires parts { (blank.parts ≡ L.parts) × (blank.parts ≡ 257) }
     requires whole { IsWhole M.view array }
 {
-    // No event was made of an array that was just mounted.
-    if array.counts().0 != 0 {
-        return None;
-    }
     Shared::<L, M>::new(alloc, blank, array).ok()
 }
 
@@ -397,7 +394,7 @@ fn back_of<
         image_table,
         gate,
     };
-    taken_in(rt, work_side_by_side(rt, &site, tasks, workers)?)
+    taken_in(rt, work_side_by_side(rt, &site, tasks, workers, &mut ())?)
 }
 
 /// What is left of all tasks, the users apart from the seats. None where memory is refused.

@@ -8,7 +8,6 @@ mod gate;
 mod host;
 mod pages;
 mod scenarios;
-mod side_by_side;
 mod site;
 mod turns;
 mod users;

@@ -1,11 +1,12 @@
 //! A shared array as its threads see it, and what they do: those who work for it, and its users.
 use crate::host::ThreadHost;
-use crate::side_by_side::Workplace;
 use crate::users::User;
 use fa_image::Image;
 use fa_map_calls::Map;
-use fa_shared::{Hands, NoHands, Seat, Shared};
+use fa_shared::Shared;
+use fa_shared_lock::{Hands, NoHands, Seat};
 use fa_shared_store::ArrayBlocks;
+use fa_threads::Workplace;
 use fa_types::Die;
 use fa_workers::{
     Gate, Helper, HelperMemory, ImageTable, JobMemory, collector_worker, die_worker, rebuild_worker,
@@ -72,11 +73,12 @@ pub(crate) struct Site<'a, L: Ledger, M: Map + Drop, I: Image + Drop, G: Gate> {
     pub(crate) gate: &'a G,
 }
 
-impl<'a, L: Ledger, M: Map + Drop, I: Image + Drop, G: Gate, U: User> Workplace<
+impl<'a, R: ThreadHost, L: Ledger, M: Map + Drop, I: Image + Drop, G: Gate, U: User> Workplace<
+    R,
     Task<L, U>,
     Done<L, U>,
 > for Site<'a, L, M, I, G> {
-    fn work<R: ThreadHost>(&self, rt: &R, task: Task<L, U>) -> Done<L, U> {
+    fn work(&self, rt: &R, task: Task<L, U>) -> Done<L, U> {
         match task {
             Task::Die(task) => left(work_die(rt, self.shared, self.image_table, self.gate, task)),
             Task::Collect(seat) => left(collect(rt, self.shared, seat)),
@@ -87,7 +89,11 @@ impl<'a, L: Ledger, M: Map + Drop, I: Image + Drop, G: Gate, U: User> Workplace<
         }
     }
 
-    fn stop<R: ThreadHost>(&self, rt: &R) {
+    fn give_up(&self, rt: &R) {
+        self.shared.stop(rt);
+    }
+
+    fn stop(&self, rt: &R) {
         self.shared.stop(rt);
     }
 }

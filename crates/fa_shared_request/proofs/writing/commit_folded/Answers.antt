@@ -1,7 +1,7 @@
 use Rattle.std.proofs.Common.{refl}
 use Rattle.fa_machine.specs.Step.{Commit}
 use Rattle.fa_shared_request.specs.Moves.{Folded}
-use Rattle.fa_shared.specs.Seats.{number_of}
+use Rattle.fa_shared_lock.specs.Seats.{number_of}
 use Rattle.fa_shared_request.proofs.Turns.{after_fold}
 use Rattle.fa_shared_request.proofs.writing.commit_folded.Goals as goal
 

@@ -1,8 +1,8 @@
 use Rattle.std.proofs.Common.{◌∙◌, ◌+◌, None, ap, refl, sym}
 use Rattle.fa_solo_job.proofs.Chains.{does_event}
 use Rattle.fa_machine.specs.Step.{Take}
-use Rattle.fa_shared.specs.Locked.{LockedState}
-use Rattle.fa_shared.specs.Seats.{number_of}
+use Rattle.fa_shared_lock.specs.Locked.{LockedState}
+use Rattle.fa_shared_lock.specs.Seats.{number_of}
 use Rattle.fa_solo_job.proofs.Taken.{does_job, fits_by, took_job}
 use Rattle.fa_solo_job.specs.Deeds.{IsForDies}
 use Rattle.fa_types.specs.declared.geometry.Geometry.{Geometry}

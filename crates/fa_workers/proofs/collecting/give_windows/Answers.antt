@@ -3,7 +3,7 @@ use Rattle.fa_machine.specs.State.{Core}
 use Rattle.fa_machine.specs.Step.{Step, Window}
 use Rattle.fa_machine.specs.declared.refusals.WindowRefused.{WindowRefused}
 use Rattle.fa_machine.specs.declared.refusals.WindowRefused.TheVariants.{Busy, HasOne, NoMemory}
-use Rattle.fa_workers.proofs.Holds.{join_rest, rest_same}
+use Rattle.fa_shared_lock.proofs.Holds.{join_rest, rest_same}
 use Rattle.fa_workers.specs.Windows.{Given, GivesWindow, NoDie, NoWindow, OneMore, Refused, Wants}
 use Rattle.fa_workers.proofs.collecting.give_windows.Goals.{then-give_window, else-give_window}
 use Rattle.fa_workers.proofs.collecting.give_windows.Goals as goal

@@ -1,5 +1,5 @@
 use Rattle.std.proofs.Common.{◌≡◌, false}
-use Rattle.fa_shared_events.specs.Rest.{LeavesRest}
+use Rattle.fa_shared_lock.specs.Rest.{LeavesRest}
 use Rattle.fa_workers.specs.Windows.{GivesWindows}
 use Rattle.fa_workers.proofs.collecting.give_windows.Given as goal
 

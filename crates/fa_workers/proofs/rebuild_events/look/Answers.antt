@@ -1,5 +1,5 @@
 use Rattle.std.proofs.Common.{◌∙◌, sym}
-use Rattle.fa_workers.proofs.Holds.{all_same}
+use Rattle.fa_shared_lock.proofs.Holds.{all_same}
 use Rattle.fa_workers.proofs.Rebuilds.{brought, brought_none, from_same}
 use Rattle.fa_workers.proofs.rebuild_events.look.Goals as goal
 

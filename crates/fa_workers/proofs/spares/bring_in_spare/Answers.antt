@@ -2,7 +2,7 @@ use Rattle.std.proofs.Common.{◌≡◌, ◌∙◌, ◌<◌, Bool, Ok, ap, arith
 use borrow.Author.Count.{below_more}
 use Rattle.fa_machine.specs.State.{Core}
 use Rattle.fa_machine.specs.Step.{SpareIn, Step}
-use Rattle.fa_workers.proofs.Holds.{join_rest}
+use Rattle.fa_shared_lock.proofs.Holds.{join_rest}
 use Rattle.fa_types.specs.declared.geometry.Geometry.{Geometry}
 use Rattle.fa_workers.specs.Spares.{BringsIn, BringsInOne, Brought, HasNone, IsNoSpare, Lowest, NoSpare, WantsNone, wants_spare}
 use Rattle.fa_workers.proofs.spares.bring_in_spare.Goals as goal

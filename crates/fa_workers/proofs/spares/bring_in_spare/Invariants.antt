@@ -1,5 +1,5 @@
 use Rattle.std.proofs.Common.{◌≡◌, ◌<◌, ℕ}
-use Rattle.fa_shared_events.specs.Rest.{LeavesRest}
+use Rattle.fa_shared_lock.specs.Rest.{LeavesRest}
 use Rattle.fa_workers.specs.Spares.{IsNoSpare}
 use Rattle.fa_workers.proofs.spares.bring_in_spare.Given as goal
 

@@ -1,0 +1,59 @@
+//! Whoever makes jobs of dies while a request waits for them.
+ghost use Rattle.std.specs.Prelude.{◌≡◌, List, [], ℕ, false};
+ghost use Rattle.fa_shared_lock.specs.Only.{EndsJobs, TakesJobs};
+ghost use Rattle.fa_shared_lock.specs.Seats.{commits_with, number_of};
+
+use crate::locked::Locked;
+use crate::seat::Seat;
+use fa_map_calls::Map;
+use std::alloc::Allocator;
+use std::sync::ledger::Ledger;
+
+/// Somebody who makes jobs of an array's dies. In one hold of the array's lock jobs are taken, behind it their calls are made, and in the
+/// next hold they are ended. Whose seat that is makes no Commit by it.
+pub trait Hands<L: Ledger, M: Map + Drop, A: Allocator + Copy> {
+    /// The dies whose jobs were taken and are not ended.
+    ghost held: { Self → List ℕ };
+
+    /// Takes jobs of dies that nobody works for, with the lock held. Whether there are any.
+    fn take(&mut self, locked: &mut Locked<L, M, A>, seat: &mut Seat<L>) -> bool
+        ensures takes { TakesJobs (number_of seat.old) locked.old.core (held self.old) locked.new.core (held self.new) }
+        ensures none { result ≡ false → held self.new ≡ [] }
+        ensures rest { locked.new ≡ record locked.old { core = locked.new.core } }
+        ensures commits { commits_with seat.new ≡ commits_with seat.old }
+        ensures number { number_of seat.new ≡ number_of seat.old };
+
+    /// Makes the calls of the jobs that were taken, with no lock held.
+    fn work(&mut self)
+        ensures { held self.new ≡ held self.old };
+
+    /// Ends the jobs that were taken, with the lock held.
+    fn end(&mut self, locked: &mut Locked<L, M, A>, seat: &mut Seat<L>)
+        ensures ends { EndsJobs locked.old.core (held self.old) locked.new.core }
+        ensures none { held self.new ≡ [] }
+        ensures rest { locked.new ≡ record locked.old { core = locked.new.core } }
+        ensures commits { commits_with seat.new ≡ commits_with seat.old }
+        ensures number { number_of seat.new ≡ number_of seat.old };
+
+    /// Notes why dies went out, if some did as their jobs ended, with no lock held.
+    fn note(&mut self)
+        ensures { held self.new ≡ held self.old };
+}
+
+/// Somebody who makes none.
+#[derive(Clone, Copy, Debug)]
+pub struct NoHands;
+
+impl<L: Ledger, M: Map + Drop, A: Allocator + Copy> Hands<L, M, A> for NoHands {
+    ghost held = { λ hands. [] };
+
+    fn take(&mut self, _locked: &mut Locked<L, M, A>, _seat: &mut Seat<L>) -> bool {
+        false
+    }
+
+    fn work(&mut self) {}
+
+    fn end(&mut self, _locked: &mut Locked<L, M, A>, _seat: &mut Seat<L>) {}
+
+    fn note(&mut self) {}
+}

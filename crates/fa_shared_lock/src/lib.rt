@@ -1,0 +1,14 @@
+//! The array under a lock: who makes events, and what always holds of the array while the lock is free.
+#![tactic(auto)]
+
+mod hands;
+mod locked;
+mod making;
+mod seat;
+mod sleepers;
+
+pub use hands::{Hands, NoHands};
+pub use locked::{Gathered, Locked, MAX_SEATS, plain};
+pub use making::make;
+pub use seat::Seat;
+pub use sleepers::{Awaits, SeatSet};

@@ -1,0 +1,164 @@
+//! Who sleeps until the array has changed, and for what.
+ghost use Rattle.fa_core.specs.Array.{IsWhole};
+
+use crate::locked::MAX_SEATS;
+use fa_core::Array;
+use fa_machine::{BatchId, ClaimId, Flush, FlushState, ReadState};
+use fa_map_calls::Map;
+use fa_types::Die;
+use std::alloc::{AllocError, Allocator, Global};
+use std::mem::replace;
+
+/// What somebody waits for.
+#[derive(Clone, Copy, Debug, PartialEq, Eq)]
+pub enum Awaits {
+    /// Each page of this batch is answered, or it is torn.
+    Batch(BatchId),
+    /// What is reserved under this claim is programmed, as far as its dies are live.
+    Programs(ClaimId),
+    /// This flush has ended.
+    Flush(Flush),
+    /// This die has a job that nobody is at.
+    Job(Die),
+    /// A die wants a window of the collector and has none.
+    Window,
+    /// A page that has too few copies may get one more.
+    ThinPage,
+    /// Something that others hold up: a claim, room, or a place in the calendar.
+    Change,
+}
+
+/// A set of seats.
+#[derive(Clone, Copy, Debug)]
+pub struct SeatSet {
+    // Whether a seat is in it, by its number.
+    words: [u64; 4],
+}
+
+impl SeatSet {
+    /// No seat.
+    pub(crate) fn new() -> SeatSet {
+        SeatSet { words: [0; 4] }
+    }
+
+    /// One seat more.
+    pub(crate) fn insert(&mut self, seat: u32) {
+        if let Some(word) = self.words.get_mut((seat / 64) as usize) {
+            *word |= 1 << (seat % 64);
+        }
+    }
+
+    /// Whether the seat is in it.
+    pub fn contains(&self, seat: u32) -> bool {
+        match self.words.get((seat / 64) as usize) {
+            Some(word) => (word >> (seat % 64)) & 1 == 1,
+            None => false,
+        }
+    }
+
+    /// The lowest seat, which is in it no more.
+    pub fn pop(&mut self) -> Option<u32> {
+        for index in 0..4u32 {
+            let word = self.words[index as usize];
+            if word != 0 {
+                self.words[index as usize] = word & (word - 1);
+                return Some(64 * index + word.trailing_zeros());
+            }
+        }
+        None
+    }
+}
+
+/// Who sleeps, by their seats. No call but `new` takes memory.
+#[derive(Drop)]
+pub(crate) struct Sleepers<A: Allocator = Global> {
+    // By the numbers of seats, as far as seats were handed out.
+    awaited: Vec<Option<Awaits>, A>,
+    // How many entries may be some.
+    seats: u32,
+    // Something has changed that others may wait for.
+    changed: bool,
+}
+
+impl<A: Allocator> Sleepers<A> {
+    /// Nobody sleeps. The error is out of memory.
+    pub(crate) fn new(alloc: A) -> Result<Sleepers<A>, AllocError> {
+        let mut awaited = Vec::with_capacity(alloc, MAX_SEATS as usize)?;
+        for _ in 0..MAX_SEATS {
+            awaited.push(None)?;
+        }
+        Ok(Sleepers {
+            awaited,
+            seats: 0,
+            changed: false,
+        })
+    }
+
+    /// Whoever has this seat sleeps until then.
+    pub(crate) fn lie_down(&mut self, seat: u32, awaits: Awaits) {
+        if let Some(entry) = self.awaited.get_mut(seat as usize) {
+            *entry = Some(awaits);
+        }
+        self.seats = self.seats.max(seat.saturating_add(1));
+    }
+
+    /// Whoever has this seat sleeps no more.
+    pub(crate) fn get_up(&mut self, seat: u32) {
+        if let Some(entry) = self.awaited.get_mut(seat as usize) {
+            *entry = None;
+        }
+    }
+
+    /// Something has changed that others may wait for.
+    pub(crate) fn note_change(&mut self) {
+        self.changed = true;
+    }
+}
+
+impl<A: Allocator> Sleepers<A> {
+    /// Those for whom it is time, as the array is. They are counted as awake.
+    pub(crate) fn due<M: Map, B: Allocator + Clone>(&mut self, array: &Array<M, B>) -> SeatSet
+        requires { IsWhole M.view array.now }
+    {
+        let changed = replace(&mut self.changed, false);
+        let mut due = SeatSet::new();
+        for seat in 0..self.seats {
+            let Some(entry) = self.awaited.get_mut(seat as usize) else {
+                break;
+            };
+            if let Some(awaits) = *entry {
+                if is_due(array, changed, awaits) {
+                    *entry = None;
+                    due.insert(seat);
+                }
+            }
+        }
+        due
+    }
+}
+
+/// Whether it is time for somebody who waits so.
+fn is_due<M: Map, A: Allocator + Clone>(array: &Array<M, A>, changed: bool, awaits: Awaits) -> bool
+    requires { IsWhole M.view array.now }
+{
+    match awaits {
+        Awaits::Batch(batch) => !matches!(array.results(batch), ReadState::Waiting),
+        Awaits::Programs(claim) => !array.is_pending(claim),
+        Awaits::Flush(flush) => !matches!(array.flush_state(&flush), FlushState::Waiting),
+        Awaits::Job(die) => array.is_die(die) && array.has_job(die),
+        Awaits::Window => wants_window(array),
+        Awaits::ThinPage => changed && array.next_thin().is_some(),
+        Awaits::Change => changed,
+    }
+}
+
+/// Whether a die wants a window and has none.
+fn wants_window<M: Map, A: Allocator + Clone>(array: &Array<M, A>) -> bool {
+    for number in 0..array.geometry().dies {
+        let die = Die(number as u8);
+        if array.wants_window(die) && !array.has_window(die) {
+            return true;
+        }
+    }
+    false
+}

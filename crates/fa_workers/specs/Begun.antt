@@ -1,0 +1,52 @@
+-- Jobs whose calls were made, where what a read gave is opened behind them.
+use Rattle.std.specs.Prelude.{◌≡◌, ◌<◌, ◌≤◌, ℕ, zero, suc, List, [], ◌∷◌, length, slice_index_or, take}
+use Rattle.fa_core_outcome.specs.Outcomes.{outcome_of as end_of}
+use Rattle.fa_core_outcome.specs.declared.outcome.Outcome.{Outcome as JobOutcome}
+use Rattle.fa_core_outcome.specs.declared.outcome.Outcome.TheVariants.{Read as WasRead}
+use Rattle.fa_image.specs.Image.{Gave as GaveBytes, ImageAnswer, ImageCall, ReadingSlot}
+use Rattle.fa_machine.specs.Taking.{Handed}
+use Rattle.fa_machine.specs.declared.ids.BatchId.{BatchId}
+use Rattle.fa_machine.specs.declared.jobs.Flight.TheVariants.{Read}
+use Rattle.fa_machine.specs.declared.places.Version.{Version}
+use Rattle.fa_tag.specs.SlotGrammar.{IsOpened}
+use Rattle.fa_tag.specs.declared.tag.Opened.{Opened}
+use Rattle.fa_tag.specs.declared.tag.Opened.TheVariants.{Bad}
+use Rattle.fa_types.specs.declared.geometry.Geometry.{Geometry}
+use Rattle.fa_types.specs.declared.numbers.Page.{Page}
+use Rattle.fa_types.specs.declared.numbers.Slot.{Slot}
+use Rattle.fa_workers.specs.Made.{Ran}
+use Rattle.fa_workers.specs.declared.job_memory.JobMemory.{JobMemory}
+
+-- A slot's bytes are opened, and the first of them, as many as a page has, are handed out.
+abbrev pub Opens : List ℕ → ℕ → JobOutcome → List ℕ → Type 0
+Opens bytes count outcome page = (opened : Opened) × IsOpened bytes opened × (outcome ≡ WasRead opened) × (page ≡ take count bytes)
+
+module _ {I : Type 0} (made : I → ImageCall → ImageAnswer → I → Type 0) (geometry : Geometry) (array : List ℕ) (die : ℕ) where
+  -- The job ran, or its slot was read into these bytes, and stands as a bad one until it is opened.
+  pub data Begins (job : Handed) (outcome : JobOutcome) (slot_bytes page_bytes : List ℕ) (before after : I) : Type 0 where
+    HasRun : Ran made geometry array die job (end_of outcome page_bytes) before after → Begins job outcome slot_bytes page_bytes before after
+    HasRead : (batch : BatchId) (page : Page) (version : Version) (slot : Slot) → job.flight ≡ Read batch page version slot
+        → outcome ≡ WasRead Bad → made before (ReadingSlot slot.0) (GaveBytes slot_bytes) after
+        → Begins job outcome slot_bytes page_bytes before after
+
+module _ {A : Type 0} where
+  -- What a read gave is opened, where its memory has room for the page. Every other outcome stays, with its memory.
+  abbrev pub OpensRead : JobMemory A → JobOutcome → JobMemory A → JobOutcome → Type 0
+  OpensRead memory (WasRead opened) after outcome = length memory.buffer.items ≤ length memory.scratch.items
+      → Opens memory.scratch.items (length memory.buffer.items) outcome after.buffer.items
+  OpensRead memory before after outcome = (outcome ≡ before) × (after ≡ memory)
+
+  -- So it is of each job that has memory.
+  abbrev pub OpensReads : List (JobMemory A) → List JobOutcome → List (JobMemory A) → List JobOutcome → Type 0
+  OpensReads old before new after = (k : ℕ) (memory : JobMemory A) (outcome : JobOutcome) → k < length old → k < length before
+      → OpensRead (slice_index_or old k memory) (slice_index_or before k outcome) (slice_index_or new k memory) (slice_index_or after k outcome)
+
+  -- the bytes of a slot in the memory of a place
+  abbrev pub bytes_at : List (JobMemory A) → ℕ → List ℕ
+  bytes_at [] place = []
+  bytes_at (memory ∷ memories) zero = memory.scratch.items
+  bytes_at (memory ∷ memories) (suc place) = bytes_at memories place
+
+  -- These are what stands in the first memories, as slots, for as many as there are of them.
+  abbrev pub AreOpenedAt : List (JobMemory A) → List Opened → Type 0
+  AreOpenedAt memories opened = (k : ℕ) (d : Opened) → k < 8 → IsOpened (bytes_at memories k) (slice_index_or opened k d)

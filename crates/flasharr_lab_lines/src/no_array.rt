@@ -1,0 +1,115 @@
+//! What is done while no array is there.
+use crate::bare_jobs::do_bare;
+use crate::image_lines::touch_images;
+use crate::lab::Lab;
+use crate::scanning::scan_alone;
+use crate::shape::geometry_of;
+use crate::turn::Turn;
+use fa_types::Geometry;
+use flasharr_lab_calls::do_free;
+use flasharr_lab_parts::{DieImage, Images, Tools, Yard, drop_image, new_images, swap};
+use flasharr_lab_words::{Begin, Order, Output, Wish, index_of, number_at};
+
+/// Does what a line asks for while no array is there, and gives the images that there are then.
+pub fn without_array<'a, I: DieImage>(
+    turn: &mut Turn,
+    lab: &mut Lab<'a>,
+    yard: &mut Yard<'a, I>,
+    images: Images<'a, I>,
+) -> Images<'a, I> {
+    match turn.order.wish {
+        Wish::Begin(Begin::Images { is_old }) => make_images(turn, &mut lab.tools, yard, is_old),
+        _ => {
+            let mut images = images;
+            do_without_array(&turn.order, lab, yard, &mut images);
+            turn.done(&mut lab.tools);
+            images
+        }
+    }
+}
+
+/// Makes images. None are left where they are not had.
+fn make_images<'a, I: DieImage>(
+    turn: &mut Turn,
+    tools: &mut Tools<'a>,
+    yard: &mut Yard<'a, I>,
+    is_old: bool,
+) -> Images<'a, I> {
+    match geometry_of(turn.order.numbers.as_slice()) {
+        Some(geometry) => {
+            let images = images_of(geometry, tools, yard, is_old);
+            turn.done(tools);
+            images
+        }
+        None => {
+            turn.refuse(tools);
+            Vec::new(tools.heap())
+        }
+    }
+}
+
+/// Makes images of a geometry, and tells that.
+fn images_of<'a, I: DieImage>(
+    geometry: Geometry,
+    tools: &mut Tools<'a>,
+    yard: &mut Yard<'a, I>,
+    is_old: bool,
+) -> Images<'a, I> {
+    let heap = tools.heap();
+    yard.geometry = Some(geometry);
+    match new_images::<I>(tools.meter.rt, heap, yard.folder, geometry, is_old) {
+        Some(images) => {
+            tools.output.word("made");
+            images
+        }
+        None => {
+            tools.output.word("refused: no images");
+            Vec::new(heap)
+        }
+    }
+}
+
+/// Does what a line asks for that makes no images.
+fn do_without_array<'a, I: DieImage>(
+    order: &Order,
+    lab: &mut Lab<'a>,
+    yard: &mut Yard<'a, I>,
+    images: &mut Images<'a, I>,
+) {
+    let Lab { tools, beside, .. } = lab;
+    match order.wish {
+        Wish::Begin(begin) => begin_with(begin, order.numbers.as_slice(), images, tools),
+        Wish::Touch(deed) => touch_images(order, deed, tools, images),
+        Wish::Bare(wish) => do_bare(wish, order.numbers.as_slice(), tools, yard),
+        Wish::Free(wish) => do_free(order, wish, tools, beside),
+        Wish::Ask(_) => tools.output.word("no store"),
+        Wish::Make(_) | Wish::Show(_) | Wish::Work(_) => tools.output.word("no array"),
+    }
+}
+
+/// Changes the list of images or scans them, and tells that.
+fn begin_with<I: DieImage>(
+    begin: Begin,
+    numbers: &[u64],
+    images: &mut Images<'_, I>,
+    tools: &mut Tools<'_>,
+) {
+    let first = index_of(number_at(numbers, 0));
+    let second = index_of(number_at(numbers, 1));
+    match begin {
+        Begin::Scan { unclean } => scan_alone(numbers, images.as_mut_slice(), tools, unclean),
+        Begin::Swap => {
+            let is_swapped = swap(images.as_mut_slice(), first, second);
+            show_changed(is_swapped, "swapped", &mut tools.output);
+        }
+        Begin::Drop => {
+            let is_dropped = drop_image(images, first);
+            show_changed(is_dropped, "dropped", &mut tools.output);
+        }
+        _ => tools.output.word("left"),
+    }
+}
+
+fn show_changed(is_changed: bool, word: &str, output: &mut Output) {
+    output.word(if is_changed { word } else { "no die" });
+}
