@@ -1,5 +1,5 @@
 -- Reads whose slots are opened after they were read.
-use Rattle.std.proofs.Common.{ap, arith, refl, subst, sym, Bor, List, [], None, Option, Some, inl, inr, length, slice_set, slice_index_or, suc, zero, ℕ, ◌+◌, ◌<◌, ◌≤◌, ◌≡◌, ◌∙◌, ◌∷◌}
+use Rattle.std.proofs.Common.{ap, arith, drop, map, refl, take, subst, sym, Bor, List, [], None, Option, Some, inl, inr, length, slice_set, slice_index_or, suc, zero, ℕ, ◌+◌, ◌++◌, ◌<◌, ◌≤◌, ◌≡◌, ◌∙◌, ◌∷◌}
 use Rattle.fa_core_outcome.specs.Outcomes.{cell_of, outcome_of as end_of}
 use Rattle.fa_core_outcome.specs.declared.outcome.Outcome.{Outcome}
 use Rattle.fa_image.specs.Image.{Gave, ImageAnswer, ImageCall, ReadingSlot, Refused as RefusedBy, fault_number, fault_of}
@@ -18,7 +18,11 @@ use Rattle.fa_types.specs.declared.geometry.Geometry.{Geometry}
 use Rattle.fa_types.specs.declared.numbers.Page.{Page}
 use Rattle.fa_types.specs.declared.numbers.Slot.{Slot}
 use Rattle.fa_workers.proofs.Deeds.{payload_read, ran_once}
-use Rattle.fa_workers.specs.Begun.{AreOpenedAt, Opens, OpensMade, bytes_at}
+use Rattle.fa_shared_lock.specs.Only.{IsPart, dies_told}
+use Rattle.fa_types.specs.declared.numbers.Die.{Die}
+use Rattle.fa_workers.specs.Begun.{AreOpenedAt, Opens, OpensMade, OpensReads, bytes_at}
+use Rattle.fa_workers.specs.Held.{told_of}
+use Rattle.std.proofs.Math.Seq.{take-append_seam}
 use Rattle.std.proofs.lemmas.Bool.{cases_eq}
 use Rattle.std.proofs.lemmas.List.{get_or-set_other, get_or-set_same, get_or_default}
 use Rattle.std.specs.Option.{option_copied}
@@ -136,3 +140,22 @@ module _ {A : Type 0} where
         subst (λ x. OpensMade (slice_index_or old k m) x) (sym (get_or-set_other now i k job m other))
         (opened k m (omega (arith, past, other)))
   ]
+
+  -- what is opened stays told of the same dies
+  pub opens_told : (old new : List (MadeJob A)) → OpensReads old new → dies_told (map told_of new) ≡ dies_told (map told_of old)
+  opens_told [] [] opens = refl
+  opens_told [] (n ∷ new) opens = absurd (omega (arith, opens.0))
+  opens_told (o ∷ old) [] opens = absurd (omega (arith, opens.0))
+  opens_told (o ∷ old) (n ∷ new) opens =
+      ap (λ (d : Die). d.0 ∷ dies_told (map told_of new)) (opens.1 0 o (omega arith)).0
+      ∙ ap (λ ds. o.die.0 ∷ ds) (opens_told old new (omega (arith, opens.0), λ k m within. opens.1 (suc k) m (omega (arith, within))))
+
+  -- so it is where they are written back to a list of so many
+  pub opens_kept : (old new : List (MadeJob A)) (n : ℕ) → OpensReads old new → length old ≡ n → (dies : List ℕ)
+      → IsPart (dies_told (map told_of old)) dies → IsPart (dies_told (map told_of (take n (new ++ drop (length new) old)))) dies
+  opens_kept old new n opens is dies part =
+      subst (λ ds. IsPart ds dies)
+      (sym (ap (λ jobs. dies_told (map told_of jobs))
+      (ap (λ k. take k (new ++ drop (length new) old)) (sym (opens.0 ∙ is)) ∙ take-append_seam new (drop (length new) old))
+      ∙ opens_told old new opens))
+      part

@@ -11,9 +11,8 @@ use Rattle.fa_workers.specs.DieTurns.{Ends, LooksAgain, Rests, TakesNext, Took, 
 use Rattle.fa_workers.specs.Held.{AddsPart, die_taken, numbers_of, order_in, told_of}
 use Rattle.fa_workers.specs.declared.bench.MadeJob.{MadeJob}
 use Rattle.fa_workers.specs.declared.die_events.Next.{Next}
-use Rattle.fa_workers.specs.declared.order.Order.{Order}
-use Rattle.std.proofs.Common.{ap, inl, inr, refl, subst, sym, List, [], Err, None, Ok, Result, map, ℕ, ◌++◌, ◌∙◌, ◌∷◌, ◌≡◌}
-use Rattle.std.proofs.lemmas.List.{append-nil, append_assoc}
+use Rattle.std.proofs.Common.{ap, inl, inr, refl, subst, sym, List, [], Err, None, Ok, Result, arith, length, map, slice_index_or, take, ℕ, ◌++◌, ◌+◌, ◌<◌, ◌∙◌, ◌∷◌, ◌≡◌}
+use Rattle.std.proofs.lemmas.List.{append-nil, append_assoc, get_or-map, length-map, take_more}
 
 -- jobs that are taken behind others are held behind theirs
 pub takes_behind : (seat : ℕ) (a b c : Core) (held dies more : List ℕ) → TakesJobs seat a held b dies → TakesJobs seat b [] c more
@@ -91,6 +90,21 @@ part_more die old new dies (inl (told, is, same)) part =
     (OneStays (dies_told old) dies die part)
 part_more die old new dies (inr same) part =
     subst (λ ts. IsPart (dies_told ts) (dies ++ die ∷ [])) (sym same) (OneGoes (dies_told old) dies die part)
+
+-- so it is of the dies before a place, and of the die there
+pub part_next : (dies : List Die) (i : ℕ) (d : Die) (old new : List Told) → i < length dies → AddsPart (slice_index_or dies i d).0 old new
+    → IsPart (dies_told old) (take i (numbers_of dies)) → IsPart (dies_told new) (take (i + 1) (numbers_of dies))
+part_next dies i d old new within adds part =
+    let number : Die → ℕ = λ die. die.0 in
+    let long : i < length (numbers_of dies) = omega (arith, length-map dies number, within) in
+    let die = slice_index_or dies i d in
+    subst (λ ds. IsPart (dies_told new) ds)
+    (ap (λ n. take i (numbers_of dies) ++ n ∷ []) (sym (get_or-map number dies i d d.0 within)) ∙ sym (take_more (numbers_of dies) i d.0 long))
+    (part_more die.0 old new (take i (numbers_of dies)) adds part)
+
+pub none_left : {X : Type 0} (items : List X) → length items ≡ 0 → items ≡ []
+none_left [] is = refl
+none_left (item ∷ items) is = absurd (omega (arith, is))
 
 module _ {A : Type 0} where
   pub one_made : (jobs : List (MadeJob A)) (job : MadeJob A) → map told_of (jobs ++ job ∷ []) ≡ map told_of jobs ++ told_of job ∷ []

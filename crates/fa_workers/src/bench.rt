@@ -1,4 +1,6 @@
 //! Where jobs of dies lie that somebody took for several dies at once.
+ghost use Rattle.std.specs.Prelude.{◌≡◌, IfSome};
+
 use crate::job_memory::JobMemory;
 use crate::order::Order;
 use fa_core_outcome::Outcome;
@@ -106,7 +108,9 @@ impl<A: Allocator> Bench<A> {
     }
 
     /// How a job has ended that was made, with the memory that it was made in.
-    pub(crate) fn lift_made<R: Wait>(&self, rt: &R, die: Die) -> Option<MadeJob<A>> {
+    pub(crate) fn lift_made<R: Wait>(&self, rt: &R, die: Die) -> Option<MadeJob<A>>
+        ensures { IfSome result (λ job. job.die ≡ die) }
+    {
         let mut place = self.places.get(usize::from(die.0))?.lock(rt);
         let outcome = place.outcome.take()?;
         let memory = place.memory.take()?;

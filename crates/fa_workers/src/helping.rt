@@ -143,14 +143,16 @@ impl<
     }
 
     fn work(&mut self) {
-        let HelperMemory { dies, made, .. } = &mut self.memory;
         let start = Instant::now(self.rt).ok();
-        for die in dies.iter() {
-            make_job(self.rt, self.image_table, *die, self.gate);
-        }
-        self.is_quick = is_quick(self.rt, start, dies.len());
-        lift_all(self.rt, self.image_table.bench(), dies.as_slice(), made);
+        let dies = self.memory.dies.as_slice();
+        make_jobs(self.rt, self.image_table, dies, self.gate);
+        let is_quick = is_quick(self.rt, start, dies.len());
+        let mut made = replace(&mut self.memory.made, Vec::new(self.alloc));
+        let dies = self.memory.dies.as_slice();
+        lift_all(self.rt, self.image_table.bench(), dies, &mut made);
         open_reads(made.as_mut_slice());
+        self.is_quick = is_quick;
+        self.memory.made = made;
     }
 
     fn end(&mut self, locked: &mut Locked<L, M, A>, seat: &mut Seat<L>) {
@@ -170,6 +172,18 @@ impl<
             self.shared.note_fault(self.rt, *fault);
         }
         self.memory.faults.clear();
+    }
+}
+
+/// Makes the calls of the jobs of these dies that lie on the bench, one after the other.
+fn make_jobs<R: Wait, I: Image + Drop, A: Allocator, G: Gate>(
+    rt: &R,
+    image_table: &ImageTable<I, A>,
+    dies: &[Die],
+    gate: &G,
+) {
+    for die in dies {
+        make_job(rt, image_table, *die, gate);
     }
 }
 
@@ -206,24 +220,24 @@ fn lift_all<R: Wait, A: Allocator>(
 {
     made.clear();
     for index in 0..dies.len() {
-        if made.len() < made.capacity() {
-            lift_made(rt, bench, dies[index], made);
-        }
+        lift_made(rt, bench, dies[index], made);
     }
 }
 
-/// Adds the job of a die that was made and lies on the bench, if one does. There is memory for it.
+/// Adds the job of a die that was made and lies on the bench, if one does and there is memory for it.
 fn lift_made<R: Wait, A: Allocator>(
     rt: &R,
     bench: &Bench<A>,
     die: Die,
     made: &mut Vec<MadeJob<A>, A>,
 )
-    requires { length made.old.items < vec_capacity made.old }
     ensures { AddsPart die.0 (map told_of made.old.items) (map told_of made.new.items) }
 {
+    if made.len() >= made.capacity() {
+        return;
+    }
     if let Some(job) = bench.lift_made(rt, die) {
-        let _ = made.push(job);
+        add(made, job);
     }
 }
 
@@ -293,12 +307,12 @@ fn take_jobs<R: Wait, L: Ledger, M: Map + Drop, A: Allocator + Copy>(
     }
 }
 
-/// Adds a die, for which there is memory.
-fn add<A: Allocator>(dies: &mut Vec<Die, A>, die: Die)
-    requires { length dies.old.items < vec_capacity dies.old }
-    ensures { dies.new.items ≡ dies.old.items ++ die ∷ [] }
+/// Adds an item, for which there is memory.
+fn add<T: Drop, A: Allocator>(items: &mut Vec<T, A>, item: T)
+    requires { length items.old.items < vec_capacity items.old }
+    ensures { items.new.items ≡ items.old.items ++ item ∷ [] }
 {
-    let _ = dies.push(die);
+    let _ = items.push(item);
 }
 
 /// Opens what reads gave, and hands out the payloads. A read whose slot is not opened yet stands as one of a bad slot. Where several jobs

@@ -161,9 +161,10 @@ fn call_without_bytes<B: Blocks>(
 /// Serves the client that said something, and tells how the connection ended and what the server said.
 fn serve<B: Blocks>(tools: &mut Tools<'_>, said: &mut Vec<u8>, store: &mut B) {
     let mut written = Vec::new(tools.alloc);
+    let heap = tools.heap();
     let start = tools.meter.start();
     let mut rest = said.as_slice();
-    let end = serve_stream(tools.alloc, &mut rest, &mut written, store, EXPORT);
+    let end = serve_stream(heap, &mut rest, &mut written, store, EXPORT);
     tools.meter.stop(start);
     said.clear();
     tools.output.pair("end", u64::from(end.number()));

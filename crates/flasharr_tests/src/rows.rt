@@ -1,5 +1,5 @@
-//! Conversations in pieces of each length, cut after each byte, and over streams that are interrupted. The others
-//! stand in tests/cases/conversations.py.
+//! Conversations in pieces of each length, cut after each byte, with each byte of a magic number changed, and over streams that are
+//! interrupted. The others stand in tests/cases/conversations.py.
 use crate::spelling::{joined, spelled};
 use fa_io::WriteBoth;
 use fa_io::faulty::{Interrupted, Piecewise};
@@ -192,5 +192,171 @@ fn closed_for_each_cause(rt: HostRuntime) -> Result<(), Fail> {
     ] {
         converses(rt.alloc(), &[said], &[GREETING], 3)?;
     }
+    Ok(())
+}
+
+/// A conversation: what the client says, what the server says, and how the connection ends.
+struct Row {
+    client: [&'static str; 3],
+    server: [&'static str; 3],
+    end: u8,
+}
+
+/// How a connection ends whose client has disconnected, aborted, or says no more.
+const DISCONNECTED: u8 = 1;
+
+const ABORTED: u8 = 2;
+
+const INPUT_ENDED: u8 = 4;
+
+/// Conversations that go well.
+const ROWS: [Row; 8] = [
+    Row {
+        client: [FLAGS, GO, ""],
+        server: [GREETING, GONE, ""],
+        end: INPUT_ENDED,
+    },
+    Row {
+        client: [
+            FLAGS,
+            GO,
+            "25609513 0000 0000 0000000000000001 0000000000007e00 00000200
+            25609513 0000 0000 0000000000000002 0000000000007e01 00000200",
+        ],
+        server: [
+            GREETING,
+            GONE,
+            "67446698 00000000 0000000000000001 00x512 67446698 00000016 0000000000000002",
+        ],
+        end: INPUT_ENDED,
+    },
+    Row {
+        client: [
+            FLAGS,
+            GO,
+            "25609513 0000 0001 0000000000000003 0000000000007e01 00000200 11x512
+            25609513 0000 0002 0000000000000004 0000000000000000 00000000",
+        ],
+        server: [GREETING, GONE, "67446698 0000001c 0000000000000003"],
+        end: DISCONNECTED,
+    },
+    Row {
+        client: [
+            FLAGS,
+            GO,
+            "25609513 0000 0001 0000000000000001 00000000000001ff 00000003 aabbcc
+            25609513 0000 0000 0000000000000002 0000000000000000 00000400",
+        ],
+        server: [
+            GREETING,
+            GONE,
+            "67446698 00000000 0000000000000001
+            67446698 00000000 0000000000000002 00x511 aabbcc 00x510",
+        ],
+        end: INPUT_ENDED,
+    },
+    Row {
+        client: [
+            FLAGS,
+            "49484156454f5054 00000008 00000000 49484156454f5054 00000005 00000002 6162",
+            GO,
+        ],
+        server: [
+            GREETING,
+            "0003e889045565a9 00000008 80000001 00000000 0003e889045565a9 00000005 80000001 00000000",
+            GONE,
+        ],
+        end: INPUT_ENDED,
+    },
+    Row {
+        client: [
+            FLAGS,
+            "49484156454f5054 00000003 00000000",
+            "49484156454f5054 00000002 00000000",
+        ],
+        server: [
+            GREETING,
+            "0003e889045565a9 00000003 00000002 00000008 00000004 6469736b
+            0003e889045565a9 00000003 00000001 00000000",
+            "0003e889045565a9 00000002 00000001 00000000",
+        ],
+        end: ABORTED,
+    },
+    Row {
+        client: [
+            "00000001",
+            "49484156454f5054 00000001 00000004 6469736b",
+            "",
+        ],
+        server: [GREETING, "0000000000008000 016d", "00x124"],
+        end: INPUT_ENDED,
+    },
+    Row {
+        client: [
+            FLAGS,
+            "49484156454f5054 00000006 00000008 00000000 0001 0003",
+            "",
+        ],
+        server: [
+            GREETING,
+            "0003e889045565a9 00000006 00000003 0000000c 0000 0000000000008000 016d
+            0003e889045565a9 00000006 00000003 0000000e 0003 00000001 00001000 02000000",
+            "0003e889045565a9 00000006 00000001 00000000",
+        ],
+        end: INPUT_ENDED,
+    },
+];
+
+/// The magic number of an option, and of a request.
+const OPTION_MAGIC: [u8; 8] = [0x49, 0x48, 0x41, 0x56, 0x45, 0x4f, 0x50, 0x54];
+
+const REQUEST_MAGIC: [u8; 4] = [0x25, 0x60, 0x95, 0x13];
+
+/// How many bytes from here on are a magic number.
+fn magic_len(bytes: &[u8]) -> usize {
+    if bytes.starts_with(&OPTION_MAGIC) {
+        OPTION_MAGIC.len()
+    } else if bytes.starts_with(&REQUEST_MAGIC) {
+        REQUEST_MAGIC.len()
+    } else {
+        0
+    }
+}
+
+/// Whether a client whose byte at this place is another is closed, and was told nothing but a beginning of the answer.
+fn is_closed_for(alloc: Global, said: &[u8], at: usize, answer: &[u8]) -> Result<bool, Fail> {
+    let mut changed = Vec::with_capacity(alloc, said.len())?;
+    for (index, byte) in said.iter().enumerate() {
+        changed.push(if index == at { byte ^ 0x20 } else { *byte })?;
+    }
+    let mut reader = changed.as_slice();
+    let mut writer = Vec::new(alloc);
+    let ended = served(alloc, &mut reader, &mut writer);
+    Ok(ended == SessionEnd::Closed && answer.starts_with(writer.as_slice()))
+}
+
+/// Has each byte of each magic number of a client changed. How many they were.
+fn closed_for_each_magic(alloc: Global, said: &[u8], answer: &[u8]) -> Result<u32, Fail> {
+    let (mut behind, mut count) = (0usize, 0u32);
+    for at in 0..said.len() {
+        behind = behind.max(at.saturating_add(magic_len(&said[at..])));
+        if at < behind {
+            ensure!(is_closed_for(alloc, said, at, answer)?, at at);
+            count = count.saturating_add(1);
+        }
+    }
+    Ok(count)
+}
+
+#[test]
+fn cut_at_each_byte(rt: HostRuntime) -> Result<(), Fail> {
+    let mut count = 0u32;
+    for row in &ROWS {
+        converses(rt.alloc(), &row.client, &row.server, row.end)?;
+        let said = joined(rt.alloc(), &row.client)?;
+        let answer = joined(rt.alloc(), &row.server)?;
+        count = count.saturating_add(closed_for_each_magic(rt.alloc(), &said, &answer)?);
+    }
+    ensure!(count == 112);
     Ok(())
 }
