@@ -18,7 +18,7 @@ use fa_map_calls::Map;
 use fa_shared_die_events::{done, take};
 use fa_shared_events::make_room;
 use fa_types::{Die, TAG_BYTES};
-use fa_workers::{Open, run_job};
+use fa_workers::{Open, fault_of, run_job};
 use std::alloc::Allocator;
 use std::mem::replace;
 use std::sync::ledger::Ledger;
@@ -115,6 +115,7 @@ fn run_taken<L: Ledger, M: Map + Drop, I: Image, A: Allocator + Copy>(
     requires memory { HasMemory inner.old }
     ensures { EndsAt I.made inner.old die.0 place (handed_of job.now) inner.new }
 {
+    let was_live = inner.locked.array().is_live(die);
     let outcome = call_image(inner, die, place, job);
     let buffer = replace(&mut inner.buffer, Vec::new(inner.alloc));
     let ended = done(
@@ -127,6 +128,22 @@ fn run_taken<L: Ledger, M: Map + Drop, I: Image, A: Allocator + Copy>(
     );
     let Ok(left) = ended else { unreachable!() };
     inner.buffer = left;
+    note_fault(inner, was_live, die, outcome);
+}
+
+/// Notes why a die went out whose job ended so, if it was live and is out.
+fn note_fault<L: Ledger, M: Map + Drop, I: Image, A: Allocator + Copy>(
+    inner: &mut Inner<L, M, I, A>,
+    was_live: bool,
+    die: Die,
+    outcome: Outcome,
+)
+    ensures { inner.new ≡ record inner.old { faults = inner.new.faults } }
+{
+    let array = inner.locked.array();
+    if let Some(fault) = fault_of(was_live, array.is_live(die), die, outcome, array.now()) {
+        inner.faults.note(fault);
+    }
 }
 
 /// Makes the calls of a job on an image.

@@ -6,7 +6,7 @@ ghost use Rattle.fa_shared_lock.specs.Only.{TakesJobs};
 ghost use Rattle.fa_shared_lock.specs.Seats.{number_of};
 ghost use Rattle.fa_core_dispatch.specs.Handed.{handed_of};
 ghost use Rattle.fa_workers.specs.DieTurns.{Ends, Rests, TakesNext, Turns};
-ghost use Rattle.fa_workers.specs.DieTurns.{after_look as rule_look, cause_of as rule_cause, fault_of, noted};
+ghost use Rattle.fa_workers.specs.DieTurns.{after_look as rule_look, cause_of as rule_cause, fault_of as rule_fault, noted};
 ghost use Rattle.fa_workers.specs.Held.{die_taken, order_in as rule_order};
 ghost use Rattle.fa_shared_lock.specs.Rest.{LeavesRest};
 
@@ -184,7 +184,7 @@ pub(crate) fn end_job<L: Ledger, M: Map + Drop, A: Allocator + Copy>(
     if changes_more(outcome) {
         locked.note_change();
     }
-    let fault = note(was_live, is_live, die, outcome, locked.array().now());
+    let fault = fault_of(was_live, is_live, die, outcome, locked.array().now());
     Ended { buffer, fault }
 }
 
@@ -193,9 +193,15 @@ fn changes_more(outcome: Outcome) -> bool {
     !matches!(outcome, Outcome::Read(_))
 }
 
-/// What is noted of a die that was live and is out.
-fn note(was_live: bool, is_live: bool, die: Die, outcome: Outcome, round: Round) -> Option<Fault>
-    ensures { result ≡ fault_of was_live is_live die outcome round }
+/// What is noted of a die whose job ended so: why it went out, if it was live and is out.
+pub fn fault_of(
+    was_live: bool,
+    is_live: bool,
+    die: Die,
+    outcome: Outcome,
+    round: Round,
+) -> Option<Fault>
+    ensures { result ≡ rule_fault was_live is_live die outcome round }
 {
     if was_live && !is_live {
         Some(Fault {

@@ -22,6 +22,7 @@ mod working;
 mod writing;
 
 pub use collecting::collector_worker;
+pub use die_events::fault_of;
 pub use gate::{Gate, ImageCallKind, Open};
 pub use helping::{Helper, HelperMemory};
 pub use image_table::ImageTable;
