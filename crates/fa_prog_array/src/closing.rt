@@ -1,7 +1,7 @@
 //! The end of an array's use: it is closed, and it is told how.
-ghost use Rattle.std.specs.Prelude.{◌≡◌, ◌++◌, List, ℕ, IfOk, OnOk, string_bytes};
-ghost use Rattle.fa_core.specs.Array.{IsWhole};
-ghost use Rattle.fa_prog_array.specs.Ending.{closed_line, closed_status, fault_line, fault_lines};
+ghost use Rattle.std.specs.Prelude.{◌≡◌, ◌++◌, IfOk, OnOk, map, string_bytes};
+ghost use Rattle.fa_core.specs.Array.{IsWhole, number_of, state_of};
+ghost use Rattle.fa_prog_array.specs.Ending.{ClosesOver, closed_line, closed_status, fault_line, fault_lines};
 ghost use Rattle.std.specs.Fmt.{decimal};
 
 use fa_image::Image;
@@ -17,6 +17,10 @@ pub fn close<M: Map + Drop, I: Image>(
     images: &mut [I],
 ) -> Result<u64, CloseFault>
     requires { IsWhole M.view mounted.now.array }
+    ensures closes { ClosesOver I.made (state_of M.view mounted.now.array) (number_of mounted.now.array) mounted.now.dies.items
+        images.old images.new result }
+    ensures slots { map (λ image. (I.view image).slots) images.new ≡ map (λ image. (I.view image).slots) images.old }
+    ensures honest { map I.honest images.new ≡ map I.honest images.old }
 {
     if mounted.has_images(images.len()) {
         close_clean(mounted, images)

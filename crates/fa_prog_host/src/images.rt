@@ -93,13 +93,9 @@ pub fn images_alone<R, I: Drop>(
     global: Global,
     watched: Vec<Watched<'_, R, I>>,
 ) -> Result<Vec<I>, AllocError>
-    ensures { IfOk result (λ images. images.items ≡ map (λ watched. watched.image) watched.items) }
+    ensures { IfOk result (λ images. images.items ≡ map (λ watched. watched.image) watched.entry.items) }
 {
-    let mut images = Vec::with_capacity(global, watched.len())?;
-    for one in watched {
-        images.push(one.image)?;
-    }
-    Ok(images)
+    watched.into_iter().map(|one| one.image).collect(global)
 }
 
 /// Why an image was not opened, by the kind of the error.

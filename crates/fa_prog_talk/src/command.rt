@@ -1,4 +1,14 @@
 //! The command `talk --array`, from its settings to what it prints.
+ghost use Rattle.std.specs.Prelude.{◌≡◌, [], ◌∷◌, ◌++◌, List, IfOk, codes, length, string_bytes};
+ghost use Rattle.std.specs.declared.alloc.Global.{Global as Heap};
+ghost use Rattle.fa_core.specs.Array.{IsWhole, number_of, state_of};
+ghost use Rattle.fa_io.specs.Streams.{between};
+ghost use Rattle.fa_map.specs.declared.page_map.PageMap.{PageMap as PageTables};
+ghost use Rattle.fa_prog_host.specs.Opened.{AreOpened};
+ghost use Rattle.fa_prog_talk.specs.TalkArray.{MayBeServed, RunsTalkArray, TellsClient, TellsLines, TellsMounted, TellsSaid, said_text as text_of};
+ghost use Rattle.fa_prog_text.specs.Output.{RunsOver};
+ghost use Rattle.fa_shared.specs.declared.faults.Fault.{Fault};
+
 use crate::conversation::{Said, converse};
 use fa_image::{FileImage, Image};
 use fa_map_calls::Map;
@@ -30,7 +40,10 @@ pub fn run_talk_array<R: Host, N: Read, W: Write, A: Allocator + Copy>(
     unclean: bool,
     input: &mut N,
     output: &mut W,
-) -> u8 {
+) -> u8
+    ensures { let streams = between (N.remaining input.old) (N.remaining input.new) (W.contents output.old) (W.contents output.new) in
+        RunsTalkArray Brand (PageTables Heap) A unclean streams result }
+{
     match settings_at(rt, alloc, path) {
         Ok(settings) => hear(rt, alloc, &settings, unclean, input, output),
         Err(refused) => refuse_settings(alloc, refused, output),
@@ -45,7 +58,11 @@ fn hear<R: Host, N: Read, W: Write, A: Allocator + Copy>(
     unclean: bool,
     input: &mut N,
     output: &mut W,
-) -> u8 {
+) -> u8
+    requires { MayBeServed settings.now }
+    ensures { let streams = between (N.remaining input.old) (N.remaining input.new) (W.contents output.old) (W.contents output.new) in
+        RunsOver (TellsLines Brand (PageTables Heap) settings.now unclean) (codes "talk: cannot read" ++ 10 ∷ []) streams result }
+{
     match read_input(alloc, input) {
         Ok(text) => answer(rt, alloc, settings, unclean, text.as_slice(), output),
         Err(kind) => refuse_unread(output, kind),
@@ -60,7 +77,10 @@ fn answer<R: Host, W: Write, A: Allocator + Copy>(
     unclean: bool,
     text: &[u8],
     output: &mut W,
-) -> u8 {
+) -> u8
+    requires { MayBeServed settings.now }
+    ensures { TellsLines Brand (PageTables Heap) settings.now unclean text.now (W.contents output.old) (W.contents output.new) result }
+{
     match read_hex_lines(alloc, text) {
         Ok(bytes) => open(rt, alloc, settings, unclean, bytes.as_slice(), output),
         Err(fault) => refuse_text(alloc, fault, output),
@@ -75,7 +95,10 @@ fn open<R: Host, W: Write, A: Allocator + Copy>(
     unclean: bool,
     bytes: &[u8],
     output: &mut W,
-) -> u8 {
+) -> u8
+    requires { MayBeServed settings.now }
+    ensures { TellsClient Brand (PageTables Heap) settings.now unclean bytes.now (W.contents output.old) (W.contents output.new) result }
+{
     match open_images(rt, settings, unclean, false) {
         Ok(OpenImages { images, places }) => match images_alone(rt.alloc(), images) {
             Ok(images) => {
@@ -99,7 +122,11 @@ fn talk_over<R: Host, W: Write, A: Allocator + Copy>(
     places: &[usize],
     bytes: &[u8],
     output: &mut W,
-) -> u8 {
+) -> u8
+    requires served { MayBeServed settings.now }
+    requires opened { AreOpened settings.now.geometry (length settings.now.images.items) unclean places.now images.items }
+    ensures { TellsClient Brand (PageTables Heap) settings.now unclean bytes.now (W.contents output.old) (W.contents output.new) result }
+{
     let mut images = images;
     match mount(rt, settings, unclean, images.as_mut_slice()) {
         Ok(mounted) => talk_mounted(
@@ -125,18 +152,13 @@ fn talk_mounted<R: Host, M: Map + Drop, I: Image + Drop, W: Write, A: Allocator 
     parts: Parts<M, I>,
     bytes: &[u8],
     output: &mut W,
-) -> u8 {
-    let rounds = u64::from(settings.window_rounds);
-    let export = settings.export.as_str();
-    match converse::<Brand, M, I, A>(
-        rt.alloc(),
-        alloc,
-        Blank::new(257),
-        parts,
-        rounds,
-        export,
-        bytes,
-    ) {
+) -> u8
+    requires served { MayBeServed settings.now }
+    requires whole { IsWhole M.view parts.mounted.array }
+    ensures { TellsMounted I.view I.honest I.made Brand M (string_bytes settings.now.export) bytes.now (number_of parts.mounted.array)
+        parts.mounted.dies.items (state_of M.view parts.mounted.array) parts.images.items (W.contents output.old) (W.contents output.new) result }
+{
+    match converse::<Brand, M, I, A>(rt.alloc(), alloc, Blank::new(257), parts, settings, bytes) {
         Ok(said) => print_said(rt.alloc(), alloc, said, output),
         Err(AllocError) => refuse_for_memory(output),
     }
@@ -148,7 +170,10 @@ fn print_said<W: Write, A: Allocator + Copy>(
     alloc: A,
     said: Said<A>,
     output: &mut W,
-) -> u8 {
+) -> u8
+    ensures { (faults : List Fault) → IfOk said.faults (λ kept. kept.items ≡ faults)
+        → TellsSaid said.written.items said.end faults said.closed (W.contents output.old) (W.contents output.new) result }
+{
     let closed = said.closed;
     match said_text(global, alloc, said) {
         Ok(text) => print(output, status_of(closed), text.as_bytes()),
@@ -161,7 +186,10 @@ fn said_text<A: Allocator + Copy>(
     global: Global,
     alloc: A,
     said: Said<A>,
-) -> Result<String<A>, AllocError> {
+) -> Result<String<A>, AllocError>
+    ensures { (faults : List Fault) → IfOk said.faults (λ kept. kept.items ≡ faults)
+        → IfOk result (λ text. string_bytes text ≡ text_of said.written.items said.end faults said.closed) }
+{
     let Said {
         written,
         end,
