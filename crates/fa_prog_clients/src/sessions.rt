@@ -30,15 +30,13 @@ pub struct Session<'a, L: Ledger + Send> {
 }
 
 impl<'a, L: Ledger + Send> Session<'a, L> {
-    /// A session that serves clients so, from this seat at an array whose pages have so many bytes. It takes memory for eight jobs of dies,
-    /// and for what a client says and is told. The error is out of memory.
+    /// A session that serves clients so, from this seat. It takes memory for what a client says and is told. The error is out of memory.
     pub fn new(
         global: Global,
         service: Service<'a>,
         seat: Seat<L>,
-        page_bytes: u32,
     ) -> Result<Session<'a, L>, AllocError> {
-        let memory = HelperMemory::new(global, page_bytes)?;
+        let memory = HelperMemory::new(global)?;
         let connection = ConnectionMemory::new(global)?;
         Ok(Session {
             service,

@@ -65,7 +65,7 @@ pub(crate) fn die_workers_of<R: Networked, L: Ledger + Send, M: Map + Drop, I: I
         }
         manned.push(image)?;
     }
-    let image_table = ImageTable::new(rt.alloc(), manned)?;
+    let image_table = ImageTable::new(rt.alloc(), manned, page_bytes)?;
     Ok(DieWorkers {
         tasks,
         image_table,

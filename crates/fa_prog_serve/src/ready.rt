@@ -108,7 +108,7 @@ fn seats_of<'a, R: Networked, L: Ledger + Send, M: Map + Drop, A: Allocator>(
             verbose: serve.verbose,
         };
         let seat = shared.seat(rt).ok_or(AllocError)?;
-        let session = Session::new(rt.alloc(), service, seat, settings.geometry.page_bytes)?;
+        let session = Session::new(rt.alloc(), service, seat)?;
         sessions.push(session)?;
     }
     Ok(Seats {

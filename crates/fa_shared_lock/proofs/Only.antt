@@ -5,7 +5,7 @@ use Rattle.fa_core.specs.declared.call.Answer.TheVariants.{Advance as GaveAdvanc
 use Rattle.fa_core.specs.declared.call.Call.TheVariants.{Advance}
 use Rattle.fa_machine.specs.State.{Core}
 use Rattle.fa_machine.specs.Step.{Act, Advance as ActAdvance}
-use Rattle.fa_shared_lock.specs.Only.{IsAdvance, IsSettled, MakesOnly, NoMore, OneMore, has_passed}
+use Rattle.fa_shared_lock.specs.Only.{IsAdvance, MakesOnly, MayNotAdvance, NoMore, OneMore, has_passed}
 use Rattle.std.proofs.Common.{ap, false, subst, sym, true, ℕ, ◌+◌, ◌≡◌}
 use Rattle.std.proofs.lemmas.Bool.{true≢false}
 use Rattle.std.specs.Prelude.{Err, Ok, is_some}
@@ -31,8 +31,8 @@ next_round old new seat answer makes is = absurd makes
 
 -- where none passed, none may
 pub none_passes : {A : Type 0} (old new : Core) (seat : ℕ) (answer : Answer A) → Makes old seat Advance answer new → has_passed answer ≡ false
-    → IsSettled new
+    → MayNotAdvance new
 none_passes old new seat (GaveAdvance (Ok round)) makes is = absurd (true≢false is)
-none_passes old new seat (GaveAdvance (Err refused)) makes is = subst IsSettled (sym makes.does.1) (ap is_some makes.does.0)
+none_passes old new seat (GaveAdvance (Err refused)) makes is = subst MayNotAdvance (sym makes.does.1) (ap is_some makes.does.0)
 none_passes old new seat (Stranger buffer) makes is = absurd (true≢false makes.0)
 none_passes old new seat answer makes is = absurd makes

@@ -6,7 +6,7 @@ pub record LockedState : Type 0 where
   -- the array's state, and its number
   pub core : Core
   pub number : List ℕ
-  -- how many Commits there were since the lock was made
+  -- how many Commits there were, those before the lock was made among them
   pub book : ℕ
   -- how many seats are out, and how many Commits were made with seats that came back
   pub out : ℕ

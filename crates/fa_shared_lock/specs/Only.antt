@@ -1,7 +1,7 @@
 -- Events of some kind alone, one after the other.
 use Rattle.std.specs.FinMap.{get}
 use Rattle.std.specs.Option.{option_map_or}
-use Rattle.std.specs.Prelude.{◌≡◌, ◌++◌, ◌&&◌, List, [], ◌∷◌, ℕ, Bool, true, false, Some, None, Ok, is_some}
+use Rattle.std.specs.Prelude.{◌≡◌, ◌++◌, ◌&&◌, List, [], ◌∷◌, ℕ, Bool, true, false, Some, None, Ok, is_some, map}
 use Rattle.fa_core.specs.declared.call.Answer.{Answer}
 use Rattle.fa_core.specs.declared.call.Answer.TheVariants.{Advance as GaveAdvance}
 use Rattle.fa_machine.specs.Cells.{Outcome, is_of_kind}
@@ -21,8 +21,8 @@ IsAdvance (Advance answer) = Unit {0}
 IsAdvance act = ⊥
 
 -- No round may pass.
-abbrev pub IsSettled : Core → Type 0
-IsSettled core = is_some (advance_refusal core) ≡ true
+abbrev pub MayNotAdvance : Core → Type 0
+MayNotAdvance core = is_some (advance_refusal core) ≡ true
 
 module _ {A : Type 0} where
   -- whether a round passed
@@ -45,15 +45,30 @@ pub data TakesJobs (seat : ℕ) (old : Core) (held : List ℕ) : Core → List �
   OneJob : (between : Core) (dies : List ℕ) (die : ℕ) (job : Handed) (new : Core) → TakesJobs seat old held between dies
       → Step between (Take die seat (Some job)) new → TakesJobs seat old held new (dies ++ die ∷ [])
 
--- A job of a die ends, or it may not end so: its kind is another, or these bytes beside it are not those of a page.
-pub data EndsJob (die : ℕ) (old new : Core) : Type 0 where
-  Ended : (outcome : Outcome) → Step old (Done die outcome) new → EndsJob die old new
-  MayNot : (outcome : Outcome) (bytes : List ℕ)
-      → (option_map_or (λ job. is_of_kind job outcome) (get old.jobs die) false && is_sized old bytes) ≡ false → new ≡ old
-      → EndsJob die old new
+-- What is told of a die's job: how it ended, and the bytes beside that.
+pub record Told : Type 0 where
+  pub die : ℕ
+  pub outcome : Outcome
+  pub bytes : List ℕ
 
--- The jobs of these dies end, one of each, one after the other.
-pub data EndsJobs (old : Core) : List ℕ → Core → Type 0 where
-  NoEnd : EndsJobs old [] old
-  OneEnd : (dies : List ℕ) (between : Core) (die : ℕ) (new : Core) → EndsJobs old dies between → EndsJob die between new
-      → EndsJobs old (dies ++ die ∷ []) new
+-- the dies of which something is told
+abbrev pub dies_told : List Told → List ℕ
+dies_told told = map (λ t. t.die) told
+
+-- some of them, in their order
+pub data IsPart : List ℕ → List ℕ → Type 0 where
+  NoPart : IsPart [] []
+  OneStays : (part whole : List ℕ) (die : ℕ) → IsPart part whole → IsPart (part ++ die ∷ []) (whole ++ die ∷ [])
+  OneGoes : (part whole : List ℕ) (die : ℕ) → IsPart part whole → IsPart part (whole ++ die ∷ [])
+
+-- The job of a die ends as is told, or it may not end so: its kind is another, or the bytes are not those of a page.
+pub data EndsJob (told : Told) (old new : Core) : Type 0 where
+  Ended : Step old (Done told.die told.outcome) new → EndsJob told old new
+  MayNot : (option_map_or (λ job. is_of_kind job told.outcome) (get old.jobs told.die) false && is_sized old told.bytes) ≡ false → new ≡ old
+      → EndsJob told old new
+
+-- The jobs of which something is told end, one after the other, and the last first.
+pub data EndsJobs : Core → List Told → Core → Type 0 where
+  NoEnd : (core : Core) → EndsJobs core [] core
+  OneEnd : (old : Core) (others : List Told) (told : Told) (between new : Core) → EndsJob told old between → EndsJobs between others new
+      → EndsJobs old (others ++ told ∷ []) new

@@ -1,6 +1,6 @@
 //! Whoever makes jobs of dies while a request waits for them.
 ghost use Rattle.std.specs.Prelude.{◌≡◌, List, [], ℕ, false};
-ghost use Rattle.fa_shared_lock.specs.Only.{EndsJobs, TakesJobs};
+ghost use Rattle.fa_shared_lock.specs.Only.{EndsJobs, IsPart, TakesJobs, Told, dies_told};
 ghost use Rattle.fa_shared_lock.specs.Seats.{commits_with, number_of};
 
 use crate::locked::Locked;
@@ -12,8 +12,10 @@ use std::sync::ledger::Ledger;
 /// Somebody who makes jobs of an array's dies. In one hold of the array's lock jobs are taken, behind it their calls are made, and in the
 /// next hold they are ended. Whose seat that is makes no Commit by it.
 pub trait Hands<L: Ledger, M: Map + Drop, A: Allocator + Copy> {
-    /// The dies whose jobs were taken and are not ended.
+    /// The dies whose jobs were taken and are not ended. Somebody else may have made and ended some of them meanwhile.
     ghost held: { Self → List ℕ };
+    /// How the jobs have ended whose calls were made.
+    ghost told: { Self → List Told };
 
     /// Takes jobs of dies that nobody works for, with the lock held. Whether there are any.
     fn take(&mut self, locked: &mut Locked<L, M, A>, seat: &mut Seat<L>) -> bool
@@ -23,21 +25,23 @@ pub trait Hands<L: Ledger, M: Map + Drop, A: Allocator + Copy> {
         ensures commits { commits_with seat.new ≡ commits_with seat.old }
         ensures number { number_of seat.new ≡ number_of seat.old };
 
-    /// Makes the calls of the jobs that were taken, with no lock held.
+    /// Makes the calls of the jobs that were taken, with no lock held, but of those that others came to first.
     fn work(&mut self)
-        ensures { held self.new ≡ held self.old };
+        ensures held { held self.new ≡ held self.old }
+        ensures part { IsPart (dies_told (told self.new)) (held self.new) };
 
-    /// Ends the jobs that were taken, with the lock held.
+    /// Ends the jobs whose calls were made, with the lock held.
     fn end(&mut self, locked: &mut Locked<L, M, A>, seat: &mut Seat<L>)
-        ensures ends { EndsJobs locked.old.core (held self.old) locked.new.core }
-        ensures none { held self.new ≡ [] }
+        ensures ends { EndsJobs locked.old.core (told self.old) locked.new.core }
+        ensures none { (held self.new ≡ []) × (told self.new ≡ []) }
         ensures rest { locked.new ≡ record locked.old { core = locked.new.core } }
         ensures commits { commits_with seat.new ≡ commits_with seat.old }
         ensures number { number_of seat.new ≡ number_of seat.old };
 
     /// Notes why dies went out, if some did as their jobs ended, with no lock held.
     fn note(&mut self)
-        ensures { held self.new ≡ held self.old };
+        ensures held { held self.new ≡ held self.old }
+        ensures told { told self.new ≡ told self.old };
 }
 
 /// Somebody who makes none.
@@ -46,6 +50,8 @@ pub struct NoHands;
 
 impl<L: Ledger, M: Map + Drop, A: Allocator + Copy> Hands<L, M, A> for NoHands {
     ghost held = { λ hands. [] };
+
+    ghost told = { λ hands. [] };
 
     fn take(&mut self, _locked: &mut Locked<L, M, A>, _seat: &mut Seat<L>) -> bool {
         false

@@ -72,11 +72,11 @@ impl<L: Ledger, M: Map + Drop, A: Allocator + Copy> Locked<L, M, A> {
     ghost use Rattle.fa_core.specs.Calls.{FitsAnswer, HandsOutWhole, Makes};
     ghost use Rattle.fa_laws.specs.Counted.{HasHistory};
     ghost use Rattle.fa_shared_lock.specs.Locked.{LockedState};
-    ghost use Rattle.fa_shared_lock.specs.Only.{IsAdvance, IsSettled, MakesOnly};
+    ghost use Rattle.fa_shared_lock.specs.Only.{IsAdvance, MakesOnly, MayNotAdvance};
     ghost use Rattle.fa_shared_lock.specs.Seats.{commits_with, number_of};
 
-    /// An array with a ledger of 257 parts that nothing else names. The book begins with the Commits that were made before. Where memory is refused, or so many Commits were made that a count of 64 bits does not tell them, the
-    /// array is handed back.
+    /// An array with a ledger of 257 parts that nothing else names. The book begins with the Commits that were made before. Where memory is
+    /// refused, or so many Commits were made that a count of 64 bits does not tell them, the array is handed back.
     pub fn new(alloc: A, blank: Blank, array: Array<M, A>) -> Result<Locked<L, M, A>, Array<M, A>>
         requires name { blank.name ≡ L.name }
         requires parts { (blank.parts ≡ L.parts) × (blank.parts ≡ 257) }
@@ -132,7 +132,7 @@ impl<L: Ledger, M: Map + Drop, A: Allocator + Copy> Locked<L, M, A> {
     /// Lets rounds pass, with a seat of the array, until one is refused, and at most 4,294,967,295.
     pub fn settle(&mut self, seat: &mut Seat<L>)
         ensures only { MakesOnly IsAdvance self.old.core self.new.core }
-        ensures settled { IsSettled self.new.core ⊎ (self.new.core.calendar.round ≡ self.old.core.calendar.round + 4294967295) }
+        ensures settled { MayNotAdvance self.new.core ⊎ (self.new.core.calendar.round ≡ self.old.core.calendar.round + 4294967295) }
         ensures rest { self.new ≡ record self.old { core = self.new.core } }
         ensures commits { commits_with seat.new ≡ commits_with seat.old }
         ensures number { number_of seat.new ≡ number_of seat.old }
@@ -148,7 +148,7 @@ impl<L: Ledger, M: Map + Drop, A: Allocator + Copy> Locked<L, M, A> {
     fn pass(&mut self, seat: &mut Seat<L>) -> bool
         ensures only { MakesOnly IsAdvance self.old.core self.new.core }
         ensures passed { result ≡ true → self.new.core.calendar.round ≡ self.old.core.calendar.round + 1 }
-        ensures refused { result ≡ false → IsSettled self.new.core }
+        ensures refused { result ≡ false → MayNotAdvance self.new.core }
         ensures rest { self.new ≡ record self.old { core = self.new.core } }
         ensures commits { commits_with seat.new ≡ commits_with seat.old }
         ensures number { number_of seat.new ≡ number_of seat.old }

@@ -18,12 +18,12 @@ use Rattle.fa_types.specs.declared.geometry.Geometry.{Geometry}
 use Rattle.fa_types.specs.declared.numbers.Page.{Page}
 use Rattle.fa_types.specs.declared.numbers.Slot.{Slot}
 use Rattle.fa_workers.proofs.Deeds.{payload_read, ran_once}
-use Rattle.fa_workers.specs.Begun.{AreOpenedAt, Opens, OpensRead, bytes_at}
+use Rattle.fa_workers.specs.Begun.{AreOpenedAt, Opens, OpensMade, bytes_at}
 use Rattle.std.proofs.lemmas.Bool.{cases_eq}
 use Rattle.std.proofs.lemmas.List.{get_or-set_other, get_or-set_same, get_or_default}
 use Rattle.std.specs.Option.{option_copied}
 use Rattle.std.specs.Prelude.{IfSome}
-use Rattle.fa_workers.specs.declared.job_memory.JobMemory.{JobMemory}
+use Rattle.fa_workers.specs.declared.bench.MadeJob.{MadeJob}
 use Rattle.fa_workers.specs.Made.{Ran}
 
 -- a slot that was read and is opened is a read that ran
@@ -95,59 +95,44 @@ eight_opened bytes opened s0 s1 s2 s3 s4 s5 s6 s7 e0 e1 e2 e3 e4 e5 e6 e7 are k 
     (opened_in (s0 ∷ s1 ∷ s2 ∷ s3 ∷ s4 ∷ s5 ∷ s6 ∷ s7 ∷ []) opened k s0 d are within)
 
 module _ {A : Type 0} where
-  pub bytes_in : (memories : List (JobMemory A)) (k : ℕ) (m : JobMemory A) → k < length memories
-      → (slice_index_or memories k m).scratch.items ≡ bytes_at memories k
+  pub bytes_in : (made : List (MadeJob A)) (k : ℕ) (m : MadeJob A) → k < length made
+      → (slice_index_or made k m).memory.scratch.items ≡ bytes_at made k
   bytes_in [] k m within = absurd (omega (arith, within))
-  bytes_in (first ∷ memories) zero m within = refl
-  bytes_in (first ∷ memories) (suc k) m within = bytes_in memories k m (omega (arith, within))
+  bytes_in (first ∷ made) zero m within = refl
+  bytes_in (first ∷ made) (suc k) m within = bytes_in made k m (omega (arith, within))
 
-  pub none_past : (memories : List (JobMemory A)) (k : ℕ) → length memories ≤ k → [] ≡ bytes_at memories k
+  pub none_past : (made : List (MadeJob A)) (k : ℕ) → length made ≤ k → [] ≡ bytes_at made k
   none_past [] k past = refl
-  none_past (first ∷ memories) zero past = absurd (omega (arith, past))
-  none_past (first ∷ memories) (suc k) past = none_past memories k (omega (arith, past))
+  none_past (first ∷ made) zero past = absurd (omega (arith, past))
+  none_past (first ∷ made) (suc k) past = none_past made k (omega (arith, past))
 
   -- what was opened together, at a place whose memory is as it was
-  pub together_at : (memories now : List (JobMemory A)) (all : Option (List Opened)) (lent : Option (Bor (List Opened))) (k : ℕ) (m : JobMemory A)
-      → option_copied lent ≡ all → IfSome all (λ opened. AreOpenedAt memories opened) → k < length memories
-      → slice_index_or now k m ≡ slice_index_or memories k m
-      → IfSome lent (λ r. (d : Opened) → k < 8 → IsOpened (slice_index_or now k m).scratch.items (slice_index_or r.now k d))
-  together_at memories now all None k m lends are within same = tt
-  together_at memories now all (Some r) k m lends are within same = λ d few.
+  pub together_at : (made now : List (MadeJob A)) (all : Option (List Opened)) (lent : Option (Bor (List Opened))) (k : ℕ) (m : MadeJob A)
+      → option_copied lent ≡ all → IfSome all (λ opened. AreOpenedAt made opened) → k < length made
+      → slice_index_or now k m ≡ slice_index_or made k m
+      → IfSome lent (λ r. (d : Opened) → k < 8 → IsOpened (slice_index_or now k m).memory.scratch.items (slice_index_or r.now k d))
+  together_at made now all None k m lends are within same = tt
+  together_at made now all (Some r) k m lends are within same = λ d few.
       subst (λ (x : List ℕ). IsOpened x (slice_index_or r.now k d))
-      (sym (ap (λ (j : JobMemory A). j.scratch.items) same ∙ bytes_in memories k m within))
-      (subst (λ a. IfSome a (λ opened. AreOpenedAt memories opened)) (sym lends) are k d few)
+      (sym (ap (λ (j : MadeJob A). j.memory.scratch.items) same ∙ bytes_in made k m within))
+      (subst (λ a. IfSome a (λ opened. AreOpenedAt made opened)) (sym lends) are k d few)
 
   -- what was opened at a place is what stood there at first, whatever is told where nothing stands
-  pub opened_here : (old now : List (JobMemory A)) (before after : List Outcome) (i : ℕ) (d m : JobMemory A) (e o : Outcome)
-      (memory : JobMemory A) (outcome : Outcome) → i < length old → i < length before → i < length now → i < length after
-      → ((j : JobMemory A) → slice_index_or now i j ≡ slice_index_or old i j)
-      → ((j : Outcome) → slice_index_or after i j ≡ slice_index_or before i j)
-      → OpensRead (slice_index_or now i d) (slice_index_or after i e) memory outcome
-      → OpensRead (slice_index_or old i m) (slice_index_or before i o) memory outcome
-  opened_here old now before after i d m e o memory outcome in_old in_before in_now in_after left behind opens =
-      subst (λ x. OpensRead x (slice_index_or before i o) memory outcome) (get_or_default now i d m in_now ∙ left m)
-      (subst (λ x. OpensRead (slice_index_or now i d) x memory outcome) (get_or_default after i e o in_after ∙ behind o) opens)
+  pub opened_here : (old now : List (MadeJob A)) (i : ℕ) (d m job : MadeJob A) → i < length now
+      → ((j : MadeJob A) → slice_index_or now i j ≡ slice_index_or old i j) → OpensMade (slice_index_or now i d) job
+      → OpensMade (slice_index_or old i m) job
+  opened_here old now i d m job within left opens = subst (λ x. OpensMade x job) (get_or_default now i d m within ∙ left m) opens
 
   -- one more read is opened
-  pub opens_more : (old now : List (JobMemory A)) (before after : List Outcome) (i : ℕ) (memory : JobMemory A) (outcome : Outcome)
-      → i < length now → i < length after
-      → ((m : JobMemory A) (o : Outcome) → OpensRead (slice_index_or old i m) (slice_index_or before i o) memory outcome)
-      → ((k : ℕ) (m : JobMemory A) (o : Outcome) → k < i
-      → OpensRead (slice_index_or old k m) (slice_index_or before k o) (slice_index_or now k m) (slice_index_or after k o))
-      → (k : ℕ) (m : JobMemory A) (o : Outcome) → k < i + 1
-      → OpensRead (slice_index_or old k m) (slice_index_or before k o) (slice_index_or (slice_set now i memory) k m)
-      (slice_index_or (slice_set after i outcome) k o)
-  opens_more old now before after i memory outcome in_now in_after opens opened k m o past = elim (cases_eq k i) [
+  pub opens_more : (old now : List (MadeJob A)) (i : ℕ) (job : MadeJob A) → i < length now
+      → ((m : MadeJob A) → OpensMade (slice_index_or old i m) job)
+      → ((k : ℕ) (m : MadeJob A) → k < i → OpensMade (slice_index_or old k m) (slice_index_or now k m))
+      → (k : ℕ) (m : MadeJob A) → k < i + 1 → OpensMade (slice_index_or old k m) (slice_index_or (slice_set now i job) k m)
+  opens_more old now i job within opens opened k m past = elim (cases_eq k i) [
     | inl same ↦
-        subst (λ n. OpensRead (slice_index_or old n m) (slice_index_or before n o) (slice_index_or (slice_set now i memory) n m)
-        (slice_index_or (slice_set after i outcome) n o)) (sym same)
-        (subst (λ x. OpensRead (slice_index_or old i m) (slice_index_or before i o) x (slice_index_or (slice_set after i outcome) i o))
-        (sym (get_or-set_same now i memory m in_now))
-        (subst (λ x. OpensRead (slice_index_or old i m) (slice_index_or before i o) memory x)
-        (sym (get_or-set_same after i outcome o in_after)) (opens m o)))
+        subst (λ n. OpensMade (slice_index_or old n m) (slice_index_or (slice_set now i job) n m)) (sym same)
+        (subst (λ x. OpensMade (slice_index_or old i m) x) (sym (get_or-set_same now i job m within)) (opens m))
     | inr other ↦
-        subst (λ x. OpensRead (slice_index_or old k m) (slice_index_or before k o) x (slice_index_or (slice_set after i outcome) k o))
-        (sym (get_or-set_other now i k memory m other))
-        (subst (λ x. OpensRead (slice_index_or old k m) (slice_index_or before k o) (slice_index_or now k m) x)
-        (sym (get_or-set_other after i k outcome o other)) (opened k m o (omega (arith, past, other))))
+        subst (λ x. OpensMade (slice_index_or old k m) x) (sym (get_or-set_other now i k job m other))
+        (opened k m (omega (arith, past, other)))
   ]

@@ -1,19 +1,19 @@
 -- Jobs that are taken one after the other, and that end one after the other.
-use Rattle.fa_core_outcome.specs.Outcomes.{outcome_of}
-use Rattle.fa_core_outcome.specs.declared.outcome.Outcome.{Outcome}
 use Rattle.fa_machine.specs.State.{Core}
 use Rattle.fa_machine.specs.Step.{Act, Advance, Fold, Take}
 use Rattle.fa_machine.specs.declared.refusals.AdvanceRefused.{AdvanceRefused}
 use Rattle.fa_machine.specs.declared.refusals.AdvanceRefused.TheVariants.{Pending}
-use Rattle.fa_shared_lock.specs.Only.{Beside, EndsJob, EndsJobs, Ended, IsAdvance, IsBeside, MakesOnly, MayNot, NoJob, NoMore, OneEnd, OneJob, OneMore, TakesJobs}
+use Rattle.fa_shared_lock.specs.Only.{Beside, EndsJob, EndsJobs, Ended, IsAdvance, IsBeside, IsPart, MakesOnly, MayNot, NoJob, NoMore, OneEnd, OneGoes, OneJob, OneMore, OneStays, TakesJobs, Told, dies_told}
 use Rattle.fa_shared_lock.specs.Rest.{Folded, Folds, HadRoom}
+use Rattle.fa_types.specs.declared.numbers.Die.{Die}
 use Rattle.fa_types.specs.declared.numbers.Round.{Round}
 use Rattle.fa_workers.specs.DieTurns.{Ends, LooksAgain, Rests, TakesNext, Took, TookNone, WasOpen, after_look}
-use Rattle.fa_workers.specs.Held.{die_taken, dies_of, order_in}
+use Rattle.fa_workers.specs.Held.{AddsPart, die_taken, numbers_of, order_in, told_of}
+use Rattle.fa_workers.specs.declared.bench.MadeJob.{MadeJob}
 use Rattle.fa_workers.specs.declared.die_events.Next.{Next}
 use Rattle.fa_workers.specs.declared.order.Order.{Order}
-use Rattle.std.proofs.Common.{ap, inl, inr, refl, subst, sym, List, [], Err, None, Ok, Result, arith, length, map, slice_index_or, take, ℕ, ◌++◌, ◌+◌, ◌<◌, ◌∙◌, ◌∷◌, ◌≡◌}
-use Rattle.std.proofs.lemmas.List.{append-nil, append_assoc, get_or-map, length-map, take_more}
+use Rattle.std.proofs.Common.{ap, inl, inr, refl, subst, sym, List, [], Err, None, Ok, Result, map, ℕ, ◌++◌, ◌∙◌, ◌∷◌, ◌≡◌}
+use Rattle.std.proofs.lemmas.List.{append-nil, append_assoc}
 
 -- jobs that are taken behind others are held behind theirs
 pub takes_behind : (seat : ℕ) (a b c : Core) (held dies more : List ℕ) → TakesJobs seat a held b dies → TakesJobs seat b [] c more
@@ -74,24 +74,37 @@ module _ {A : Type 0} where
       rests_beside seat before old between new next
       (Beside folded.between [] (Take die seat None) between (fold_beside seat old folded.between folded.folds) refl folded.step) rests
 
-  -- one more job is held, or none
-  pub one_held : (orders : List (Order A)) (order : Order A) → dies_of (orders ++ order ∷ []) ≡ dies_of orders ++ order.die.0 ∷ []
-  one_held [] order = refl
-  one_held (o ∷ orders) order = ap (λ ds. o.die.0 ∷ ds) (one_held orders order)
+-- one more die is held
+pub one_held : (dies : List Die) (die : Die) → numbers_of (dies ++ die ∷ []) ≡ numbers_of dies ++ die.0 ∷ []
+one_held [] die = refl
+one_held (d ∷ dies) die = ap (λ ds. d.0 ∷ ds) (one_held dies die)
 
-  -- the job at a place ends behind those before it
-  pub ends_next : (orders : List (Order A)) (i : ℕ) (order : Order A) (old between new : Core) → i < length orders
-      → order ≡ slice_index_or orders i order → EndsJobs old (take i (dies_of orders)) between → EndsJob order.die.0 between new
-      → EndsJobs old (take (i + 1) (dies_of orders)) new
-  ends_next orders i order old between new within is made ends =
-      let die : Order A → ℕ = λ o. o.die.0 in
-      let long : i < length (map die orders) = omega (arith, length-map orders die, within) in
-      let at = get_or-map die orders i order order.die.0 within ∙ ap die (sym is) in
-      subst (λ ds. EndsJobs old ds new)
-      (ap (λ d. take i (dies_of orders) ++ d ∷ []) (sym at) ∙ sym (take_more (dies_of orders) i order.die.0 long))
-      (OneEnd (take i (dies_of orders)) between order.die.0 new made ends)
+one_told : (old : List Told) (told : Told) → dies_told (old ++ told ∷ []) ≡ dies_told old ++ told.die ∷ []
+one_told [] told = refl
+one_told (t ∷ old) told = ap (λ ds. t.die ∷ ds) (one_told old told)
+
+-- of one die more something may be told
+pub part_more : (die : ℕ) (old new : List Told) (dies : List ℕ) → AddsPart die old new → IsPart (dies_told old) dies
+    → IsPart (dies_told new) (dies ++ die ∷ [])
+part_more die old new dies (inl (told, is, same)) part =
+    subst (λ ds. IsPart ds (dies ++ die ∷ [])) (sym (ap dies_told same ∙ one_told old told ∙ ap (λ n. dies_told old ++ n ∷ []) is))
+    (OneStays (dies_told old) dies die part)
+part_more die old new dies (inr same) part =
+    subst (λ ts. IsPart (dies_told ts) (dies ++ die ∷ [])) (sym same) (OneGoes (dies_told old) dies die part)
+
+module _ {A : Type 0} where
+  pub one_made : (jobs : List (MadeJob A)) (job : MadeJob A) → map told_of (jobs ++ job ∷ []) ≡ map told_of jobs ++ told_of job ∷ []
+  one_made [] job = refl
+  one_made (j ∷ jobs) job = ap (λ ts. told_of j ∷ ts) (one_made jobs job)
+
+-- Where jobs end behind others, so they do behind one more that ends first.
+pub ends_first : (first : Core) (all others : List Told) (told : Told) (between new : Core)
+    → ((last : Core) → EndsJobs between (others ++ told ∷ []) last → EndsJobs first all last) → EndsJob told between new
+    → (last : Core) → EndsJobs new others last → EndsJobs first all last
+ends_first first all others told between new before ends last rest = before last (OneEnd between others told new last ends rest)
 
 -- the end of a job, or that it may not end so
-pub ends_job : (die : ℕ) (outcome : Outcome) (bytes : List ℕ) (old new : Core) → Ends die outcome bytes old new → EndsJob die old new
-ends_job die outcome bytes old new (inl step) = Ended (outcome_of outcome bytes) step
-ends_job die outcome bytes old new (inr none) = MayNot (outcome_of outcome bytes) bytes none.0 none.1
+pub ends_job : {A : Type 0} (job : MadeJob A) (old new : Core) → Ends job.die.0 job.outcome job.memory.buffer.items old new
+    → EndsJob (told_of job) old new
+ends_job job old new (inl step) = Ended step
+ends_job job old new (inr none) = MayNot none.0 none.1

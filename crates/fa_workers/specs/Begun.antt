@@ -15,6 +15,7 @@ use Rattle.fa_types.specs.declared.geometry.Geometry.{Geometry}
 use Rattle.fa_types.specs.declared.numbers.Page.{Page}
 use Rattle.fa_types.specs.declared.numbers.Slot.{Slot}
 use Rattle.fa_workers.specs.Made.{Ran}
+use Rattle.fa_workers.specs.declared.bench.MadeJob.{MadeJob}
 use Rattle.fa_workers.specs.declared.job_memory.JobMemory.{JobMemory}
 
 -- A slot's bytes are opened, and the first of them, as many as a page has, are handed out.
@@ -36,17 +37,21 @@ module _ {A : Type 0} where
       → Opens memory.scratch.items (length memory.buffer.items) outcome after.buffer.items
   OpensRead memory before after outcome = (outcome ≡ before) × (after ≡ memory)
 
-  -- So it is of each job that has memory.
-  abbrev pub OpensReads : List (JobMemory A) → List JobOutcome → List (JobMemory A) → List JobOutcome → Type 0
-  OpensReads old before new after = (k : ℕ) (memory : JobMemory A) (outcome : JobOutcome) → k < length old → k < length before
-      → OpensRead (slice_index_or old k memory) (slice_index_or before k outcome) (slice_index_or new k memory) (slice_index_or after k outcome)
+  -- So it is of a job that was made, which stays one of its die.
+  abbrev pub OpensMade : MadeJob A → MadeJob A → Type 0
+  OpensMade old new = (new.die ≡ old.die) × OpensRead old.memory old.outcome new.memory new.outcome
+
+  -- So it is of each of them.
+  abbrev pub OpensReads : List (MadeJob A) → List (MadeJob A) → Type 0
+  OpensReads old new =
+      (length new ≡ length old) × ((k : ℕ) (made : MadeJob A) → k < length old → OpensMade (slice_index_or old k made) (slice_index_or new k made))
 
   -- the bytes of a slot in the memory of a place
-  abbrev pub bytes_at : List (JobMemory A) → ℕ → List ℕ
+  abbrev pub bytes_at : List (MadeJob A) → ℕ → List ℕ
   bytes_at [] place = []
-  bytes_at (memory ∷ memories) zero = memory.scratch.items
-  bytes_at (memory ∷ memories) (suc place) = bytes_at memories place
+  bytes_at (made ∷ others) zero = made.memory.scratch.items
+  bytes_at (made ∷ others) (suc place) = bytes_at others place
 
   -- These are what stands in the first memories, as slots, for as many as there are of them.
-  abbrev pub AreOpenedAt : List (JobMemory A) → List Opened → Type 0
-  AreOpenedAt memories opened = (k : ℕ) (d : Opened) → k < 8 → IsOpened (bytes_at memories k) (slice_index_or opened k d)
+  abbrev pub AreOpenedAt : List (MadeJob A) → List Opened → Type 0
+  AreOpenedAt made opened = (k : ℕ) (d : Opened) → k < 8 → IsOpened (bytes_at made k) (slice_index_or opened k d)

@@ -1,19 +1,19 @@
 //! Those who work for dies while they wait for something else.
-ghost use Rattle.std.specs.Prelude.{◌≡◌, ◌∷◌, ◌++◌, [], ◌<◌, ◌≤◌, IfSome, slice_index_or, length, take, vec_capacity};
-ghost use Rattle.fa_shared_lock.specs.Only.{EndsJob, TakesJobs};
+ghost use Rattle.std.specs.Prelude.{◌≡◌, ◌∷◌, ◌++◌, [], ◌<◌, ◌≤◌, IfSome, slice_index_or, length, map, take, vec_capacity};
+ghost use Rattle.fa_shared_lock.specs.Only.{EndsJob, IsPart, TakesJobs, dies_told};
 ghost use Rattle.fa_shared_lock.specs.Seats.{number_of};
 ghost use Rattle.fa_shared_lock.specs.Rest.{LeavesRest};
 ghost use Rattle.fa_tag.specs.SlotGrammar.{IsOpened};
 ghost use Rattle.fa_tag.specs.declared.tag.Opened.{Opened};
-ghost use Rattle.fa_workers.specs.Begun.{AreOpenedAt, OpensRead, OpensReads, bytes_at};
-ghost use Rattle.fa_workers.specs.Held.{dies_of};
+ghost use Rattle.fa_workers.specs.Begun.{AreOpenedAt, OpensMade, OpensRead, OpensReads, bytes_at};
+ghost use Rattle.fa_workers.specs.Held.{AddsPart, numbers_of, told_of};
 
+use crate::bench::{Bench, MadeJob, Task};
 use crate::die_events::{Ended, end_job, take_job};
 use crate::gate::Gate;
 use crate::handing::hand_over;
 use crate::image_table::ImageTable;
 use crate::job_memory::JobMemory;
-use crate::order::Order;
 use fa_core_outcome::Outcome;
 use fa_image::Image;
 use fa_map_calls::Map;
@@ -36,33 +36,30 @@ const FEW_READS: usize = 4;
 /// How long the calls of a job take at most, in microseconds, that are said to take little time.
 const QUICK_MICROSECONDS: u64 = 50;
 
-/// Memory for the jobs of somebody who helps. It is made before the helper's thread is started.
+/// Memory for what somebody who helps has taken and made. It is made before the helper's thread is started.
 #[derive(Drop)]
 pub struct HelperMemory<A: Allocator = Global> {
-    memories: Vec<JobMemory<A>, A>,
-    orders: Vec<Order<A>, A>,
-    outcomes: Vec<Outcome, A>,
+    // The dies whose jobs were taken.
+    dies: Vec<Die, A>,
+    // The jobs that were made.
+    made: Vec<MadeJob<A>, A>,
     faults: Vec<Fault, A>,
 }
 
 impl<A: Allocator + Copy> HelperMemory<A> {
-    /// Memory for the jobs of dies whose pages have so many bytes. The error is out of memory.
-    pub fn new(alloc: A, page_bytes: u32) -> Result<HelperMemory<A>, AllocError> {
-        let mut memories = Vec::with_capacity(alloc, MAX_JOBS)?;
-        for _ in 0..MAX_JOBS {
-            memories.push(JobMemory::new(alloc, page_bytes)?)?;
-        }
+    /// Memory for eight jobs, which is not that of their pages. The error is out of memory.
+    pub fn new(alloc: A) -> Result<HelperMemory<A>, AllocError> {
         Ok(HelperMemory {
-            memories,
-            orders: Vec::with_capacity(alloc, MAX_JOBS)?,
-            outcomes: Vec::with_capacity(alloc, MAX_JOBS)?,
+            dies: Vec::with_capacity(alloc, MAX_JOBS)?,
+            made: Vec::with_capacity(alloc, MAX_JOBS)?,
             faults: Vec::with_capacity(alloc, MAX_JOBS)?,
         })
     }
 }
 
 /// Somebody who makes jobs of dies while a request waits for them: one at a time where the images are slow, so that others make those of the
-/// other dies beside it, and several in a row where they are quick.
+/// other dies beside it, and several in a row where they are quick. Jobs of several dies lie on the dies' bench until they are made and until
+/// they are ended, so that no die waits for another's image.
 #[derive(Drop)]
 pub struct Helper<
     'a,
@@ -71,13 +68,12 @@ pub struct Helper<
     M: Map + Drop,
     A: Allocator + Copy,
     I: Image + Drop,
-    B: Allocator,
     G: Gate,
 > {
     rt: &'a R,
     alloc: A,
     shared: &'a Shared<L, M, A>,
-    image_table: &'a ImageTable<I, B>,
+    image_table: &'a ImageTable<I, A>,
     gate: &'a G,
     memory: HelperMemory<A>,
     // The last calls of images took little time.
@@ -91,18 +87,17 @@ impl<
     M: Map + Drop,
     A: Allocator + Copy,
     I: Image + Drop,
-    B: Allocator,
     G: Gate,
-> Helper<'a, R, L, M, A, I, B, G> {
+> Helper<'a, R, L, M, A, I, G> {
     /// Somebody who helps at the dies of this array, whose images are these.
     pub fn new(
         rt: &'a R,
         alloc: A,
         shared: &'a Shared<L, M, A>,
-        image_table: &'a ImageTable<I, B>,
+        image_table: &'a ImageTable<I, A>,
         gate: &'a G,
         memory: HelperMemory<A>,
-    ) -> Helper<'a, R, L, M, A, I, B, G> {
+    ) -> Helper<'a, R, L, M, A, I, G> {
         Helper {
             rt,
             alloc,
@@ -122,61 +117,52 @@ impl<
     M: Map + Drop,
     A: Allocator + Copy,
     I: Image + Drop,
-    B: Allocator,
     G: Gate,
-> Hands<L, M, A> for Helper<'a, R, L, M, A, I, B, G> {
-    ghost use Rattle.fa_workers.specs.Held.{dies_of};
+> Hands<L, M, A> for Helper<'a, R, L, M, A, I, G> {
+    ghost use Rattle.std.specs.Prelude.{map};
+    ghost use Rattle.fa_workers.specs.Held.{numbers_of, told_of};
 
-    ghost held = { λ helper. dies_of helper.memory.orders.items };
+    ghost held = { λ helper. numbers_of helper.memory.dies.items };
+
+    ghost told = { λ helper. map told_of helper.memory.made.items };
 
     fn take(&mut self, locked: &mut Locked<L, M, A>, seat: &mut Seat<L>) -> bool {
         locked.settle(seat);
         let most = if self.is_quick { MAX_JOBS } else { 1 };
-        take_jobs(self.alloc, locked, seat, most, &mut self.memory.orders);
-        !self.memory.orders.is_empty()
+        let bench = self.image_table.bench();
+        take_jobs(
+            self.rt,
+            self.alloc,
+            locked,
+            seat,
+            most,
+            bench,
+            &mut self.memory.dies,
+        );
+        !self.memory.dies.is_empty()
     }
 
     fn work(&mut self) {
-        let HelperMemory {
-            memories,
-            orders,
-            outcomes,
-            ..
-        } = &mut self.memory;
+        let HelperMemory { dies, made, .. } = &mut self.memory;
         let start = Instant::now(self.rt).ok();
-        for (order, memory) in orders.iter().zip(memories.iter_mut()) {
-            let _ = outcomes.push(self.image_table.begin(self.rt, order, memory, self.gate));
+        for die in dies.iter() {
+            make_job(self.rt, self.image_table, *die, self.gate);
         }
-        self.is_quick = is_quick(self.rt, start, orders.len());
-        open_reads(memories.as_mut_slice(), outcomes.as_mut_slice());
+        self.is_quick = is_quick(self.rt, start, dies.len());
+        lift_all(self.rt, self.image_table.bench(), dies.as_slice(), made);
+        open_reads(made.as_mut_slice());
     }
 
     fn end(&mut self, locked: &mut Locked<L, M, A>, seat: &mut Seat<L>) {
-        let HelperMemory {
-            memories,
-            orders,
-            outcomes,
-            faults,
-        } = &mut self.memory;
-        for (index, order) in orders.iter().enumerate() {
-            let outcome = match outcomes.get(index) {
-                Some(outcome) => *outcome,
-                None => order.refused(),
-            };
-            let fault = end_with(
-                self.alloc,
-                locked,
-                seat,
-                order.die(),
-                outcome,
-                memories.get_mut(index),
-            );
-            if let Some(fault) = fault {
-                let _ = faults.push(fault);
+        let HelperMemory { dies, made, faults } = &mut self.memory;
+        let bench = self.image_table.bench();
+        for _ in 0..made.len() {
+            if let Some(job) = made.pop() {
+                let fault = end_made(self.rt, self.alloc, locked, seat, bench, job);
+                keep(faults, fault);
             }
         }
-        orders.clear();
-        outcomes.clear();
+        dies.clear();
     }
 
     fn note(&mut self) {
@@ -187,24 +173,87 @@ impl<
     }
 }
 
-/// Ends a job of a die, with the buffer of its memory. Why the die went out, if it did.
-fn end_with<L: Ledger, M: Map + Drop, A: Allocator + Copy>(
+/// Makes the calls of a die's job that lies on the bench, if nobody has begun it, and lays back how it has ended.
+fn make_job<R: Wait, I: Image + Drop, A: Allocator, G: Gate>(
+    rt: &R,
+    image_table: &ImageTable<I, A>,
+    die: Die,
+    gate: &G,
+) {
+    let bench = image_table.bench();
+    let Some(Task { order, mut memory }) = bench.lift_task(rt, die) else {
+        return;
+    };
+    let outcome = image_table.begin(rt, &order, &mut memory, gate);
+    bench.lay_made(
+        rt,
+        MadeJob {
+            die,
+            outcome,
+            memory,
+        },
+    );
+}
+
+/// Takes the jobs of these dies that were made and lie on the bench, in place of those that there are.
+fn lift_all<R: Wait, A: Allocator>(
+    rt: &R,
+    bench: &Bench<A>,
+    dies: &[Die],
+    made: &mut Vec<MadeJob<A>, A>,
+)
+    ensures { IsPart (dies_told (map told_of made.new.items)) (numbers_of dies.now) }
+{
+    made.clear();
+    for index in 0..dies.len() {
+        if made.len() < made.capacity() {
+            lift_made(rt, bench, dies[index], made);
+        }
+    }
+}
+
+/// Adds the job of a die that was made and lies on the bench, if one does. There is memory for it.
+fn lift_made<R: Wait, A: Allocator>(
+    rt: &R,
+    bench: &Bench<A>,
+    die: Die,
+    made: &mut Vec<MadeJob<A>, A>,
+)
+    requires { length made.old.items < vec_capacity made.old }
+    ensures { AddsPart die.0 (map told_of made.old.items) (map told_of made.new.items) }
+{
+    if let Some(job) = bench.lift_made(rt, die) {
+        let _ = made.push(job);
+    }
+}
+
+/// Keeps why a die went out, if one did and there is memory.
+fn keep<A: Allocator>(faults: &mut Vec<Fault, A>, fault: Option<Fault>) {
+    if let Some(fault) = fault {
+        let _ = faults.push(fault);
+    }
+}
+
+/// Ends a job that was made, with the buffer of its memory, which goes back to its place. Why the die went out, if it did.
+fn end_made<R: Wait, L: Ledger, M: Map + Drop, A: Allocator + Copy>(
+    rt: &R,
     alloc: A,
     locked: &mut Locked<L, M, A>,
     seat: &mut Seat<L>,
-    die: Die,
-    outcome: Outcome,
-    memory: Option<&mut JobMemory<A>>,
+    bench: &Bench<A>,
+    job: MadeJob<A>,
 ) -> Option<Fault>
-    ensures job { EndsJob die.0 locked.old.core locked.new.core }
+    ensures job { EndsJob (told_of job) locked.old.core locked.new.core }
     ensures account { LeavesRest locked.old seat.old locked.new seat.new }
 {
-    let Some(memory) = memory else {
-        return end_job(alloc, locked, seat, die, outcome, Vec::new(alloc)).fault;
-    };
-    let buffer = replace(&mut memory.buffer, Vec::new(alloc));
+    let MadeJob {
+        die,
+        outcome,
+        memory,
+    } = job;
+    let JobMemory { scratch, buffer } = memory;
     let Ended { buffer, fault } = end_job(alloc, locked, seat, die, outcome, buffer);
-    memory.buffer = buffer;
+    bench.give_back(rt, die, JobMemory { scratch, buffer });
     fault
 }
 
@@ -219,67 +268,79 @@ fn is_quick<R: Clock>(rt: &R, start: Option<Instant>, jobs: usize) -> bool {
     }
 }
 
-/// Takes the next jobs of dies that have one, this many at most, as long as there is memory for one more.
-fn take_jobs<L: Ledger, M: Map + Drop, A: Allocator + Copy>(
+/// Takes the next jobs of dies that have one, this many at most, as long as there is memory for one more, and lays them on the bench.
+fn take_jobs<R: Wait, L: Ledger, M: Map + Drop, A: Allocator + Copy>(
+    rt: &R,
     alloc: A,
     locked: &mut Locked<L, M, A>,
     seat: &mut Seat<L>,
     most: usize,
-    orders: &mut Vec<Order<A>, A>,
+    bench: &Bench<A>,
+    dies: &mut Vec<Die, A>,
 )
-    ensures takes { TakesJobs (number_of seat.old) locked.old.core (dies_of orders.old.items) locked.new.core (dies_of orders.new.items) }
+    ensures takes { TakesJobs (number_of seat.old) locked.old.core (numbers_of dies.old.items) locked.new.core (numbers_of dies.new.items) }
     ensures account { LeavesRest locked.old seat.old locked.new seat.new }
 {
     for number in 0..locked.array().geometry().dies {
-        if orders.len() >= most || orders.len() >= orders.capacity() {
+        let die = Die(number as u8);
+        if dies.len() >= most || dies.len() >= dies.capacity() || !bench.has_place(die) {
             return;
         }
-        if let Some(order) = take_job(alloc, locked, seat, Die(number as u8)) {
-            add(orders, order);
+        if let Some(order) = take_job(alloc, locked, seat, die) {
+            add(dies, order.die());
+            bench.lay(rt, order);
         }
     }
 }
 
-/// Adds an order, for which there is memory.
-fn add<A: Allocator>(orders: &mut Vec<Order<A>, A>, order: Order<A>)
-    requires { length orders.old.items < vec_capacity orders.old }
-    ensures { orders.new.items ≡ orders.old.items ++ order ∷ [] }
+/// Adds a die, for which there is memory.
+fn add<A: Allocator>(dies: &mut Vec<Die, A>, die: Die)
+    requires { length dies.old.items < vec_capacity dies.old }
+    ensures { dies.new.items ≡ dies.old.items ++ die ∷ [] }
 {
-    let _ = orders.push(order);
+    let _ = dies.push(die);
 }
 
 /// Opens what reads gave, and hands out the payloads. A read whose slot is not opened yet stands as one of a bad slot. Where several jobs
 /// are reads their slots are hashed side by side.
-fn open_reads<A: Allocator>(memories: &mut [JobMemory<A>], outcomes: &mut [Outcome])
-    ensures { OpensReads memories.old outcomes.old memories.new outcomes.new }
+fn open_reads<A: Allocator>(made: &mut [MadeJob<A>])
+    ensures { OpensReads made.old made.new }
 {
-    let together = opened_together(memories, outcomes);
-    for index in 0..memories.len().min(outcomes.len()) {
-        let outcome = outcomes[index];
-        outcomes[index] = open_read(&mut memories[index], outcome, together.as_ref(), index);
+    let together = opened_together(made);
+    for index in 0..made.len() {
+        open_made(&mut made[index], together.as_ref(), index);
     }
 }
 
 /// What stands in all memories, as slots, where several jobs are reads.
-fn opened_together<A: Allocator>(
-    memories: &[JobMemory<A>],
-    outcomes: &[Outcome],
-) -> Option<[Opened; MAX_JOBS]>
-    ensures { IfSome result (λ all. AreOpenedAt memories.now all) }
+fn opened_together<A: Allocator>(made: &[MadeJob<A>]) -> Option<[Opened; MAX_JOBS]>
+    ensures { IfSome result (λ all. AreOpenedAt made.now all) }
 {
-    let reads = outcomes
+    let reads = made
         .iter()
-        .filter(|outcome| matches!(outcome, Outcome::Read(_)))
+        .filter(|job| matches!(job.outcome, Outcome::Read(_)))
         .count();
     if reads < FEW_READS {
         None
     } else {
-        Some(open_slots(memories))
+        Some(open_slots(made))
     }
 }
 
+/// Opens what one job gave, if it is a read.
+fn open_made<A: Allocator>(
+    job: &mut MadeJob<A>,
+    together: Option<&[Opened; MAX_JOBS]>,
+    index: usize,
+)
+    requires { IfSome together (λ all. (d : Opened) → index < 8 → IsOpened job.old.memory.scratch.items (slice_index_or all.now index d)) }
+    ensures { OpensMade job.old job.new }
+{
+    job.outcome = open_read(&mut job.memory, job.outcome, together, index);
+}
+
 /// Opens what one read gave, and hands out its payload, where the memory has room for it. It is opened already where all were together.
-fn open_read<A: Allocator>(
+pub(crate) fn open_read<A: Allocator>(
     memory: &mut JobMemory<A>,
     outcome: Outcome,
     together: Option<&[Opened; MAX_JOBS]>,
@@ -310,20 +371,20 @@ fn opened_at(together: Option<&[Opened; MAX_JOBS]>, index: usize, bytes: &[u8]) 
 }
 
 /// What stands in all memories, as slots, hashed side by side.
-fn open_slots<A: Allocator>(memories: &[JobMemory<A>]) -> [Opened; MAX_JOBS]
-    ensures { AreOpenedAt memories.now result }
+fn open_slots<A: Allocator>(made: &[MadeJob<A>]) -> [Opened; MAX_JOBS]
+    ensures { AreOpenedAt made.now result }
 {
     let mut opened = [Opened::Bad; MAX_JOBS];
     open_all(
         &[
-            slot_in(memories, 0),
-            slot_in(memories, 1),
-            slot_in(memories, 2),
-            slot_in(memories, 3),
-            slot_in(memories, 4),
-            slot_in(memories, 5),
-            slot_in(memories, 6),
-            slot_in(memories, 7),
+            slot_in(made, 0),
+            slot_in(made, 1),
+            slot_in(made, 2),
+            slot_in(made, 3),
+            slot_in(made, 4),
+            slot_in(made, 5),
+            slot_in(made, 6),
+            slot_in(made, 7),
         ],
         &mut opened,
     );
@@ -331,13 +392,13 @@ fn open_slots<A: Allocator>(memories: &[JobMemory<A>]) -> [Opened; MAX_JOBS]
 }
 
 /// What stands for a slot in the memory of this place. None there has no bytes.
-fn slot_in<A: Allocator>(memories: &[JobMemory<A>], place: usize) -> &[u8]
-    ensures { result.now ≡ bytes_at memories.now place }
+fn slot_in<A: Allocator>(made: &[MadeJob<A>], place: usize) -> &[u8]
+    ensures { result.now ≡ bytes_at made.now place }
 {
-    if place >= memories.len() {
+    if place >= made.len() {
         return &[];
     }
-    memories[place].scratch.as_slice()
+    made[place].memory.scratch.as_slice()
 }
 
 /// The payload of the slot that was read goes to where a read hands it out.

@@ -1,4 +1,5 @@
 //! The images of an array's dies, for all who work for the dies.
+use crate::bench::Bench;
 use crate::gate::Gate;
 use crate::job_memory::JobMemory;
 use crate::order::Order;
@@ -14,19 +15,34 @@ use std::sync::{Mutex, Wait};
 pub struct ImageTable<I: Drop, A: Allocator = Global> {
     // By the numbers of the dies.
     images: Vec<Mutex<Option<I>>, A>,
+    // Where jobs lie that somebody took for several dies at once.
+    bench: Bench<A>,
 }
 
-impl<I: Drop, A: Allocator> ImageTable<I, A> {
-    /// The images, by the numbers of their dies. None where a die has none. The error is out of memory.
+impl<I: Drop, A: Allocator + Copy> ImageTable<I, A> {
+    /// The images, by the numbers of their dies, with memory for a job of each. None where a die has none. A page of the array has so many
+    /// bytes. The error is out of memory.
     pub fn new<B: Allocator>(
         alloc: A,
         images: Vec<Option<I>, B>,
+        page_bytes: u32,
     ) -> Result<ImageTable<I, A>, AllocError> {
+        let bench = Bench::new(alloc, images.len(), page_bytes)?;
         let mut locks = Vec::with_capacity(alloc, images.len())?;
         for image in images {
             locks.push(Mutex::new(image))?;
         }
-        Ok(ImageTable { images: locks })
+        Ok(ImageTable {
+            images: locks,
+            bench,
+        })
+    }
+}
+
+impl<I: Drop, A: Allocator> ImageTable<I, A> {
+    /// The bench of these dies.
+    pub(crate) fn bench(&self) -> &Bench<A> {
+        &self.bench
     }
 
     /// The image of a die, if it is there. Then it is there no more.

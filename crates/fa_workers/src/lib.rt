@@ -1,6 +1,7 @@
 //! The work on the dies.
 #![tactic(auto)]
 
+mod bench;
 mod collecting;
 mod die_events;
 mod gate;

@@ -1,6 +1,8 @@
 //! The worker of a die.
+use crate::bench::{Bench, Lain};
 use crate::die_events::{Ended, Next, end_job, turn};
 use crate::gate::Gate;
+use crate::helping::open_read;
 use crate::image_table::ImageTable;
 use crate::job_memory::JobMemory;
 use crate::order::Order;
@@ -26,8 +28,9 @@ struct Behind<A: Allocator = Global> {
 /// Works for a die until the array is to end and the die has nothing to do.
 ///
 /// It takes the die's jobs one by one, makes the calls of each on the image with the array's lock free, and ends it: the end of a job and the
-/// Take of the next are made in one hold of the lock. Where the die has no job it lets the round pass, if it may, and else waits; others may
-/// take the die's jobs too. It notes why the die went out, if it did; the worker of a die that is out, or of a spare, waits.
+/// Take of the next are made in one hold of the lock. Where the die has no job it lets the round pass, if it may. Others may take the die's
+/// jobs too: what they have not begun, or have made and not ended, is on the bench, and the worker makes or ends it. Else it waits. It notes why the die went out, if
+/// it did; the worker of a die that is out, or of a spare, waits.
 ///
 /// An image of another geometry than the array's refuses each job. A memory that was made for pages of another size ends no job.
 pub fn die_worker<
@@ -36,7 +39,6 @@ pub fn die_worker<
     M: Map + Drop,
     A: Allocator + Copy,
     I: Image + Drop,
-    B: Allocator,
     G: Gate,
 >(
     rt: &R,
@@ -44,17 +46,21 @@ pub fn die_worker<
     shared: &Shared<L, M, A>,
     seat: &mut Seat<L>,
     die: Die,
-    image_table: &ImageTable<I, B>,
+    image_table: &ImageTable<I, A>,
     memory: JobMemory<A>,
     gate: &G,
 ) {
     let mut memory = memory;
     let mut next = None;
     for _ in rt.forever() {
-        let Some(order) = next_order(rt, alloc, shared, seat, die, next) else {
+        let bench = image_table.bench();
+        let Some(lain) = next_job(rt, alloc, shared, seat, die, bench, &mut memory, next) else {
             break;
         };
-        let outcome = image_table.run(rt, &order, &mut memory, gate);
+        let outcome = match lain {
+            Lain::Waiting(order) => image_table.run(rt, &order, &mut memory, gate),
+            Lain::Made(outcome) => open_read(&mut memory, outcome, None, 0),
+        };
         let buffer = replace(&mut memory.buffer, Vec::new(alloc));
         let behind = finish(rt, alloc, shared, seat, die, outcome, buffer);
         memory.buffer = behind.buffer;
@@ -63,40 +69,45 @@ pub fn die_worker<
 }
 
 /// The job that was taken already, or the next one, which is waited for. None where there is none and the array is to end.
-fn next_order<R: Wait + Clock, L: Ledger, M: Map + Drop, A: Allocator + Copy>(
+fn next_job<R: Wait + Clock, L: Ledger, M: Map + Drop, A: Allocator + Copy>(
     rt: &R,
     alloc: A,
     shared: &Shared<L, M, A>,
     seat: &mut Seat<L>,
     die: Die,
+    bench: &Bench<A>,
+    memory: &mut JobMemory<A>,
     taken: Option<Order<A>>,
-) -> Option<Order<A>> {
+) -> Option<Lain<A>> {
     match taken {
-        Some(order) => Some(order),
-        None => wait_for_order(rt, alloc, shared, seat, die),
+        Some(order) => Some(Lain::Waiting(order)),
+        None => wait_for_job(rt, alloc, shared, seat, die, bench, memory),
     }
 }
 
-/// Waits for the die's next job. None where there is none and the array is to end.
-fn wait_for_order<R: Wait + Clock, L: Ledger, M: Map + Drop, A: Allocator + Copy>(
+/// Waits for the die's next job, or for one that lies on the bench. None where there is none and the array is to end.
+fn wait_for_job<R: Wait + Clock, L: Ledger, M: Map + Drop, A: Allocator + Copy>(
     rt: &R,
     alloc: A,
     shared: &Shared<L, M, A>,
     seat: &mut Seat<L>,
     die: Die,
-) -> Option<Order<A>> {
+    bench: &Bench<A>,
+    memory: &mut JobMemory<A>,
+) -> Option<Lain<A>> {
     let mut guard = shared.lock(rt);
     for _ in rt.forever() {
         match turn(alloc, &mut guard, seat, die) {
             Next::Run(order) => {
                 shared.release(seat, guard);
-                return Some(order);
+                return Some(Lain::Waiting(order));
             }
             Next::Again => guard.note_change(),
             Next::Rest => {
-                if guard.is_stopping() {
+                let lain = bench.lift(rt, die, memory);
+                if lain.is_some() || guard.is_stopping() {
                     shared.release(seat, guard);
-                    return None;
+                    return lain;
                 }
                 guard = shared.sleep(rt, seat, Awaits::Job(die), guard);
             }

@@ -187,7 +187,7 @@ fn work_for<
     requires { L.parts ≡ 257 }
 {
     let count = images.len();
-    let image_table = image_table_of(rt, dies, images)?;
+    let image_table = image_table_of(rt, dies, images, page_bytes)?;
     let tasks = tasks_of(rt, shared, dies, page_bytes, meanwhile, users)?;
     let back = back_of(rt, shared, &image_table, gate, tasks)?;
     let images = lifted(rt, image_table, count, dies.len())?;
@@ -231,6 +231,7 @@ fn image_table_of<R: Machine, I: Image + Drop>(
     rt: &R,
     dies: &[Standing],
     images: Vec<I>,
+    page_bytes: u32,
 ) -> Option<ImageTable<I>> {
     let mut left = images.into_iter();
     let mut manned = Vec::with_capacity(rt.alloc(), dies.len()).ok()?;
@@ -242,7 +243,7 @@ fn image_table_of<R: Machine, I: Image + Drop>(
         };
         manned.push(image).ok()?;
     }
-    ImageTable::new(rt.alloc(), manned).ok()
+    ImageTable::new(rt.alloc(), manned, page_bytes).ok()
 }
 
 /// The images again, so many of them, of an array of so many dies. None where one is missing.
@@ -290,7 +291,7 @@ fn tasks_of<L: Ledger, R: Machine, M: Map + Drop, U: User>(
     let mut tasks = Vec::new(rt.alloc());
     add_workers(rt, shared, dies, page_bytes, &mut tasks)?;
     let workers = tasks.len();
-    add_users(rt, shared, users, meanwhile, page_bytes, &mut tasks)?;
+    add_users(rt, shared, users, meanwhile, &mut tasks)?;
     Some(Tasks { tasks, workers })
 }
 
@@ -338,11 +339,10 @@ fn add_users<L: Ledger, R: Machine, M: Map + Drop, U: User>(
     shared: &Shared<L, M>,
     users: Vec<U>,
     meanwhile: Meanwhile,
-    page_bytes: u32,
     tasks: &mut Vec<Task<L, U>>,
 ) -> Option<()> {
     for user in users {
-        let session = session(rt, shared, user, meanwhile, page_bytes)?;
+        let session = session(rt, shared, user, meanwhile)?;
         tasks.push(Task::Use(session)).ok()?;
     }
     Some(())
@@ -354,9 +354,8 @@ fn session<L: Ledger, R: Machine, M: Map + Drop, U: User>(
     shared: &Shared<L, M>,
     user: U,
     meanwhile: Meanwhile,
-    page_bytes: u32,
 ) -> Option<Session<L, U>> {
-    let memory = HelperMemory::new(rt.alloc(), page_bytes).ok()?;
+    let memory = HelperMemory::new(rt.alloc()).ok()?;
     let seat = shared.seat(rt)?;
     Some(Session {
         user,

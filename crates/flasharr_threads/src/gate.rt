@@ -15,6 +15,8 @@ pub(crate) enum HeldCalls {
     Reads,
     /// Reads and programs of slots.
     Slots,
+    /// Reads of a die's slots.
+    ReadsOf(Die),
 }
 
 /// A gate that, once it is shut, holds some calls until enough have begun, or until it is opened. It counts programs that have ended.
@@ -61,8 +63,13 @@ impl<'a, R: Clock> Holding<'a, R> {
 
     /// Waits until enough calls have begun.
     pub(crate) fn await_calls(&self) {
+        self.await_begun(self.enough);
+    }
+
+    /// Waits until so many calls have begun.
+    pub(crate) fn await_begun(&self, count: u64) {
         for _ in 0..TURNS {
-            if self.has_begun() {
+            if self.begun.load(Ordering::SeqCst) >= count {
                 return;
             }
             self.rest();
@@ -104,8 +111,9 @@ impl<'a, R: Clock> Holding<'a, R> {
 }
 
 impl<'a, R: Clock> Gate for Holding<'a, R> {
-    fn before(&self, _die: Die, call: ImageCallKind) {
+    fn before(&self, die: Die, call: ImageCallKind) {
         let is_held = match (call, self.held) {
+            (ImageCallKind::ReadSlot, HeldCalls::ReadsOf(slow)) => die.0 == slow.0,
             (ImageCallKind::ReadSlot, _) => true,
             (ImageCallKind::Program, HeldCalls::Slots) => true,
             _ => false,

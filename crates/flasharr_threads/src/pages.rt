@@ -20,6 +20,10 @@ pub(crate) enum Step {
     Flush,
     /// Shuts the gate.
     Shut,
+    /// Opens the gate.
+    Open,
+    /// Waits until a call has come to the gate.
+    AwaitCall,
     /// Waits until so many programs have ended.
     AwaitPrograms(u64),
 }
@@ -65,6 +69,14 @@ impl<'a, R: Clock> Pages<'a, R> {
             Step::Flush => blocks.flush().is_ok(),
             Step::Shut => {
                 self.gate.shut();
+                true
+            }
+            Step::Open => {
+                self.gate.open();
+                true
+            }
+            Step::AwaitCall => {
+                self.gate.await_begun(1);
                 true
             }
             Step::AwaitPrograms(count) => {

@@ -9,6 +9,7 @@ use crate::site::Meanwhile;
 use crate::turns::{Desk, InTurn};
 use crate::wrong::{Came, Wrong};
 use fa_shared::{Cause, Fault};
+use fa_types::Die;
 use std::alloc::{AllocError, Global};
 
 /// The scenario of a name.
@@ -17,6 +18,7 @@ pub(crate) fn play<R: Machine>(rt: &R, name: &str) -> Option<Came> {
         "two_sessions_read_back" => Some(two_sessions_read_back(rt)),
         "two_dies_read_in_one_round" => Some(two_dies_read_in_one_round(rt)),
         "admit_page_by_page" => Some(admit_page_by_page(rt)),
+        "slow_image_holds_up_its_die_alone" => Some(slow_image_holds_up_its_die_alone(rt)),
         "flush_without_sync" => Some(flush_without_sync(rt)),
         "workers_collect_and_rebuild" => Some(workers_collect_and_rebuild(rt)),
         "vanished_client_leaves_nothing" => Some(vanished_client_leaves_nothing(rt)),
@@ -26,10 +28,11 @@ pub(crate) fn play<R: Machine>(rt: &R, name: &str) -> Option<Came> {
 }
 
 /// The names of all scenarios, in their order.
-pub(crate) const NAMES: [&str; 7] = [
+pub(crate) const NAMES: [&str; 8] = [
     "two_sessions_read_back",
     "two_dies_read_in_one_round",
     "admit_page_by_page",
+    "slow_image_holds_up_its_die_alone",
     "flush_without_sync",
     "workers_collect_and_rebuild",
     "vanished_client_leaves_nothing",
@@ -38,7 +41,7 @@ pub(crate) const NAMES: [&str; 7] = [
 
 /// Two sessions make calls in turn, and each is answered as a plain store answers it.
 fn two_sessions_read_back<R: Machine>(rt: &R) -> Came {
-    for meanwhile in [Meanwhile::Help, Meanwhile::Sleep] {
+    for meanwhile in BOTH {
         take_turns(rt, meanwhile)?;
     }
     Ok(())
@@ -63,37 +66,75 @@ fn turns_of(alloc: Global, desk: &Desk) -> Result<Vec<InTurn<'_>>, AllocError> {
     Ok(vec![in alloc; InTurn::new(desk, 0), InTurn::new(desk, 1)]?)
 }
 
-/// A read of two pages on two dies is at both dies at once, whichever is first: each read of a die waits for that of the other.
+/// What sessions may do while their requests wait.
+const BOTH: [Meanwhile; 2] = [Meanwhile::Help, Meanwhile::Sleep];
+
+/// A read of two pages on two dies is at both dies at once, whichever is first: each read of a die waits for that of the other. Calls before
+/// it were quick, so a session that makes jobs of dies takes both.
 fn two_dies_read_in_one_round<R: Machine>(rt: &R) -> Came {
-    let steps = [Step::Write(0), Step::Write(1), Step::Shut, Step::Read(0, 2)];
-    let gate = Holding::new(rt, HeldCalls::Reads, 2);
-    let start = new_array(rt, Shape::of(2))?;
-    close_by_steps(rt, start, &gate, Meanwhile::Sleep, &steps, 0)?;
+    let steps = [
+        Step::Write(0),
+        Step::Write(1),
+        Step::Read(0, 2),
+        Step::Shut,
+        Step::Read(0, 2),
+    ];
+    for meanwhile in BOTH {
+        let gate = Holding::new(rt, HeldCalls::Reads, 2);
+        let start = new_array(rt, Shape::of(2))?;
+        close_by_steps(rt, start, &gate, meanwhile, &steps, 0)?;
+    }
     Ok(())
 }
 
 /// A read of nine pages, of which three were written, is at all dies at once, whichever they are.
 fn admit_page_by_page<R: Machine>(rt: &R) -> Came {
-    for pages in [[1, 2, 6], [0, 2, 7], [0, 5, 8], [0, 3, 5]] {
-        admit(rt, pages)?;
+    for meanwhile in BOTH {
+        for pages in [[1, 2, 6], [0, 2, 7], [0, 5, 8], [0, 3, 5]] {
+            admit(rt, meanwhile, pages)?;
+        }
     }
     Ok(())
 }
 
-/// The same where these pages were written.
-fn admit<R: Machine>(rt: &R, pages: [u64; 3]) -> Came {
+/// The same where these pages were written, behind calls that were quick.
+fn admit<R: Machine>(rt: &R, meanwhile: Meanwhile, pages: [u64; 3]) -> Came {
     let [first, second, third] = pages;
     let steps = [
         Step::Write(first),
         Step::Write(second),
         Step::Write(third),
+        Step::Read(0, 9),
         Step::Shut,
         Step::Read(0, 9),
     ];
     let gate = Holding::new(rt, HeldCalls::Reads, 3);
     let start = new_array(rt, Shape::of(3))?;
-    close_by_steps(rt, start, &gate, Meanwhile::Sleep, &steps, 0)?;
+    close_by_steps(rt, start, &gate, meanwhile, &steps, 0)?;
     Ok(())
+}
+
+/// A session reads from three dies, behind calls that were quick, and the image of the last becomes slow. Another session writes a page of the
+/// two other dies meanwhile.
+fn slow_image_holds_up_its_die_alone<R: Machine>(rt: &R) -> Came {
+    for meanwhile in BOTH {
+        let gate = Holding::new(rt, HeldCalls::ReadsOf(Die(2)), u64::MAX);
+        let start = Start::of(written(rt, Shape::of(3))?);
+        let users = reader_and_writer(rt.alloc(), &gate)?;
+        closed(by_users(rt, start, &gate, meanwhile, users)?)?;
+    }
+    Ok(())
+}
+
+/// One who reads all pages, shuts the gate and reads them again, and one who writes page 0, which is on dies 0 and 1, once a call is held, and
+/// opens the gate behind it. The error is out of memory.
+fn reader_and_writer<'a, R: Machine>(
+    alloc: Global,
+    gate: &'a Holding<'a, R>,
+) -> Result<Vec<Pages<'a, R>>, AllocError> {
+    let reader = Pages::new(gate, &[Step::Read(0, 8), Step::Shut, Step::Read(0, 8)], 8);
+    let writer = Pages::new(gate, &[Step::AwaitCall, Step::Write(0), Step::Open], 8);
+    Ok(vec![in alloc; reader, writer]?)
 }
 
 /// A flush syncs each image.
@@ -261,11 +302,23 @@ fn by_steps<'a, R: Machine>(
     below: u64,
 ) -> Result<Left<Pages<'a, R>>, Wrong> {
     let users = only(rt.alloc(), Pages::new(gate, steps, below))?;
+    by_users(rt, start, gate, meanwhile, users)
+}
+
+/// The same of some users.
+fn by_users<'a, R: Machine>(
+    rt: &R,
+    start: Start,
+    gate: &'a Holding<'a, R>,
+    meanwhile: Meanwhile,
+    users: Vec<Pages<'a, R>>,
+) -> Result<Left<Pages<'a, R>>, Wrong> {
+    let count = users.len();
     let left = run(rt, start, gate, meanwhile, users).ok_or(Wrong::NoThreads)?;
     if gate.is_late() {
         return Err(Wrong::Late);
     }
-    if left.users.len() != 1 || left.users.iter().any(|user| !user.is_right) {
+    if left.users.len() != count || left.users.iter().any(|user| !user.is_right) {
         return Err(Wrong::Answer);
     }
     Ok(left)

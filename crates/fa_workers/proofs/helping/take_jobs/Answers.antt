@@ -1,11 +1,11 @@
-use Rattle.std.proofs.Common.{ap, subst, sym, List, Vec, [], ℕ, ◌++◌, ◌∙◌}
+use Rattle.std.proofs.Common.{ap, subst, sym, List, Vec, [], ℕ, ◌++◌, ◌∙◌, ◌∷◌}
 use Rattle.std.proofs.lemmas.List.{append-nil}
 use Rattle.fa_shared_lock.proofs.Holds.{join_rest, rest_same}
 use Rattle.fa_shared_lock.specs.Only.{NoJob, TakesJobs}
 use Rattle.fa_shared_lock.specs.Seats.{number_of}
+use Rattle.fa_types.specs.declared.numbers.Die.{Die}
 use Rattle.fa_workers.proofs.Held.{one_held, takes_behind}
-use Rattle.fa_workers.specs.Held.{die_taken, dies_of}
-use Rattle.fa_workers.specs.declared.order.Order.{Order}
+use Rattle.fa_workers.specs.Held.{die_taken, numbers_of}
 use Rattle.fa_workers.proofs.helping.take_jobs.Goals as goal
 use Rattle.fa_workers.proofs.helping.take_jobs.Goals.{in-Some, in_default}
 
@@ -18,8 +18,8 @@ loop-number-preserved g c =
     let first = c.args.locked.now.core in
     let old = c.loop-number.locked.core in
     let new = c.take_job.new.locked.core in
-    let held = dies_of c.args.orders.now.items in
-    let before = dies_of c.loop-number.orders.items in
+    let held = numbers_of c.args.dies.now.items in
+    let before = numbers_of c.loop-number.dies.items in
     let Takes : ℕ → Type 0 = λ n. TakesJobs n old [] new (die_taken c.take_job.result) in
     let taken = takes_behind seat first old new held before (die_taken c.take_job.result) c.loop-number.invariant.1
     (subst Takes c.loop-number.invariant.0.number c.take_job.ensures.takes) in
@@ -27,10 +27,11 @@ loop-number-preserved g c =
       join_rest c.loop-number.invariant.0 c.take_job.ensures.account,
       elim c.match-take_job.branch [
         | in-Some w ↦ subst Held
-            (ap (λ o. before ++ die_taken o) w.in-Some.is ∙ sym (one_held c.loop-number.orders.items w.in-Some.order)
-            ∙ sym (ap dies_of w.add.ensures) ∙ sym (ap (λ (v : Vec (Order g.row.A.Denot) g.row.A.Denot). dies_of v.items) w.orders-is)) taken
+            (ap (λ o. before ++ die_taken o) w.in-Some.is ∙ ap (λ (d : Die). before ++ d.0 ∷ []) (sym w.die.ensures)
+            ∙ sym (one_held c.loop-number.dies.items w.die.result)
+            ∙ sym (ap numbers_of w.add.ensures) ∙ sym (ap (λ (v : Vec Die g.row.A.Denot). numbers_of v.items) w.dies-is)) taken
         | in_default w ↦ subst Held
             (ap (λ o. before ++ die_taken o) w.in_default.is ∙ append-nil before
-            ∙ sym (ap (λ (v : Vec (Order g.row.A.Denot) g.row.A.Denot). dies_of v.items) w.orders-is)) taken
+            ∙ sym (ap (λ (v : Vec Die g.row.A.Denot). numbers_of v.items) w.dies-is)) taken
       ],
     )
