@@ -1,10 +1,13 @@
 -- The command `talk --array`: hexadecimal lines are the bytes of one client of an array.
 use Rattle.std.specs.Prelude.{◌≡◌, ◌⊎◌, ◌≤◌, ℕ, Bool, false, List, [], ◌∷◌, ◌++◌, codes, length, map, string_bytes, Ok, Option, Result}
+use Rattle.std.specs.declared.alloc.Global.{Global}
+use Rattle.std.specs.declared.marker.Brand.{Brand}
 use Rattle.fa_image.specs.FileMade.{FileMade, file_is_honest, file_view}
 use Rattle.fa_image.specs.declared.file_image.FileImage.{FileImage}
 use Rattle.fa_image.specs.Image.{ImageAnswer, ImageCall, ImageState}
 use Rattle.fa_io.specs.Streams.{Reads, Streams}
 use Rattle.fa_machine.specs.State.{Core}
+use Rattle.fa_map.specs.declared.page_map.PageMap.{PageMap}
 use Rattle.fa_mount.specs.declared.closing.CloseFault.{CloseFault}
 use Rattle.fa_mount_headers.specs.Found.{AreOnlyRead}
 use Rattle.fa_mount_headers.specs.declared.fault.MountFault.{MountFault}
@@ -92,8 +95,8 @@ module _ (L M : Type 0) {A : Type 0} (settings : Settings A) (unclean : Bool) wh
 
 -- What the command does. Where there are no settings it reads nothing of the input, and where the input is not read to its end, or spells no
 -- bytes, it has opened no image.
-abbrev pub RunsTalkArray : (L M A : Type 0) → Bool → Streams → ℕ → Type 0
-RunsTalkArray L M A unclean s status =
+abbrev pub RunsTalkArray : Type 0 → Bool → Streams → ℕ → Type 0
+RunsTalkArray A unclean s status =
     (Reads s [] × (RefusesSettings A s.held_before s.held_after status ⊎ TellsNoMemory s.held_before s.held_after status))
     ⊎ ((text : List ℕ) × (settings : Settings A) × IsSettingsText text settings
-    × RunsOver (TellsLines L M settings unclean) (codes "talk: cannot read" ++ 10 ∷ []) s status)
+    × RunsOver (TellsLines Brand (PageMap Global) settings unclean) (codes "talk: cannot read" ++ 10 ∷ []) s status)

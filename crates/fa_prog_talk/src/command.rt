@@ -42,7 +42,7 @@ pub fn run_talk_array<R: Host, N: Read, W: Write, A: Allocator + Copy>(
     output: &mut W,
 ) -> u8
     ensures { let streams = between (N.remaining input.old) (N.remaining input.new) (W.contents output.old) (W.contents output.new) in
-        RunsTalkArray Brand (PageTables Heap) A unclean streams result }
+        RunsTalkArray A unclean streams result }
 {
     match settings_at(rt, alloc, path) {
         Ok(settings) => hear(rt, alloc, &settings, unclean, input, output),
