@@ -95,15 +95,15 @@ fn run_here<L: Ledger, M: Map + Drop, I: Image, A: Allocator + Copy>(
     the_geometry_is_kept();
     match take(inner.alloc, &mut inner.locked, &mut inner.seat, die) {
         Some(job) => {
-            run_taken(inner, die, place, &job);
+            run_noted(inner, die, place, &job);
             true
         }
         None => false,
     }
 }
 
-/// Makes the calls of a job that was taken, and ends it.
-fn run_taken<L: Ledger, M: Map + Drop, I: Image, A: Allocator + Copy>(
+/// Makes the calls of a job that was taken, ends it, and notes why its die went out, if it did.
+fn run_noted<L: Ledger, M: Map + Drop, I: Image, A: Allocator + Copy>(
     inner: &mut Inner<L, M, I, A>,
     die: Die,
     place: usize,
@@ -116,6 +116,23 @@ fn run_taken<L: Ledger, M: Map + Drop, I: Image, A: Allocator + Copy>(
     ensures { EndsAt I.made inner.old die.0 place (handed_of job.now) inner.new }
 {
     let was_live = inner.locked.array().is_live(die);
+    let outcome = run_taken(inner, die, place, job);
+    note_fault(inner, was_live, die, outcome);
+}
+
+/// Makes the calls of a job that was taken, and ends it. How it ended.
+fn run_taken<L: Ledger, M: Map + Drop, I: Image, A: Allocator + Copy>(
+    inner: &mut Inner<L, M, I, A>,
+    die: Die,
+    place: usize,
+    job: &Job<A>,
+) -> Outcome
+    requires flight { get inner.old.locked.core.jobs die.0 ≡ Some job.now.flight }
+    requires fits { IsJobFor inner.old.locked.core.page_map.geometry inner.old.locked.number die.0 (handed_of job.now) }
+    requires placed { IsPlaced I.view inner.old die.0 place }
+    requires memory { HasMemory inner.old }
+    ensures { EndsAt I.made inner.old die.0 place (handed_of job.now) inner.new }
+{
     let outcome = call_image(inner, die, place, job);
     let buffer = replace(&mut inner.buffer, Vec::new(inner.alloc));
     let ended = done(
@@ -128,7 +145,7 @@ fn run_taken<L: Ledger, M: Map + Drop, I: Image, A: Allocator + Copy>(
     );
     let Ok(left) = ended else { unreachable!() };
     inner.buffer = left;
-    note_fault(inner, was_live, die, outcome);
+    outcome
 }
 
 /// Notes why a die went out whose job ended so, if it was live and is out.
