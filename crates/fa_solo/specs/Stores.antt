@@ -2,6 +2,8 @@
 use Rattle.std.specs.Prelude.{◌≡◌, ℕ}
 use Rattle.fa_shared_store.specs.Counts.{IsMade, is_accepted, pages_of}
 use Rattle.fa_image.specs.Image.{ImageAnswer, ImageCall}
+use Rattle.fa_image.specs.declared.image.Image.{Ghosts as ImageGhosts}
+use Rattle.fa_map_calls.specs.declared.map.Map.{Ghosts as MapGhosts}
 use Rattle.fa_solo.specs.Calls.{MakesCall}
 use Rattle.fa_solo.specs.declared.solo.Solo.{Solo}
 use Rattle.fa_solo_job.specs.declared.inner.Inner.{Inner}
@@ -14,7 +16,7 @@ pub record StoreState (L M I A : Type 0) : Type 0 where
   pub inner : Inner L M I A
 
 -- the same of a store
-abbrev pub seen_of : {L M I A : Type 0} → Solo L M I A → StoreState L M I A
+abbrev pub seen_of : {L M I A : Type 0} {map : MapGhosts M} {image : ImageGhosts I} → Solo L M I A map image → StoreState L M I A
 seen_of store = record { bytes = store.bytes; page_bytes = store.page_bytes; inner = store.inner }
 
 module _ {L M I A : Type 0} where
