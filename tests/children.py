@@ -54,9 +54,9 @@ class Children:
                 os.killpg(process.pid, signal.SIGKILL)
         process.kill()
 
-    def run(self, words, seconds, **how):
+    def run(self, words, seconds, *, stdin=subprocess.DEVNULL, **how):
         """The status and the output of a process that is to end by itself before so many seconds have passed."""
-        process = self.start(words, stdin=subprocess.DEVNULL, stdout=subprocess.PIPE, **how)
+        process = self.start(words, stdin=stdin, stdout=subprocess.PIPE, **how)
         try:
             output, _ = process.communicate(timeout=seconds)
         except BaseException:

@@ -100,9 +100,9 @@ class Array:
     def image(self, die):
         return self.path(f"d{die}.img")
 
-    def run_words(self, *words):
+    def run_words(self, *words, stdin=subprocess.DEVNULL):
         """The status and the output of the program, which is to end by itself."""
-        status, output = CHILDREN.run([self.program, *words], 60, cwd=self.folder, stderr=subprocess.PIPE)
+        status, output = CHILDREN.run([self.program, *words], 60, cwd=self.folder, stdin=stdin, stderr=subprocess.PIPE)
         return status, output.decode("utf-8", "backslashreplace")
 
     def run(self, command, *words):

@@ -54,14 +54,19 @@ for each page, and the pages that show that no plan has fewer rounds.
 
 HELP_OF_TALK = """Serves one NBD client, whose bytes are given on standard input as lines of hexadecimal digits
 
-Usage: flasharr talk < LINES
+Usage: flasharr talk [--array SETTINGS [--unclean]] < LINES
 
 Options:
-  -h, --help  Print help
+      --array <SETTINGS>  Serves the client the array of these settings, a TOML file
+      --unclean           Takes an array that was not closed, or whose images are not all there
+  -h, --help              Print help
 
 The client finds a store of 64 pages of 512 zero bytes under the name disk. Printed are the server's
 bytes, in hexadecimal on one line, and `end E`, where E is 1 disconnected, 2 aborted, 3 closed for a wrong
 message, 4 input ended, 5 read failed, 6 write failed, 7 no memory in the negotiation.
+
+With --array the client finds the array of the settings, which nobody else uses meanwhile, and which is closed
+behind it. Printed are then also the faults that took dies out, and how the array was closed, as `serve` does.
 """
 
 HELP_OF_VERIFY = """Checks a batch text and a certificate text, given one behind the other on standard input
@@ -84,12 +89,12 @@ For more information, try '--help'.
 
 WORD_TOO_MANY = """error: unexpected argument 'talk' found
 
-Usage: flasharr talk < LINES
+Usage: flasharr talk [--array SETTINGS [--unclean]] < LINES
 
 For more information, try '--help'.
 """
 
-USAGE = "usage: flasharr format | check | dump | serve | plan | talk | verify\n"
+USAGE = "usage: flasharr format | check | dump | serve | plan | talk [--array SETTINGS [--unclean]] | verify\n"
 
 SHOWN = [
     ("help", ("--help",), HELP), ("short_help", ("-h",), HELP),
@@ -106,7 +111,8 @@ MISTAKES = [
     ("die_64", ("format", "array.toml", "--die", "64"), "64"), ("die_below_0", ("format", "array.toml", "--die=-1"), "-1"),
     ("die_that_is_no_number", ("format", "array.toml", "--die", "x"), "'x'"),
     ("no_settings", ("check",), ""), ("unclean_format", ("format", "array.toml", "--unclean"), "--unclean"),
-    ("json_twice", ("dump", "array.toml", "--json", "--json"), "--json"),
+    ("json_twice", ("dump", "array.toml", "--json", "--json"), "--json"), ("array_without_a_path", ("talk", "--array"), "--array"),
+    ("array_twice", ("talk", "--array", "a.toml", "--array", "a.toml"), "--array"),
 ]
 
 
@@ -128,6 +134,8 @@ def cases():
     for name, words, word in MISTAKES:
         yield Case(f"mistake/{name}", [Run(words, mistake(word), 2)])
     yield Case("mistake/no_text", [Run((b"talk", b"\xff"), USAGE, 2)])
+    # There is no array that may be an unclean one.
+    yield Case("mistake/unclean_without_array", [Run(("talk", "--unclean"), USAGE, 2, "zz")])
     # The arguments are judged before the settings are read, and a command that reads no input leaves it alone.
     yield Case("mistake/before_the_settings", [Run(("check", "none.toml", "--cleanly"), mistake("--cleanly"), 2)])
     # An input that cannot be read, here a folder, and an output that takes nothing.

@@ -4,18 +4,20 @@ use Rattle.clap.specs.Kinds.{IsAmong}
 use Rattle.clap.specs.declared.error.kind.ErrorKind.{ErrorKind}
 use Rattle.fa_io.specs.Streams.{Streams, Reads}
 use Rattle.fa_types.specs.declared.numbers.Die.{Die}
-use Rattle.fa_settings.specs.CommandLine.{Wanted, Formats, Checks, Dumps, Serves, Plans, Talks, Verifies, IsDie, found_instead, wanted_in}
+use Rattle.fa_settings.specs.CommandLine.{Wanted, Formats, Checks, Dumps, Serves, Plans, Talks, TalksOver, Verifies, IsDie, found_instead, wanted_in}
 use Rattle.fa_prog_inspect.specs.Array.{TellsLook}
 use Rattle.fa_prog_format.specs.Formatting.{TellsFormat}
 use Rattle.fa_prog_host.specs.Printing.{TellsNoMemory}
 use Rattle.fa_prog_inspect.specs.declared.look.Asked.TheVariants.{Check, Dump}
 use Rattle.fa_prog_serve.specs.Serving.{TellsServe}
+use Rattle.fa_prog_talk.specs.TalkArray.{RunsTalkArray}
 use Rattle.fa_prog.specs.Output.{ShowsUsage, ShowsText}
 use Rattle.fa_prog_text.specs.Plan.{RunsPlan}
 use Rattle.fa_prog_text.specs.Talk.{RunsTalk}
 use Rattle.fa_prog_text.specs.Verify.{RunsVerify}
 
--- What a command does, whose settings are held in memory of a kind. `talk` has a plain store of 64 pages of 512 bytes. The
+-- What a command does, whose settings are held in memory of a kind. `talk` has a plain store of 64 pages of 512 bytes, and with `--array` the
+-- store of the settings' array. The
 -- commands `format`, `check` and `dump`, and what is no command, read nothing of the input; `serve` reads it until it is to stop.
 abbrev pub RunsCommand : Type 0 → Option Wanted → Streams → ℕ → Type 0
 RunsCommand A (Some (Formats settings text)) s status =
@@ -24,6 +26,7 @@ RunsCommand A (Some (Checks settings unclean json)) s status = Reads s [] × Tel
 RunsCommand A (Some (Dumps settings unclean json)) s status = Reads s [] × TellsLook A Dump unclean json s.held_before s.held_after status
 RunsCommand A (Some (Serves settings unclean verbose)) s status = TellsServe A s.held_before s.held_after status
 RunsCommand A (Some Talks) s status = RunsTalk 32768 (codes "disk") s status
+RunsCommand A (Some (TalksOver settings unclean)) s status = RunsTalkArray A unclean s status
 RunsCommand A (Some Plans) s status = RunsPlan s status
 RunsCommand A (Some Verifies) s status = RunsVerify s status
 RunsCommand A None s status = Reads s [] × ShowsUsage s.held_before s.held_after status

@@ -16,6 +16,7 @@ use fa_prog_format::run_format;
 use fa_prog_host::printing::{DONE, FAULTY, print, refuse_for_memory};
 use fa_prog_inspect::{Asked, Look, run_look};
 use fa_prog_serve::{Serve, ServerHost, run_serve};
+use fa_prog_talk::run_talk_array;
 use fa_prog_text::{run_plan, run_talk, run_verify};
 use fa_settings::{Subcommand, command};
 use std::alloc::{AllocError, Allocator, Global};
@@ -24,7 +25,8 @@ use std::io::{self, ErrorKind, Read, Write};
 use std::net::{Net, TcpListener, TcpStream};
 
 /// What is printed where the arguments cannot be had.
-const USAGE: &[u8] = b"usage: flasharr format | check | dump | serve | plan | talk | verify\n";
+const USAGE: &[u8] =
+    b"usage: flasharr format | check | dump | serve | plan | talk [--array SETTINGS [--unclean]] | verify\n";
 
 /// Runs the program with all of its arguments, of which the first is its name, as [`run`] does with
 /// those behind it. Where the arguments cannot be had, it prints that memory was refused, with status
@@ -73,7 +75,9 @@ pub fn start<
 ///
 /// `talk` reads lines of hexadecimal digits as the bytes of one NBD client, serves them over a plain
 /// store of 64 pages of 512 zero bytes under the name `disk`, and prints the server's bytes, in
-/// hexadecimal on one line, and then how the connection ended.
+/// hexadecimal on one line, and then how the connection ended. With `--array` it serves them over the array of
+/// the settings, which it mounts and then closes, with `--unclean` also one that was not closed; it prints the
+/// faults that took dies out and how the array was closed besides.
 ///
 /// `plan` reads a batch text, and prints the text of a plan of the least number of rounds with the pages
 /// that show that no plan has fewer.
@@ -155,6 +159,9 @@ pub fn run<
         }
         Ok(Some(Subcommand::Plan)) => run_plan(alloc, input, output),
         Ok(Some(Subcommand::Talk)) => run_talk(alloc, input, output),
+        Ok(Some(Subcommand::TalkArray { settings, unclean })) => {
+            run_talk_array(rt, alloc, settings, unclean, input, output)
+        }
         Ok(Some(Subcommand::Verify)) => run_verify(alloc, input, output),
         Ok(None) => show_usage(output),
         Err(error) => show_text(rt.alloc(), &error, output),

@@ -8,7 +8,7 @@ use crate::host::Host;
 use crate::watched::Watched;
 use fa_image::FileImage;
 use fa_settings::Settings;
-use std::alloc::{AllocError, AllocFailed, Allocator};
+use std::alloc::{AllocError, AllocFailed, Allocator, Global};
 use std::io::{self, ErrorKind};
 use std::path::Path;
 
@@ -86,6 +86,16 @@ pub fn open_images<'a, R: Host, A: Allocator>(
         }
     }
     Ok(OpenImages { images, places })
+}
+
+/// Images that nobody watches, in their order. The error is out of memory.
+pub fn images_alone<R, I: Drop>(
+    global: Global,
+    watched: Vec<Watched<'_, R, I>>,
+) -> Result<Vec<I>, AllocError>
+    ensures { IfOk result (λ images. images.items ≡ map (λ watched. watched.image) watched.entry.items) }
+{
+    watched.into_iter().map(|one| one.image).collect(global)
 }
 
 /// Why an image was not opened, by the kind of the error.

@@ -10,6 +10,6 @@ mod watched;
 
 pub use complaint::{complain, tell};
 pub use host::Host;
-pub use images::{NotOpened, OpenImages, open_images, tell_refused};
+pub use images::{NotOpened, OpenImages, images_alone, open_images, tell_refused};
 pub use settings_file::{NoSettings, refuse_settings, settings_at};
 pub use watched::{Watched, clear};

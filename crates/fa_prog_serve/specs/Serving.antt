@@ -1,12 +1,9 @@
 -- What `serve` prints.
-use Rattle.std.specs.Prelude.{◌≡◌, ◌⊎◌, ℕ, List, [], ◌∷◌, ◌++◌, codes, Option, Result, Ok, Err}
-use Rattle.std.specs.Fmt.{decimal}
-use Rattle.std.specs.List.{flat_map}
+use Rattle.std.specs.Prelude.{◌⊎◌, ℕ, List, [], ◌∷◌, ◌++◌, codes, Option, Result}
 use Rattle.fa_mount_headers.specs.declared.fault.MountFault.{MountFault}
-use Rattle.fa_mount.specs.Closing.{close_fault_number}
 use Rattle.fa_mount.specs.declared.closing.CloseFault.{CloseFault}
-use Rattle.fa_shared.specs.Causes.{cause_number}
 use Rattle.fa_shared.specs.declared.faults.Fault.{Fault}
+use Rattle.fa_prog_array.specs.Ending.{closed_line, closed_status, fault_lines}
 use Rattle.fa_prog_inspect.specs.Array.{mount_line}
 use Rattle.fa_prog_host.specs.Printing.{Prints, TellsNoMemory}
 use Rattle.fa_prog_host.specs.SettingsRefused.{RefusesSettings}
@@ -14,24 +11,6 @@ use Rattle.fa_prog_host.specs.SettingsRefused.{RefusesSettings}
 -- where clients can connect
 abbrev pub address_line : List ℕ → List ℕ
 address_line address = codes "listening " ++ address ++ 10 ∷ []
-
--- a die that went out
-abbrev pub fault_line : Fault → List ℕ
-fault_line fault =
-    codes "fault die " ++ decimal fault.die.0 ++ codes " cause " ++ decimal (cause_number fault.cause) ++ codes " round "
-    ++ decimal fault.round.0 ++ 10 ∷ []
-
-abbrev pub fault_lines : List Fault → List ℕ
-fault_lines faults = flat_map fault_line faults
-
--- how the array was closed, and the status with which that ends
-abbrev pub closed_line : Result ℕ CloseFault → List ℕ
-closed_line (Ok mask) = codes "closed clean" ++ 10 ∷ []
-closed_line (Err fault) = codes "closed unclean: " ++ decimal (close_fault_number fault) ++ 10 ∷ []
-
-abbrev pub closed_status : Result ℕ CloseFault → ℕ
-closed_status (Ok mask) = 0
-closed_status (Err fault) = 1
 
 -- What is printed at the end: the faults that were kept, the oldest first, and how the array was closed. Or memory was refused.
 abbrev pub TellsEnd : Option (List ℕ) → Option (List ℕ) → ℕ → Type 0

@@ -1,30 +1,12 @@
-//! The end of a server: the array is closed, and it is told how.
-ghost use Rattle.std.specs.Prelude.{◌≡◌, ◌++◌, List, ℕ, IfOk, OnOk, string_bytes};
-ghost use Rattle.fa_core.specs.Array.{IsWhole};
-ghost use Rattle.fa_prog_serve.specs.Serving.{TellsEnd, closed_line, closed_status, fault_line, fault_lines};
-ghost use Rattle.std.specs.Fmt.{decimal};
+//! The end of a server: it is told how the array was closed.
+ghost use Rattle.fa_prog_serve.specs.Serving.{TellsEnd};
 
-use fa_image::Image;
-use fa_map_calls::Map;
-use fa_mount::{CloseFault, MountedArray, close_clean};
-use fa_prog_host::printing::{DONE, REFUSED, print, push_number, refuse_for_memory};
+use fa_mount::CloseFault;
+use fa_prog_array::{end_text, status_of};
+use fa_prog_host::printing::{print, refuse_for_memory};
 use fa_shared::Fault;
 use std::alloc::{AllocError, Global};
 use std::io::Write;
-
-/// Closes the array over its images. Where a live die has none, nothing is closed, and the fault is that the array is busy.
-pub(crate) fn close<M: Map + Drop, I: Image>(
-    mounted: &MountedArray<M>,
-    images: &mut [I],
-) -> Result<u64, CloseFault>
-    requires { IsWhole M.view mounted.now.array }
-{
-    if mounted.has_images(images.len()) {
-        close_clean(mounted, images)
-    } else {
-        Err(CloseFault::Busy)
-    }
-}
 
 /// Prints the faults that were kept and how the array was closed, and answers the status.
 pub(crate) fn print_end<W: Write>(
@@ -38,66 +20,5 @@ pub(crate) fn print_end<W: Write>(
     match end_text(global, faults, closed) {
         Ok(text) => print(output, status_of(closed), text.as_bytes()),
         Err(AllocError) => refuse_for_memory(output),
-    }
-}
-
-/// The status of a server that closed its array so.
-fn status_of(closed: Result<u64, CloseFault>) -> u8
-    ensures { result ≡ closed_status closed }
-{
-    match closed {
-        Ok(_) => DONE,
-        Err(_) => REFUSED,
-    }
-}
-
-/// The lines of the faults and of the closing.
-fn end_text(
-    global: Global,
-    faults: Vec<Fault>,
-    closed: Result<u64, CloseFault>,
-) -> Result<String, AllocError>
-    ensures { IfOk result (λ text. string_bytes text ≡ fault_lines faults.items ++ closed_line closed) }
-{
-    let mut out = String::new(global);
-    push_faults(&mut out, faults)?;
-    push_closed(&mut out, closed)?;
-    Ok(out)
-}
-
-/// Adds the lines of faults.
-fn push_faults(out: &mut String, faults: Vec<Fault>) -> Result<(), AllocError>
-    ensures { OnOk result (string_bytes out.new ≡ string_bytes out.old ++ fault_lines faults.items) }
-{
-    for fault in faults {
-        push_fault(out, fault)?;
-    }
-    Ok(())
-}
-
-/// Adds the line of a fault.
-fn push_fault(out: &mut String, fault: Fault) -> Result<(), AllocError>
-    ensures { OnOk result (string_bytes out.new ≡ string_bytes out.old ++ fault_line fault) }
-{
-    out.push_str("fault die ")?;
-    push_number(out, u64::from(fault.die.0))?;
-    out.push_str(" cause ")?;
-    push_number(out, u64::from(fault.cause.number()))?;
-    out.push_str(" round ")?;
-    push_number(out, fault.round.0)?;
-    out.push('\n')
-}
-
-/// Adds the line of the closing.
-fn push_closed(out: &mut String, closed: Result<u64, CloseFault>) -> Result<(), AllocError>
-    ensures { OnOk result (string_bytes out.new ≡ string_bytes out.old ++ closed_line closed) }
-{
-    match closed {
-        Ok(_) => out.push_str("closed clean\n"),
-        Err(fault) => {
-            out.push_str("closed unclean: ")?;
-            push_number(out, u64::from(fault.number()))?;
-            out.push('\n')
-        }
     }
 }

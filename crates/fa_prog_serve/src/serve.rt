@@ -1,12 +1,10 @@
 //! The command `serve`.
-ghost use Rattle.std.specs.Prelude.{◌≡◌, IfOk, IfSome, None};
+ghost use Rattle.std.specs.Prelude.{◌≡◌, IfSome, None};
 ghost use Rattle.fa_core.specs.Array.{IsWhole};
 ghost use Rattle.fa_map.specs.PageView.{page_view};
-ghost use Rattle.fa_prog_inspect.specs.Array.{mount_line as line_of};
-ghost use Rattle.fa_prog_host.specs.Printing.{Prints};
 ghost use Rattle.fa_prog_serve.specs.Serving.{Listens, TellsEnd, TellsOn, TellsServe};
 
-use crate::closing::{close, print_end};
+use crate::closing::print_end;
 use crate::host::ServerHost;
 use crate::ready::{listening_text, ready_of};
 use crate::serving::{Ended, serve_ready};
@@ -14,12 +12,13 @@ use fa_core::Array;
 use fa_image::Image;
 use fa_map::PageMap;
 use fa_map_calls::Map;
-use fa_mount::{MountedArray, mount_found_side_by_side};
-use fa_mount_headers::{MountFault, MountRefused, Standing};
+use fa_mount::MountedArray;
+use fa_mount_headers::{MountFault, Standing};
+use fa_prog_array::{close, mount, refuse_mount};
 use fa_prog_clients::Networked;
 use fa_prog_host::printing::{DONE, REFUSED, print, refuse_for_memory};
 use fa_prog_host::{NotOpened, OpenImages, open_images, refuse_settings, settings_at, tell};
-use fa_prog_inspect::{explain, mount_line, read_expected};
+use fa_prog_inspect::explain;
 use fa_settings::Settings;
 use fa_shared::{Fault, Shared};
 use std::alloc::{AllocError, Allocator, Global};
@@ -136,33 +135,6 @@ pub fn serve_on<R: ServerHost, I: Image + Send + Drop, N: Read, W: Write, A: All
             refuse_mount(refused.fault, output)
         }
     }
-}
-
-/// Prints why images are not mounted.
-fn refuse_mount<W: Write>(fault: MountFault, output: &mut W) -> u8
-    ensures { Prints (line_of fault) 1 (W.contents output.old) (W.contents output.new) result }
-{
-    print(output, REFUSED, mount_line(fault))
-}
-
-/// Mounts the images, which are to be those of the settings' array.
-fn mount<R: ServerHost, I: Image + Send, A: Allocator>(
-    rt: &R,
-    settings: &Settings<A>,
-    unclean: bool,
-    images: &mut [I],
-) -> Result<MountedArray<PageMap>, MountRefused>
-    ensures { IfOk result (λ mounted. IsWhole page_view mounted.array) }
-{
-    let founds = read_expected(rt, settings, unclean, images)?;
-    mount_found_side_by_side(
-        rt,
-        rt.alloc(),
-        images,
-        founds.as_slice(),
-        settings.copies,
-        unclean,
-    )
 }
 
 /// How the threads of an array ended, and the faults that took its dies out.

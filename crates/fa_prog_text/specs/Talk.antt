@@ -8,7 +8,7 @@ use Rattle.fa_session.specs.Session.{Session}
 use Rattle.fa_session.specs.declared.session_end.SessionEnd.{SessionEnd}
 use Rattle.fa_prog_text.specs.HexLines.{bytes_of_text}
 use Rattle.fa_io.specs.Streams.{Streams}
-use Rattle.fa_prog_host.specs.Printing.{Prints}
+use Rattle.fa_prog_host.specs.Printing.{Prints, TellsNoMemory}
 use Rattle.fa_prog_text.specs.Output.{RunsOver}
 
 -- a reader that has these bytes left before and after, and a writer that holds these before and after
@@ -35,6 +35,11 @@ pub record Talks (size : ℕ) (export text out : List ℕ) : Type 0 where
 -- what is printed of a faulty line
 unfoldable pub line_text : ℕ → List ℕ
 line_text line = codes "talk: line " ++ decimal line ++ 10 ∷ []
+
+-- What is printed of a text that spells no bytes: its first faulty line, or that memory was refused.
+abbrev pub RefusesText : List ℕ → Option (List ℕ) → Option (List ℕ) → ℕ → Type 0
+RefusesText text old new status =
+    ((line : ℕ) × (bytes_of_text text ≡ Err line) × Prints (line_text line) 2 old new status) ⊎ TellsNoMemory old new status
 
 -- What is printed of a text: a connection of the bytes that its lines spell, or its first faulty line and nothing
 -- else.

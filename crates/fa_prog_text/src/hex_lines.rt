@@ -9,7 +9,7 @@ use std::alloc::{AllocError, Allocator};
 
 /// Why a text spells no bytes.
 #[derive(Clone, Copy, Debug, PartialEq, Eq)]
-pub(crate) enum TextFault {
+pub enum TextFault {
     /// The first line, from 1, with another character than a digit or a space, or with an odd
     /// number of digits.
     Line(u64),
@@ -19,10 +19,7 @@ pub(crate) enum TextFault {
 
 /// The bytes that the lines of a text spell, joined. Spaces mean nothing, and digits are of either
 /// case.
-pub(crate) fn read_hex_lines<A: Allocator + Copy>(
-    alloc: A,
-    text: &[u8],
-) -> Result<Vec<u8, A>, TextFault>
+pub fn read_hex_lines<A: Allocator + Copy>(alloc: A, text: &[u8]) -> Result<Vec<u8, A>, TextFault>
     ensures bytes { IfOk result (λ bytes. bytes_of_text text.now ≡ Ok bytes.items) }
     ensures line { IfErr result (IsFault (bytes_of_text text.now)) }
 {

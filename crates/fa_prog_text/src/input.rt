@@ -6,10 +6,7 @@ use std::alloc::Allocator;
 use std::io::{ErrorKind, Read};
 
 /// Reads an input to its end, or tells the kind of the error that came before.
-pub(crate) fn read_input<R: Read, A: Allocator>(
-    alloc: A,
-    input: &mut R,
-) -> Result<Vec<u8, A>, ErrorKind>
+pub fn read_input<R: Read, A: Allocator>(alloc: A, input: &mut R) -> Result<Vec<u8, A>, ErrorKind>
     ensures whole { IfOk result (λ text. Consumes (R.remaining input.old) (R.remaining input.new) text.items
         × IsAtEnd (R.remaining input.new)) }
     ensures part { OnErr result ((text : List ℕ) × Consumes (R.remaining input.old) (R.remaining input.new) text) }

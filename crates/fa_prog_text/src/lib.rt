@@ -1,4 +1,4 @@
-//! The commands that want no array: `talk`, `plan` and `verify`.
+//! The commands that want no array, `talk`, `plan` and `verify`, and what `talk` has in common with the same over an array.
 #![tactic(auto)]
 
 mod hex_lines;
@@ -8,6 +8,8 @@ mod plan;
 mod talk;
 mod verify;
 
+pub use hex_lines::{TextFault, read_hex_lines};
+pub use input::read_input;
 pub use plan::run_plan;
-pub use talk::run_talk;
+pub use talk::{refuse_text, refuse_unread, run_talk, talk_text};
 pub use verify::run_verify;

@@ -1,10 +1,11 @@
 //! The command `talk`.
-ghost use Rattle.std.specs.Prelude.{◌≡◌, ◌⊎◌, IfOk, IfErr, codes, string_bytes};
+ghost use Rattle.std.specs.Prelude.{◌≡◌, ◌⊎◌, ℕ, List, [], ◌∷◌, ◌++◌, IfOk, IfErr, codes, string_bytes};
 ghost use Rattle.fa_session.specs.Ends.{end_number};
 ghost use Rattle.fa_io.specs.Streams.{between};
 ghost use Rattle.fa_prog_text.specs.HexLines.{bytes_of_text, IsFault};
+ghost use Rattle.fa_prog_text.specs.Output.{GivesUp};
 ghost use Rattle.fa_prog_host.specs.Printing.{TellsNoMemory};
-ghost use Rattle.fa_prog_text.specs.Talk.{Talks, TellsTalk, RunsTalk, talk_text as text_of, line_text as text_of_line};
+ghost use Rattle.fa_prog_text.specs.Talk.{RefusesText, Talks, TellsTalk, RunsTalk, talk_text as text_of, line_text as text_of_line};
 
 use crate::hex_lines::{TextFault, read_hex_lines};
 use crate::input::read_input;
@@ -13,7 +14,7 @@ use fa_prog_host::printing::{DONE, FAULTY, print, refuse_for_memory};
 use fa_session::{SessionEnd, serve_stream};
 use fa_types::MemBlocks;
 use std::alloc::{AllocError, Allocator};
-use std::io::{Read, Write};
+use std::io::{ErrorKind, Read, Write};
 
 /// The bytes of the store that the client of `talk` finds: 64 pages of 512.
 pub(crate) const TALK_SIZE: u64 = 64 * 512;
@@ -32,8 +33,15 @@ pub fn run_talk<R: Read, W: Write, A: Allocator + Copy>(
 {
     match read_input(alloc, input) {
         Ok(text) => tell_talk(alloc, &text, output),
-        Err(kind) => refuse_input(output, kind, b"talk: cannot read\n"),
+        Err(kind) => refuse_unread(output, kind),
     }
+}
+
+/// Prints why what a client says was not read to its end, by the kind of the error.
+pub fn refuse_unread<W: Write>(output: &mut W, kind: ErrorKind) -> u8
+    ensures { GivesUp kind (codes "talk: cannot read" ++ 10 ∷ []) (W.contents output.old) (W.contents output.new) result }
+{
+    refuse_input(output, kind, b"talk: cannot read\n")
 }
 
 /// Prints the connection of the bytes that a text spells, or its first faulty line.
@@ -43,11 +51,21 @@ fn tell_talk<W: Write, A: Allocator + Copy>(alloc: A, text: &[u8], output: &mut 
 {
     match talk(alloc, TALK_SIZE, text) {
         Ok(out) => print(output, DONE, out.as_bytes()),
-        Err(TextFault::Line(line)) => match line_text(alloc, line) {
+        Err(fault) => refuse_text(alloc, fault, output),
+    }
+}
+
+/// Prints why a text spells no bytes: its first faulty line, or that memory was refused.
+pub fn refuse_text<W: Write, A: Allocator + Copy>(alloc: A, fault: TextFault, output: &mut W) -> u8
+    ensures { (text : List ℕ) → IsFault (bytes_of_text text) fault
+        → RefusesText text (W.contents output.old) (W.contents output.new) result }
+{
+    match fault {
+        TextFault::Line(line) => match line_text(alloc, line) {
             Ok(told) => print(output, FAULTY, told.as_bytes()),
             Err(AllocError) => refuse_for_memory(output),
         },
-        Err(TextFault::NoMemory) => refuse_for_memory(output),
+        TextFault::NoMemory => refuse_for_memory(output),
     }
 }
 
@@ -71,9 +89,9 @@ fn talk<A: Allocator + Copy>(alloc: A, size: u64, text: &[u8]) -> Result<String<
     }
 }
 
-/// What is printed of a connection.
+/// What is printed of a connection. The error is out of memory.
 #[tactic(auto, unfolding(crate::specs::Talk::talk_text))]
-fn talk_text<A: Allocator + Copy>(
+pub fn talk_text<A: Allocator + Copy>(
     alloc: A,
     written: &[u8],
     end: SessionEnd,

@@ -12,7 +12,7 @@ use Rattle.clap.specs.declared.builder.action.ArgAction.TheVariants.{Set, SetTru
 use Rattle.clap.specs.declared.builder.value_parser.ValueParser.TheVariants.{Signed}
 use Rattle.fa_types.specs.declared.numbers.Die.{Die}
 use Rattle.fa_settings.specs.declared.command_line.Subcommand.{Subcommand}
-use Rattle.fa_settings.specs.declared.command_line.Subcommand.TheVariants.{Format, Check, Dump, Serve, Plan, Talk, Verify}
+use Rattle.fa_settings.specs.declared.command_line.Subcommand.TheVariants.{Format, Check, Dump, Serve, Plan, Talk, TalkArray, Verify}
 
 -- the path of the settings, which has to be given
 abbrev pub settings_argument : Rule
@@ -31,6 +31,10 @@ die_argument = record (new_rule (codes "die")) {
   parser = Some (Signed (pos 0) (pos 63));
 }
 
+-- the path of the settings of an array, which may be left out
+abbrev pub array_argument : Rule
+array_argument = record (new_rule (codes "array")) { long = Some (codes "array"); action = Some Set; value_names = 1 }
+
 -- a command with its arguments
 abbrev pub with_arguments : List ℕ → List Rule → Shape
 with_arguments name rules = record (new_shape name) { rules = rules }
@@ -48,6 +52,10 @@ program = record (new_shape (codes "flasharr")) {
 abbrev pub array_arguments : List ℕ → List Rule
 array_arguments name = settings_argument ∷ flag (codes "unclean") ∷ flag name ∷ []
 
+-- the arguments of `talk`
+abbrev pub talk_arguments : List Rule
+talk_arguments = array_argument ∷ flag (codes "unclean") ∷ []
+
 -- the program with its commands, each of which has --help besides
 abbrev pub command_line : App
 command_line =
@@ -56,7 +64,7 @@ command_line =
     (with_arguments (codes "format") (settings_argument ∷ die_argument ∷ [])))
     (with_arguments (codes "check") (array_arguments (codes "json")))) (with_arguments (codes "dump") (array_arguments (codes "json"))))
     (with_arguments (codes "serve") (array_arguments (codes "verbose"))))
-    (new_shape (codes "plan"))) (new_shape (codes "talk"))) (new_shape (codes "verify"))
+    (new_shape (codes "plan"))) (with_arguments (codes "talk") talk_arguments)) (new_shape (codes "verify"))
 
 -- What the arguments are where they are no command: a request for help or for the version, or a mistake, as the
 -- kinds of it that clap may tell. There is none where they are a command.
@@ -71,6 +79,7 @@ pub data Wanted : Type 0 where
   Serves : (settings : List ℕ) (unclean verbose : Bool) → Wanted
   Plans : Wanted
   Talks : Wanted
+  TalksOver : (settings : List ℕ) (unclean : Bool) → Wanted
   Verifies : Wanted
 
 -- whether a flag was given
@@ -93,12 +102,21 @@ abbrev pub serves : List Row → Option Wanted
 serves rows =
     option_map (λ path. Serves path (is_given (codes "unclean") rows) (is_given (codes "verbose") rows)) (first_of (codes "settings") rows)
 
+-- `talk` asks for an array where the path of its settings is given, and else for a store in memory. Nothing is asked for where there is no
+-- array and yet it may be an unclean one.
+abbrev pub talks_without : Bool → Option Wanted
+talks_without unclean = if unclean then None else Some Talks
+
+abbrev pub talks : List Row → Option Wanted
+talks rows = option_map_or (λ path. Some (TalksOver path (is_given (codes "unclean") rows))) (first_of (codes "array") rows)
+    (talks_without (is_given (codes "unclean") rows))
+
 -- what the command of a name asks for with what was found of its arguments
 abbrev pub wanted_by : List ℕ → List Row → Option Wanted
 wanted_by name rows =
     if bytes_eq name (codes "format") then formats rows else if bytes_eq name (codes "check") then checks rows
     else if bytes_eq name (codes "dump") then dumps rows else if bytes_eq name (codes "serve") then serves rows
-    else if bytes_eq name (codes "plan") then Some Plans else if bytes_eq name (codes "talk") then Some Talks
+    else if bytes_eq name (codes "plan") then Some Plans else if bytes_eq name (codes "talk") then talks rows
     else if bytes_eq name (codes "verify") then Some Verifies else None
 
 -- what the arguments ask for
@@ -121,5 +139,6 @@ IsWanted (Some (Dump settings unclean json)) (Some (Dumps path u j)) = (settings
 IsWanted (Some (Serve settings unclean verbose)) (Some (Serves path u v)) = (settings.now ≡ path) × (unclean ≡ u) × (verbose ≡ v)
 IsWanted (Some Plan) (Some Plans) = Unit {0}
 IsWanted (Some Talk) (Some Talks) = Unit {0}
+IsWanted (Some (TalkArray settings unclean)) (Some (TalksOver path u)) = (settings.now ≡ path) × (unclean ≡ u)
 IsWanted (Some Verify) (Some Verifies) = Unit {0}
 IsWanted found wanted = ⊥

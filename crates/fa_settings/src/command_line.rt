@@ -5,9 +5,9 @@ ghost use Rattle.clap.specs.Simple.{app_of, new_app, with_subcommand};
 ghost use Rattle.clap.specs.declared.builder.command.Command.TheViews.{out-Command as fields_of};
 ghost use Rattle.clap.specs.Walk.{rows_of, rule_of, first_of, one_of};
 ghost use Rattle.clap.specs.Matches.{found_of};
-ghost use Rattle.fa_settings.specs.CommandLine.{command_line as line, found_instead, wanted_in, wanted_by, formats, checks, dumps, serves, IsWanted, IsDie};
-ghost use Rattle.fa_settings.specs.CommandLine.{is_given as flag_given, with_arguments, array_arguments};
-ghost use Rattle.fa_settings.specs.CommandLine.{program as program_shape, settings_argument as settings_rule, die_argument as die_rule, flag as flag_rule};
+ghost use Rattle.fa_settings.specs.CommandLine.{command_line as line, found_instead, wanted_in, wanted_by, formats, checks, dumps, serves, talks, IsWanted, IsDie};
+ghost use Rattle.fa_settings.specs.CommandLine.{is_given as flag_given, with_arguments, array_arguments, talk_arguments};
+ghost use Rattle.fa_settings.specs.CommandLine.{program as program_shape, settings_argument as settings_rule, die_argument as die_rule, array_argument as array_rule, flag as flag_rule};
 
 use crate::help::{self, Help};
 use clap::{Arg, ArgAction, ArgMatches, Command, Error};
@@ -53,8 +53,15 @@ pub enum Subcommand<'a> {
     },
     /// Plans a batch.
     Plan,
-    /// Serves one client, whose bytes are given as text.
+    /// Serves one client, whose bytes are given as text, over a store in memory.
     Talk,
+    /// The same over an array.
+    TalkArray {
+        /// The path of the settings.
+        settings: &'a str,
+        /// The array may be one that was not closed, and images may be missing.
+        unclean: bool,
+    },
     /// Checks a certificate.
     Verify,
 }
@@ -111,7 +118,7 @@ fn command_line<'a>(global: Global) -> Result<Command<'a>, AllocError>
     let Ok(plan) = serve.subcommand(plain_line(global, "plan", help::PLAN)) else {
         return Err(AllocError);
     };
-    let Ok(talk) = plan.subcommand(plain_line(global, "talk", help::TALK)) else {
+    let Ok(talk) = with_talk(global, plan) else {
         return Err(AllocError);
     };
     talk.subcommand(plain_line(global, "verify", help::VERIFY))
@@ -181,6 +188,33 @@ fn with_array<'a>(
     program.subcommand(array)
 }
 
+/// The program with the command that serves one client besides.
+fn with_talk<'a>(global: Global, program: Command<'a>) -> Result<Command<'a>, AllocError>
+    ensures { IfOk result (λ c. app_of c
+        ≡ with_subcommand (app_of program.entry) (with_arguments (codes "talk") talk_arguments)) }
+{
+    let talk = plain_line(global, "talk", help::TALK);
+    let Ok(talk) = talk.arg(array_argument(global)) else {
+        return Err(AllocError);
+    };
+    let Ok(talk) = talk.arg(flag(global, "unclean", help::ABOUT_UNCLEAN)) else {
+        return Err(AllocError);
+    };
+    program.subcommand(talk)
+}
+
+/// The path of the settings of the array that a client is served.
+fn array_argument<'a>(global: Global) -> Arg<'a>
+    ensures rule { rule_of result ≡ array_rule }
+    ensures local { result.global ≡ false }
+{
+    Arg::new(global, "array")
+        .long("array")
+        .action(ArgAction::Set)
+        .value_name("SETTINGS")
+        .help(help::ABOUT_ARRAY)
+}
+
 /// The path of the settings.
 fn settings_argument<'a>(global: Global) -> Arg<'a>
     ensures rule { rule_of result ≡ settings_rule }
@@ -227,7 +261,7 @@ fn wanted<'a>(name: &str, found: &ArgMatches<'a>) -> Option<Subcommand<'a>>
         "dump" => wanted_dump(found),
         "serve" => wanted_serve(found),
         "plan" => Some(Subcommand::Plan),
-        "talk" => Some(Subcommand::Talk),
+        "talk" => wanted_talk(found),
         "verify" => Some(Subcommand::Verify),
         _ => None,
     }
@@ -285,6 +319,18 @@ fn wanted_serve<'a>(found: &ArgMatches<'a>) -> Option<Subcommand<'a>>
             verbose: is_given(found, "verbose"),
         }),
         None => None,
+    }
+}
+
+/// What `talk` is asked to do. No array may be one that was not closed where there is none.
+fn wanted_talk<'a>(found: &ArgMatches<'a>) -> Option<Subcommand<'a>>
+    ensures { IsWanted result (talks (rows_of (found_of found.now))) }
+{
+    let unclean = is_given(found, "unclean");
+    match text_of(found, "array") {
+        Some(settings) => Some(Subcommand::TalkArray { settings, unclean }),
+        None if unclean => None,
+        None => Some(Subcommand::Talk),
     }
 }
 

@@ -29,6 +29,9 @@ pub const ABOUT_SETTINGS: &str = "The settings of the array, a TOML file";
 pub const ABOUT_UNCLEAN: &str =
     "Takes an array that was not closed, or whose images are not all there";
 
+/// What help says of `--array`.
+pub const ABOUT_ARRAY: &str = "Serves the client the array of these settings, a TOML file";
+
 /// What help says of `--json`.
 pub const ABOUT_JSON: &str = "Prints one JSON document";
 
@@ -83,10 +86,13 @@ for each page, and the pages that show that no plan has fewer rounds.",
 /// The help of `talk`.
 pub const TALK: Help = Help {
     about: "Serves one NBD client, whose bytes are given on standard input as lines of hexadecimal digits",
-    usage: "flasharr talk < LINES",
+    usage: "flasharr talk [--array SETTINGS [--unclean]] < LINES",
     more: "The client finds a store of 64 pages of 512 zero bytes under the name disk. Printed are the server's
 bytes, in hexadecimal on one line, and `end E`, where E is 1 disconnected, 2 aborted, 3 closed for a wrong
-message, 4 input ended, 5 read failed, 6 write failed, 7 no memory in the negotiation.",
+message, 4 input ended, 5 read failed, 6 write failed, 7 no memory in the negotiation.
+
+With --array the client finds the array of the settings, which nobody else uses meanwhile, and which is closed
+behind it. Printed are then also the faults that took dies out, and how the array was closed, as `serve` does.",
 };
 
 /// The help of `verify`.

@@ -2,7 +2,7 @@
 ghost use Rattle.std.specs.Prelude.{◌≡◌, ℕ, List, [], ◌∷◌, Some, None, true, false, codes};
 ghost use Rattle.clap.specs.declared.error.kind.ErrorKind.TheVariants.{DisplayHelp, DisplayVersion, MissingRequiredArgument};
 ghost use Rattle.clap.specs.declared.error.kind.ErrorKind.TheVariants.{MissingSubcommand, UnknownArgument, ValueValidation};
-ghost use Rattle.fa_settings.specs.CommandLine.{found_instead, wanted_in, Formats, Checks, Dumps, Serves, Plans, Talks, Verifies};
+ghost use Rattle.fa_settings.specs.CommandLine.{found_instead, wanted_in, Formats, Checks, Dumps, Serves, Plans, Talks, TalksOver, Verifies};
 ghost use Rattle.std.specs.declared.alloc.Global.{Global};
 ghost use Rattle.fa_settings.specs.Settings.{IsSettingsText, IsFault};
 ghost use Rattle.fa_settings.specs.declared.settings.Settings.{Settings};
@@ -17,7 +17,7 @@ pub fn settings_or_fault()
 
 /// The grammar of the command line has the words that it should: each command with its arguments, help of the
 /// program and of each command, and the version; no words, and a word too many, are mistakes, and so are
-/// settings left out and a die above 63.
+/// settings left out and a die above 63. Nothing is asked for where `talk` has no array and yet an unclean one would do.
 pub fn words_of_the_command_line()
     ensures format { let words = codes "format" ∷ codes "a.toml" ∷ [] in
         (found_instead words ≡ []) × (wanted_in words ≡ Some (Formats (codes "a.toml") None)) }
@@ -39,6 +39,11 @@ pub fn words_of_the_command_line()
     ensures die_too_great { found_instead (codes "format" ∷ codes "a.toml" ∷ codes "--die" ∷ codes "64" ∷ []) ≡ ValueValidation ∷ [] }
     ensures plan { (found_instead (codes "plan" ∷ []) ≡ []) × (wanted_in (codes "plan" ∷ []) ≡ Some Plans) }
     ensures talk { (found_instead (codes "talk" ∷ []) ≡ []) × (wanted_in (codes "talk" ∷ []) ≡ Some Talks) }
+    ensures talk_array { let words = codes "talk" ∷ codes "--array" ∷ codes "a.toml" ∷ [] in
+        (found_instead words ≡ []) × (wanted_in words ≡ Some (TalksOver (codes "a.toml") false)) }
+    ensures talk_unclean { let words = codes "talk" ∷ codes "--unclean" ∷ codes "--array" ∷ codes "a.toml" ∷ [] in
+        (found_instead words ≡ []) × (wanted_in words ≡ Some (TalksOver (codes "a.toml") true)) }
+    ensures talk_without { let words = codes "talk" ∷ codes "--unclean" ∷ [] in (found_instead words ≡ []) × (wanted_in words ≡ None) }
     ensures verify { (found_instead (codes "verify" ∷ []) ≡ []) × (wanted_in (codes "verify" ∷ []) ≡ Some Verifies) }
     ensures help { (found_instead (codes "--help" ∷ []) ≡ DisplayHelp ∷ [])
         × (found_instead (codes "-h" ∷ []) ≡ DisplayHelp ∷ []) }

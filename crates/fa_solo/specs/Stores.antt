@@ -2,7 +2,10 @@
 use Rattle.std.specs.Prelude.{◌≡◌, ℕ}
 use Rattle.fa_shared_store.specs.Counts.{IsMade, is_accepted, pages_of}
 use Rattle.fa_image.specs.Image.{ImageAnswer, ImageCall}
+use Rattle.fa_image.specs.declared.image.Image.{Ghosts as ImageGhosts}
+use Rattle.fa_map_calls.specs.declared.map.Map.{Ghosts as MapGhosts}
 use Rattle.fa_solo.specs.Calls.{MakesCall}
+use Rattle.fa_solo.specs.declared.solo.Solo.{Solo}
 use Rattle.fa_solo_job.specs.declared.inner.Inner.{Inner}
 use Rattle.fa_types.specs.Store.{Answer, Call, IsAnswer}
 
@@ -11,6 +14,10 @@ pub record StoreState (L M I A : Type 0) : Type 0 where
   pub bytes : ℕ
   pub page_bytes : ℕ
   pub inner : Inner L M I A
+
+-- the same of a store
+abbrev pub seen_of : {L M I A : Type 0} {map : MapGhosts M} {image : ImageGhosts I} → Solo L M I A map image → StoreState L M I A
+seen_of store = record { bytes = store.bytes; page_bytes = store.page_bytes; inner = store.inner }
 
 module _ {L M I A : Type 0} where
   -- It stays as large as it is, the answer is one of the call's, and its seat has as many Commits more as the call wrote pages.

@@ -1,15 +1,17 @@
 //! The store of one thread.
 ghost use Rattle.std.specs.Prelude.{◌≡◌, ◌*◌, ◌^◌, ◌≤◌, IfErr, IfOk};
 ghost use Rattle.fa_core.specs.Array.{IsWhole, number_of as array_number};
+ghost use Rattle.fa_shared.specs.Faults.{faults_of};
 ghost use Rattle.fa_solo_job.specs.Inner.{house_in, house_of};
 
 use crate::whole::{call, call_flush, call_read};
 use fa_image::Image;
 use fa_map_calls::Map;
+use fa_shared::Fault;
 use fa_shared_steps::Request;
 use fa_solo_job::{Inner, Parts};
 use fa_types::{BlockFault, Blocks, Geometry, Round};
-use std::alloc::{Allocator, Global};
+use std::alloc::{AllocError, Allocator, Global};
 use std::sync::ledger::{Blank, Ledger};
 
 /// A block store over an array that nobody else uses, and over its images. All is done within its calls, by the thread that makes them:
@@ -66,6 +68,13 @@ impl<L: Ledger, M: Map + Drop, I: Image, A: Allocator + Copy> Solo<L, M, I, A> {
     {
         let Solo { inner, .. } = self;
         inner.into_parts()
+    }
+
+    /// The last 64 faults that took dies out, the oldest first. The error is out of memory.
+    pub fn faults<B: Allocator>(&self, alloc: B) -> Result<Vec<Fault, B>, AllocError>
+        ensures { IfOk result (λ faults. faults.items ≡ faults_of self.now.inner.faults) }
+    {
+        self.inner.faults.kept(alloc)
     }
 
     /// The array's round.

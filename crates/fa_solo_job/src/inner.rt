@@ -7,6 +7,7 @@ use fa_image::Image;
 use fa_map_calls::Map;
 use fa_mount::{MountedArray, place_of};
 use fa_mount_headers::Standing;
+use fa_shared::Faults;
 use fa_shared_lock::{Locked, Seat};
 use fa_types::{Die, Geometry, TAG_BYTES};
 use std::alloc::{AllocError, Allocator, Global};
@@ -38,15 +39,18 @@ pub struct Inner<L: Ledger, M: Map + Drop, I: Image, A: Allocator + Copy> {
     pub scratch: Vec<u8, A>,
     /// A page's bytes.
     pub buffer: Vec<u8, A>,
+    /// The last faults that took dies out.
+    pub faults: Faults<A>,
     /// How many rounds a window of the collector has, 1 to 64.
     pub window_rounds: u64,
 }
 
-/// Memory for the jobs of dies: a slot's bytes, and a page's.
+/// Memory for the jobs of dies: a slot's bytes, a page's, and the faults that they end with.
 #[derive(Drop)]
 struct Memory<A: Allocator> {
     scratch: Vec<u8, A>,
     buffer: Vec<u8, A>,
+    faults: Faults<A>,
 }
 
 impl<L: Ledger, M: Map + Drop, I: Image, A: Allocator + Copy> Inner<L, M, I, A> {
@@ -72,7 +76,14 @@ impl<L: Ledger, M: Map + Drop, I: Image, A: Allocator + Copy> Inner<L, M, I, A> 
     {
         let Parts { mounted, images } = parts;
         let MountedArray { array, dies } = mounted;
-        let Ok(Memory { scratch, buffer }) = memory_for(alloc, array.geometry().page_bytes) else {
+        let Ok(
+            Memory {
+                scratch,
+                buffer,
+                faults,
+            },
+        ) = memory_for(alloc, array.geometry().page_bytes)
+        else {
             return Err(Parts {
                 mounted: MountedArray { array, dies },
                 images,
@@ -84,7 +95,11 @@ impl<L: Ledger, M: Map + Drop, I: Image, A: Allocator + Copy> Inner<L, M, I, A> 
                 locked,
                 dies,
                 images,
-                Memory { scratch, buffer },
+                Memory {
+                    scratch,
+                    buffer,
+                    faults,
+                },
                 window_rounds,
             )),
             Err(array) => Err(Parts {
@@ -176,7 +191,11 @@ fn seated<L: Ledger, M: Map + Drop, I: Image, A: Allocator + Copy>(
     let Some(seat) = locked.seat() else {
         unreachable!()
     };
-    let Memory { scratch, buffer } = memory;
+    let Memory {
+        scratch,
+        buffer,
+        faults,
+    } = memory;
     Inner {
         alloc,
         locked,
@@ -185,6 +204,7 @@ fn seated<L: Ledger, M: Map + Drop, I: Image, A: Allocator + Copy>(
         images,
         scratch,
         buffer,
+        faults,
         window_rounds,
     }
 }
@@ -198,5 +218,10 @@ fn memory_for<A: Allocator + Copy>(alloc: A, page_bytes: u32) -> Result<Memory<A
     let scratch = vec![in alloc; 0u8; page + TAG_BYTES]?;
     let mut buffer = vec![in alloc; 0u8; page + TAG_BYTES]?;
     buffer.truncate(page);
-    Ok(Memory { scratch, buffer })
+    let faults = Faults::new(alloc)?;
+    Ok(Memory {
+        scratch,
+        buffer,
+        faults,
+    })
 }

@@ -18,7 +18,7 @@ use fa_map_calls::Map;
 use fa_shared_die_events::{done, take};
 use fa_shared_events::make_room;
 use fa_types::{Die, TAG_BYTES};
-use fa_workers::{Open, run_job};
+use fa_workers::{Open, fault_of, run_job};
 use std::alloc::Allocator;
 use std::mem::replace;
 use std::sync::ledger::Ledger;
@@ -95,20 +95,38 @@ fn run_here<L: Ledger, M: Map + Drop, I: Image, A: Allocator + Copy>(
     the_geometry_is_kept();
     match take(inner.alloc, &mut inner.locked, &mut inner.seat, die) {
         Some(job) => {
-            run_taken(inner, die, place, &job);
+            run_noted(inner, die, place, &job);
             true
         }
         None => false,
     }
 }
 
-/// Makes the calls of a job that was taken, and ends it.
-fn run_taken<L: Ledger, M: Map + Drop, I: Image, A: Allocator + Copy>(
+/// Makes the calls of a job that was taken, ends it, and notes why its die went out, if it did.
+fn run_noted<L: Ledger, M: Map + Drop, I: Image, A: Allocator + Copy>(
     inner: &mut Inner<L, M, I, A>,
     die: Die,
     place: usize,
     job: &Job<A>,
 )
+    requires flight { get inner.old.locked.core.jobs die.0 ≡ Some job.now.flight }
+    requires fits { IsJobFor inner.old.locked.core.page_map.geometry inner.old.locked.number die.0 (handed_of job.now) }
+    requires placed { IsPlaced I.view inner.old die.0 place }
+    requires memory { HasMemory inner.old }
+    ensures { EndsAt I.made inner.old die.0 place (handed_of job.now) inner.new }
+{
+    let was_live = inner.locked.array().is_live(die);
+    let outcome = run_taken(inner, die, place, job);
+    note_fault(inner, was_live, die, outcome);
+}
+
+/// Makes the calls of a job that was taken, and ends it. How it ended.
+fn run_taken<L: Ledger, M: Map + Drop, I: Image, A: Allocator + Copy>(
+    inner: &mut Inner<L, M, I, A>,
+    die: Die,
+    place: usize,
+    job: &Job<A>,
+) -> Outcome
     requires flight { get inner.old.locked.core.jobs die.0 ≡ Some job.now.flight }
     requires fits { IsJobFor inner.old.locked.core.page_map.geometry inner.old.locked.number die.0 (handed_of job.now) }
     requires placed { IsPlaced I.view inner.old die.0 place }
@@ -127,6 +145,22 @@ fn run_taken<L: Ledger, M: Map + Drop, I: Image, A: Allocator + Copy>(
     );
     let Ok(left) = ended else { unreachable!() };
     inner.buffer = left;
+    outcome
+}
+
+/// Notes why a die went out whose job ended so, if it was live and is out.
+fn note_fault<L: Ledger, M: Map + Drop, I: Image, A: Allocator + Copy>(
+    inner: &mut Inner<L, M, I, A>,
+    was_live: bool,
+    die: Die,
+    outcome: Outcome,
+)
+    ensures { inner.new ≡ record inner.old { faults = inner.new.faults } }
+{
+    let array = inner.locked.array();
+    if let Some(fault) = fault_of(was_live, array.is_live(die), die, outcome, array.now()) {
+        inner.faults.note(fault);
+    }
 }
 
 /// Makes the calls of a job on an image.

@@ -6,13 +6,14 @@ use Rattle.clap.specs.declared.error.Error.{Error}
 use Rattle.fa_io.specs.Streams.{Streams, Reads}
 use Rattle.std.specs.Borrow.{Bor}
 use Rattle.fa_types.specs.declared.numbers.Die.{Die}
-use Rattle.fa_settings.specs.CommandLine.{Wanted, Formats, Checks, Dumps, Serves, Plans, Talks, Verifies, IsWanted, found_instead, wanted_in}
-use Rattle.fa_settings.specs.declared.command_line.Subcommand.TheVariants.{Format, Check, Dump, Serve}
+use Rattle.fa_settings.specs.CommandLine.{Wanted, Formats, Checks, Dumps, Serves, Plans, Talks, TalksOver, Verifies, IsWanted, found_instead, wanted_in}
+use Rattle.fa_settings.specs.declared.command_line.Subcommand.TheVariants.{Format, Check, Dump, Serve, TalkArray}
 use Rattle.fa_prog_inspect.specs.Array.{TellsLook}
 use Rattle.fa_prog_format.specs.Formatting.{TellsFormat}
 use Rattle.fa_prog_inspect.specs.declared.look.Asked.TheVariants.{Check as CheckAsked, Dump as DumpAsked}
 use Rattle.fa_prog_host.specs.Printing.{TellsNoMemory}
 use Rattle.fa_prog_serve.specs.Serving.{TellsServe}
+use Rattle.fa_prog_talk.specs.TalkArray.{RunsTalkArray}
 use Rattle.fa_prog.specs.Output.{ShowsText}
 use Rattle.fa_prog.specs.Program.{Runs, RunsCommand}
 use Rattle.fa_prog.proofs.program.run.Goals as goal
@@ -37,6 +38,7 @@ ran_format A settings die (Some (Dumps path u j)) s status is reads tells = absu
 ran_format A settings die (Some (Serves path u v)) s status is reads tells = absurd is
 ran_format A settings die (Some Plans) s status is reads tells = absurd is
 ran_format A settings die (Some Talks) s status is reads tells = absurd is
+ran_format A settings die (Some (TalksOver path u)) s status is reads tells = absurd is
 ran_format A settings die (Some Verifies) s status is reads tells = absurd is
 
 ran_check : (A : Type 0) (settings : Bor (List ℕ)) (unclean json : Bool) (wanted : Option Wanted) (s : Streams) (status : ℕ) → IsWanted (Some (Check settings unclean json)) wanted
@@ -49,6 +51,7 @@ ran_check A settings unclean json (Some (Dumps path u j)) s status is reads tell
 ran_check A settings unclean json (Some (Serves path u v)) s status is reads tells = absurd is
 ran_check A settings unclean json (Some Plans) s status is reads tells = absurd is
 ran_check A settings unclean json (Some Talks) s status is reads tells = absurd is
+ran_check A settings unclean json (Some (TalksOver path u)) s status is reads tells = absurd is
 ran_check A settings unclean json (Some Verifies) s status is reads tells = absurd is
 
 ran_dump : (A : Type 0) (settings : Bor (List ℕ)) (unclean json : Bool) (wanted : Option Wanted) (s : Streams) (status : ℕ) → IsWanted (Some (Dump settings unclean json)) wanted
@@ -61,6 +64,7 @@ ran_dump A settings unclean json (Some (Checks path u j)) s status is reads tell
 ran_dump A settings unclean json (Some (Serves path u v)) s status is reads tells = absurd is
 ran_dump A settings unclean json (Some Plans) s status is reads tells = absurd is
 ran_dump A settings unclean json (Some Talks) s status is reads tells = absurd is
+ran_dump A settings unclean json (Some (TalksOver path u)) s status is reads tells = absurd is
 ran_dump A settings unclean json (Some Verifies) s status is reads tells = absurd is
 
 ran_serve : (A : Type 0) (settings : Bor (List ℕ)) (unclean verbose : Bool) (wanted : Option Wanted) (s : Streams) (status : ℕ) → IsWanted (Some (Serve settings unclean verbose)) wanted
@@ -72,7 +76,20 @@ ran_serve A settings unclean verbose (Some (Checks path u j)) s status is tells 
 ran_serve A settings unclean verbose (Some (Dumps path u j)) s status is tells = absurd is
 ran_serve A settings unclean verbose (Some Plans) s status is tells = absurd is
 ran_serve A settings unclean verbose (Some Talks) s status is tells = absurd is
+ran_serve A settings unclean verbose (Some (TalksOver path u)) s status is tells = absurd is
 ran_serve A settings unclean verbose (Some Verifies) s status is tells = absurd is
+
+ran_talk_array : (A : Type 0) (settings : Bor (List ℕ)) (unclean : Bool) (wanted : Option Wanted) (s : Streams) (status : ℕ)
+    → IsWanted (Some (TalkArray settings unclean)) wanted → RunsTalkArray A unclean s status → RunsCommand A wanted s status
+ran_talk_array A settings unclean (Some (TalksOver path u)) s status is runs = subst (λ b. RunsTalkArray A b s status) is.1 runs
+ran_talk_array A settings unclean None s status is runs = absurd is
+ran_talk_array A settings unclean (Some (Formats path text)) s status is runs = absurd is
+ran_talk_array A settings unclean (Some (Checks path u j)) s status is runs = absurd is
+ran_talk_array A settings unclean (Some (Dumps path u j)) s status is runs = absurd is
+ran_talk_array A settings unclean (Some (Serves path u v)) s status is runs = absurd is
+ran_talk_array A settings unclean (Some Plans) s status is runs = absurd is
+ran_talk_array A settings unclean (Some Talks) s status is runs = absurd is
+ran_talk_array A settings unclean (Some Verifies) s status is runs = absurd is
 
 pub returns-in-Ok-Some-Format : goal.returns-in-Ok-Some-Format
 returns-in-Ok-Some-Format g c =
@@ -109,4 +126,13 @@ returns-in-Ok-Some-Serve g c =
       k.ensures.no_other,
       ran_serve _ k.settings k.unclean k.verbose (wanted_in (map string_bytes c.args.arguments.now)) _ c.run_serve.result
           (subst (λ o. IsWanted o (wanted_in (map string_bytes c.args.arguments.now))) (k.field-0-is ∙ ap Some k.field-0-0-is) k.ensures.command) c.run_serve.ensures,
+    )
+
+pub returns-in-Ok-Some-TalkArray : goal.returns-in-Ok-Some-TalkArray
+returns-in-Ok-Some-TalkArray g c =
+    let k = c.in-Ok-Some-TalkArray in
+    inl (
+      k.ensures.no_other,
+      ran_talk_array _ k.settings k.unclean (wanted_in (map string_bytes c.args.arguments.now)) _ c.run_talk_array.result
+          (subst (λ o. IsWanted o (wanted_in (map string_bytes c.args.arguments.now))) (k.field-0-is ∙ ap Some k.field-0-0-is) k.ensures.command) c.run_talk_array.ensures,
     )

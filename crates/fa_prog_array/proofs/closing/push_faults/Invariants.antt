@@ -1,7 +1,7 @@
 use Rattle.std.proofs.Common.{◌≡◌, ◌++◌, string_bytes}
 use Rattle.std.specs.Vec.Iter.{into_iter_items}
-use Rattle.fa_prog_serve.specs.Serving.{fault_lines}
-use Rattle.fa_prog_serve.proofs.closing.push_faults.Given as goal
+use Rattle.fa_prog_array.specs.Ending.{fault_lines}
+use Rattle.fa_prog_array.proofs.closing.push_faults.Given as goal
 
 -- what was told, and the lines of the faults that are left, are all lines
 abbrev pub invariant-loop-fault : goal.invariant-loop-fault

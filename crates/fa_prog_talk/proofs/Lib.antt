@@ -1,0 +1,3 @@
+pub mod Limits
+pub mod Seen
+pub mod Told
