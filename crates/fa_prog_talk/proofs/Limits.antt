@@ -1,8 +1,7 @@
 -- The settings that a text says are within the limits of what is served.
-use Rattle.std.proofs.Common.{◌≡◌, ◌∙◌, ◌≤◌, ℕ, ℤ, pos, false, true, List, Option, Some, None, MatchOption, length, string_bytes, arith, ap, subst, sym}
+use Rattle.std.proofs.Common.{◌≡◌, ◌≤◌, ℕ, ℤ, pos, false, true, List, Option, Some, None, MatchOption, length, string_bytes, arith, ap, subst, sym}
 use Rattle.std.proofs.lemmas.Option.{none-some, same_Some}
-use Rattle.std.specs.List.{AllByRecursion}
-use Rattle.toml.specs.Data.{Data, Items, Members, array, as_integer, as_str, boolean, datetime, float, integer, string, table}
+use Rattle.toml.specs.Data.{Data, array, as_integer, as_str, boolean, datetime, float, integer, string, table}
 use Rattle.fa_settings.specs.Faults.{held}
 use Rattle.fa_settings.specs.Meanings.{IsWithin, Name, Number}
 use Rattle.fa_settings.specs.Settings.{IsSettingsText, number_in, text_in}

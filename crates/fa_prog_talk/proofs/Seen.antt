@@ -1,5 +1,5 @@
 -- A connection over a store as what is seen of the store.
-use Rattle.std.proofs.Common.{◌≡◌, ℕ, List, [], ◌∷◌, ap, inl, inr}
+use Rattle.std.proofs.Common.{ℕ, List, [], ◌∷◌, ap, inl, inr}
 use Rattle.fa_io.specs.Streams.{Streams}
 use Rattle.fa_session.specs.Exchanges.{Asked, Chain, Exchange, Makes, NoneForData, NotAsked, Outcome}
 use Rattle.fa_session.specs.Session.{Session}

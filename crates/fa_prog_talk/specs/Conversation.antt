@@ -1,5 +1,6 @@
 -- A conversation of one client with the store that a mounted array is to one thread, up to the closing of the array.
-use Rattle.std.specs.Prelude.{◌≡◌, ◌⊎◌, ℕ, ◌*◌, Bool, List, [], map, IfOk, Result}
+use Rattle.std.specs.Prelude.{◌≡◌, ℕ, ◌+◌, ◌*◌, ◌^◌, ◌≤◌, Bool, List, [], map, IfOk, Result}
+use Rattle.std.specs.FinMap.{len}
 use Rattle.std.specs.declared.alloc.Global.{Global}
 use Rattle.fa_image.specs.Image.{ImageAnswer, ImageCall, ImageState}
 use Rattle.fa_machine.specs.State.{Core}
@@ -13,7 +14,6 @@ use Rattle.fa_session.specs.declared.session_end.SessionEnd.{SessionEnd}
 use Rattle.fa_shared.specs.Faults.{faults_of}
 use Rattle.fa_shared.specs.declared.faults.Fault.{Fault}
 use Rattle.fa_solo.specs.Stores.{StoreMakes, StoreState}
-use Rattle.fa_sound.specs.Sound.{IsSound}
 
 -- The store over an array that was mounted of these images, before its first call: it has the array's state and the images, and it is as large
 -- as the array.
@@ -39,7 +39,7 @@ module _ {I : Type 0} (view : I → ImageState) (honest : I → Bool) (made : I 
     pub begins : BeginsOver array dies core mounted first
     pub session : Session (StoreMakes made) export first.bytes (known bytes left [] written) first last end
     pub kept : faults ≡ faults_of last.inner.faults
-    pub sound : IsSound last.inner.locked.core
+    pub epoch : (1 ≤ last.inner.locked.core.epoch) × (last.inner.locked.core.epoch + len last.inner.locked.core.page_map.live ≤ 2 ^ 62)
     pub closes : ClosesOver made last.inner.locked.core last.inner.locked.number last.inner.dies.items last.inner.images.items images closed
     pub slots : map (λ image. (view image).slots) images ≡ map (λ image. (view image).slots) last.inner.images.items
     pub as_honest : map honest images ≡ map honest last.inner.images.items

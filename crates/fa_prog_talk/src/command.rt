@@ -59,7 +59,7 @@ fn hear<R: Host, N: Read, W: Write, A: Allocator + Copy>(
     input: &mut N,
     output: &mut W,
 ) -> u8
-    requires { MayBeServed settings.now }
+    requires served { MayBeServed settings.now }
     ensures { let streams = between (N.remaining input.old) (N.remaining input.new) (W.contents output.old) (W.contents output.new) in
         RunsOver (TellsLines Brand (PageTables Heap) settings.now unclean) (codes "talk: cannot read" ++ 10 ∷ []) streams result }
 {
@@ -78,7 +78,7 @@ fn answer<R: Host, W: Write, A: Allocator + Copy>(
     text: &[u8],
     output: &mut W,
 ) -> u8
-    requires { MayBeServed settings.now }
+    requires served { MayBeServed settings.now }
     ensures { TellsLines Brand (PageTables Heap) settings.now unclean text.now (W.contents output.old) (W.contents output.new) result }
 {
     match read_hex_lines(alloc, text) {
@@ -96,7 +96,7 @@ fn open<R: Host, W: Write, A: Allocator + Copy>(
     bytes: &[u8],
     output: &mut W,
 ) -> u8
-    requires { MayBeServed settings.now }
+    requires served { MayBeServed settings.now }
     ensures { TellsClient Brand (PageTables Heap) settings.now unclean bytes.now (W.contents output.old) (W.contents output.new) result }
 {
     match open_images(rt, settings, unclean, false) {

@@ -1,4 +1,4 @@
-use Rattle.std.proofs.Common.{inl, inr}
+use Rattle.std.proofs.Common.{inl}
 use Rattle.fa_prog_talk.proofs.command.hear.Goals as goal
 
 pub returns-in-Ok : goal.returns-in-Ok

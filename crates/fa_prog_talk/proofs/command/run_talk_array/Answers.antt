@@ -3,11 +3,11 @@ use Rattle.std.proofs.KnownBytes.{Consumes-nil}
 use Rattle.fa_prog_talk.proofs.Limits.{may_be_served}
 use Rattle.fa_prog_talk.proofs.command.run_talk_array.Goals as goal
 
-pub hear-requires : goal.hear-requires
-hear-requires g c = let read = c.in-Ok.ensures in may_be_served read.0 c.in-Ok.settings read.1
+pub hear-requires-clause-served : goal.hear-requires-clause-served
+hear-requires-clause-served g c lifetimes outlive = let read = c.in-Ok.ensures.settings in may_be_served read.0 c.in-Ok.settings read.1
 
 pub returns-in-Ok : goal.returns-in-Ok
-returns-in-Ok g c = let read = c.in-Ok.ensures in inr (read.0, c.in-Ok.settings, read.1, c.hear.ensures)
+returns-in-Ok g c = let read = c.in-Ok.ensures.settings in inr (read.0, c.in-Ok.settings, read.1, c.hear.ensures)
 
 pub returns-in-Err : goal.returns-in-Err
 returns-in-Err g c = inl (Consumes-nil _, c.refuse_settings.ensures)
