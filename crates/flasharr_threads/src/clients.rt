@@ -2,7 +2,7 @@
 use crate::arrays::PAGE_BYTES;
 use crate::gate::Holding;
 use crate::host::ThreadHost;
-use crate::users::User;
+use crate::users::{Sight, User};
 use crate::wire::{Asked, ask, hello};
 use fa_io::faulty::Failing;
 use fa_session::{SessionEnd, serve_stream};
@@ -100,7 +100,7 @@ impl<'a, C: Clock> Visitor<'a, C> {
 }
 
 impl<'a, C: Clock> User for Visitor<'a, C> {
-    fn act<R: ThreadHost, B: Blocks>(&mut self, rt: &R, blocks: &mut B) {
+    fn act<R: ThreadHost, B: Blocks, S: Sight>(&mut self, rt: &R, blocks: &mut B, _sight: &S) {
         match self {
             Visitor::Client(session) => session.serve(rt.alloc(), blocks),
             Visitor::GateKeeper(gate) => {

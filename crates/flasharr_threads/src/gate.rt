@@ -1,6 +1,8 @@
 //! A gate that holds calls of images.
+use crate::users::Sight;
 use fa_types::Die;
 use fa_workers::{Gate, ImageCallKind};
+use std::sync::Wait;
 use std::sync::atomic::{AtomicBool, AtomicU64, Ordering};
 use std::thread;
 use std::time::{Clock, Duration};
@@ -86,6 +88,18 @@ impl<'a, R: Clock> Holding<'a, R> {
             self.rest();
         }
         self.is_late.store(true, Ordering::SeqCst);
+    }
+
+    /// Waits until there is room for a write. Whether it has come.
+    pub(crate) fn await_room<H: Wait, S: Sight>(&self, rt: &H, sight: &S) -> bool {
+        for _ in 0..TURNS {
+            if sight.has_room(rt) {
+                return true;
+            }
+            self.rest();
+        }
+        self.is_late.store(true, Ordering::SeqCst);
+        false
     }
 
     /// Holds a call. Where one was held in vain no other is held.

@@ -2,7 +2,7 @@
 use crate::arrays::PAGE_BYTES;
 use crate::gate::Holding;
 use crate::host::ThreadHost;
-use crate::users::{User, read, write};
+use crate::users::{Sight, User, read, write};
 use fa_types::Blocks;
 use std::alloc::Global;
 use std::time::Clock;
@@ -12,7 +12,7 @@ use std::time::Clock;
 pub(crate) enum Step {
     /// Writes a page, by a write of its own.
     Write(u64),
-    /// Writes a page again and again.
+    /// Writes a page again and again, each time once there is room.
     WriteOften(u64, u32),
     /// Reads pages by one read: the first, and how many.
     Read(u64, u64),
@@ -55,7 +55,14 @@ impl<'a, R: Clock> Pages<'a, R> {
     }
 
     /// Makes a step. Whether it was answered right.
-    fn make<B: Blocks>(&mut self, alloc: Global, blocks: &mut B, step: Step) -> bool {
+    fn make<H: ThreadHost, B: Blocks, S: Sight>(
+        &mut self,
+        rt: &H,
+        blocks: &mut B,
+        sight: &S,
+        step: Step,
+    ) -> bool {
+        let alloc = rt.alloc();
         match step {
             Step::Write(page) => {
                 self.written |= bit_of(page);
@@ -63,7 +70,7 @@ impl<'a, R: Clock> Pages<'a, R> {
             }
             Step::WriteOften(page, times) => {
                 self.written |= bit_of(page);
-                write_often(alloc, blocks, page, times)
+                write_often(rt, blocks, self.gate, sight, page, times)
             }
             Step::Read(first, count) => self.reads_right(alloc, blocks, first, count),
             Step::Flush => blocks.flush().is_ok(),
@@ -126,10 +133,10 @@ impl<'a, R: Clock> Pages<'a, R> {
 }
 
 impl<'a, C: Clock> User for Pages<'a, C> {
-    fn act<R: ThreadHost, B: Blocks>(&mut self, rt: &R, blocks: &mut B) {
+    fn act<R: ThreadHost, B: Blocks, S: Sight>(&mut self, rt: &R, blocks: &mut B, sight: &S) {
         let steps = self.steps;
         for step in steps {
-            if !self.make(rt.alloc(), blocks, *step) {
+            if !self.make(rt, blocks, sight, *step) {
                 self.is_right = false;
             }
         }
@@ -154,13 +161,19 @@ fn write_page<B: Blocks>(alloc: Global, blocks: &mut B, page: u64) -> bool {
     }
 }
 
-/// Writes a page so many times. Whether each was accepted.
-fn write_often<B: Blocks>(alloc: Global, blocks: &mut B, page: u64, times: u32) -> bool {
-    let mut is_right = true;
+/// Writes a page so many times, each time once there is room. Whether room came in time, and each write was accepted.
+fn write_often<H: ThreadHost, C: Clock, B: Blocks, S: Sight>(
+    rt: &H,
+    blocks: &mut B,
+    gate: &Holding<'_, C>,
+    sight: &S,
+    page: u64,
+    times: u32,
+) -> bool {
     for _ in 0..times {
-        if !write_page(alloc, blocks, page) {
-            is_right = false;
+        if !gate.await_room(rt, sight) || !write_page(rt.alloc(), blocks, page) {
+            return false;
         }
     }
-    is_right
+    true
 }

@@ -1,6 +1,7 @@
 //! A shared array as its threads see it, and what they do: those who work for it, and its users.
 use crate::host::ThreadHost;
-use crate::users::User;
+use crate::users::{Sight, User};
+use fa_core::Array;
 use fa_image::Image;
 use fa_map_calls::Map;
 use fa_shared::Shared;
@@ -12,6 +13,7 @@ use fa_workers::{
     Gate, Helper, HelperMemory, ImageTable, JobMemory, collector_worker, die_worker, rebuild_worker,
 };
 use std::alloc::Global;
+use std::sync::Wait;
 use std::sync::ledger::Ledger;
 
 /// How many rounds a collector's window has.
@@ -98,6 +100,24 @@ impl<'a, R: ThreadHost, L: Ledger, M: Map + Drop, I: Image + Drop, G: Gate, U: U
     }
 }
 
+impl<L: Ledger, M: Map + Drop> Sight for Shared<L, M> {
+    fn has_room<R: Wait>(&self, rt: &R) -> bool {
+        has_room(self.lock(rt).array())
+    }
+}
+
+/// Whether two live dies have room.
+fn has_room<M: Map + Drop>(array: &Array<M>) -> bool {
+    let mut roomy = 0u32;
+    for number in 0..array.geometry().dies {
+        let die = Die(number as u8);
+        if array.is_die(die) && array.is_live(die) && array.room(die) > 0 {
+            roomy = roomy.saturating_add(1);
+        }
+    }
+    roomy >= 2
+}
+
 /// What is left of a task that is no user's.
 fn left<L: Ledger, U: Drop>(seat: Seat<L>) -> Done<L, U> {
     Done { seat, user: None }
@@ -151,7 +171,7 @@ fn act_with<L: Ledger, R: ThreadHost, M: Map + Drop, H: Hands<L, M, Global> + Dr
     user: &mut U,
 ) -> Seat<L> {
     let mut blocks = ArrayBlocks::new(rt, rt.alloc(), shared, seat, hands);
-    user.act(rt, &mut blocks);
+    user.act(rt, &mut blocks, shared);
     blocks.into_seat()
 }
 

@@ -1,6 +1,6 @@
 //! Users that make calls in turn, of which each is to be answered as a plain store answers it.
 use crate::host::ThreadHost;
-use crate::users::{User, read, write, zero};
+use crate::users::{Sight, User, read, write, zero};
 use fa_types::{Blocks, MemBlocks};
 use std::alloc::{AllocError, Global};
 use std::sync::{Condvar, Mutex, Wait};
@@ -179,7 +179,7 @@ impl<'a> InTurn<'a> {
 }
 
 impl<'a> User for InTurn<'a> {
-    fn act<R: ThreadHost, B: Blocks>(&mut self, rt: &R, blocks: &mut B) {
+    fn act<R: ThreadHost, B: Blocks, S: Sight>(&mut self, rt: &R, blocks: &mut B, _sight: &S) {
         for number in 0..CALLS {
             if number % USERS == self.number {
                 self.desk.wait_for(rt, number);

@@ -4,11 +4,18 @@ ghost use Rattle.std.specs.Prelude.{◌≡◌, ◌+◌, ◌≤◌, true};
 use crate::host::ThreadHost;
 use fa_types::Blocks;
 use std::alloc::Global;
+use std::sync::Wait;
+
+/// What is seen of an array beside its store.
+pub(crate) trait Sight {
+    /// Whether there is room for both copies of a page.
+    fn has_room<R: Wait>(&self, rt: &R) -> bool;
+}
 
 /// Who uses an array by a store of its own.
 pub(crate) trait User: Drop {
     /// Does what there is to do.
-    fn act<R: ThreadHost, B: Blocks>(&mut self, rt: &R, blocks: &mut B);
+    fn act<R: ThreadHost, B: Blocks, S: Sight>(&mut self, rt: &R, blocks: &mut B, sight: &S);
 }
 
 /// Whether a range lies within so many bytes.
