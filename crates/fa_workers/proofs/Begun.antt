@@ -20,7 +20,7 @@ use Rattle.fa_types.specs.declared.numbers.Slot.{Slot}
 use Rattle.fa_workers.proofs.Deeds.{payload_read, ran_once}
 use Rattle.fa_shared_lock.specs.Only.{IsPart, dies_told}
 use Rattle.fa_types.specs.declared.numbers.Die.{Die}
-use Rattle.fa_workers.specs.Begun.{AreOpenedAt, Opens, OpensMade, OpensReads, bytes_at}
+use Rattle.fa_workers.specs.Begun.{AreOpenedAt, Opens, OpensMade, OpensReads, bytes_at, bytes_or}
 use Rattle.fa_workers.specs.Held.{told_of}
 use Rattle.std.proofs.Math.Seq.{take-append_seam}
 use Rattle.std.proofs.lemmas.Bool.{cases_eq}
@@ -99,16 +99,31 @@ eight_opened bytes opened s0 s1 s2 s3 s4 s5 s6 s7 e0 e1 e2 e3 e4 e5 e6 e7 are k 
     (opened_in (s0 ∷ s1 ∷ s2 ∷ s3 ∷ s4 ∷ s5 ∷ s6 ∷ s7 ∷ []) opened k s0 d are within)
 
 module _ {A : Type 0} where
+  bytes_within : (others : List ℕ) (made : List (MadeJob A)) (k : ℕ) (m : MadeJob A) → k < length made
+      → (slice_index_or made k m).memory.scratch.items ≡ bytes_or others made k
+  bytes_within others [] k m within = absurd (omega (arith, within))
+  bytes_within others (first ∷ made) zero m within = refl
+  bytes_within others (first ∷ made) (suc k) m within = bytes_within others made k m (omega (arith, within))
+
   pub bytes_in : (made : List (MadeJob A)) (k : ℕ) (m : MadeJob A) → k < length made
       → (slice_index_or made k m).memory.scratch.items ≡ bytes_at made k
   bytes_in [] k m within = absurd (omega (arith, within))
-  bytes_in (first ∷ made) zero m within = refl
-  bytes_in (first ∷ made) (suc k) m within = bytes_in made k m (omega (arith, within))
+  bytes_in (first ∷ made) k m within = bytes_within first.memory.scratch.items (first ∷ made) k m within
 
-  pub none_past : (made : List (MadeJob A)) (k : ℕ) → length made ≤ k → [] ≡ bytes_at made k
-  none_past [] k past = refl
-  none_past (first ∷ made) zero past = absurd (omega (arith, past))
-  none_past (first ∷ made) (suc k) past = none_past made k (omega (arith, past))
+  pub none_past : (made : List (MadeJob A)) (k : ℕ) → length made ≡ 0 → [] ≡ bytes_at made k
+  none_past [] k none = refl
+  none_past (first ∷ made) k none = absurd (omega (arith, none))
+
+  others_past : (others : List ℕ) (made : List (MadeJob A)) (k : ℕ) → length made ≤ k → others ≡ bytes_or others made k
+  others_past others [] k past = refl
+  others_past others (first ∷ made) zero past = absurd (omega (arith, past))
+  others_past others (first ∷ made) (suc k) past = others_past others made k (omega (arith, past))
+
+  -- past the last one stands what stands in the first
+  pub first_past : (made : List (MadeJob A)) (k : ℕ) (m : MadeJob A) → (length made ≡ 0 → ⊥) → length made ≤ k
+      → (slice_index_or made 0 m).memory.scratch.items ≡ bytes_at made k
+  first_past [] k m some past = absurd (some refl)
+  first_past (first ∷ made) k m some past = others_past first.memory.scratch.items (first ∷ made) k past
 
   -- what was opened together, at a place whose memory is as it was
   pub together_at : (made now : List (MadeJob A)) (all : Option (List Opened)) (lent : Option (Bor (List Opened))) (k : ℕ) (m : MadeJob A)

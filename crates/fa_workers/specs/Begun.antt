@@ -46,11 +46,16 @@ module _ {A : Type 0} where
   OpensReads old new =
       (length new ≡ length old) × ((k : ℕ) (made : MadeJob A) → k < length old → OpensMade (slice_index_or old k made) (slice_index_or new k made))
 
-  -- the bytes of a slot in the memory of a place
+  -- the bytes of a slot in the memory of a place, or others where there are fewer
+  abbrev pub bytes_or : List ℕ → List (MadeJob A) → ℕ → List ℕ
+  bytes_or others [] place = others
+  bytes_or others (made ∷ rest) zero = made.memory.scratch.items
+  bytes_or others (made ∷ rest) (suc place) = bytes_or others rest place
+
+  -- the same, with those of the first memory where there are fewer
   abbrev pub bytes_at : List (MadeJob A) → ℕ → List ℕ
   bytes_at [] place = []
-  bytes_at (made ∷ others) zero = made.memory.scratch.items
-  bytes_at (made ∷ others) (suc place) = bytes_at others place
+  bytes_at (made ∷ rest) place = bytes_or made.memory.scratch.items (made ∷ rest) place
 
   -- These are what stands in the first memories, as slots, for as many as there are of them.
   abbrev pub AreOpenedAt : List (MadeJob A) → List Opened → Type 0

@@ -405,12 +405,16 @@ fn open_slots<A: Allocator>(made: &[MadeJob<A>]) -> [Opened; MAX_JOBS]
     opened
 }
 
-/// What stands for a slot in the memory of this place. None there has no bytes.
+/// What stands for a slot in the memory of this place, or in the first one, where there are fewer: slots of one length alone are hashed side by
+/// side.
 fn slot_in<A: Allocator>(made: &[MadeJob<A>], place: usize) -> &[u8]
     ensures { result.now ≡ bytes_at made.now place }
 {
-    if place >= made.len() {
+    if made.len() == 0 {
         return &[];
+    }
+    if place >= made.len() {
+        return made[0].memory.scratch.as_slice();
     }
     made[place].memory.scratch.as_slice()
 }
