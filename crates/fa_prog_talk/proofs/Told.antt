@@ -1,5 +1,5 @@
 -- From the parts of `talk --array` to what it prints.
-use Rattle.std.proofs.Common.{◌≡◌, ◌∙◌, ◌++◌, ℕ, suc, Bool, true, false, List, [], ◌∷◌, Option, ap, length, map, refl, subst, sym, take, inl, inr, string_bytes}
+use Rattle.std.proofs.Common.{◌≡◌, ◌∙◌, ◌++◌, ℕ, suc, Bool, true, false, List, [], ◌∷◌, Option, Result, ap, length, map, refl, subst, sym, take, inl, inr, string_bytes}
 use Rattle.std.proofs.Math.Seq.{take-append_seam}
 use Rattle.std.proofs.lemmas.List.{length-map}
 use Rattle.fa_image.specs.FileMade.{FileMade, file_is_honest, file_view}
@@ -11,9 +11,14 @@ use Rattle.fa_mount_headers.specs.declared.judging.Standing.{Standing}
 use Rattle.fa_prog_array.specs.Mounting.{MountsSettings}
 use Rattle.fa_prog_host.specs.Opened.{AreOpened}
 use Rattle.fa_prog_host.specs.declared.images.NotOpened.TheVariants.{Image, NoMemory}
+use Rattle.fa_mount.specs.declared.closing.CloseFault.{CloseFault}
 use Rattle.fa_prog_talk.specs.Conversation.{Converses}
+use Rattle.fa_prog_talk.specs.Right.{IsRight}
 use Rattle.fa_prog_talk.specs.TalkArray.{TellsClient, TellsMounted}
+use Rattle.fa_prog_text.specs.Talk.{known}
+use Rattle.fa_session.specs.declared.session_end.SessionEnd.{SessionEnd}
 use Rattle.fa_settings.specs.declared.settings.Settings.{Settings}
+use Rattle.fa_shared.specs.declared.faults.Fault.{Fault}
 
 -- an image that was not opened is told of an array that was closed alone
 pub closed_alone : (unclean : Bool) → (unclean ≡ true → Image ≡ NoMemory) → unclean ≡ false
@@ -40,10 +45,16 @@ module _ (L M : Type 0) {A : Type 0} (settings : Settings A) (unclean : Bool) wh
       (old new : Option (List ℕ)) (status : ℕ) → AreOpened settings.geometry (length settings.images.items) unclean places opened
       → MountsSettings file_view FileMade settings unclean opened mounted array dies core
       → AreOnlyRead (map file_view opened) (map file_view mounted) → length dies ≡ core.page_map.geometry.dies → lent ≡ mounted
+      → ((written : List ℕ) (end : SessionEnd) (faults : List Fault) (closed : Result ℕ CloseFault)
+      → (c : Converses file_view file_is_honest FileMade L M (string_bytes settings.export) bytes array dies core mounted written end faults closed)
+      → IsRight file_view file_is_honest FileMade (string_bytes settings.export) (known bytes c.left [] written) end dies core mounted c.first c.last
+      c.session)
       → TellsMounted file_view file_is_honest FileMade L M (string_bytes settings.export) bytes array dies core lent old new status
       → TellsClient L M settings unclean bytes old new status
-  mounted_told places opened lent mounted array dies core bytes old new status opens mounts only_read many back
+  mounted_told places opened lent mounted array dies core bytes old new status opens mounts only_read many back right
       (inl (written, end, faults, closed, converses, tells)) =
+      let its = subst (λ (images : List FileImage). Converses file_view file_is_honest FileMade L M (string_bytes settings.export) bytes array dies core
+      images written end faults closed) back converses in
       inr (inl (
         written,
         end,
@@ -60,9 +71,9 @@ module _ (L M : Type 0) {A : Type 0} (settings : Settings A) (unclean : Bool) wh
           mounts = mounts;
           only_read = only_read;
           many = many;
-          converses = subst (λ (images : List FileImage). Converses file_view file_is_honest FileMade L M (string_bytes settings.export) bytes array dies core
-              images written end faults closed) back converses;
+          converses = its;
+          right = right written end faults closed its;
         },
         tells,
       ))
-  mounted_told places opened lent mounted array dies core bytes old new status opens mounts only_read many back (inr memory) = inr (inr memory)
+  mounted_told places opened lent mounted array dies core bytes old new status opens mounts only_read many back right (inr memory) = inr (inr memory)

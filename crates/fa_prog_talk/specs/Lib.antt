@@ -1,2 +1,3 @@
 pub mod Conversation
+pub mod Right
 pub mod TalkArray

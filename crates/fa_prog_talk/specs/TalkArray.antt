@@ -21,9 +21,10 @@ use Rattle.fa_prog_host.specs.Printing.{Prints, TellsNoMemory}
 use Rattle.fa_prog_host.specs.SettingsRefused.{RefusesSettings}
 use Rattle.fa_prog_inspect.specs.Array.{mount_line}
 use Rattle.fa_prog_talk.specs.Conversation.{Converses}
+use Rattle.fa_prog_talk.specs.Right.{IsRight}
 use Rattle.fa_prog_text.specs.HexLines.{bytes_of_text}
 use Rattle.fa_prog_text.specs.Output.{RunsOver}
-use Rattle.fa_prog_text.specs.Talk.{RefusesText, talk_text}
+use Rattle.fa_prog_text.specs.Talk.{RefusesText, known, talk_text}
 use Rattle.fa_session.specs.declared.session_end.SessionEnd.{SessionEnd}
 use Rattle.fa_settings.specs.Settings.{IsSettingsText}
 use Rattle.fa_settings.specs.declared.settings.Settings.{Settings}
@@ -63,7 +64,8 @@ module _ (L M : Type 0) {A : Type 0} (settings : Settings A) (unclean : Bool) wh
       × AreOpened settings.geometry (length settings.images.items) unclean places before
       × RefusesSettingsArray file_view FileMade settings unclean before after refusal × (fault ≡ refusal.fault))
 
-  -- The images of the settings' array were opened and mounted, a client who says these bytes was served the array, and it was closed.
+  -- The images of the settings' array were opened and mounted, a client who says these bytes was served the array, and it was closed. Over
+  -- images that return what was written the client was answered as by a plain store of the bytes that stood in their slots.
   pub record TalksOver (bytes written : List ℕ) (end : SessionEnd) (faults : List Fault) (closed : Result ℕ CloseFault) : Type 0 where
     pub places : List ℕ
     pub opened : List FileImage
@@ -77,6 +79,8 @@ module _ (L M : Type 0) {A : Type 0} (settings : Settings A) (unclean : Bool) wh
     pub many : length dies ≡ core.page_map.geometry.dies
     pub converses : Converses file_view file_is_honest FileMade L M (string_bytes settings.export) bytes array dies core mounted written end
         faults closed
+    pub right : IsRight file_view file_is_honest FileMade (string_bytes settings.export) (known bytes converses.left [] written) end dies core
+        mounted converses.first converses.last converses.session
 
   -- What is printed where a client says these bytes: why the images are not mounted, or what came of the conversation. Or memory was refused
   -- before it began.

@@ -10,7 +10,9 @@ ghost use Rattle.fa_prog_text.specs.Output.{RunsOver};
 ghost use Rattle.fa_shared.specs.declared.faults.Fault.{Fault};
 
 use crate::conversation::{Said, converse};
+use crate::laws::a_conversation_is_right;
 use fa_image::{FileImage, Image};
+use fa_map::PageMap;
 use fa_map_calls::Map;
 use fa_mount_headers::MountFault;
 use fa_prog_array::{end_text, mount, refuse_mount, status_of};
@@ -127,6 +129,7 @@ fn talk_over<R: Host, W: Write, A: Allocator + Copy>(
     requires opened { AreOpened settings.now.geometry (length settings.now.images.items) unclean places.now images.items }
     ensures { TellsClient Brand (PageTables Heap) settings.now unclean bytes.now (W.contents output.old) (W.contents output.new) result }
 {
+    a_conversation_is_right::<Brand, PageMap, FileImage>();
     let mut images = images;
     match mount(rt, settings, unclean, images.as_mut_slice()) {
         Ok(mounted) => talk_mounted(

@@ -3,5 +3,6 @@
 
 mod command;
 mod conversation;
+pub mod laws;
 
 pub use command::run_talk_array;
