@@ -30,7 +30,7 @@ use Rattle.fa_types.specs.declared.blocks.BlockFault.{BlockFault}
 use Rattle.fa_types.specs.declared.blocks.BlockFault.TheVariants.{Lost, NoMemory as OutOfMemory, NoRoom, Spent}
 use Rattle.fa_workers.specs.Spares.{live_below, wants_spare}
 use Rattle.std.proofs.Common.{List, None, Ok, Err, Option, Result, Some, [], ap, arith, eq-eqb, eqb-true, inl, inr, refl, subst, sym, true, ℕ}
-use Rattle.std.proofs.Common.{◌+◌, ◌++◌, ◌-◌, ◌<◌, ◌^◌, ◌∙◌, ◌∷◌, ◌≡◌, ◌≤◌}
+use Rattle.std.proofs.Common.{◌++◌, ◌-◌, ◌^◌, ◌∙◌, ◌∷◌, ◌≡◌, ◌≤◌, ◌⊎◌}
 use Rattle.std.proofs.lemmas.Bool.{and_parts, cases_Bool, false≢true, leb-true, lt-ltb, ltb-true, or_cases, or_left, or_right}
 use Rattle.std.specs.List.{list_any}
 use Rattle.std.specs.FinMap.{contains_key, get, contains_key-keys, entries, keys, len, len-entries}
@@ -230,20 +230,26 @@ module _ {I : Type 0} (made : I → ImageCall → ImageAnswer → I → Type 0) 
       ((event_keeps middle.core (Take die seat (Some job.job)) job.taken job.takes.does).1 tt (goes_free P begins old middle before free))
 
   settles_free : (old new : House I) → (settles : Settles made array dies seat old new)
-      → looks_of made array dies seat old new settles < 2 ^ 64 - 1 → new.core.copying ≡ None
-  settles_free old new (Commits looks middle here answer looked ends step images) few =
-      ends_copy middle.core new.core middle.core.copying answer ends step.does
-  settles_free old new (IsOver looks here looked none) few = none
-  settles_free old new (Endless looks here looked many) few = absurd (omega (arith, few, many))
+      → (new.core.copying ≡ None) ⊎ (2 ^ 64 - 1 ≤ looks_of made array dies seat old new settles)
+  settles_free old new (Commits looks middle here answer looked ends step images) =
+      inl (ends_copy middle.core new.core middle.core.copying answer ends step.does)
+  settles_free old new (IsOver looks here looked none) = inl none
+  settles_free old new (Endless looks here looked many) = inr many
 
-  pub orders_free : (old new : House I) → (orders : Orders made array dies seat old new)
-      → looks_in made array dies seat old new orders < 2 ^ 64 - 1 → old.core.copying ≡ None → new.core.copying ≡ None
-  orders_free old new Rests few free = free
-  orders_free old new (Deals middle here before goes) few free =
-      goes_free IsForOrder order_free middle new goes (orders_free old middle before few free)
-  orders_free old new (Copies middle copied here before copy settles) few free =
-      settles_free copied new settles (let all : looks_in made array dies seat old middle before + looks_of made array dies seat copied new settles
-      < 2 ^ 64 - 1 = few in omega (arith, all))
+  -- no copy is under way, or one was looked at in vain too often
+  pub orders_free : (old new : House I) → (orders : Orders made array dies seat old new) → old.core.copying ≡ None
+      → (new.core.copying ≡ None) ⊎ (2 ^ 64 - 1 ≤ looks_in made array dies seat old new orders)
+  orders_free old new Rests free = inl free
+  orders_free old new (Deals middle here before goes) free =
+      elim (orders_free old middle before free) [
+        | inl none ↦ inl (goes_free IsForOrder order_free middle new goes none)
+        | inr many ↦ inr many
+      ]
+  orders_free old new (Copies middle copied here before copy settles) free =
+      elim (settles_free copied new settles) [
+        | inl none ↦ inl none
+        | inr many ↦ inr (omega (arith, many))
+      ]
 
 -- a cause is one still behind it, but that there was no room
 spent_still : (old new : Core) → IsBehind old new → is_spent old ≡ true → is_spent new ≡ true

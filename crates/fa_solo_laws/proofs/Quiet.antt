@@ -354,6 +354,42 @@ module _ {L M I A : Type 0} (view : I → ImageState) (honest : I → Bool) (mad
       (orders_quiet view honest made whole meets old.locked.number old.dies.items (number_of old.seat) laws apart (house_of old) w of_old.reached
       its_stand (house_of new) tidies.orders (fair_here tidies.dies fair))
 
+-- A world that runs lead to, behind deeds that come before a request, and behind what is done for the array's order. A lost page may be
+-- copied meanwhile.
+module _ {L M I A : Type 0} (view : I → ImageState) (honest : I → Bool) (made : I → ImageCall → ImageAnswer → I → Type 0)
+    (whole : (image : I) → IsImage (view image))
+    (meets : (before after : I) (call : ImageCall) (answer : ImageAnswer) → made before call answer after
+    → ImageMeets (view before) (honest before) call answer (view after) (honest after)) (laws : Laws) (old new : Inner L M I A) (w : World)
+    (of_old : IsWorldOf view old w) (apart : AreApart old.dies.items) where
+  stands_on : Stands view old.dies.items (house_of old) w
+  stands_on = record { core = of_old.core; images = of_old.images; idle = of_old.idle }
+
+  leads_on : new.dies.items ≡ old.dies.items → Quiet view old.dies.items w (house_of new) → (v : World) × IsWorldOf view new v
+  leads_on dies q = (
+    q.last,
+    record {
+      reached = reached_on w of_old.reached q.happenings q.last q.run;
+      core = q.stands.core;
+      images = subst (λ (d : List Standing). AreImages view q.last (image_on d new.images.items)) (sym dies) q.stands.images;
+      idle = q.stands.idle;
+    },
+  )
+
+  pub leads_before : Does made IsForRequests old new → AreHonest honest (image_on new.dies.items new.images.items)
+      → (v : World) × IsWorldOf view new v
+  leads_before does fair =
+      leads_on does.dies
+      (deeds_quiet view honest made whole meets old.locked.number old.dies.items (number_of old.seat) laws apart IsForRequests requests_plain
+      requests_silent (house_of old) (house_of new) does.goes
+      (subst (λ (d : List Standing). AreHonest honest (image_on d new.images.items)) does.dies fair) w stands_on)
+
+  pub leads_behind : Tidies made old new → AreHonest honest (image_on new.dies.items new.images.items) → (v : World) × IsWorldOf view new v
+  leads_behind tidies fair =
+      leads_on tidies.dies
+      (orders_quiet view honest made whole meets old.locked.number old.dies.items (number_of old.seat) laws apart (house_of old) w of_old.reached
+      stands_on (house_of new) tidies.orders
+      (subst (λ (d : List Standing). AreHonest honest (image_on d new.images.items)) tidies.dies fair))
+
 -- what is kept is not written
 pub told : {L M I A : Type 0} (view : I → ImageState) (new : Inner L M I A) (w : World)
     → (v : World) × IsWorldOf view new v × IsKept (store_of w) (store_of v) → (v : World) × IsWorldOf view new v × IsUnwritten (store_of w) (store_of v)
