@@ -1,4 +1,3 @@
-pub mod Changes
 pub mod Due
 pub mod Given
 pub mod Listed
