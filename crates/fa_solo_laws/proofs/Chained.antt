@@ -11,9 +11,11 @@ use Rattle.fa_cmds.specs.declared.request.Command.{Command}
 use Rattle.fa_cmds.specs.declared.request.Command.TheVariants.{Disconnect, Flush as FlushIt, Other, Read as ReadIt, Trim as TrimIt, Write as WriteIt, WriteZeroes}
 use Rattle.fa_cmds.specs.declared.request.Request.{Request as SentRequest}
 use Rattle.fa_solo_laws.proofs.Behind.{StepLaws}
+use Rattle.fa_solo_laws.proofs.Holding.{call_idle}
 use Rattle.fa_solo_laws.proofs.Served.{RequestLaws}
 use Rattle.fa_solo_laws.proofs.Whole.{call_dies, call_leads, call_meets, whole_fair}
 use Rattle.fa_solo_laws.specs.Driving.{image_on}
+use Rattle.fa_solo_laws.specs.Rest.{IsIdle}
 use Rattle.fa_solo_laws.specs.Sessions.{IsSessionGivenUp, IsStoreOf, OneGivenUp, was_given_up}
 use Rattle.fa_solo_laws.specs.Standing.{IsGivenUp, IsWorldOf}
 use Rattle.fa_mount_headers.specs.declared.judging.Standing.{Standing}
@@ -134,7 +136,7 @@ module _ {L M I A : Type 0} (view : I → ImageState) (honest : I → Bool) (mad
   step_leads old (NotAsked code) new same apart fair w of_old = (w, subst (λ (s : StoreState L M I A). IsWorldOf view s.inner w) (sym same) of_old)
   step_leads old NoneForData new same apart fair w of_old = (w, subst (λ (s : StoreState L M I A). IsWorldOf view s.inner w) (sym same) of_old)
 
-  chain_leads : (old : StoreState L M I A) (es : List Exchange) (new : StoreState L M I A) → Chain (StoreMakes made) old es new → AreApart old.inner.dies.items
+  pub chain_leads : (old : StoreState L M I A) (es : List Exchange) (new : StoreState L M I A) → Chain (StoreMakes made) old es new → AreApart old.inner.dies.items
       → Fair new → (w : World) → IsWorldOf view old.inner w → (v : World) × IsWorldOf view new.inner v
   chain_leads old [] new same apart fair w of_old = (w, subst (λ (s : StoreState L M I A). IsWorldOf view s.inner w) (sym same) of_old)
   chain_leads old (e ∷ es) new (middle, makes, chain) apart fair w of_old =
@@ -157,23 +159,23 @@ module _ {L M I A : Type 0} (view : I → ImageState) (honest : I → Bool) (mad
       × (IsGivenUp made (task_of n (request_of call)) (bytes_of call) answer old.inner new.inner c → was_given_up made old (Asked call answer) new makes)) page
       (makes.4, λ given_up. given_up) in
       let inside = ends_inside e.request e.body size call e.request.command refl right.whole_body may.0 may.1 in
-      let met = call_meets view honest made whole meets laws its old.inner (request_of call) (bytes_of call) answer w store.owns store.free store.apart
+      let met = call_meets view honest made whole meets laws its old.inner (request_of call) (bytes_of call) answer w store.owns store.idle.copying store.apart
       (let all = store.bytes in omega (arith, inside, long, all)) (has_bytes call)
       (subst (λ (c : Call). IsAnswer c answer) (sym (call_back call)) makes.2) new.inner whole_call.0 fair in
       elim met.meets_it [
-        | inl meets_it ↦ elim met.free_new [
-          | inl free ↦ inl (record {
+        | inl meets_it ↦ elim (call_idle made (task_of old.page_bytes (request_of call)) (bytes_of call) answer old.inner new.inner makes.4 store.idle) [
+          | inl idle ↦ inl (record {
             last = met.last;
             store = record {
               owns = met.of_new;
               bytes = makes.0 ∙ store.bytes ∙ sym meets_it.size;
               page = makes.1 ∙ store.page ∙ sym meets_it.page_bytes;
-              free = free;
+              idle = idle;
               apart = step_apart old (Asked call answer) new makes store.apart;
             };
             asked = subst (λ (c : Call). Meets (store_of w) c answer (store_of met.last)) (call_back call) meets_it;
           })
-          | inr copy ↦ inr (whole_call.1 (inr copy))
+          | inr given_up ↦ inr given_up
         ]
         | inr given_up ↦ inr (whole_call.1 (inl given_up))
       ]
@@ -221,24 +223,48 @@ module _ {L M I A : Type 0} (view : I → ImageState) (honest : I → Bool) (mad
         all.0,
         all.1,
         elim all.2 [
-          | inl met ↦ inl (met.0, inr (record {
-            heard = t.heard;
-            said = t.said;
-            exchanges = t.exchanges;
-            last = t.last;
-            written = t.written;
-            missing = t.missing;
-            negotiates = t.negotiates;
-            was_read = t.was_read;
-            was_written = t.was_written;
-            output = t.output;
-            right = t.right;
-            asked = met.1;
-            ends = t.ends;
-          }))
+          | inl met ↦ inl (
+            met.0,
+            inr (record {
+              heard = t.heard;
+              said = t.said;
+              exchanges = t.exchanges;
+              last = t.last;
+              written = t.written;
+              missing = t.missing;
+              negotiates = t.negotiates;
+              was_read = t.was_read;
+              was_written = t.was_written;
+              output = t.output;
+              right = t.right;
+              asked = met.1;
+              ends = t.ends;
+            }),
+          )
           | inr given_up ↦ inr given_up
         ],
       )
+
+-- nothing is open behind calls, or one was given up
+module _ {L M I A : Type 0} (made : I → ImageCall → ImageAnswer → I → Type 0) where
+  step_idle : (old : StoreState L M I A) (outcome : Outcome) (new : StoreState L M I A) → (makes : Makes (StoreMakes made) old outcome new)
+      → IsIdle old.inner.locked.core → IsIdle new.inner.locked.core ⊎ was_given_up made old outcome new makes
+  step_idle old (Asked call answer) new makes idle =
+      call_idle made (task_of old.page_bytes (request_of call)) (bytes_of call) answer old.inner new.inner makes.4 idle
+  step_idle old (NotAsked code) new same idle = inl (subst (λ (s : StoreState L M I A). IsIdle s.inner.locked.core) (sym same) idle)
+  step_idle old NoneForData new same idle = inl (subst (λ (s : StoreState L M I A). IsIdle s.inner.locked.core) (sym same) idle)
+
+  pub chain_idle : (old : StoreState L M I A) → IsIdle old.inner.locked.core → (es : List Exchange) (new : StoreState L M I A)
+      → (chain : Chain (StoreMakes made) old es new) → IsIdle new.inner.locked.core ⊎ OneGivenUp made old es new chain
+  chain_idle old idle [] new same = inl (subst (λ (s : StoreState L M I A). IsIdle s.inner.locked.core) (sym same) idle)
+  chain_idle old idle (e ∷ es) new (middle, makes, chain) =
+      elim (step_idle old e.outcome middle makes idle) [
+        | inr given_up ↦ inr (inl given_up)
+        | inl then ↦ elim (chain_idle middle then es new chain) [
+          | inl last ↦ inl last
+          | inr later ↦ inr (inr later)
+        ]
+      ]
 
 -- a connection to a store whose calls are these
 module _ {L M I A : Type 0} (S : Type 0) (makes : S → Call → Answer → S → Type 0) (seen : S → StoreState L M I A)

@@ -1,7 +1,8 @@
 -- The store of one thread over a world, and the calls that a connection makes of it.
 use Rattle.std.proofs.Common.{inl, inr}
-use Rattle.std.specs.Prelude.{◌≡◌, ◌⊎◌, ℕ, ◌*◌, List, [], ◌∷◌, None}
+use Rattle.std.specs.Prelude.{◌≡◌, ◌⊎◌, ℕ, ◌*◌, List, [], ◌∷◌}
 use Rattle.fa_shared_store.specs.Counts.{request_of}
+use Rattle.fa_solo_laws.specs.Rest.{IsIdle}
 use Rattle.fa_solo_laws.specs.Standing.{IsGivenUp, IsWorldOf}
 use Rattle.fa_image.specs.Image.{ImageAnswer, ImageCall, ImageState}
 use Rattle.fa_io.specs.Streams.{Streams}
@@ -15,13 +16,12 @@ use Rattle.fa_solo.specs.Calls.{bytes_of}
 use Rattle.fa_solo.specs.Stores.{StoreMakes, StoreState}
 
 module _ {L M I A : Type 0} where
-  -- The world is of what the store owns, the store is as large as the array, no copy of a page is under way, and no two dies have one
-  -- image.
+  -- The world is of what the store owns, the store is as large as the array, nothing is open at the array, and no two dies have one image.
   pub record IsStoreOf (view : I → ImageState) (store : StoreState L M I A) (w : World) : Type 0 where
     pub owns : IsWorldOf view store.inner w
     pub bytes : store.bytes ≡ w.core.page_map.geometry.pages * w.core.page_map.geometry.page_bytes
     pub page : store.page_bytes ≡ w.core.page_map.geometry.page_bytes
-    pub free : store.inner.locked.core.copying ≡ None
+    pub idle : IsIdle store.inner.locked.core
     pub apart : AreApart store.inner.dies.items
 
   module _ (made : I → ImageCall → ImageAnswer → I → Type 0) where
