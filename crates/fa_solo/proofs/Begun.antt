@@ -12,7 +12,9 @@ use Rattle.fa_shared_steps.specs.declared.request.Task.{Task}
 use Rattle.fa_solo.specs.Calls.{Ended, EndsBy, answer_by, IsOfFlush, IsOfRead, IsRefused, Made, MakesRequest, MakesWhole, OfOtherLength, WithoutMemory, WithoutRoom}
 use Rattle.fa_solo.specs.Calls.{Endless, NoMemory as NoMemoryFor}
 use Rattle.fa_solo_job.specs.Deeds.{IsForRequests}
-use Rattle.fa_solo_job.specs.Inner.{Does, Tidies}
+use Rattle.fa_solo_job.specs.Inner.{Does, PutsInOrder, Tidies, house_of}
+use Rattle.fa_solo_job.specs.Orders.{IsDone}
+use Rattle.fa_shared_lock.specs.Seats.{number_of}
 use Rattle.fa_solo.specs.Turns.{RunsOn}
 use Rattle.fa_solo_job.specs.declared.inner.Inner.{Inner}
 use Rattle.fa_types.specs.Store.{Answer, Done, Gave, Refused}
@@ -85,38 +87,66 @@ module _ {L M I A : Type 0} (made : I → ImageCall → ImageAnswer → I → Ty
     pub endless_request : 2 ^ 64 - 1 ≤ runs.turns → MakesRequest made (task_of page_bytes (Read offset len)) [] (Refused Lost) a b
     endless_request most = read_with (Refused Lost) (Endless refl most)
 
+  -- how what is for the array's order ends
+  abbrev pub Ends : (c d : Inner L M I A) → Tidies made c d → Type 0
+  Ends c d behind = IsDone made c.locked.number c.dies.items (number_of c.seat) (house_of c) (house_of d) behind.orders
+
   -- what is done before a request and behind it
   pub whole : (a b c d : Inner L M I A) (task : Task) (bytes : List ℕ) (answer : Answer) → Does made IsForRequests a b
-      → MakesRequest made task bytes answer b c → Tidies made c d → (answer ≡ Refused NoRoom → d ≡ c)
-      → MakesWhole made task bytes answer a d
-  whole a b c d task bytes answer before request behind full =
-      record { begun = b; done = c; before = before; request = request; behind = behind; full = full }
+      → MakesRequest made task bytes answer b c → (behind : Tidies made c d) → (answer ≡ Refused NoRoom → d ≡ c)
+      → ((answer ≡ Refused NoRoom → ⊥) → Ends c d behind) → MakesWhole made task bytes answer a d
+  whole a b c d task bytes answer before request behind full ends =
+      record { begun = b; done = c; before = before; request = request; behind = behind; full = full; in_order = ends }
 
   pub whole_done : (a b c d : Inner L M I A) (task : Task) (bytes : List ℕ) (result : Result (Unit {0}) BlockFault)
-      → Does made IsForRequests a b → MakesRequest made task bytes (answer_by result) b c → Tidies made c d
-      → (answer_by result ≡ Refused NoRoom → d ≡ c) → OnOk result (MakesWhole made task bytes Done a d)
-  whole_done a b c d task bytes (Ok x) before request behind full = whole a b c d task bytes Done before request behind full
-  whole_done a b c d task bytes (Err fault) before request behind full = tt
+      → Does made IsForRequests a b → MakesRequest made task bytes (answer_by result) b c → (behind : Tidies made c d)
+      → (answer_by result ≡ Refused NoRoom → d ≡ c) → ((answer_by result ≡ Refused NoRoom → ⊥) → Ends c d behind)
+      → OnOk result (MakesWhole made task bytes Done a d)
+  whole_done a b c d task bytes (Ok x) before request behind full ends = whole a b c d task bytes Done before request behind full ends
+  whole_done a b c d task bytes (Err fault) before request behind full ends = tt
 
   pub whole_refused : (a b c d : Inner L M I A) (task : Task) (bytes : List ℕ) (result : Result (Unit {0}) BlockFault)
-      → Does made IsForRequests a b → MakesRequest made task bytes (answer_by result) b c → Tidies made c d
-      → (answer_by result ≡ Refused NoRoom → d ≡ c) → IfErr result (λ fault. MakesWhole made task bytes (Refused fault) a d)
-  whole_refused a b c d task bytes (Ok x) before request behind full = tt
-  whole_refused a b c d task bytes (Err fault) before request behind full = whole a b c d task bytes (Refused fault) before request behind full
+      → Does made IsForRequests a b → MakesRequest made task bytes (answer_by result) b c → (behind : Tidies made c d)
+      → (answer_by result ≡ Refused NoRoom → d ≡ c) → ((answer_by result ≡ Refused NoRoom → ⊥) → Ends c d behind)
+      → IfErr result (λ fault. MakesWhole made task bytes (Refused fault) a d)
+  whole_refused a b c d task bytes (Ok x) before request behind full ends = tt
+  whole_refused a b c d task bytes (Err fault) before request behind full ends =
+      whole a b c d task bytes (Refused fault) before request behind full ends
 
+  -- those that are never refused for want of room
   pub whole_ok : {X : Type 0} (a b c d : Inner L M I A) (task : Task) (bytes : List ℕ) (result : Result X BlockFault) (answer : X → Answer)
-      → Does made IsForRequests a b → IfOk result (λ x. MakesRequest made task bytes (answer x) b c) → Tidies made c d
+      → Does made IsForRequests a b → IfOk result (λ x. MakesRequest made task bytes (answer x) b c) → PutsInOrder made c d
       → ((x : X) → answer x ≡ Refused NoRoom → ⊥) → IfOk result (λ x. MakesWhole made task bytes (answer x) a d)
   whole_ok a b c d task bytes (Ok x) answer before request behind gives =
-      whole a b c d task bytes (answer x) before request behind (λ is. absurd (gives x is))
+      whole a b c d task bytes (answer x) before request behind.tidies (λ is. absurd (gives x is)) (λ other. behind.done)
   whole_ok a b c d task bytes (Err fault) answer before request behind gives = tt
 
   pub whole_err : {X : Type 0} (a b c d : Inner L M I A) (task : Task) (bytes : List ℕ) (result : Result X BlockFault)
-      → Does made IsForRequests a b → IfErr result (λ fault. MakesRequest made task bytes (Refused fault) b c) → Tidies made c d
+      → Does made IsForRequests a b → IfErr result (λ fault. MakesRequest made task bytes (Refused fault) b c) → PutsInOrder made c d
       → IfErr result (λ fault. fault ≡ NoRoom → ⊥) → IfErr result (λ fault. MakesWhole made task bytes (Refused fault) a d)
   whole_err a b c d task bytes (Ok x) before request behind room = tt
   whole_err a b c d task bytes (Err fault) before request behind room =
-      whole a b c d task bytes (Refused fault) before request behind (λ is. absurd (room (let e : Refused fault ≡ Refused NoRoom = is in cc)))
+      whole a b c d task bytes (Refused fault) before request behind.tidies
+      (λ is. absurd (room (let e : Refused fault ≡ Refused NoRoom = is in cc))) (λ other. behind.done)
+
+  -- a flush
+  pub flush_done : (a b c d : Inner L M I A) (page_bytes : ℕ) (result : Result (Unit {0}) BlockFault) → Does made IsForRequests a b
+      → MakesRequest made (task_of page_bytes Flush) [] (answer_by result) b c → PutsInOrder made c d
+      → IfErr result (λ fault. (fault ≡ NoRoom → ⊥) × (fault ≡ NoMemory → ⊥))
+      → OnOk result (MakesWhole made (task_of page_bytes Flush) [] Done a d)
+  flush_done a b c d page_bytes (Ok x) before request behind room =
+      whole a b c d (task_of page_bytes Flush) [] Done before request behind.tidies
+      (λ is. absurd (let e : Done ≡ Refused NoRoom = is in cc)) (λ other. behind.done)
+  flush_done a b c d page_bytes (Err fault) before request behind room = tt
+
+  pub flush_refused : (a b c d : Inner L M I A) (page_bytes : ℕ) (result : Result (Unit {0}) BlockFault) → Does made IsForRequests a b
+      → MakesRequest made (task_of page_bytes Flush) [] (answer_by result) b c → PutsInOrder made c d
+      → IfErr result (λ fault. (fault ≡ NoRoom → ⊥) × (fault ≡ NoMemory → ⊥))
+      → IfErr result (λ fault. MakesWhole made (task_of page_bytes Flush) [] (Refused fault) a d)
+  flush_refused a b c d page_bytes (Ok x) before request behind room = tt
+  flush_refused a b c d page_bytes (Err fault) before request behind room =
+      whole a b c d (task_of page_bytes Flush) [] (Refused fault) before request behind.tidies
+      (λ is. absurd (room.0 (let e : Refused fault ≡ Refused NoRoom = is in cc))) (λ other. behind.done)
 
   told_request : (a b : Inner L M I A) (own : BlockFault) (page_bytes : ℕ) → (own ≡ NoRoom) ⊎ (own ≡ NoMemory)
       → MakesRequest made (task_of page_bytes Flush) [] (Refused own) a b → MakesRequest made (task_of page_bytes Flush) [] (Refused Lost) a b
@@ -124,20 +154,9 @@ module _ {L M I A : Type 0} (made : I → ImageCall → ImageAnswer → I → Ty
   told_request a b own page_bytes why (Made x y task stage none runs end) =
       Made x y task stage none runs (told own page_bytes runs.turns y (runs.counts.task ∙ task) why end)
 
-  told_whole : (a b : Inner L M I A) (own : BlockFault) (page_bytes : ℕ) → (own ≡ NoRoom) ⊎ (own ≡ NoMemory)
-      → MakesWhole made (task_of page_bytes Flush) [] (Refused own) a b → MakesWhole made (task_of page_bytes Flush) [] (Refused Lost) a b
-  told_whole a b own page_bytes why call = record {
-    begun = call.begun;
-    done = call.done;
-    before = call.before;
-    request = told_request call.begun call.done own page_bytes why call.request;
-    behind = call.behind;
-    full = λ is. absurd (let e : Refused Lost ≡ Refused NoRoom = is in cc);
-  }
-
-  pub flush_refused : (a b : Inner L M I A) (own fault : BlockFault) (page_bytes : ℕ) → IsOfFlush own fault
-      → MakesWhole made (task_of page_bytes Flush) [] (Refused own) a b → MakesWhole made (task_of page_bytes Flush) [] (Refused fault) a b
-  flush_refused a b own fault page_bytes (room, memory, inl is) call =
-      subst (λ (f : BlockFault). MakesWhole made (task_of page_bytes Flush) [] (Refused f) a b) (sym is) call
-  flush_refused a b own fault page_bytes (room, memory, inr (why, is)) call =
-      subst (λ (f : BlockFault). MakesWhole made (task_of page_bytes Flush) [] (Refused f) a b) (sym is) (told_whole a b own page_bytes why call)
+  pub flush_told : (a b : Inner L M I A) (own fault : BlockFault) (page_bytes : ℕ) → IsOfFlush own fault
+      → MakesRequest made (task_of page_bytes Flush) [] (Refused own) a b → MakesRequest made (task_of page_bytes Flush) [] (Refused fault) a b
+  flush_told a b own fault page_bytes (room, memory, inl is) request =
+      subst (λ (f : BlockFault). MakesRequest made (task_of page_bytes Flush) [] (Refused f) a b) (sym is) request
+  flush_told a b own fault page_bytes (room, memory, inr (why, is)) request =
+      subst (λ (f : BlockFault). MakesRequest made (task_of page_bytes Flush) [] (Refused f) a b) (sym is) (told_request a b own page_bytes why request)

@@ -4,3 +4,4 @@ mod Begun
 mod Orders
 mod Settled
 mod Thin
+mod Windows

@@ -1,9 +1,11 @@
--- A copy that is under way, looked at until it has ended.
-use Rattle.std.proofs.Common.{◌≡◌, ◌∙◌, ◌+◌, ◌-◌, ◌^◌, ◌≤◌, ℕ, Bool, false, List, Option, Some, None, Result, Ok, Err, ap, refl, is_some, subst, sym}
+-- A batch that is waited for, and a copy that is under way, looked at until it has ended.
+use Rattle.std.proofs.Common.{◌≡◌, ◌∙◌, ◌+◌, ◌-◌, ◌^◌, ◌≤◌, ℕ, false, Option, Some, None, Result, Err, ap, refl, is_some, subst, sym}
 use Rattle.std.proofs.lemmas.Bool.{false≢true}
 use Rattle.fa_image.specs.Image.{ImageAnswer, ImageCall}
 use Rattle.fa_machine.specs.Conditions.{copy_open}
+use Rattle.fa_machine.specs.Reading.{results}
 use Rattle.fa_machine.specs.Step.{CommitCopy}
+use Rattle.fa_machine.specs.declared.answers.ReadState.TheVariants.{Waiting}
 use Rattle.fa_machine.specs.declared.answers.Copied.{Copied}
 use Rattle.fa_machine.specs.declared.places.Copying.{Copying}
 use Rattle.fa_machine.specs.declared.refusals.CommitCopyRefused.{CommitCopyRefused}
@@ -14,8 +16,8 @@ use Rattle.fa_solo_job.proofs.Chains.{goes_by}
 use Rattle.fa_shared_lock.proofs.Holds.{join_rest, rest_same}
 use Rattle.fa_solo_job.specs.Deeds.{IsForDies}
 use Rattle.fa_solo_job.specs.House.{House}
-use Rattle.fa_solo_job.specs.Orders.{Commits, Endless, IsOver, Looks, NoLook, OneMore, Settles}
-use Rattle.fa_solo_job.specs.Inner.{Does, DoesOne, SettlesCopy, house_of}
+use Rattle.fa_solo_job.specs.Orders.{Commits, Endless, IsOver, Looks, NoLook, NoWait, OneMore, Settles, WaitsOn, looks_of}
+use Rattle.fa_solo_job.specs.Inner.{AwaitsBatch, Does, DoesOne, SettlesCopy, house_of}
 use Rattle.fa_solo_job.specs.declared.inner.Inner.{Inner}
 use Rattle.fa_shared_lock.specs.Rest.{LeavesRest}
 
@@ -68,9 +70,28 @@ module _ {L M I A : Type 0} (made : I → ImageCall → ImageAnswer → I → Ty
     dies = dies ∙ looked.dies;
   }
 
-  pub settles_endless : (looks : ℕ) (a b : Inner L M I A) → LooksOn looks a b → 2 ^ 64 - 1 ≤ looks → SettlesCopy made a b
-  settles_endless looks a b looked many = record {
-    settles = Endless looks (house_of b) looked.looked many;
-    left = looked.left;
-    dies = looked.dies;
+  -- whether it ended
+  pub settles_endless : (looks : ℕ) (a b : Inner L M I A) → LooksOn looks a b → 2 ^ 64 - 1 ≤ looks → (settled : SettlesCopy made a b)
+      × (2 ^ 64 - 1 ≤ looks_of made a.locked.number a.dies.items (number_of a.seat) (house_of a) (house_of b) settled.settles)
+  settles_endless looks a b looked many = (
+    record {
+      settles = Endless looks (house_of b) looked.looked many;
+      left = looked.left;
+      dies = looked.dies;
+    },
+    many,
+  )
+
+  -- a batch that waits is looked at
+  pub awaits_none : (batch : ℕ) (a : Inner L M I A) → AwaitsBatch made batch 0 a a
+  awaits_none batch a = record { waits = NoWait; left = rest_same _ _; dies = refl }
+
+  pub awaits_more : (batch looks : ℕ) (a b c : Inner L M I A) → AwaitsBatch made batch looks a b → results b.locked.core batch ≡ Waiting
+      → Does made IsForDies b c → AwaitsBatch made batch (looks + 1) a c
+  awaits_more batch looks a b c one waiting does = record {
+    waits = WaitsOn looks (house_of b) (house_of c) one.waits waiting
+        (goes_by made a.locked.number b.locked.number a.dies.items b.dies.items (number_of a.seat) (number_of b.seat) IsForDies (house_of b)
+        (house_of c) (ap (λ (l : LockedState). l.number) one.left.rest) one.dies one.left.number does.goes);
+    left = join_rest one.left does.left;
+    dies = does.dies ∙ one.dies;
   }

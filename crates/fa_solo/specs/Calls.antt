@@ -7,7 +7,9 @@ use Rattle.fa_shared_steps.specs.Stages.{beginning}
 use Rattle.fa_shared_steps.specs.Tasks.{answered, task_of}
 use Rattle.fa_shared_steps.specs.declared.request.Task.{Task}
 use Rattle.fa_solo_job.specs.Deeds.{IsForRequests}
-use Rattle.fa_solo_job.specs.Inner.{Does, Tidies}
+use Rattle.fa_solo_job.specs.Inner.{Does, Tidies, house_of}
+use Rattle.fa_solo_job.specs.Orders.{IsDone}
+use Rattle.fa_shared_lock.specs.Seats.{number_of}
 use Rattle.fa_solo.specs.Turns.{RunsOn}
 use Rattle.fa_solo_job.specs.declared.inner.Inner.{Inner}
 use Rattle.fa_types.specs.Store.{Call, Writing, Answer, Gave, Done, Refused}
@@ -61,6 +63,7 @@ module _ {L M I A : Type 0} (made : I → ImageCall → ImageAnswer → I → Ty
         → (runs : RunsOn made bytes old op new next) → EndsBy answer runs.turns next → MakesRequest task bytes answer old new
 
   -- A call: spares that are brought in before it, the request, and what is for the array's order behind it. Nothing is where there was no room.
+  -- Else that goes on until nothing is left to be done, or something stops it.
   pub record MakesWhole (task : Task) (bytes : List ℕ) (answer : Answer) (old new : Inner L M I A) : Type 0 where
     pub begun : Inner L M I A
     pub done : Inner L M I A
@@ -68,6 +71,8 @@ module _ {L M I A : Type 0} (made : I → ImageCall → ImageAnswer → I → Ty
     pub request : MakesRequest task bytes answer begun done
     pub behind : Tidies made done new
     pub full : answer ≡ Refused NoRoom → new ≡ done
+    pub in_order : (answer ≡ Refused NoRoom → ⊥)
+        → IsDone made done.locked.number done.dies.items (number_of done.seat) (house_of done) (house_of new) behind.orders
 
   abbrev pub MakesCall : ℕ → Inner L M I A → Call → Answer → Inner L M I A → Type 0
   MakesCall page_bytes old call answer new = MakesWhole (task_of page_bytes (request_of call)) (bytes_of call) answer old new

@@ -1,6 +1,8 @@
 //! All work that dies have.
-ghost use Rattle.std.specs.Prelude.{◌≡◌, true};
+ghost use Rattle.std.specs.Prelude.{◌≡◌, true, false, IfSome};
 ghost use Rattle.fa_core.specs.Array.{IsWhole, state_of};
+ghost use Rattle.fa_machine.specs.Reading.{results as rule_results};
+ghost use Rattle.fa_solo.specs.Rebuilding.{IsStuck};
 ghost use Rattle.fa_solo_job.specs.Deeds.{IsAwaited, IsForDies, IsForRequests};
 ghost use Rattle.fa_solo_job.specs.Inner.{Does};
 
@@ -21,7 +23,9 @@ pub(crate) fn work<L: Ledger, M: Map + Drop, I: Image, A: Allocator + Copy>(
     inner: &mut Inner<L, M, I, A>,
     batch: Option<BatchId>,
 ) -> bool
-    ensures { Does I.made IsForDies inner.old inner.new }
+    ensures does { Does I.made IsForDies inner.old inner.new }
+    ensures stuck { result ≡ false → IfSome batch (λ batch. rule_results inner.new.locked.core batch.0 ≡ ReadState.Waiting
+        → IsStuck inner.new.locked.core) }
 {
     if make_jobs(inner) {
         pass_for(inner, batch);
@@ -67,7 +71,8 @@ fn work_again<L: Ledger, M: Map + Drop, I: Image, A: Allocator + Copy>(
 /// Whether a later round is awaited: the batch has not all of its answers, or a die that has a window has a block to collect.
 fn is_awaited<M: Map, A: Allocator + Copy>(array: &Array<M, A>, batch: Option<BatchId>) -> bool
     requires whole { IsWhole M.view array.now }
-    ensures { result ≡ true → IsAwaited (state_of M.view array.now) }
+    ensures yes { result ≡ true → IsAwaited (state_of M.view array.now) }
+    ensures no { result ≡ false → IfSome batch (λ batch. rule_results (state_of M.view array.now) batch.0 ≡ ReadState.Waiting → ⊥) }
 {
     if is_read(array, batch) {
         return true;
@@ -78,7 +83,8 @@ fn is_awaited<M: Map, A: Allocator + Copy>(array: &Array<M, A>, batch: Option<Ba
 /// Whether the batch has not all of its answers.
 fn is_read<M: Map, A: Allocator + Copy>(array: &Array<M, A>, batch: Option<BatchId>) -> bool
     requires whole { IsWhole M.view array.now }
-    ensures { result ≡ true → IsAwaited (state_of M.view array.now) }
+    ensures yes { result ≡ true → IsAwaited (state_of M.view array.now) }
+    ensures no { result ≡ false → IfSome batch (λ batch. rule_results (state_of M.view array.now) batch.0 ≡ ReadState.Waiting → ⊥) }
 {
     let Some(batch) = batch else {
         return false;
@@ -173,7 +179,8 @@ fn pass_round<L: Ledger, M: Map + Drop, I: Image, A: Allocator + Copy>(
     inner: &mut Inner<L, M, I, A>,
 ) -> bool
     requires { IsAwaited inner.old.locked.core }
-    ensures { Does I.made IsForDies inner.old inner.new }
+    ensures does { Does I.made IsForDies inner.old inner.new }
+    ensures stuck { result ≡ false → IsStuck inner.new.locked.core }
 {
     advance(inner.alloc, &mut inner.locked, &mut inner.seat).is_ok()
 }

@@ -4,8 +4,10 @@ ghost use Rattle.fa_shared_store.specs.Counts.{IsMade};
 ghost use Rattle.fa_shared_request.specs.Tallies.{pages_in};
 ghost use Rattle.fa_shared_steps.specs.Tasks.{end_of, task_of};
 ghost use Rattle.fa_shared_steps.specs.declared.request.Request.TheVariants.{Flush, Read};
-ghost use Rattle.fa_solo.specs.Calls.{IsOfFlush, MakesWhole, answer_by};
-ghost use Rattle.fa_solo_job.specs.Inner.{Tidies};
+ghost use Rattle.fa_solo.specs.Calls.{IsOfFlush, MakesRequest, MakesWhole, answer_by};
+ghost use Rattle.fa_solo_job.specs.Inner.{Tidies, house_of};
+ghost use Rattle.fa_shared_lock.specs.Seats.{number_of};
+ghost use Rattle.fa_solo_job.specs.Orders.{IsDone};
 ghost use Rattle.fa_types.specs.Store.{Done, Gave, Refused};
 ghost use Rattle.fa_types.specs.declared.blocks.BlockFault.TheVariants.{NoMemory, NoRoom};
 
@@ -76,7 +78,24 @@ pub(crate) fn call_flush<L: Ledger, M: Map + Drop, I: Image, A: Allocator + Copy
     ensures done { OnOk result (MakesWhole I.made (task_of page_bytes Flush) [] Done inner.old inner.new) }
     ensures refused { IfErr result (λ fault. MakesWhole I.made (task_of page_bytes Flush) [] (Refused fault) inner.old inner.new) }
 {
-    match call(inner, page_bytes, Request::Flush, &[]) {
+    bring_in(inner);
+    let answer = run_flush(inner, page_bytes);
+    tidy(inner);
+    answer
+}
+
+/// The request of a flush. It is never refused for want of room or memory.
+fn run_flush<L: Ledger, M: Map + Drop, I: Image, A: Allocator + Copy>(
+    inner: &mut Inner<L, M, I, A>,
+    page_bytes: u32,
+) -> Result<(), BlockFault>
+    requires some { 1 ≤ page_bytes }
+    requires small { page_bytes ≤ 4096 }
+    ensures room { IfErr result (λ fault. (fault ≡ NoRoom → ⊥) × (fault ≡ NoMemory → ⊥)) }
+    ensures made { IsMade 0 inner.old.seat (is_ok result) inner.new.seat }
+    ensures request { MakesRequest I.made (task_of page_bytes Flush) [] (answer_by result) inner.old inner.new }
+{
+    match run(inner, page_bytes, Request::Flush, &[]) {
         Ok(()) => Ok(()),
         Err(fault) => Err(of_flush(fault)),
     }
@@ -95,7 +114,8 @@ fn of_flush(fault: BlockFault) -> BlockFault
 
 /// Whether there was no room.
 fn has_no_room(answer: Result<(), BlockFault>) -> bool
-    ensures { answer_by answer ≡ Refused NoRoom → result ≡ true }
+    ensures full { answer_by answer ≡ Refused NoRoom → result ≡ true }
+    ensures other { (answer_by answer ≡ Refused NoRoom → ⊥) → result ≡ false }
 {
     match answer {
         Ok(()) => false,
@@ -108,7 +128,8 @@ fn tidy_unless<L: Ledger, M: Map + Drop, I: Image, A: Allocator + Copy>(
     inner: &mut Inner<L, M, I, A>,
     is_full: bool,
 )
-    ensures tidies { Tidies I.made inner.old inner.new }
+    ensures tidies { (tidies : Tidies I.made inner.old inner.new) × (is_full ≡ false → IsDone I.made inner.old.locked.number inner.old.dies.items
+        (number_of inner.old.seat) (house_of inner.old) (house_of inner.new) tidies.orders) }
     ensures full { is_full ≡ true → inner.new ≡ inner.old }
 {
     if is_full {

@@ -11,6 +11,7 @@ use Rattle.fa_shared_lock.specs.Locked.{LockedState}
 use Rattle.fa_shared_lock.specs.Seats.{number_of}
 use Rattle.fa_solo_job.specs.Deeds.{Goes, IsDue, IsForDies, IsForOrder, IsForRequests, IsMeanwhile, Makes, Runs, Stays}
 use Rattle.fa_solo_job.specs.House.{House}
+use Rattle.fa_solo_job.specs.Orders.{Awaits, NoWait, WaitsOn}
 use Rattle.fa_solo_job.specs.Inner.{Does, house_of}
 use Rattle.fa_solo_job.specs.declared.inner.Inner.{Inner}
 use Rattle.fa_types.specs.declared.numbers.Round.{Round}
@@ -32,6 +33,13 @@ module _ {I : Type 0} (made : I → ImageCall → ImageAnswer → I → Type 0) 
   goes_wider P Q wider a b (Makes middle new act before may due step images) =
       Makes middle new act (goes_wider P Q wider a middle before) (wider act may) due step images
   goes_wider P Q wider a b (Runs middle new die before job) = Runs middle new die (goes_wider P Q wider a middle before) job
+
+  -- what is done while a batch is waited for
+  pub awaits_goes : (batch : ℕ) (a : House I) (looks : ℕ) (b : House I) → Awaits made array dies seat batch a looks b
+      → Goes made array dies seat IsForDies a b
+  awaits_goes batch a looks b NoWait = Stays
+  awaits_goes batch a looks b (WaitsOn fewer middle new before waiting goes) =
+      goes_more IsForDies a middle b (awaits_goes batch a fewer middle before) goes
 
 -- the same by other numbers that are equal
 pub goes_by : {I : Type 0} (made : I → ImageCall → ImageAnswer → I → Type 0) (array other : List ℕ) (dies those : List Standing) (seat same : ℕ)

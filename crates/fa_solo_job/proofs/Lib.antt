@@ -1,3 +1,5 @@
 pub mod Chains
 mod Ended
 mod Taken
+pub mod Changes
+pub mod Open

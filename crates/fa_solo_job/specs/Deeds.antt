@@ -1,7 +1,7 @@
 -- What is done with an array and its images by one thread: events, and jobs of dies from their Takes to their Dones. No two jobs are under
 -- way at once, and each Done tells what the job's own calls of its image gave.
 use Rattle.std.specs.FinMap.{contains_key}
-use Rattle.std.specs.Prelude.{◌≡◌, ℕ, Bool, true, false, is_some, List, [], ◌∷◌, Some, None, Ok, Err, slice_get, slice_set}
+use Rattle.std.specs.Prelude.{◌≡◌, ℕ, ◌+◌, Bool, true, false, is_some, List, [], ◌∷◌, Some, None, Ok, Err, slice_get, slice_set}
 use Rattle.fa_mount_headers.specs.declared.judging.Standing.{Standing}
 use Rattle.fa_image.specs.Image.{ImageAnswer, ImageCall}
 use Rattle.fa_machine.specs.Cells.{Outcome}
@@ -10,7 +10,7 @@ use Rattle.fa_machine.specs.Looks.{wants_window}
 use Rattle.fa_machine.specs.Placement.{is_thin}
 use Rattle.fa_machine.specs.Reading.{results}
 use Rattle.fa_machine.specs.State.{Core, is_live}
-use Rattle.fa_machine.specs.Step.{Act, Step, Admit, Advance, Done, EndBatch, Fold, ReserveCopy, SpareIn, Take, Window}
+use Rattle.fa_machine.specs.Step.{Act, Step, Admit, Advance, Done, Fold, ReserveCopy, SpareIn, Take, Window}
 use Rattle.fa_machine.specs.Taking.{Handed}
 use Rattle.fa_machine.specs.declared.answers.ReadState.TheVariants.{Waiting}
 use Rattle.fa_mount.specs.Standings.{place_on}
@@ -37,13 +37,17 @@ abbrev pub IsMeanwhile : Bool → Act → Type 0
 IsMeanwhile true act = IsForDies act
 IsMeanwhile false act = IsForRequests act
 
--- All those, and the events by which a thin page is read. A slot is reserved for one more copy by `CopiesPage` alone, and such a copy ends in
--- `Settles` alone.
+-- All those, and what is refused while a thin page is to get one more copy. A batch is opened by `ReadsPage` and `CopiesPage` alone, each of
+-- which ends it. A slot is reserved for one more copy by `CopiesPage` alone, and such a copy ends in `Settles` alone.
 abbrev pub IsForOrder : Act → Type 0
-IsForOrder (Admit (page ∷ []) answer) = Unit {0}
-IsForOrder (EndBatch batch answers) = Unit {0}
+IsForOrder (Admit (page ∷ []) (Err refused)) = Unit {0}
 IsForOrder (ReserveCopy page seq payload (Err refused)) = Unit {0}
 IsForOrder act = IsForRequests act
+
+-- 1 for a window that is asked for
+abbrev pub windows_by : Act → ℕ
+windows_by (Window die rounds answer) = 1
+windows_by act = 0
 
 -- What a later round is awaited for: the reads of a batch that has not all of its answers; or a collector's step, where a live die has a window
 -- that has not passed, and a block to collect.
@@ -84,3 +88,9 @@ module _ {I : Type 0} (made : I → ImageCall → ImageAnswer → I → Type 0) 
     Makes : (middle new : House I) (act : Act) → Goes P old middle → P act → IsDue middle.core act → Step middle.core act new.core
         → new.images ≡ middle.images → Goes P old new
     Runs : (middle new : House I) (die : ℕ) → Goes P old middle → MakesJob die middle new → Goes P old new
+
+  -- how many windows were asked for
+  abbrev pub windows_in : (P : Act → Type 0) (old new : House I) → Goes P old new → ℕ
+  windows_in P old new Stays = 0
+  windows_in P old new (Makes middle here act before may due step images) = windows_in P old middle before + windows_by act
+  windows_in P old new (Runs middle here die before job) = windows_in P old middle before

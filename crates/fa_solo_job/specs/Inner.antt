@@ -1,16 +1,17 @@
 -- What contracts see of what the store of one thread owns, and what is done with it besides its requests.
-use Rattle.std.specs.Prelude.{◌≡◌, ◌⊎◌, ℕ, ◌+◌, ◌<◌, List, [], ◌∷◌, ◌++◌, Some, Ok, length, slice_get, slice_set}
+use Rattle.std.specs.Prelude.{◌≡◌, ℕ, ◌+◌, ◌<◌, ◌≤◌, List, [], ◌∷◌, ◌++◌, Some, length, slice_get, slice_set, Result}
 use Rattle.fa_image.specs.Image.{ImageAnswer, ImageCall, ImageState}
 use Rattle.fa_core.specs.Array.{state_of}
 use Rattle.fa_machine.specs.Cells.{Outcome}
 use Rattle.fa_machine.specs.State.{MapState}
+use Rattle.fa_machine.specs.declared.refusals.ReserveCopyRefused.{ReserveCopyRefused}
 use Rattle.fa_machine.specs.Step.{Act, Done, ReserveCopy, Step}
 use Rattle.fa_machine.specs.Taking.{Handed}
 use Rattle.fa_mount.specs.Standings.{place_on}
 use Rattle.fa_shared_lock.specs.Seats.{number_of}
-use Rattle.fa_solo_job.specs.Deeds.{Goes, IsForOrder}
+use Rattle.fa_solo_job.specs.Deeds.{Goes}
 use Rattle.fa_solo_job.specs.House.{House}
-use Rattle.fa_solo_job.specs.Orders.{Orders, Settles}
+use Rattle.fa_solo_job.specs.Orders.{Awaits, IsDone, IsHalted, Orders, Settles, tries_in}
 use Rattle.fa_solo_job.specs.declared.inner.Parts.{Parts}
 use Rattle.fa_solo_job.specs.declared.inner.Inner.{Inner}
 use Rattle.fa_shared_lock.specs.Rest.{LeavesRest}
@@ -45,13 +46,13 @@ module _ {L M I A : Type 0} where
     pub images : new.images.items ≡ old.images.items
     pub dies : new.dies.items ≡ old.dies.items
 
-  -- A slot was reserved for one more copy of the page's write with this number, of the bytes that were answered last.
-  pub record ReservesCopy (page seq : ℕ) (answers : List (ℕ × List ℕ)) (old new : Inner L M I A) : Type 0 where
+  -- A slot was asked for, for one more copy of the page's write with this number, of the bytes that were answered last.
+  pub record AsksCopy (page seq : ℕ) (answers : List (ℕ × List ℕ)) (answer : Result (Unit {0}) ReserveCopyRefused) (old new : Inner L M I A) : Type 0 where
     pub others : List (ℕ × List ℕ)
     pub given : ℕ
     pub bytes : List ℕ
     pub last : answers ≡ others ++ (given, bytes) ∷ []
-    pub reserves : DoesOne (ReserveCopy page seq bytes (Ok tt)) old new
+    pub asks : DoesOne (ReserveCopy page seq bytes answer) old new
 
   module _ (made : I → ImageCall → ImageAnswer → I → Type 0) where
     -- The calls of a job were made of the image at a place, and the job ends so by what they gave.
@@ -83,13 +84,29 @@ module _ {L M I A : Type 0} where
       pub left : LeavesRest old.locked old.seat new.locked new.seat
       pub dies : new.dies.items ≡ old.dies.items
 
+    -- The same, and something was tried so often at least.
+    pub record TidiesBy (tries : ℕ) (old new : Inner L M I A) : Type 0 where
+      pub tidies : Tidies old new
+      pub many : tries ≤ tries_in made old.locked.number old.dies.items (number_of old.seat) (house_of old) (house_of new) tidies.orders
+
+    -- The same until something stopped it.
+    pub record Halts (old new : Inner L M I A) : Type 0 where
+      pub tidies : Tidies old new
+      pub halted : IsHalted made old.locked.number old.dies.items (number_of old.seat) (house_of old) (house_of new)
+
+    -- The same until nothing was left to be done, something stopped it, or something was tried 2^64 - 1 times.
+    pub record PutsInOrder (old new : Inner L M I A) : Type 0 where
+      pub tidies : Tidies old new
+      pub done : IsDone made old.locked.number old.dies.items (number_of old.seat) (house_of old) (house_of new) tidies.orders
+
+    -- A batch was looked at so often while it had not all of its answers, and behind each look deeds for dies were done.
+    pub record AwaitsBatch (batch looks : ℕ) (old new : Inner L M I A) : Type 0 where
+      pub waits : Awaits made old.locked.number old.dies.items (number_of old.seat) batch (house_of old) looks (house_of new)
+      pub left : LeavesRest old.locked old.seat new.locked new.seat
+      pub dies : new.dies.items ≡ old.dies.items
+
     -- The same of the copy under way.
     pub record SettlesCopy (old new : Inner L M I A) : Type 0 where
       pub settles : Settles made old.locked.number old.dies.items (number_of old.seat) (house_of old) (house_of new)
       pub left : LeavesRest old.locked old.seat new.locked new.seat
       pub dies : new.dies.items ≡ old.dies.items
-
-    -- One more copy of the page was reserved of what was answered, and is seen through; or it was not, and deeds were done.
-    abbrev pub TriesCopy : (page seq : ℕ) → List (ℕ × List ℕ) → Inner L M I A → Inner L M I A → Type 0
-    TriesCopy page seq answers old new =
-        Does IsForOrder old new ⊎ ((middle : Inner L M I A) × ReservesCopy page seq answers old middle × SettlesCopy middle new)

@@ -22,6 +22,8 @@ use Rattle.fa_mount_scan.specs.ContentCells.{IsCellOf}
 use Rattle.fa_mount_scan.specs.ContentReading.{image_read}
 use Rattle.fa_mount_scan.specs.MountedWorld.{CopiesAgree, IsMountedWorld, SlotBytes, bytes_of, is_spare_of}
 use Rattle.fa_solo.specs.Stores.{StoreState}
+use Rattle.fa_solo_laws.proofs.Holding.{beginning_idle}
+use Rattle.fa_solo_laws.specs.Rest.{IsIdle}
 use Rattle.std.proofs.Common.{Bool, IsTrue, List, None, Option, Some, ap, length, map, refl, slice_get, subst, sym, true, ℕ, ◌*◌, ◌∙◌, ◌≡◌, ◌||◌}
 use Rattle.std.proofs.lemmas.Option.{none-some}
 use Rattle.std.specs.FinMap.{contains_key, get}
@@ -172,7 +174,7 @@ module _ {L M I A : Type 0} (view : I → ImageState) (honest : I → Bool) (mad
           };
           bytes = bytes ∙ ap (λ (c : Core). c.page_map.geometry.pages * c.page_map.geometry.page_bytes) (sym begun.1);
           page = page ∙ ap (λ (c : Core). c.page_map.geometry.page_bytes) (sym begun.1);
-          free = ap (λ (c : Core). c.copying) (state ∙ sym begun.1 ∙ begun.3.fresh);
+          idle = subst IsIdle (begun.1 ∙ sym state) (beginning_idle begun.0.core begun.3.fresh);
           apart = subst (λ (d : List Standing). AreApart d) (sym standings)
               (placed_apart view honest made whole meets copies unclean before after array dies core is many);
         },

@@ -5,8 +5,8 @@ use Rattle.fa_solo_laws.proofs.Gone.{done_live}
 use Rattle.fa_solo_laws.proofs.RestKept.{BeginsNoCopy, GivesNoNumber, event_keeps}
 use Rattle.fa_solo_laws.specs.Shown.{is_spent, store_of}
 use Rattle.fa_solo_laws.proofs.Around.{IsKept}
-use Rattle.fa_solo_laws.proofs.DrivenDeeds.{settles_goes}
-use Rattle.fa_solo_laws.specs.Driving.{IsForCopy}
+use Rattle.fa_solo_laws.proofs.DrivenDeeds.{reads_goes, settles_goes}
+use Rattle.fa_solo_laws.specs.Driving.{IsForCopy, IsForRead}
 use Rattle.fa_mount_headers.specs.declared.judging.Standing.{Standing}
 use Rattle.fa_image.specs.Image.{ImageAnswer, ImageCall}
 use Rattle.fa_laws.specs.Kept.{KeepsRound}
@@ -23,14 +23,14 @@ use Rattle.fa_machine.specs.declared.refusals.CommitCopyRefused.TheVariants.{Fai
 use Rattle.fa_machine.specs.declared.refusals.SpareRefused.TheVariants.{NotSpare}
 use Rattle.fa_solo_job.specs.Deeds.{Goes, IsDue, IsForDies, IsForOrder, Makes, MakesJob, Runs, Stays}
 use Rattle.fa_solo_job.specs.House.{House}
-use Rattle.fa_solo_job.specs.Orders.{Commits, Copies, CopiesPage, Deals, Endless, IsOver, Orders, Rests, Settles, looks_in, looks_of}
+use Rattle.fa_solo_job.specs.Orders.{Commits, Copies, CopiesPage, Deals, Endless, IsOver, Orders, Reads, Rests, Settles, looks_in, looks_of}
 use Rattle.fa_machine.specs.World.{World}
 use Rattle.fa_types.specs.Store.{HasCause, IsMet}
 use Rattle.fa_types.specs.declared.blocks.BlockFault.{BlockFault}
 use Rattle.fa_types.specs.declared.blocks.BlockFault.TheVariants.{Lost, NoMemory as OutOfMemory, NoRoom, Spent}
 use Rattle.fa_workers.specs.Spares.{live_below, wants_spare}
 use Rattle.std.proofs.Common.{List, None, Ok, Err, Option, Result, Some, [], ap, arith, eq-eqb, eqb-true, inl, inr, refl, subst, sym, true, ℕ}
-use Rattle.std.proofs.Common.{◌+◌, ◌++◌, ◌-◌, ◌<◌, ◌^◌, ◌∙◌, ◌∷◌, ◌≡◌, ◌≤◌}
+use Rattle.std.proofs.Common.{◌++◌, ◌-◌, ◌^◌, ◌∙◌, ◌∷◌, ◌≡◌, ◌≤◌, ◌⊎◌}
 use Rattle.std.proofs.lemmas.Bool.{and_parts, cases_Bool, false≢true, leb-true, lt-ltb, ltb-true, or_cases, or_left, or_right}
 use Rattle.std.specs.List.{list_any}
 use Rattle.std.specs.FinMap.{contains_key, get, contains_key-keys, entries, keys, len, len-entries}
@@ -131,8 +131,7 @@ dies_beside Fold may = tt
 dies_beside act may = absurd may
 
 order_beside : (act : Act) → IsForOrder act → IsBeside act
-order_beside (Admit (page ∷ []) answer) may = tt
-order_beside (EndBatch batch answers) may = tt
+order_beside (Admit (page ∷ []) (Err refused)) may = tt
 order_beside (ReserveCopy page seq payload (Err refused)) may = tt
 order_beside (Take die seat None) may = tt
 order_beside (Window die rounds answer) may = tt
@@ -140,6 +139,15 @@ order_beside (Advance answer) may = tt
 order_beside (SpareIn die answer) may = tt
 order_beside Fold may = tt
 order_beside act may = absurd may
+
+read_beside : (act : Act) → IsForRead act → IsBeside act
+read_beside (Admit (page ∷ []) answer) may = tt
+read_beside (EndBatch batch answers) may = tt
+read_beside (Take die seat None) may = tt
+read_beside (Window die rounds answer) may = tt
+read_beside (Advance answer) may = tt
+read_beside Fold may = tt
+read_beside act may = absurd may
 
 copy_beside : (act : Act) → IsForCopy act → IsBeside act
 copy_beside (CommitCopy answer) may = tt
@@ -201,6 +209,9 @@ module _ (laws : StepLaws) where
     order_behind old new (Deals middle here before goes) =
         behind_more old.core middle.core new.core (order_behind old middle before)
         (goes_behind IsForOrder order_beside middle new goes)
+    order_behind old new (Reads middle here before reads) =
+        behind_more old.core middle.core new.core (order_behind old middle before)
+        (goes_behind IsForRead read_beside middle new (reads_goes made array dies seat middle new reads))
     order_behind old new (Copies middle copied here before copy settles) =
         behind_more old.core middle.core new.core (order_behind old middle before)
         (behind_more middle.core copied.core new.core (copies_behind middle copied copy)
@@ -215,12 +226,16 @@ ends_copy old new (Some c) (Ok Late) ends d = ap (λ (k : Core). k.copying) d.2
 ends_copy old new (Some c) (Err Pending) ends d = absurd (ends refl)
 ends_copy old new (Some c) (Err Failed) ends d = ap (λ (k : Core). k.copying) d.1
 
-order_free : (act : Act) → IsForOrder act → BeginsNoCopy act
+read_free : (act : Act) → IsForRead act → BeginsNoCopy act
+read_free (ReserveCopy page seq payload (Ok done)) may = may
+read_free act may = tt
+
+pub order_free : (act : Act) → IsForOrder act → BeginsNoCopy act
 order_free (ReserveCopy page seq payload (Ok done)) may = may
 order_free act may = tt
 
 module _ {I : Type 0} (made : I → ImageCall → ImageAnswer → I → Type 0) (array : List ℕ) (dies : List Standing) (seat : ℕ) where
-  goes_free : (P : Act → Type 0) → ((act : Act) → P act → BeginsNoCopy act) → (old new : House I) → Goes made array dies seat P old new
+  pub goes_free : (P : Act → Type 0) → ((act : Act) → P act → BeginsNoCopy act) → (old new : House I) → Goes made array dies seat P old new
       → old.core.copying ≡ None → new.core.copying ≡ None
   goes_free P begins old new Stays free = free
   goes_free P begins old new (Makes middle here act before may due step images) free =
@@ -230,20 +245,31 @@ module _ {I : Type 0} (made : I → ImageCall → ImageAnswer → I → Type 0) 
       ((event_keeps middle.core (Take die seat (Some job.job)) job.taken job.takes.does).1 tt (goes_free P begins old middle before free))
 
   settles_free : (old new : House I) → (settles : Settles made array dies seat old new)
-      → looks_of made array dies seat old new settles < 2 ^ 64 - 1 → new.core.copying ≡ None
-  settles_free old new (Commits looks middle here answer looked ends step images) few =
-      ends_copy middle.core new.core middle.core.copying answer ends step.does
-  settles_free old new (IsOver looks here looked none) few = none
-  settles_free old new (Endless looks here looked many) few = absurd (omega (arith, few, many))
+      → (new.core.copying ≡ None) ⊎ (2 ^ 64 - 1 ≤ looks_of made array dies seat old new settles)
+  settles_free old new (Commits looks middle here answer looked ends step images) =
+      inl (ends_copy middle.core new.core middle.core.copying answer ends step.does)
+  settles_free old new (IsOver looks here looked none) = inl none
+  settles_free old new (Endless looks here looked many) = inr many
 
-  pub orders_free : (old new : House I) → (orders : Orders made array dies seat old new)
-      → looks_in made array dies seat old new orders < 2 ^ 64 - 1 → old.core.copying ≡ None → new.core.copying ≡ None
-  orders_free old new Rests few free = free
-  orders_free old new (Deals middle here before goes) few free =
-      goes_free IsForOrder order_free middle new goes (orders_free old middle before few free)
-  orders_free old new (Copies middle copied here before copy settles) few free =
-      settles_free copied new settles (let all : looks_in made array dies seat old middle before + looks_of made array dies seat copied new settles
-      < 2 ^ 64 - 1 = few in omega (arith, all))
+  -- no copy is under way, or one was looked at in vain too often
+  pub orders_free : (old new : House I) → (orders : Orders made array dies seat old new) → old.core.copying ≡ None
+      → (new.core.copying ≡ None) ⊎ (2 ^ 64 - 1 ≤ looks_in made array dies seat old new orders)
+  orders_free old new Rests free = inl free
+  orders_free old new (Deals middle here before goes) free =
+      elim (orders_free old middle before free) [
+        | inl none ↦ inl (goes_free IsForOrder order_free middle new goes none)
+        | inr many ↦ inr many
+      ]
+  orders_free old new (Reads middle here before reads) free =
+      elim (orders_free old middle before free) [
+        | inl none ↦ inl (goes_free IsForRead read_free middle new (reads_goes made array dies seat middle new reads) none)
+        | inr many ↦ inr many
+      ]
+  orders_free old new (Copies middle copied here before copy settles) free =
+      elim (settles_free copied new settles) [
+        | inl none ↦ inl none
+        | inr many ↦ inr (omega (arith, many))
+      ]
 
 -- a cause is one still behind it, but that there was no room
 spent_still : (old new : Core) → IsBehind old new → is_spent old ≡ true → is_spent new ≡ true

@@ -11,11 +11,13 @@ use Rattle.fa_cmds.specs.declared.request.Command.{Command}
 use Rattle.fa_cmds.specs.declared.request.Command.TheVariants.{Disconnect, Flush as FlushIt, Other, Read as ReadIt, Trim as TrimIt, Write as WriteIt, WriteZeroes}
 use Rattle.fa_cmds.specs.declared.request.Request.{Request as SentRequest}
 use Rattle.fa_solo_laws.proofs.Behind.{StepLaws}
+use Rattle.fa_solo_laws.proofs.Holding.{call_idle}
 use Rattle.fa_solo_laws.proofs.Served.{RequestLaws}
-use Rattle.fa_solo_laws.proofs.Whole.{call_dies, call_meets, whole_fair}
+use Rattle.fa_solo_laws.proofs.Whole.{call_dies, call_leads, call_meets, whole_fair}
 use Rattle.fa_solo_laws.specs.Driving.{image_on}
-use Rattle.fa_solo_laws.specs.Sessions.{AreTimely, IsStoreOf, IsTimelySession, was_timely}
-use Rattle.fa_solo_laws.specs.Standing.{IsTimely}
+use Rattle.fa_solo_laws.specs.Rest.{IsIdle}
+use Rattle.fa_solo_laws.specs.Sessions.{IsSessionGivenUp, IsStoreOf, OneGivenUp, was_given_up}
+use Rattle.fa_solo_laws.specs.Standing.{IsGivenUp, IsWorldOf}
 use Rattle.fa_mount_headers.specs.declared.judging.Standing.{Standing}
 use Rattle.fa_image.specs.Image.{ImageAnswer, ImageCall, ImageMeets, ImageState, IsImage}
 use Rattle.fa_io.specs.Streams.{Streams}
@@ -30,7 +32,7 @@ use Rattle.fa_solo.specs.Calls.{MakesWhole, bytes_of}
 use Rattle.fa_solo.specs.Stores.{StoreMakes, StoreState}
 use Rattle.fa_types.specs.Store.{Answer, Call, Flushing, IsAnswer, Meets, Reading, Store, Trimming, Writing, Zeroing}
 use Rattle.std.proofs.Common.{Bool, List, Some, [], ap, arith, false, inl, inr, length, not, refl, subst, sym, true, ℕ}
-use Rattle.std.proofs.Common.{◌+◌, ◌∙◌, ◌∷◌, ◌≡◌, ◌≤◌}
+use Rattle.std.proofs.Common.{◌+◌, ◌∙◌, ◌∷◌, ◌≡◌, ◌≤◌, ◌⊎◌}
 use Rattle.std.proofs.lemmas.Bool.{ltb-false}
 use Rattle.std.proofs.lemmas.Option.{none-some, same_Some}
 use Rattle.std.specs.List.{AllByRecursion}
@@ -125,6 +127,23 @@ module _ {L M I A : Type 0} (view : I → ImageState) (honest : I → Bool) (mad
       step_fair old e.outcome middle makes apart
       (chain_fair middle es new chain (step_apart old e.outcome middle makes apart) fair)
 
+  -- a world that runs lead to, behind one exchange, whatever became of it
+  step_leads : (old : StoreState L M I A) (outcome : Outcome) (new : StoreState L M I A) → Makes (StoreMakes made) old outcome new → AreApart old.inner.dies.items
+      → Fair new → (w : World) → IsWorldOf view old.inner w → (v : World) × IsWorldOf view new.inner v
+  step_leads old (Asked call answer) new makes apart fair w of_old =
+      call_leads view honest made whole meets laws.asks its (task_of old.page_bytes (request_of call)) (bytes_of call) answer old.inner new.inner makes.4 w
+      of_old apart fair
+  step_leads old (NotAsked code) new same apart fair w of_old = (w, subst (λ (s : StoreState L M I A). IsWorldOf view s.inner w) (sym same) of_old)
+  step_leads old NoneForData new same apart fair w of_old = (w, subst (λ (s : StoreState L M I A). IsWorldOf view s.inner w) (sym same) of_old)
+
+  pub chain_leads : (old : StoreState L M I A) (es : List Exchange) (new : StoreState L M I A) → Chain (StoreMakes made) old es new → AreApart old.inner.dies.items
+      → Fair new → (w : World) → IsWorldOf view old.inner w → (v : World) × IsWorldOf view new.inner v
+  chain_leads old [] new same apart fair w of_old = (w, subst (λ (s : StoreState L M I A). IsWorldOf view s.inner w) (sym same) of_old)
+  chain_leads old (e ∷ es) new (middle, makes, chain) apart fair w of_old =
+      let near = step_apart old e.outcome middle makes apart in
+      let one = step_leads old e.outcome middle makes apart (chain_fair middle es new chain near fair) w of_old in
+      chain_leads middle es new chain near fair one.0 one.1
+
   -- the world behind one exchange
   record Behind (w : World) (outcome : Outcome) (new : StoreState L M I A) : Type 0 where
     pub last : World
@@ -133,30 +152,37 @@ module _ {L M I A : Type 0} (view : I → ImageState) (honest : I → Bool) (mad
 
   step_meets : (size : ℕ) (old : StoreState L M I A) (w : World) → IsStoreOf view old w → old.bytes ≡ size → (e : Exchange) → IsExchange size e
       → (outcome : Outcome) → MayCome size e.request e.body outcome → (new : StoreState L M I A) → (makes : Makes (StoreMakes made) old outcome new)
-      → was_timely made old outcome new makes → Fair new → Behind w outcome new
-  step_meets size old w store long e right (Asked call answer) may new makes timely fair =
+      → Fair new → Behind w outcome new ⊎ was_given_up made old outcome new makes
+  step_meets size old w store long e right (Asked call answer) may new makes fair =
       let page : old.page_bytes ≡ w.core.page_map.geometry.page_bytes = store.page in
       let whole_call = subst (λ (n : ℕ). (c : MakesWhole made (task_of n (request_of call)) (bytes_of call) answer old.inner new.inner)
-      × IsTimely made (task_of n (request_of call)) (bytes_of call) answer old.inner new.inner c) page (makes.4, timely) in
+      × (IsGivenUp made (task_of n (request_of call)) (bytes_of call) answer old.inner new.inner c → was_given_up made old (Asked call answer) new makes)) page
+      (makes.4, λ given_up. given_up) in
       let inside = ends_inside e.request e.body size call e.request.command refl right.whole_body may.0 may.1 in
-      let met = call_meets view honest made whole meets laws its old.inner (request_of call) (bytes_of call) answer w store.owns store.free store.apart
+      let met = call_meets view honest made whole meets laws its old.inner (request_of call) (bytes_of call) answer w store.owns store.idle.copying store.apart
       (let all = store.bytes in omega (arith, inside, long, all)) (has_bytes call)
-      (subst (λ (c : Call). IsAnswer c answer) (sym (call_back call)) makes.2) new.inner whole_call.0 whole_call.1 fair in
-      record {
-        last = met.last;
-        store = record {
-          owns = met.of_new;
-          bytes = makes.0 ∙ store.bytes ∙ sym met.meets_it.size;
-          page = makes.1 ∙ store.page ∙ sym met.meets_it.page_bytes;
-          free = met.free_new;
-          apart = step_apart old (Asked call answer) new makes store.apart;
-        };
-        asked = subst (λ (c : Call). Meets (store_of w) c answer (store_of met.last)) (call_back call) met.meets_it;
-      }
-  step_meets size old w store long e right (NotAsked code) may new same timely fair =
-      record { last = w; store = subst (λ (s : StoreState L M I A). IsStoreOf view s w) (sym same) store; asked = refl }
-  step_meets size old w store long e right NoneForData may new same timely fair =
-      record { last = w; store = subst (λ (s : StoreState L M I A). IsStoreOf view s w) (sym same) store; asked = refl }
+      (subst (λ (c : Call). IsAnswer c answer) (sym (call_back call)) makes.2) new.inner whole_call.0 fair in
+      elim met.meets_it [
+        | inl meets_it ↦ elim (call_idle made (task_of old.page_bytes (request_of call)) (bytes_of call) answer old.inner new.inner makes.4 store.idle) [
+          | inl idle ↦ inl (record {
+            last = met.last;
+            store = record {
+              owns = met.of_new;
+              bytes = makes.0 ∙ store.bytes ∙ sym meets_it.size;
+              page = makes.1 ∙ store.page ∙ sym meets_it.page_bytes;
+              idle = idle;
+              apart = step_apart old (Asked call answer) new makes store.apart;
+            };
+            asked = subst (λ (c : Call). Meets (store_of w) c answer (store_of met.last)) (call_back call) meets_it;
+          })
+          | inr given_up ↦ inr given_up
+        ]
+        | inr given_up ↦ inr (whole_call.1 (inl given_up))
+      ]
+  step_meets size old w store long e right (NotAsked code) may new same fair =
+      inl (record { last = w; store = subst (λ (s : StoreState L M I A). IsStoreOf view s w) (sym same) store; asked = refl })
+  step_meets size old w store long e right NoneForData may new same fair =
+      inl (record { last = w; store = subst (λ (s : StoreState L M I A). IsStoreOf view s w) (sym same) store; asked = refl })
 
   step_bytes : (old : StoreState L M I A) (outcome : Outcome) (new : StoreState L M I A) → Makes (StoreMakes made) old outcome new → new.bytes ≡ old.bytes
   step_bytes old (Asked call answer) new makes = makes.0
@@ -164,43 +190,81 @@ module _ {L M I A : Type 0} (view : I → ImageState) (honest : I → Bool) (mad
   step_bytes old NoneForData new same = ap (λ (s : StoreState L M I A). s.bytes) same
 
   chain_meets : (size : ℕ) (old : StoreState L M I A) (w : World) → IsStoreOf view old w → old.bytes ≡ size → (es : List Exchange)
-      → AllByRecursion (IsExchange size) es → (new : StoreState L M I A) → (chain : Chain (StoreMakes made) old es new) → AreTimely made old es new chain → Fair new
-      → (last : World) × IsStoreOf view new last × Chain MeetsStore (store_of w) es (store_of last)
-  chain_meets size old w store long [] right new same timely fair =
-      (w, subst (λ (s : StoreState L M I A). IsStoreOf view s w) (sym same) store, refl)
-  chain_meets size old w store long (e ∷ es) right new (middle, makes, chain) timely fair =
+      → AllByRecursion (IsExchange size) es → (new : StoreState L M I A) → (chain : Chain (StoreMakes made) old es new) → Fair new
+      → (last : World) × IsWorldOf view new.inner last × ((IsStoreOf view new last × Chain MeetsStore (store_of w) es (store_of last))
+      ⊎ OneGivenUp made old es new chain)
+  chain_meets size old w store long [] right new same fair =
+      let now = subst (λ (s : StoreState L M I A). IsStoreOf view s w) (sym same) store in (w, now.owns, inl (now, refl))
+  chain_meets size old w store long (e ∷ es) right new (middle, makes, chain) fair =
       let apart = step_apart old e.outcome middle makes store.apart in
-      let one = step_meets size old w store long e right.0 e.outcome right.0.right middle makes timely.0
-      (chain_fair middle es new chain apart fair) in
-      let rest = chain_meets size middle one.last one.store (step_bytes old e.outcome middle makes ∙ long) es right.1 new chain timely.1 fair in
-      (rest.0, rest.1, (store_of one.last, one.asked, rest.2))
+      elim (step_meets size old w store long e right.0 e.outcome right.0.right middle makes (chain_fair middle es new chain apart fair)) [
+        | inl one ↦
+            let rest = chain_meets size middle one.last one.store (step_bytes old e.outcome middle makes ∙ long) es right.1 new chain fair in (
+              rest.0,
+              rest.1,
+              elim rest.2 [
+                | inl met ↦ inl (met.0, (store_of one.last, one.asked, met.1))
+                | inr later ↦ inr (inr later)
+              ],
+            )
+        | inr given_up ↦
+            let led = chain_leads old (e ∷ es) new (middle, makes, chain) store.apart fair w store.owns in (led.0, led.1, inr (inl given_up))
+      ]
 
   pub session_meets : (export : List ℕ) (streams : Streams) (old new : StoreState L M I A) (end : SessionEnd) (w : World) → IsStoreOf view old w
-      → (session : Session (StoreMakes made) export old.bytes streams old new end)
-      → IsTimelySession made export old.bytes streams old new end session → Fair new
-      → (last : World) × IsStoreOf view new last × Session MeetsStore export old.bytes streams (store_of w) (store_of last) end
-  session_meets export streams old new end w store (inl (early, same)) timely fair =
-      (w, subst (λ (s : StoreState L M I A). IsStoreOf view s w) (sym same) store, inl (early, refl))
-  session_meets export streams old new end w store (inr t) timely fair =
-      let all = chain_meets old.bytes old w store refl t.exchanges t.right new t.asked timely fair in (
+      → (session : Session (StoreMakes made) export old.bytes streams old new end) → Fair new
+      → (last : World) × IsWorldOf view new.inner last × ((IsStoreOf view new last
+      × Session MeetsStore export old.bytes streams (store_of w) (store_of last) end)
+      ⊎ IsSessionGivenUp made export old.bytes streams old new end session)
+  session_meets export streams old new end w store (inl (early, same)) fair =
+      let now = subst (λ (s : StoreState L M I A). IsStoreOf view s w) (sym same) store in (w, now.owns, inl (now, inl (early, refl)))
+  session_meets export streams old new end w store (inr t) fair =
+      let all = chain_meets old.bytes old w store refl t.exchanges t.right new t.asked fair in (
         all.0,
         all.1,
-        inr (record {
-          heard = t.heard;
-          said = t.said;
-          exchanges = t.exchanges;
-          last = t.last;
-          written = t.written;
-          missing = t.missing;
-          negotiates = t.negotiates;
-          was_read = t.was_read;
-          was_written = t.was_written;
-          output = t.output;
-          right = t.right;
-          asked = all.2;
-          ends = t.ends;
-        }),
+        elim all.2 [
+          | inl met ↦ inl (
+            met.0,
+            inr (record {
+              heard = t.heard;
+              said = t.said;
+              exchanges = t.exchanges;
+              last = t.last;
+              written = t.written;
+              missing = t.missing;
+              negotiates = t.negotiates;
+              was_read = t.was_read;
+              was_written = t.was_written;
+              output = t.output;
+              right = t.right;
+              asked = met.1;
+              ends = t.ends;
+            }),
+          )
+          | inr given_up ↦ inr given_up
+        ],
       )
+
+-- nothing is open behind calls, or one was given up
+module _ {L M I A : Type 0} (made : I → ImageCall → ImageAnswer → I → Type 0) where
+  step_idle : (old : StoreState L M I A) (outcome : Outcome) (new : StoreState L M I A) → (makes : Makes (StoreMakes made) old outcome new)
+      → IsIdle old.inner.locked.core → IsIdle new.inner.locked.core ⊎ was_given_up made old outcome new makes
+  step_idle old (Asked call answer) new makes idle =
+      call_idle made (task_of old.page_bytes (request_of call)) (bytes_of call) answer old.inner new.inner makes.4 idle
+  step_idle old (NotAsked code) new same idle = inl (subst (λ (s : StoreState L M I A). IsIdle s.inner.locked.core) (sym same) idle)
+  step_idle old NoneForData new same idle = inl (subst (λ (s : StoreState L M I A). IsIdle s.inner.locked.core) (sym same) idle)
+
+  pub chain_idle : (old : StoreState L M I A) → IsIdle old.inner.locked.core → (es : List Exchange) (new : StoreState L M I A)
+      → (chain : Chain (StoreMakes made) old es new) → IsIdle new.inner.locked.core ⊎ OneGivenUp made old es new chain
+  chain_idle old idle [] new same = inl (subst (λ (s : StoreState L M I A). IsIdle s.inner.locked.core) (sym same) idle)
+  chain_idle old idle (e ∷ es) new (middle, makes, chain) =
+      elim (step_idle old e.outcome middle makes idle) [
+        | inr given_up ↦ inr (inl given_up)
+        | inl then ↦ elim (chain_idle middle then es new chain) [
+          | inl last ↦ inl last
+          | inr later ↦ inr (inr later)
+        ]
+      ]
 
 -- a connection to a store whose calls are these
 module _ {L M I A : Type 0} (S : Type 0) (makes : S → Call → Answer → S → Type 0) (seen : S → StoreState L M I A)

@@ -8,7 +8,7 @@ use Rattle.fa_machine.specs.Collecting.{victim}
 use Rattle.fa_machine.specs.Maps.{keep, place_cmp}
 use Rattle.fa_machine.specs.Reading.{batch_at, is_booked, left_of, results}
 use Rattle.fa_machine.specs.State.{Core, MapState, OpenBatch, is_live}
-use Rattle.fa_machine.specs.Step.{Done, EndBatch, Fold, Step, Take}
+use Rattle.fa_machine.specs.Step.{Done, Fold, Step, Take}
 use Rattle.fa_machine.specs.Taking.{Handed}
 use Rattle.fa_machine.specs.declared.answers.ReadState.{ReadState}
 use Rattle.fa_machine.specs.declared.answers.ReadState.TheVariants.{Ready, Torn, Waiting}
@@ -16,7 +16,7 @@ use Rattle.fa_machine.specs.declared.places.Booking.{Booking}
 use Rattle.fa_solo_laws.proofs.Changing.{Answers, Changes, Drops, HasNoStep, IsFree, Stays, View, job_changes, more_answers}
 use Rattle.fa_solo_laws.proofs.Changing.{no_job_changes, seen}
 use Rattle.fa_types.specs.declared.window.Window.{Window}
-use Rattle.std.proofs.Common.{Bool, List, None, Option, Some, ap, false, inl, inr, not, refl, subst, sym, true, ℕ, ◌==◌, ◌∙◌, ◌≡◌, ◌⊎◌}
+use Rattle.std.proofs.Common.{Bool, None, Option, Some, ap, false, inl, inr, not, refl, subst, sym, true, ℕ, ◌==◌, ◌∙◌, ◌≡◌, ◌⊎◌}
 use Rattle.std.proofs.Common.{◌||◌}
 use Rattle.std.proofs.lemmas.Bool.{cases_eq, false≢true}
 use Rattle.std.specs.FinMap.{FinMap, contains_key, get, insert}
@@ -193,8 +193,3 @@ pub no_step_waits : (core : Core) → HasNoStep core → (die : ℕ) → is_live
     ≡ true
     → is_some (victim core.page_map die) ≡ true → ⊥
 no_step_waits core calm die live has some = false≢true (sym (ap is_some (calm die live has)) ∙ some)
-
--- no batch can be ended
-pub no_end : (m : MapState) (copies : ℕ) (old new : Core) (batch : ℕ) (answers : List (ℕ × List ℕ)) → IsQuiet m copies old
-    → Step old (EndBatch batch answers) new → ⊥
-no_end m copies old new batch answers quiet ends = false≢true (sym (ap is_some (quiet.closed batch)) ∙ ends.allows)

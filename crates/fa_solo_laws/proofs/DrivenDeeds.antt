@@ -1,10 +1,10 @@
 -- The deeds of a store of one thread drive its array.
-use Rattle.fa_solo_laws.specs.Driving.{IsDeedOf, IsForCopy, IsPlain, StandsFor, image_on}
+use Rattle.fa_solo_laws.specs.Driving.{IsDeedOf, IsForCopy, IsForRead, IsPlain, StandsFor, image_on}
 use Rattle.fa_mount_headers.specs.declared.judging.Standing.{Standing}
 use Rattle.fa_image.specs.Image.{ImageAnswer, ImageCall}
 use Rattle.fa_laws.proofs.Within.{GeometryLaw}
 use Rattle.fa_machine.specs.State.{Core}
-use Rattle.fa_machine.specs.Step.{Act, Advance, CommitCopy, Done, Fold, ReserveCopy, Step, Take, Window}
+use Rattle.fa_machine.specs.Step.{Act, Admit, Advance, CommitCopy, Done, EndBatch, Fold, ReserveCopy, Step, Take, Window}
 use Rattle.fa_machine.specs.World.{Work, with_value}
 use Rattle.fa_machine.specs.declared.refusals.CommitCopyRefused.TheVariants.{Pending}
 use Rattle.fa_mount.specs.Standings.{AreApart, place_on}
@@ -12,9 +12,9 @@ use Rattle.fa_mount_close_laws.proofs.DrivenRuns.{job_drives}
 use Rattle.fa_mount_close_laws.proofs.JobCalls.{value_here, value_other}
 use Rattle.fa_mount_close_laws.specs.Drives.{Drive, Driven, Drives, HasEvent, IsOwed, MakesCall, MakesEvent, OnlyMade, acts_of, told_by, works_after}
 use Rattle.fa_solo_job.specs.Deeds.{Goes, IsForDies, IsForOrder, IsForRequests, Makes, MakesJob, Runs, Stays}
-use Rattle.fa_solo_job.proofs.Chains.{goes_more, goes_wider}
+use Rattle.fa_solo_job.proofs.Chains.{awaits_goes, goes_more, goes_wider}
 use Rattle.fa_solo_job.specs.House.{House}
-use Rattle.fa_solo_job.specs.Orders.{Commits, Endless, IsOver, Looks, NoLook, OneMore, Settles}
+use Rattle.fa_solo_job.specs.Orders.{Commits, Endless, IsOver, Looks, NoLook, OneMore, ReadsPage, Settles}
 use Rattle.fa_core_dispatch.specs.Fits.{IsJobFor}
 use Rattle.fa_types.specs.declared.geometry.Geometry.{Geometry}
 use Rattle.fa_workers.specs.Made.{Ran}
@@ -58,6 +58,13 @@ order_plain (Done die outcome) may = absurd may
 order_plain (ReserveCopy page seq payload (Ok done)) may = absurd may
 order_plain act may = tt
 
+pub read_plain : (act : Act) → IsForRead act → IsPlain act
+read_plain (Take die seat None) may = tt
+read_plain (Take die seat (Some job)) may = absurd may
+read_plain (Done die outcome) may = absurd may
+read_plain (ReserveCopy page seq payload (Ok done)) may = absurd may
+read_plain act may = tt
+
 pub copy_plain : (act : Act) → IsForCopy act → IsPlain act
 copy_plain (Take die seat None) may = tt
 copy_plain (Take die seat (Some job)) may = absurd may
@@ -71,6 +78,13 @@ for_copy (Window die rounds answer) may = may
 for_copy (Advance answer) may = may
 for_copy Fold may = may
 for_copy act may = absurd may
+
+for_read : (act : Act) → IsForDies act → IsForRead act
+for_read (Take die seat None) may = may
+for_read (Window die rounds answer) may = may
+for_read (Advance answer) may = may
+for_read Fold may = may
+for_read act may = absurd may
 
 plain_owed : {I : Type 0} (act : Act) (s : Driven I) → IsPlain act → IsOwed s act
 plain_owed (Done die outcome) s plain = absurd plain
@@ -95,8 +109,17 @@ acts_of_both (MakesEvent act ∷ drives) rest P all more = (all.0, acts_of_both 
 acts_of_both (MakesCall die ∷ drives) rest P all more = acts_of_both drives rest P all more
 acts_of_both (drive ∷ drives) rest P all more = acts_of_both drives rest P all more
 
--- a copy that is seen through, as deeds
+-- a page that is read, and a copy that is seen through, as deeds
 module _ {I : Type 0} (made : I → ImageCall → ImageAnswer → I → Type 0) (array : List ℕ) (dies : List Standing) (seat : ℕ) where
+  pub reads_goes : (old new : House I) → ReadsPage made array dies seat old new → Goes made array dies seat IsForRead old new
+  reads_goes old new reads =
+      Makes reads.waited new (EndBatch reads.admitted.batch.0 reads.answers)
+      (goes_more made array dies seat IsForRead old reads.asked reads.waited
+      (Makes old reads.asked (Admit (reads.page ∷ []) (Ok reads.admitted)) Stays tt reads.due reads.asks reads.images.0)
+      (goes_wider made array dies seat IsForDies IsForRead for_read reads.asked reads.waited
+      (awaits_goes made array dies seat reads.admitted.batch.0 reads.asked reads.looks reads.waited reads.waits)))
+      tt tt reads.ends reads.images.1
+
   looks_goes : (old : House I) (looks : ℕ) (new : House I) → Looks made array dies seat old looks new → Goes made array dies seat IsForCopy old new
   looks_goes old looks new NoLook = Stays
   looks_goes old looks new (OneMore before middle looked here earlier step images goes) =

@@ -1,5 +1,5 @@
 -- A batch that is admitted and then answered while nothing is written gives the plain array's pages.
-use Rattle.fa_solo_laws.proofs.Changes.{Batches, batches_after, batches_are, with_ended, with_one_more, with_read}
+use Rattle.fa_solo_job.proofs.Changes.{Batches, batches_after, batches_are, with_ended, with_one_more, with_read}
 use Rattle.fa_solo_laws.proofs.Due.{AreDue, followed_due, happens_plain}
 use Rattle.fa_solo_laws.specs.Unwritten.{GivesPlainPage, WritesNothing}
 use Rattle.fa_laws.proofs.Admitting.{one_value_other, one_value_same}

@@ -1,4 +1,3 @@
-pub mod Changes
 pub mod Due
 pub mod Given
 pub mod Listed
@@ -44,6 +43,7 @@ pub mod Walks
 pub mod Syncing
 pub mod Sums
 pub mod Beginning
+pub mod Holding
 mod Admitting
 mod Changing
 mod ClosedRounds

@@ -1,5 +1,5 @@
 -- A batch that is ready answers each page of its list, in the list's order.
-use Rattle.fa_solo_laws.proofs.Changes.{Batches, batches_after, batches_are, with_ended, with_one_more, with_read}
+use Rattle.fa_solo_job.proofs.Changes.{Batches, batches_after, batches_are, with_ended, with_one_more, with_read}
 use Rattle.fa_solo_laws.proofs.Given.{Gives, last_gives, open_page}
 use Rattle.fa_solo_laws.specs.Unwritten.{EndsNoBatch, WritesNothing}
 use Rattle.fa_laws.proofs.Endings.{HappensCall}

@@ -1,5 +1,5 @@
 -- A claim that is the request's, with nothing reserved under it, while others leave it alone.
-use Rattle.fa_solo_laws.proofs.Changes.{Claims, claims_after, claims_are, with_marked}
+use Rattle.fa_solo_job.proofs.Changes.{Claims, claims_after, claims_are, with_marked}
 use Rattle.fa_solo_laws.specs.Claimed.{KeepsClaim}
 use Rattle.fa_solo_laws.specs.Asked.{LeavesClaim}
 use Rattle.fa_laws.proofs.Ranged.{calls_core}

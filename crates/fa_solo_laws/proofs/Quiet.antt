@@ -10,8 +10,8 @@ use Rattle.fa_solo_laws.specs.Shown.{store_of}
 use Rattle.fa_solo_laws.proofs.Asking.{requests_free, run_free}
 use Rattle.fa_solo_laws.proofs.Led.{Led, Stands, deeds_led, fair_before, happens, next, stands_next}
 use Rattle.fa_solo_laws.proofs.Around.{IsKept, kept_unwritten}
-use Rattle.fa_solo_laws.proofs.DrivenDeeds.{copy_plain, dies_plain, order_plain, requests_plain, settles_goes}
-use Rattle.fa_solo_laws.specs.Driving.{IsDeedOf, IsForCopy, IsOfJob, IsPlain, image_on}
+use Rattle.fa_solo_laws.proofs.DrivenDeeds.{copy_plain, dies_plain, order_plain, read_plain, reads_goes, requests_plain, settles_goes}
+use Rattle.fa_solo_laws.specs.Driving.{IsDeedOf, IsForCopy, IsForRead, IsOfJob, IsPlain, image_on}
 use Rattle.fa_solo_laws.specs.Standing.{IsWorldOf}
 use Rattle.fa_mount_headers.specs.declared.judging.Standing.{Standing}
 use Rattle.fa_image.specs.Image.{ImageAnswer, ImageCall, ImageMeets, ImageState, IsImage}
@@ -27,7 +27,7 @@ use Rattle.fa_mount.specs.Standings.{AreApart}
 use Rattle.fa_mount_close_laws.specs.Drives.{AreHonest, AreImages, events_of}
 use Rattle.fa_solo_job.specs.Deeds.{Goes, IsForDies, IsForOrder, IsForRequests}
 use Rattle.fa_solo_job.specs.House.{House}
-use Rattle.fa_solo_job.specs.Orders.{Copies, CopiesPage, Deals, Orders, Rests}
+use Rattle.fa_solo_job.specs.Orders.{Copies, CopiesPage, Deals, Orders, Reads, Rests}
 use Rattle.fa_shared_lock.specs.Seats.{number_of}
 use Rattle.fa_solo_job.specs.Inner.{Does, Tidies, house_of}
 use Rattle.fa_solo_job.specs.declared.inner.Inner.{Inner}
@@ -64,8 +64,7 @@ requests_silent Fold may = tt
 requests_silent act may = absurd may
 
 order_silent : (act : Act) → IsForOrder act → WritesNothing (Event act)
-order_silent (Admit (page ∷ []) answer) may = tt
-order_silent (EndBatch batch answers) may = tt
+order_silent (Admit (page ∷ []) (Err refused)) may = tt
 order_silent (ReserveCopy page seq payload (Err refused)) may = tt
 order_silent (Take die seat None) may = tt
 order_silent (Window die rounds answer) may = tt
@@ -73,6 +72,15 @@ order_silent (Advance answer) may = tt
 order_silent (SpareIn die answer) may = tt
 order_silent Fold may = tt
 order_silent act may = absurd may
+
+read_silent : (act : Act) → IsForRead act → WritesNothing (Event act)
+read_silent (Admit (page ∷ []) answer) may = tt
+read_silent (EndBatch batch answers) may = tt
+read_silent (Take die seat None) may = tt
+read_silent (Window die rounds answer) may = tt
+read_silent (Advance answer) may = tt
+read_silent Fold may = tt
+read_silent act may = absurd may
 
 copy_silent : (act : Act) → IsForCopy act → WritesNothing (Event act)
 copy_silent (CommitCopy answer) may = tt
@@ -236,6 +244,10 @@ module _ {I : Type 0} (view : I → ImageState) (honest : I → Bool) (made : I 
   orders_fair old new Rests fair = fair
   orders_fair old new (Deals middle here before goes) fair =
       orders_fair old middle before (fair_before view honest made whole meets array dies seat laws.geometry apart IsForOrder order_plain middle new goes fair)
+  orders_fair old new (Reads middle here before reads) fair =
+      orders_fair old middle before
+      (fair_before view honest made whole meets array dies seat laws.geometry apart IsForRead read_plain middle new
+      (reads_goes made array dies seat middle new reads) fair)
   orders_fair old new (Copies middle copied here before copy settles) fair =
       let there = fair_before view honest made whole meets array dies seat laws.geometry apart IsForCopy copy_plain copied new
       (settles_goes made array dies seat copied new settles) fair in
@@ -250,6 +262,10 @@ module _ {I : Type 0} (view : I → ImageState) (honest : I → Bool) (made : I 
   orders_quiet old w reached stands new (Deals middle here before goes) fair =
       let one = orders_quiet old w reached stands middle before (fair_before view honest made whole meets array dies seat laws.geometry apart IsForOrder order_plain middle new goes fair) in
       quiet_on view dies w middle new one (deeds_quiet IsForOrder order_plain order_silent middle new goes fair one.last one.stands)
+  orders_quiet old w reached stands new (Reads middle here before reads) fair =
+      let goes = reads_goes made array dies seat middle new reads in
+      let one = orders_quiet old w reached stands middle before (fair_before view honest made whole meets array dies seat laws.geometry apart IsForRead read_plain middle new goes fair) in
+      quiet_on view dies w middle new one (deeds_quiet IsForRead read_plain read_silent middle new goes fair one.last one.stands)
   orders_quiet old w reached stands new (Copies middle copied here before copy settles) fair =
       let goes = settles_goes made array dies seat copied new settles in
       let there = fair_before view honest made whole meets array dies seat laws.geometry apart IsForCopy copy_plain copied new goes fair in
@@ -353,6 +369,42 @@ module _ {L M I A : Type 0} (view : I → ImageState) (honest : I → Bool) (mad
       of_quiet tidies.dies
       (orders_quiet view honest made whole meets old.locked.number old.dies.items (number_of old.seat) laws apart (house_of old) w of_old.reached
       its_stand (house_of new) tidies.orders (fair_here tidies.dies fair))
+
+-- A world that runs lead to, behind deeds that come before a request, and behind what is done for the array's order. A lost page may be
+-- copied meanwhile.
+module _ {L M I A : Type 0} (view : I → ImageState) (honest : I → Bool) (made : I → ImageCall → ImageAnswer → I → Type 0)
+    (whole : (image : I) → IsImage (view image))
+    (meets : (before after : I) (call : ImageCall) (answer : ImageAnswer) → made before call answer after
+    → ImageMeets (view before) (honest before) call answer (view after) (honest after)) (laws : Laws) (old new : Inner L M I A) (w : World)
+    (of_old : IsWorldOf view old w) (apart : AreApart old.dies.items) where
+  stands_on : Stands view old.dies.items (house_of old) w
+  stands_on = record { core = of_old.core; images = of_old.images; idle = of_old.idle }
+
+  leads_on : new.dies.items ≡ old.dies.items → Quiet view old.dies.items w (house_of new) → (v : World) × IsWorldOf view new v
+  leads_on dies q = (
+    q.last,
+    record {
+      reached = reached_on w of_old.reached q.happenings q.last q.run;
+      core = q.stands.core;
+      images = subst (λ (d : List Standing). AreImages view q.last (image_on d new.images.items)) (sym dies) q.stands.images;
+      idle = q.stands.idle;
+    },
+  )
+
+  pub leads_before : Does made IsForRequests old new → AreHonest honest (image_on new.dies.items new.images.items)
+      → (v : World) × IsWorldOf view new v
+  leads_before does fair =
+      leads_on does.dies
+      (deeds_quiet view honest made whole meets old.locked.number old.dies.items (number_of old.seat) laws apart IsForRequests requests_plain
+      requests_silent (house_of old) (house_of new) does.goes
+      (subst (λ (d : List Standing). AreHonest honest (image_on d new.images.items)) does.dies fair) w stands_on)
+
+  pub leads_behind : Tidies made old new → AreHonest honest (image_on new.dies.items new.images.items) → (v : World) × IsWorldOf view new v
+  leads_behind tidies fair =
+      leads_on tidies.dies
+      (orders_quiet view honest made whole meets old.locked.number old.dies.items (number_of old.seat) laws apart (house_of old) w of_old.reached
+      stands_on (house_of new) tidies.orders
+      (subst (λ (d : List Standing). AreHonest honest (image_on d new.images.items)) tidies.dies fair))
 
 -- what is kept is not written
 pub told : {L M I A : Type 0} (view : I → ImageState) (new : Inner L M I A) (w : World)

@@ -1,5 +1,5 @@
 -- What is reserved under a claim stays so until it is committed or given up, and is what is written then.
-use Rattle.fa_solo_laws.proofs.Changes.{Claims, claims_after, claims_are, with_marked, with_reservation}
+use Rattle.fa_solo_job.proofs.Changes.{Claims, claims_after, claims_are, with_marked, with_reservation}
 use Rattle.fa_solo_laws.specs.Claimed.{KeepsClaim}
 use Rattle.fa_laws.proofs.Claiming.{value_other, value_same}
 use Rattle.fa_laws.proofs.Endings.{HappensCall}

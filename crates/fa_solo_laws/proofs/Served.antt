@@ -6,7 +6,7 @@ use Rattle.fa_solo_laws.specs.Shown.{store_of}
 use Rattle.fa_solo_laws.proofs.Asking.{Went, asks_fair, went}
 use Rattle.fa_solo_laws.proofs.Led.{Stands}
 use Rattle.fa_solo_laws.specs.Driving.{image_on}
-use Rattle.fa_solo_laws.specs.Standing.{IsWorldOf, turns_in}
+use Rattle.fa_solo_laws.specs.Standing.{IsRequestGivenUp, IsWorldOf}
 use Rattle.fa_mount_headers.specs.declared.judging.Standing.{Standing}
 use Rattle.fa_image.specs.Image.{ImageAnswer, ImageCall, ImageMeets, ImageState, IsImage}
 use Rattle.fa_laws.proofs.Within.{GeometryLaw}
@@ -30,8 +30,9 @@ use Rattle.fa_solo.specs.Turns.{RunsOn, asking_of}
 use Rattle.fa_solo_job.specs.declared.inner.Inner.{Inner}
 use Rattle.fa_types.specs.Store.{Answer, Done, Gave, IsAnswer, Meets, Refused, Serves, Store}
 use Rattle.fa_types.specs.declared.blocks.BlockFault.{BlockFault}
-use Rattle.fa_types.specs.declared.blocks.BlockFault.TheVariants.{NoMemory as OutOfMemory, NoRoom}
-use Rattle.std.proofs.Common.{Bool, List, None, Option, Some, [], ap, arith, false, length, refl, subst, sym, true, ℕ, ◌*◌, ◌-◌, ◌^◌, ◌<◌, ◌≤◌, ◌∙◌, ◌≡◌}
+use Rattle.fa_types.specs.declared.blocks.BlockFault.TheVariants.{Lost, NoMemory as OutOfMemory, NoRoom}
+use Rattle.std.proofs.Common.{Bool, List, None, Option, Some, [], ap, arith, false, inl, inr, length, refl, subst, sym, true, ℕ}
+use Rattle.std.proofs.Common.{◌*◌, ◌-◌, ◌^◌, ◌<◌, ◌≤◌, ◌∙◌, ◌≡◌, ◌⊎◌}
 use Rattle.std.proofs.lemmas.Bool.{false≢true}
 use Rattle.std.proofs.lemmas.Option.{none-some, same_Some}
 
@@ -52,6 +53,22 @@ pub record RequestLaws (A : Type 0) : Type 0 where
 pub ended_at : {A : Type 0} (stage : Stage A) (end : Option BlockFault) → ended stage ≡ Some end → stage ≡ Ended end
 ended_at (Ended fault) end is = ap Ended (same_Some fault end is)
 ended_at stage end is = absurd (none-some end is)
+
+-- A refusal whose cause is no want of turns is one behind any number of them.
+refused_or : {A : Type 0} (fault : BlockFault) (turns : ℕ) (op : OpView A) → IsRefused fault turns op
+    → IsRefused fault 0 op ⊎ ((2 ^ 64 - 1 ≤ turns) × (Refused fault ≡ Refused Lost))
+refused_or fault turns op (EndedSo is) = inl (EndedSo is)
+refused_or fault turns op (OfOtherLength is fill flush end other) = inl (OfOtherLength is fill flush end other)
+refused_or fault turns op (WithoutRoom is fill end) = inl (WithoutRoom is fill end)
+refused_or fault turns op (WithoutMemory is fill flush end) = inl (WithoutMemory is fill flush end)
+refused_or fault turns op (Endless is most) = inr (most, ap Refused is)
+
+-- The same of how a request ends.
+ends_or : {A : Type 0} (answer : Answer) (turns : ℕ) (op : OpView A) → EndsBy answer turns op
+    → EndsBy answer 0 op ⊎ ((2 ^ 64 - 1 ≤ turns) × (answer ≡ Refused Lost))
+ends_or (Gave bytes) turns op end = inl end
+ends_or Done turns op end = inl end
+ends_or (Refused fault) turns op end = refused_or fault turns op end
 
 -- what a request that has ended is answered
 by_answer : (request : Request) (bytes given : List ℕ) (before after : Store) (answer : Answer) → IsAnswer (call_of request bytes) answer
@@ -122,7 +139,7 @@ module _ {L M I A : Type 0} (view : I → ImageState) (honest : I → Bool) (mad
 
   -- how a request that went to its end serves
   module _ (op next : OpView A) (task : task_in op ≡ task_of size request) (stage : stage_of op ≡ beginning (task_of size request))
-      (none : answer_of op ≡ []) (runs : RunsOn made bytes old op new next) (few : runs.turns < 2 ^ 64 - 1) where
+      (none : answer_of op ≡ []) (runs : RunsOn made bytes old op new next) where
     stands : Stands view old.dies.items (house_of old) w
     stands = record { core = of_old.core; images = of_old.images; idle = of_old.idle }
 
@@ -164,7 +181,7 @@ module _ {L M I A : Type 0} (view : I → ImageState) (honest : I → Bool) (mad
     gives_so end is =
         (laws.meets request (number_of old.seat) bytes before after one.turns end begun has asked (ended_at (stage_of next) end is)).gives
 
-    refused : (fault : BlockFault) → IsRefused fault runs.turns next
+    refused : (fault : BlockFault) → IsRefused fault 0 next
         → Serves (store_of w) (call_of request bytes) (Refused fault) (store_of one.last)
     refused fault (EndedSo is) = serves_so (Some fault) is
     refused fault (OfOtherLength is fill flush end other) =
@@ -175,33 +192,61 @@ module _ {L M I A : Type 0} (view : I → ImageState) (honest : I → Bool) (mad
     refused fault (WithoutMemory is fill flush end) =
         absurd (no_memory request size bytes (subst (λ (t : Task). t.fill ≡ None) its_task fill)
         (subst (λ (t : Task). t.flush ≡ true) its_task flush) (gives_so (Some OutOfMemory) end))
-    refused fault (Endless is most) = absurd (omega (arith, most, few))
+    refused fault (Endless is most) = absurd (omega (arith, most))
 
-    serves_by : EndsBy answer runs.turns next → Serves (store_of w) (call_of request bytes) answer (store_of one.last)
+    serves_by : EndsBy answer 0 next → Serves (store_of w) (call_of request bytes) answer (store_of one.last)
     serves_by end =
         by_answer request bytes (answer_of next) (store_of w) (store_of one.last) answer fits
-        (λ is. serves_so None (subst (λ (a : Answer). EndsBy a runs.turns next) is end))
-        (λ it is. let gave = subst (λ (a : Answer). EndsBy a runs.turns next) is end in (gave.1, serves_so None gave.0))
-        (λ fault is. refused fault (subst (λ (a : Answer). EndsBy a runs.turns next) is end))
+        (λ is. serves_so None (subst (λ (a : Answer). EndsBy a 0 next) is end))
+        (λ it is. let gave = subst (λ (a : Answer). EndsBy a 0 next) is end in (gave.1, serves_so None gave.0))
+        (λ fault is. refused fault (subst (λ (a : Answer). EndsBy a 0 next) is end))
 
   pub request_served : (makes : MakesRequest made (task_of size request) bytes answer old new)
-      → turns_in made (task_of size request) bytes answer old new makes < 2 ^ 64 - 1
-      → (v : World) × IsWorldOf view new v × Serves (store_of w) (call_of request bytes) answer (store_of v)
+      → (v : World) × IsWorldOf view new v × (Serves (store_of w) (call_of request bytes) answer (store_of v)
+      ⊎ IsRequestGivenUp made (task_of size request) bytes answer old new makes)
       × (w.core.copying ≡ None → v.core.copying ≡ None) × (v.core.page_map.geometry ≡ w.core.page_map.geometry)
-  request_served (NoMemory is some same) few = (
+  request_served (NoMemory is some same) = (
     w,
     subst (λ (r : Inner L M I A). IsWorldOf view r w) (sym same) of_old,
-    subst (λ (a : Answer). Serves (store_of w) (call_of request bytes) a (store_of w)) (sym is) (unmade request size bytes (store_of w) some),
+    inl (subst (λ (a : Answer). Serves (store_of w) (call_of request bytes) a (store_of w)) (sym is) (unmade request size bytes (store_of w) some)),
     λ free. free,
     refl,
   )
-  request_served (Made op next task stage none runs end) few = (
-    (one op next task stage none runs few).last,
-    world_of op next task stage none runs few,
-    serves_by op next task stage none runs few end,
-    (one op next task stage none runs few).free,
-    (one op next task stage none runs few).shape,
+  request_served (Made op next task stage none runs end) = (
+    (one op next task stage none runs).last,
+    world_of op next task stage none runs,
+    elim (ends_or answer runs.turns next end) [
+      | inl ends ↦ inl (serves_by op next task stage none runs ends)
+      | inr given_up ↦ inr given_up
+    ],
+    (one op next task stage none runs).free,
+    (one op next task stage none runs).shape,
   )
+
+-- A world that runs lead to, behind a request, whatever became of it. A lost page may be copied meanwhile.
+pub request_leads : {L M I A : Type 0} (view : I → ImageState) (honest : I → Bool) (made : I → ImageCall → ImageAnswer → I → Type 0)
+    (whole : (image : I) → IsImage (view image))
+    (meets : (before after : I) (call : ImageCall) (answer : ImageAnswer) → made before call answer after
+    → ImageMeets (view before) (honest before) call answer (view after) (honest after)) (law : GeometryLaw) (laws : RequestLaws A)
+    (old new : Inner L M I A) (task : Task) (bytes : List ℕ) (answer : Answer) (w : World) → IsWorldOf view old w → AreApart old.dies.items
+    → AreHonest honest (image_on new.dies.items new.images.items) → MakesRequest made task bytes answer old new
+    → (v : World) × IsWorldOf view new v
+request_leads {L} {M} {I} {A} view honest made whole meets law laws old new task bytes answer w of_old apart fair (NoMemory is some same) =
+    (w, subst (λ (r : Inner L M I A). IsWorldOf view r w) (sym same) of_old)
+request_leads view honest made whole meets law laws old new task bytes answer w of_old apart fair (Made op next same_task stage none runs end) =
+    let one = went view honest made whole meets old.locked.number old.dies.items (number_of old.seat) law apart (task_in op) bytes
+    (asking_of old op) runs.turns (asking_of new next) runs.asks w
+    (record { core = of_old.core; images = of_old.images; idle = of_old.idle }) refl
+    (subst (λ (d : List Standing). AreHonest honest (image_on d new.images.items)) runs.dies fair) in (
+      one.last,
+      record {
+        reached = laws.reached (task_in op) (number_of old.seat) bytes (record { world = w; stage = stage_of op; answer = answer_of op })
+            (record { world = one.last; stage = stage_of next; answer = answer_of next }) one.turns of_old.reached one.asked;
+        core = one.stands.core;
+        images = subst (λ (d : List Standing). AreImages view one.last (image_on d new.images.items)) (sym runs.dies) one.stands.images;
+        idle = one.stands.idle;
+      },
+    )
 
 -- images that return what was written at a request's end did so at its beginning
 pub request_fair : {L M I A : Type 0} (view : I → ImageState) (honest : I → Bool) (made : I → ImageCall → ImageAnswer → I → Type 0)

@@ -1,5 +1,5 @@
 -- Each page of the plain array has as many bytes as the array's pages have, in each world that runs lead to.
-use Rattle.fa_solo_laws.proofs.Changes.{claims_after, claims_are, reservation_for, with_marked}
+use Rattle.fa_solo_job.proofs.Changes.{claims_after, claims_are, reservation_for, with_marked}
 use Rattle.fa_solo_laws.proofs.Due.{happens_plain}
 use Rattle.fa_solo_laws.proofs.Reserved.{kept_payload}
 use Rattle.fa_solo_laws.proofs.PutBytes.{put_sized}

@@ -1,5 +1,5 @@
 -- What a batch has for its pages was told with the numbers that they have, while nothing is written.
-use Rattle.fa_solo_laws.proofs.Changes.{Batches, batches_after, batches_are, with_ended, with_one_more, with_read}
+use Rattle.fa_solo_job.proofs.Changes.{Batches, batches_after, batches_are, with_ended, with_one_more, with_read}
 use Rattle.fa_solo_laws.proofs.Given.{at_work, paired, unbegun}
 use Rattle.fa_solo_laws.specs.Unwritten.{WritesNothing}
 use Rattle.fa_laws.proofs.Admitting.{one_value_other, one_value_same}

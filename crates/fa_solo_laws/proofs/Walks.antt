@@ -1,11 +1,11 @@
 -- What becomes of a die in a request of the store of one thread, and in what is done for the array's order.
 use Rattle.fa_solo_laws.proofs.Going.{Laws}
 use Rattle.fa_solo_laws.proofs.Asking.{meanwhile_plain}
-use Rattle.fa_solo_laws.proofs.DrivenDeeds.{copy_plain, dies_plain, order_plain, settles_goes}
+use Rattle.fa_solo_laws.proofs.DrivenDeeds.{copy_plain, dies_plain, order_plain, read_plain, reads_goes, settles_goes}
 use Rattle.fa_solo_laws.proofs.Fates.{DieLaws, Fate, IsNoDone, event_fate, fate_on, same_fate}
 use Rattle.fa_solo_laws.proofs.Led.{fair_before}
 use Rattle.fa_solo_laws.proofs.Worlds.{HasWorld, LeavesLaw, asks_world, copies_world, event_world, goes_fate, goes_world}
-use Rattle.fa_solo_laws.specs.Driving.{IsForCopy, IsPlain, image_on}
+use Rattle.fa_solo_laws.specs.Driving.{IsForCopy, IsForRead, IsPlain, image_on}
 use Rattle.fa_mount_headers.specs.declared.judging.Standing.{Standing}
 use Rattle.fa_image.specs.Image.{ImageAnswer, ImageCall, ImageMeets, ImageState, IsImage}
 use Rattle.fa_machine.specs.Cells.{Outcome}
@@ -22,7 +22,7 @@ use Rattle.fa_shared_lock.specs.Seats.{number_of}
 use Rattle.fa_shared_lock.specs.declared.seat.Seat.{Seat}
 use Rattle.fa_solo_job.specs.Deeds.{Goes, IsForDies, IsForOrder, IsMeanwhile}
 use Rattle.fa_solo_job.specs.House.{House}
-use Rattle.fa_solo_job.specs.Orders.{Copies, CopiesPage, Deals, Orders, Rests}
+use Rattle.fa_solo_job.specs.Orders.{Copies, CopiesPage, Deals, Orders, Reads, Rests}
 use Rattle.fa_solo.specs.Turns.{Asking, Asks, Begins, PassesTime, Readies, Refuses, Turns, Waits}
 use Rattle.std.proofs.Common.{Bool, List, Ok, [], refl, subst, sym, ℕ, ◌++◌, ◌∙◌, ◌∷◌, ◌≡◌}
 
@@ -132,6 +132,13 @@ module _ {I : Type 0} (view : I → ImageState) (honest : I → Bool) (made : I 
       let led = orders_fate old middle h before then in (
         fate_on view dies die old middle new led.0 (deeds_fate IsForOrder order_plain middle new goes fair led.1),
         goes_world view honest made whole meets array dies seat asks.geometry apart IsForOrder order_plain middle new goes fair led.1,
+      )
+  orders_fate old new h (Reads middle here before reads) fair =
+      let goes = reads_goes made array dies seat middle new reads in
+      let then = fair_before view honest made whole meets array dies seat asks.geometry apart IsForRead read_plain middle new goes fair in
+      let led = orders_fate old middle h before then in (
+        fate_on view dies die old middle new led.0 (deeds_fate IsForRead read_plain middle new goes fair led.1),
+        goes_world view honest made whole meets array dies seat asks.geometry apart IsForRead read_plain middle new goes fair led.1,
       )
   orders_fate old new h (Copies middle copied here before copy settles) fair =
       let goes = settles_goes made array dies seat copied new settles in

@@ -6,12 +6,12 @@ use Rattle.fa_solo_laws.proofs.Around.{IsKept, kept_same, serves_around}
 use Rattle.fa_solo_laws.proofs.Behind.{IsBehind, StepLaws, cause_behind, order_behind, orders_free}
 use Rattle.fa_solo_laws.proofs.DrivenDeeds.{requests_plain}
 use Rattle.fa_solo_laws.proofs.Led.{fair_before}
-use Rattle.fa_solo_laws.proofs.Quiet.{begun_inner, behind_inner, orders_fair}
+use Rattle.fa_solo_laws.proofs.Quiet.{begun_inner, behind_inner, leads_before, leads_behind, orders_fair}
 use Rattle.fa_solo_laws.proofs.Going.{Laws}
 use Rattle.fa_solo_job.specs.Deeds.{IsForRequests}
-use Rattle.fa_solo_laws.proofs.Served.{RequestLaws, request_fair, request_served}
+use Rattle.fa_solo_laws.proofs.Served.{RequestLaws, request_fair, request_leads, request_served}
 use Rattle.fa_solo_laws.specs.Driving.{image_on}
-use Rattle.fa_solo_laws.specs.Standing.{IsTimely, IsWorldOf, turns_in}
+use Rattle.fa_solo_laws.specs.Standing.{IsCopyGivenUp, IsRequestGivenUp, IsWorldOf}
 use Rattle.fa_mount_headers.specs.declared.judging.Standing.{Standing}
 use Rattle.fa_image.specs.Image.{ImageAnswer, ImageCall, ImageMeets, ImageState, IsImage}
 use Rattle.fa_machine.specs.State.{Core}
@@ -29,7 +29,7 @@ use Rattle.fa_types.specs.Store.{Answer, Done, Gave, HasCause, IsAnswer, Meets, 
 use Rattle.fa_types.specs.declared.blocks.BlockFault.{BlockFault}
 use Rattle.fa_types.specs.declared.blocks.BlockFault.TheVariants.{Lost, NoMemory as OutOfMemory, NoRoom, Spent}
 use Rattle.fa_types.specs.declared.geometry.Geometry.{Geometry}
-use Rattle.std.proofs.Common.{Bool, List, None, ap, inl, inr, refl, subst, sym, ℕ, ◌*◌, ◌-◌, ◌^◌, ◌<◌, ◌∙◌, ◌≡◌, ◌≤◌, ◌⊎◌}
+use Rattle.std.proofs.Common.{Bool, List, None, ap, inl, inr, refl, subst, sym, ℕ, ◌*◌, ◌∙◌, ◌≡◌, ◌≤◌, ◌⊎◌}
 use Rattle.std.proofs.lemmas.Option.{none-some}
 
 calm_free : (w : World) → w.core.copying ≡ None → IsCalm w
@@ -93,23 +93,25 @@ module _ {L M I A : Type 0} (view : I → ImageState) (honest : I → Bool) (mad
   abbrev shape : Geometry
   shape = w.core.page_map.geometry
 
-  -- a request with fewer turns than it is given up behind, by the array's shape
+  -- a request, by the array's shape
   abbrev Asked : Inner L M I A → Inner L M I A → Geometry → Type 0
-  Asked begun done g =
-      (makes : MakesRequest made (task_of g.page_bytes request) bytes answer begun done)
-      × (turns_in made (task_of g.page_bytes request) bytes answer begun done makes < 2 ^ 64 - 1)
+  Asked begun done g = MakesRequest made (task_of g.page_bytes request) bytes answer begun done
+
+  abbrev GivenUp : (begun done : Inner L M I A) → (g : Geometry) → Asked begun done g → Type 0
+  GivenUp begun done g makes = IsRequestGivenUp made (task_of g.page_bytes request) bytes answer begun done makes
 
   abbrev task : Task
   task = task_of shape.page_bytes request
 
-  -- a call that meets the store
-  pub record Met (new : Inner L M I A) : Type 0 where
+  -- a call that meets the store, or was given up
+  pub record Met (new : Inner L M I A) (call : MakesWhole made task bytes answer old new) : Type 0 where
     pub last : World
     pub of_new : IsWorldOf view new last
     pub meets_it : Meets (store_of w) (call_of request bytes) answer (store_of last)
-    pub free_new : new.locked.core.copying ≡ None
+        ⊎ IsRequestGivenUp made task bytes answer call.begun call.done call.request
+    pub free_new : (new.locked.core.copying ≡ None) ⊎ IsCopyGivenUp made task bytes answer old new call
 
-  module _ (new : Inner L M I A) (call : MakesWhole made task bytes answer old new) (timely : IsTimely made task bytes answer old new call)
+  module _ (new : Inner L M I A) (call : MakesWhole made task bytes answer old new)
       (fair : AreHonest honest (image_on new.dies.items new.images.items)) where
     free_first : w.core.copying ≡ None
     free_first = ap (λ (c : Core). c.copying) of_old.core ∙ free
@@ -125,14 +127,20 @@ module _ {L M I A : Type 0} (view : I → ImageState) (honest : I → Bool) (mad
     begun = begun_inner view honest made whole meets laws.asks old call.begun w of_old (calm_free w free_first) apart call.before
         (fair_begun view honest made whole meets laws.asks task bytes answer old new call apart fair) free_first
 
-    asked : Asked call.begun call.done begun.0.core.page_map.geometry
-    asked = subst (λ (g : Geometry). Asked call.begun call.done g) (sym begun.4) (call.request, timely.0)
+    -- the request, by the shape of the array as it begins
+    abbrev Its : Geometry → Type 0
+    Its g = (makes : Asked call.begun call.done g) × (GivenUp call.begun call.done g makes
+        → IsRequestGivenUp made task bytes answer call.begun call.done call.request)
 
-    done : (v : World) × IsWorldOf view call.done v × Serves (store_of begun.0) (call_of request bytes) answer (store_of v)
+    asked : Its begun.0.core.page_map.geometry
+    asked = subst Its (sym begun.4) (call.request, λ given_up. given_up)
+
+    done : (v : World) × IsWorldOf view call.done v × (Serves (store_of begun.0) (call_of request bytes) answer (store_of v)
+        ⊎ GivenUp call.begun call.done begun.0.core.page_map.geometry asked.0)
         × (begun.0.core.copying ≡ None → v.core.copying ≡ None) × (v.core.page_map.geometry ≡ begun.0.core.page_map.geometry)
     done = request_served view honest made whole meets laws.asks.geometry its call.begun call.done request bytes answer begun.0 begun.1
         (calm_free begun.0 begun.3) apart_at
-        (subst (λ (g : Geometry). end_of request ≤ g.pages * g.page_bytes) (sym begun.4) inside) has fits fair_at asked.0 asked.1
+        (subst (λ (g : Geometry). end_of request ≤ g.pages * g.page_bytes) (sym begun.4) inside) has fits fair_at asked.0
 
     free_done : done.0.core.copying ≡ None
     free_done = done.3 begun.3
@@ -140,23 +148,26 @@ module _ {L M I A : Type 0} (view : I → ImageState) (honest : I → Bool) (mad
     met_by : (v : World) → IsWorldOf view new v → IsKept (store_of done.0) (store_of v)
         → ((fault : BlockFault) → answer ≡ Refused fault → (offset len : ℕ) → HasCause (store_of done.0) offset len fault
         → HasCause (store_of v) offset len fault)
-        → Met new
+        → Met new call
     met_by v of_new kept causes = record {
       last = v;
       of_new = of_new;
-      meets_it = record {
-        size = kept.size ∙ ap (λ (g : Geometry). g.pages * g.page_bytes) (done.4 ∙ begun.4);
-        page_bytes = kept.page_bytes ∙ ap (λ (g : Geometry). g.page_bytes) (done.4 ∙ begun.4);
-        alone = refl;
-        gives = fits;
-        served = λ alone. serves_around (store_of w) (store_of begun.0) (store_of done.0) (store_of v) begun.2 kept (call_of request bytes) answer causes
-            done.2;
-      };
+      meets_it = elim done.2 [
+        | inl serves ↦ inl (record {
+          size = kept.size ∙ ap (λ (g : Geometry). g.pages * g.page_bytes) (done.4 ∙ begun.4);
+          page_bytes = kept.page_bytes ∙ ap (λ (g : Geometry). g.page_bytes) (done.4 ∙ begun.4);
+          alone = refl;
+          gives = fits;
+          served = λ alone. serves_around (store_of w) (store_of begun.0) (store_of done.0) (store_of v) begun.2 kept (call_of request bytes) answer causes
+              serves;
+        })
+        | inr given_up ↦ inr (asked.1 given_up)
+      ];
       free_new = orders_free made call.done.locked.number call.done.dies.items (number_of call.done.seat) (house_of call.done) (house_of new)
-          call.behind.orders timely.1 (ap (λ (c : Core). c.copying) (sym done.1.core) ∙ free_done);
+          call.behind.orders (ap (λ (c : Core). c.copying) (sym done.1.core) ∙ free_done);
     }
 
-    pub call_meets : Met new
+    pub call_meets : Met new call
     call_meets = elim (full_or answer) [
       | inl full ↦
           met_by done.0 (subst (λ (r : Inner L M I A). IsWorldOf view r done.0) (sym (call.full full)) done.1) (kept_same (store_of done.0))
@@ -172,3 +183,20 @@ module _ {L M I A : Type 0} (view : I → ImageState) (honest : I → Bool) (mad
           call.behind.orders)))
           fault (λ room. other (is ∙ ap Refused room)) offset len)
     ]
+
+-- A world that runs lead to, behind a whole call, whatever became of it.
+pub call_leads : {L M I A : Type 0} (view : I → ImageState) (honest : I → Bool) (made : I → ImageCall → ImageAnswer → I → Type 0)
+    (whole : (image : I) → IsImage (view image))
+    (meets : (before after : I) (call : ImageCall) (answer : ImageAnswer) → made before call answer after
+    → ImageMeets (view before) (honest before) call answer (view after) (honest after)) (laws : Laws) (its : RequestLaws A) (task : Task)
+    (bytes : List ℕ) (answer : Answer) (old new : Inner L M I A) (call : MakesWhole made task bytes answer old new) (w : World)
+    → IsWorldOf view old w → AreApart old.dies.items → AreHonest honest (image_on new.dies.items new.images.items)
+    → (v : World) × IsWorldOf view new v
+call_leads view honest made whole meets laws its task bytes answer old new call w of_old apart fair =
+    let begun = leads_before view honest made whole meets laws old call.begun w of_old apart call.before
+    (fair_begun view honest made whole meets laws task bytes answer old new call apart fair) in
+    let done = request_leads view honest made whole meets laws.geometry its call.begun call.done task bytes answer begun.0 begun.1
+    (apart_begun view honest made whole meets laws task bytes answer old new call apart fair)
+    (fair_done view honest made whole meets laws task bytes answer old new call apart fair) call.request in
+    leads_behind view honest made whole meets laws call.done new done.0 done.1
+    (apart_done view honest made whole meets laws task bytes answer old new call apart fair) call.behind fair

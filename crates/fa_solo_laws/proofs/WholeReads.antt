@@ -18,8 +18,10 @@ use Rattle.fa_shared_steps.specs.declared.request.Task.{Task}
 use Rattle.fa_shared_steps.specs.declared.stage.Purpose.TheVariants.{Answer as ForAnswer}
 use Rattle.fa_shared_steps.specs.declared.stage.Stage.{Stage}
 use Rattle.fa_shared_steps.specs.declared.stage.Stage.TheVariants.{Asking, Ended, Listing, Reading, Reserving, Sorting}
-use Rattle.fa_solo_laws.proofs.ClosedRounds.{IsQuiet, Keeps, keeps_same, no_end, no_step_waits, nothing_waits, quiet_fold, quiet_job, quiet_no_job}
+use Rattle.fa_solo_laws.proofs.ClosedRounds.{IsQuiet, Keeps, keeps_same, no_step_waits, nothing_waits, quiet_fold, quiet_job, quiet_no_job}
 use Rattle.fa_solo_laws.proofs.ClosedRounds.{quiet_still}
+use Rattle.fa_solo_laws.proofs.DrivenDeeds.{reads_goes}
+use Rattle.fa_solo_laws.specs.Driving.{IsForRead}
 use Rattle.fa_solo_laws.proofs.Epochs.{From, epoch_rises, from_step}
 use Rattle.fa_solo_laws.proofs.Stages.{ArePlannedInTime, At, IsBefore, IsBehind, before_still, behind_still, ends_early, ready_at, turn_at}
 use Rattle.fa_solo_laws.proofs.Waiting.{IsRead, read_advance, read_fold, read_job_ends, read_no_job}
@@ -28,7 +30,7 @@ use Rattle.fa_shared_lock.specs.Seats.{number_of}
 use Rattle.fa_solo.specs.Calls.{Made, MakesRequest, MakesWhole, NoMemory}
 use Rattle.fa_solo_job.specs.Deeds.{ForReads, ForStep, Goes, IsDue, IsForOrder, IsForRequests, IsMeanwhile, Makes, MakesJob, Runs, Stays}
 use Rattle.fa_solo_job.specs.House.{House}
-use Rattle.fa_solo_job.specs.Orders.{Commits, Copies, CopiesPage, Deals, Endless, IsOver, Looks, NoLook, OneMore, Orders, Rests, Settles}
+use Rattle.fa_solo_job.specs.Orders.{Commits, Copies, CopiesPage, Deals, Endless, IsOver, Looks, NoLook, OneMore, Orders, Reads, Rests, Settles, looks_in}
 use Rattle.fa_solo_job.specs.Inner.{house_of}
 use Rattle.fa_solo.specs.Turns.{Asking as AskingHouse, Asks, Begins, Readies, Refuses, Turns, Waits, asking_of}
 use Rattle.fa_solo_job.specs.declared.inner.Inner.{Inner}
@@ -112,11 +114,9 @@ module _ {I : Type 0} (made : I → ImageCall → ImageAnswer → I → Type 0) 
           absurd (let up = ap (λ (c : Core). c.epoch) step.does.1 in omega (arith, up, same))
       order_event old new (SpareIn die (Err NotSpare)) q step may due same =
           stable.still old new q (quiet_still m copies old new (stable.quiet old q) step.does.1)
-      order_event old new (Admit (page ∷ []) answer) q step may due same =
+      order_event old new (Admit (page ∷ []) (Err refused)) q step may due same =
           let quiet = stable.quiet old q in
           absurd (false≢true (sym (no_thin page) ∙ sym (λ i. is_thin (quiet.copies_are i) (quiet.map i) page) ∙ due))
-      order_event old new (EndBatch batch answers) q step may due same =
-          absurd (no_end m copies old new batch answers (stable.quiet old q) step)
       order_event old new (ReserveCopy page seq payload (Err refused)) q step may due same =
           stable.still old new q (quiet_still m copies old new (stable.quiet old q) step.does.1)
       order_event old new act q step may due same = absurd may
@@ -148,6 +148,16 @@ module _ {I : Type 0} (made : I → ImageCall → ImageAnswer → I → Type 0) 
       order_from epoch old new from Rests = from
       order_from epoch old new from (Deals middle here before goes) =
           order_goes IsForOrder (λ act may. may) epoch middle new (order_from epoch old middle from before) goes
+      order_from epoch old new from (Reads middle here before reads) =
+          let was = order_from epoch old middle from before in
+          let one = goes_up IsForRead middle new (reads_goes made array dies seat middle new reads) in
+          let low = was.0 in (
+            omega (arith, one, low),
+            λ is.
+                let quiet = stable.quiet middle.core (was.1 (omega (arith, one, low, is))) in
+                absurd (false≢true (sym (no_thin reads.page)
+                ∙ sym (λ i. is_thin (quiet.copies_are i) (quiet.map i) reads.page) ∙ reads.due)),
+          )
       order_from epoch old new from (Copies middle copied here before copies_page settles) =
           let was = order_from epoch old middle from before in
           let one = copies_up middle copied copies_page in
@@ -159,6 +169,29 @@ module _ {I : Type 0} (made : I → ImageCall → ImageAnswer → I → Type 0) 
                 absurd (false≢true (sym (no_thin copies_page.page)
                 ∙ sym (λ i. is_thin (quiet.copies_are i) (quiet.map i) copies_page.page) ∙ copies_page.due)),
           )
+
+      -- no copy is made, where the epoch stays
+      pub unlooked : (epoch : ℕ) (old new : House I) → From epoch Q old.core → (orders : Orders made array dies seat old new) → new.core.epoch ≡ epoch
+          → looks_in made array dies seat old new orders ≡ 0
+      unlooked epoch old new from Rests same = refl
+      unlooked epoch old new from (Deals middle here before goes) same =
+          let was = order_from epoch old middle from before in
+          let low = was.0 in
+          let one = goes_up IsForOrder middle new goes in
+          unlooked epoch old middle from before (omega (arith, low, one, same))
+      unlooked epoch old new from (Reads middle here before reads) same =
+          let was = order_from epoch old middle from before in
+          let low = was.0 in
+          let one = goes_up IsForRead middle new (reads_goes made array dies seat middle new reads) in
+          unlooked epoch old middle from before (omega (arith, low, one, same))
+      unlooked epoch old new from (Copies middle copied here before copies_page settles) same =
+          let was = order_from epoch old middle from before in
+          let low = was.0 in
+          let one = copies_up middle copied copies_page in
+          let two = settles_up copied new settles in
+          let quiet = stable.quiet middle.core (was.1 (omega (arith, one, two, low, same))) in
+          absurd (false≢true (sym (no_thin copies_page.page)
+          ∙ sym (λ i. is_thin (quiet.copies_are i) (quiet.map i) copies_page.page) ∙ copies_page.due))
 
     module _ (batch : ℕ) (in_time : ℕ → Type 0) where
       read_event : (old new : Core) (act : Act) → IsRead m copies batch in_time old → Step old act new → IsForRequests act → IsDue old act
@@ -301,20 +334,30 @@ module _ {L M I A : Type 0} (made : I → ImageCall → ImageAnswer → I → Ty
         runs.asks start in
         (last.0, λ same. ended_behind A m first.copies in_time first range done.locked.core (stage_of next) end.0 (last.1 same))
 
+    begun_at : (whole : MakesWhole made task [] (Gave given) old new) → From first.epoch (IsBefore m first.copies first) whole.begun.locked.core
+    begun_at whole =
+        order_goes made old.locked.number old.dies.items (number_of old.seat) m first.copies no_window no_thin (IsBefore m first.copies first)
+        (record { quiet = λ core before. before.quiet; still = before_still m first.copies first })
+        IsForRequests requests_order first.epoch (house_of old) (house_of whole.begun)
+        (omega arith, λ is. record { quiet = quiet; keeps = keeps_same first }) whole.before.goes
+
+    done_at : (whole : MakesWhole made task [] (Gave given) old new) → From first.epoch (IsBehind m first.copies in_time) whole.done.locked.core
+    done_at whole = request_at first.epoch whole.begun whole.done (begun_at whole) whole.request
+
     pub whole_behind : MakesWhole made task [] (Gave given) old new → new.locked.core.epoch ≡ first.epoch
         → IsBehind m first.copies in_time new.locked.core
     whole_behind whole same =
-        let epoch : ℕ = first.epoch in
-        let start : From epoch (IsBefore m first.copies first) first =
-        (omega arith, λ is. record { quiet = quiet; keeps = keeps_same first }) in
-        let begun = order_goes made old.locked.number old.dies.items (number_of old.seat) m first.copies no_window no_thin
-        (IsBefore m first.copies first)
-        (record { quiet = λ core before. before.quiet; still = before_still m first.copies first })
-        IsForRequests requests_order epoch (house_of old) (house_of whole.begun) start whole.before.goes in
-        let done = request_at epoch whole.begun whole.done begun whole.request in
-        let last = order_from made whole.done.locked.number whole.done.dies.items
-        (number_of whole.done.seat) m first.copies no_window no_thin
+        (order_from made whole.done.locked.number whole.done.dies.items (number_of whole.done.seat) m first.copies no_window no_thin
         (IsBehind m first.copies in_time)
         (record { quiet = λ core behind. behind.quiet; still = behind_still m first.copies in_time })
-        epoch (house_of whole.done) (house_of new) done whole.behind.orders in
-        last.1 same
+        first.epoch (house_of whole.done) (house_of new) (done_at whole) whole.behind.orders).1 same
+
+    -- no copy of a page is made behind it
+    pub whole_unlooked : (whole : MakesWhole made task [] (Gave given) old new) → new.locked.core.epoch ≡ first.epoch
+        → looks_in made whole.done.locked.number whole.done.dies.items (number_of whole.done.seat) (house_of whole.done) (house_of new) whole.behind.orders
+        ≡ 0
+    whole_unlooked whole same =
+        unlooked made whole.done.locked.number whole.done.dies.items (number_of whole.done.seat) m first.copies no_window no_thin
+        (IsBehind m first.copies in_time)
+        (record { quiet = λ core behind. behind.quiet; still = behind_still m first.copies in_time })
+        first.epoch (house_of whole.done) (house_of new) (done_at whole) whole.behind.orders same

@@ -1,5 +1,5 @@
 -- What becomes of a write as its request makes an event.
-use Rattle.fa_solo_laws.proofs.Changes.{claims_after, claims_are, reservation_for}
+use Rattle.fa_solo_job.proofs.Changes.{claims_after, claims_are, reservation_for}
 use Rattle.fa_solo_laws.proofs.Due.{happens_plain}
 use Rattle.fa_solo_laws.proofs.Given.{Gives, fresh_gives, run_gives}
 use Rattle.fa_solo_laws.proofs.Listed.{IsOpen, admitted_open, open_gives, run_open}

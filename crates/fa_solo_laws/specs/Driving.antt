@@ -1,7 +1,7 @@
 -- How what the store of one thread has stands for what drives an array, and which of its events are like any other.
-use Rattle.std.specs.Prelude.{◌≡◌, ◌⊎◌, ℕ, List, Option, Some, None, Ok, option_and_then, slice_get}
+use Rattle.std.specs.Prelude.{◌≡◌, ◌⊎◌, ℕ, List, [], ◌∷◌, Option, Some, None, Ok, option_and_then, slice_get}
 use Rattle.fa_mount_headers.specs.declared.judging.Standing.{Standing}
-use Rattle.fa_machine.specs.Step.{Act, CommitCopy, Done, ReserveCopy, Take}
+use Rattle.fa_machine.specs.Step.{Act, Admit, CommitCopy, Done, EndBatch, ReserveCopy, Take}
 use Rattle.fa_mount.specs.Standings.{place_on}
 use Rattle.fa_mount_close_laws.specs.Drives.{Driven}
 use Rattle.fa_solo_job.specs.Deeds.{IsForDies}
@@ -23,6 +23,12 @@ IsPlain (Take die seat (Some job)) = ⊥
 IsPlain (Done die outcome) = ⊥
 IsPlain (ReserveCopy page seq payload (Ok done)) = ⊥
 IsPlain act = Unit {0}
+
+-- an event that is made while a thin page is read by a batch of its own
+abbrev pub IsForRead : Act → Type 0
+IsForRead (Admit (page ∷ []) answer) = Unit {0}
+IsForRead (EndBatch batch answers) = Unit {0}
+IsForRead act = IsForDies act
 
 -- an event that is made while a copy is seen through
 abbrev pub IsForCopy : Act → Type 0

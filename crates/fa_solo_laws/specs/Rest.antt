@@ -14,10 +14,12 @@ use Rattle.fa_shared_steps.specs.Ranges.{first_page, past_page}
 use Rattle.fa_shared_steps.specs.Tasks.{bytes_from}
 use Rattle.fa_shared_steps.specs.declared.range.Range.{Range}
 
--- no job and no batch is open
+-- No job, no claim, no batch and no copy is open.
 pub record IsIdle (core : Core) : Type 0 where
   pub jobs : core.jobs ≡ empty
+  pub claims : core.claims ≡ empty
   pub batches : core.batches ≡ empty
+  pub copying : core.copying ≡ None
 
 -- No live die wants a window, none that has one has a block to collect, and no page is thin.
 pub record IsAtRest (core : Core) : Type 0 where

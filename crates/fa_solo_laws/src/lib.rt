@@ -5,14 +5,15 @@
 //! - Of one request: what a turn asks (`turns`), and what reads, flushes and any request come to (`request_reads`, `request_flushes`,
 //!   `requests`); a page that was lost stays lost (`lost`).
 //! - Of the whole store: it drives the array over the images of its dies (`driving`), from a mounted beginning (`beginnings`); its
-//!   calls (`store_requests`), flushes (`syncs`) and connections (`sessions`), the dies that leave it (`dies`), and the rounds that a
-//!   read takes (`rounds`).
+//!   calls (`store_requests`), flushes (`syncs`) and connections (`sessions`), what is open between them (`idle`), the dies that leave
+//!   it (`dies`), and the rounds that a read takes (`rounds`).
 #![tactic(auto)]
 
 pub mod batches;
 pub mod beginnings;
 pub mod dies;
 pub mod driving;
+pub mod idle;
 pub mod lost;
 pub mod request_flushes;
 pub mod request_reads;

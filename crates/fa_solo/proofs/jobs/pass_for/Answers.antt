@@ -7,4 +7,4 @@ pub returns-then-not-is_read : goal.returns-then-not-is_read
 returns-then-not-is_read g c = does_none _ IsForDies _
 
 pub pass_round-requires : goal.pass_round-requires
-pass_round-requires g c = subst IsAwaited c.array.ensures.state (c.is_read.ensures c.if-not-is_read.false)
+pass_round-requires g c = subst IsAwaited c.array.ensures.state (c.is_read.ensures.yes c.if-not-is_read.false)

@@ -6,7 +6,7 @@ pub loop-init : goal.loop-init
 loop-init g c = does_none _ IsForDies _
 
 pub loop-preserved : goal.loop-preserved
-loop-preserved g c = does_more _ IsForDies _ _ _ c.loop.invariant c.work.ensures
+loop-preserved g c = does_more _ IsForDies _ _ _ c.loop.invariant c.work.ensures.does
 
 pub returns-then-not-work : goal.returns-then-not-work
-returns-then-not-work g c = does_more _ IsForDies _ _ _ c.loop.invariant c.work.ensures
+returns-then-not-work g c = does_more _ IsForDies _ _ _ c.loop.invariant c.work.ensures.does

@@ -2,5 +2,8 @@ use Rattle.std.proofs.Common.{ap}
 use Rattle.fa_core_read.specs.Answers.{admit_answer}
 use Rattle.fa_solo.proofs.rebuilding.batch_of.Goals as goal
 
-pub returns-in-Ok : goal.returns-in-Ok
-returns-in-Ok g c = (_, ap admit_answer c.in-Ok.is)
+pub returns-in-Ok-clause-some : goal.returns-in-Ok-clause-some
+returns-in-Ok-clause-some g c = (_, ap admit_answer c.in-Ok.is)
+
+pub returns-in-Err-clause-none : goal.returns-in-Err-clause-none
+returns-in-Err-clause-none g c = (_, ap admit_answer c.in-Err.is)

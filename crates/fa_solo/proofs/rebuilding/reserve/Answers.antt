@@ -1,18 +1,12 @@
-use Rattle.std.proofs.Common.{refl, sym, ◌∙◌}
-use Rattle.fa_solo_job.proofs.Chains.{does_same}
-use Rattle.fa_solo.proofs.Orders.{reserved_no, reserved_yes}
-use Rattle.fa_solo_job.specs.Deeds.{IsForOrder}
+use Rattle.std.proofs.Common.{refl}
+use Rattle.fa_machine.specs.Step.{ReserveCopy}
+use Rattle.fa_solo.proofs.Orders.{one_if_some, same_if_none}
 use Rattle.fa_solo.proofs.rebuilding.reserve.Goals as goal
 
-pub returns-in-Some-clause-yes : goal.returns-in-Some-clause-yes
-returns-in-Some-clause-yes g c is =
-    reserved_yes _ _ c.args.thin.page.0 c.args.thin.seq.0 c.args.payload.now c.in-Some.answer (sym c.is_ok.ensures.value ∙ is)
-    (record { step = c.in-Some.ensures.some; left = c.reserve_copy.ensures.rest; images = refl; dies = refl })
+pub returns-clause-none : goal.returns-clause-none
+returns-clause-none g c = same_if_none _ _ _ _ c.reserve_copy.result c.reserve_copy.ensures.none c.reserve_copy.ensures.rest refl refl
 
-pub returns-in-Some-clause-no : goal.returns-in-Some-clause-no
-returns-in-Some-clause-no g c is =
-    reserved_no _ _ _ c.args.thin.page.0 c.args.thin.seq.0 c.args.payload.now c.in-Some.answer (sym c.is_ok.ensures.value ∙ is)
-    (record { step = c.in-Some.ensures.some; left = c.reserve_copy.ensures.rest; images = refl; dies = refl })
-
-pub returns-in-None-clause-no : goal.returns-in-None-clause-no
-returns-in-None-clause-no g c is = does_same _ IsForOrder _ _ c.in-None.ensures.none.1 c.reserve_copy.ensures.rest refl refl
+pub returns-clause-some : goal.returns-clause-some
+returns-clause-some g c =
+    one_if_some _ _ c.reserve_copy.result (λ answer. ReserveCopy c.args.thin.page.0 c.args.thin.seq.0 c.args.payload.now answer)
+    c.reserve_copy.ensures.some c.reserve_copy.ensures.rest refl refl

@@ -1,6 +1,5 @@
-use Rattle.fa_solo_job.specs.Inner.{Does}
-use Rattle.fa_solo_job.specs.Deeds.{IsForDies}
+use Rattle.fa_solo_job.specs.Inner.{AwaitsBatch}
 use Rattle.fa_solo.proofs.rebuilding.wait_for.Given as goal
 
-abbrev pub invariant-loop : goal.invariant-loop
-invariant-loop g l = Does g.I.Image.made IsForDies l.initial.inner l.inner
+abbrev pub invariant-loop-looks : goal.invariant-loop-looks
+invariant-loop-looks g l = AwaitsBatch g.I.Image.made l.batch.0 l.looks l.initial.inner l.inner

@@ -6,7 +6,7 @@ pub returns-then-not-may_wait : goal.returns-then-not-may_wait
 returns-then-not-may_wait g c = λ bytes. runs_none _ bytes _ _
 
 pub returns-then-awaits_flush : goal.returns-then-awaits_flush
-returns-then-awaits_flush g c = λ bytes. runs_time _ bytes _ _ _ true (sym c.if-not-may_wait.ensures) (sym c.if-awaits_flush.ensures) c.work.ensures
+returns-then-awaits_flush g c = λ bytes. runs_time _ bytes _ _ _ true (sym c.if-not-may_wait.ensures) (sym c.if-awaits_flush.ensures) c.work.ensures.does
 
 pub returns-then-work_at_once : goal.returns-then-work_at_once
 returns-then-work_at_once g c = λ bytes. runs_time _ bytes _ _ _ false (sym c.if-not-may_wait.ensures) (sym c.if-awaits_flush.ensures) c.work_at_once.ensures

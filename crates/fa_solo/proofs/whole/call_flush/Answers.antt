@@ -1,5 +1,10 @@
-use Rattle.fa_solo.proofs.Begun.{flush_refused}
+use Rattle.fa_solo.proofs.Begun.{flush_done, flush_refused}
 use Rattle.fa_solo.proofs.whole.call_flush.Goals as goal
 
-pub returns-in-Err-clause-refused : goal.returns-in-Err-clause-refused
-returns-in-Err-clause-refused g c = flush_refused _ _ _ _ _ _ c.of_flush.ensures c.in-Err.ensures.refused
+pub returns-clause-done : goal.returns-clause-done
+returns-clause-done g c = flush_done _ _ _ _ _ _ c.run_flush-answer.result c.bring_in.ensures c.run_flush-answer.ensures.request c.tidy.ensures
+    c.run_flush-answer.ensures.room
+
+pub returns-clause-refused : goal.returns-clause-refused
+returns-clause-refused g c = flush_refused _ _ _ _ _ _ c.run_flush-answer.result c.bring_in.ensures c.run_flush-answer.ensures.request c.tidy.ensures
+    c.run_flush-answer.ensures.room

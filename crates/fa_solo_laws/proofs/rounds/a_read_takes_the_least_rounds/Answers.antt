@@ -11,11 +11,18 @@ use Rattle.fa_machine.specs.declared.jobs.Flight.{Flight}
 use Rattle.fa_solo_laws.proofs.Admitting.{CertificateLaw, no_more_rounds}
 use Rattle.fa_solo_laws.proofs.ClosedRounds.{IsQuiet}
 use Rattle.fa_solo_laws.proofs.Stages.{ArePlannedInTime}
-use Rattle.fa_solo_laws.proofs.WholeReads.{whole_behind}
+use Rattle.fa_image.specs.Image.{ImageAnswer, ImageCall}
+use Rattle.fa_shared_steps.specs.declared.request.Task.{Task}
+use Rattle.fa_solo.specs.Calls.{MakesWhole}
+use Rattle.fa_solo_job.specs.declared.inner.Inner.{Inner}
+use Rattle.fa_solo_laws.proofs.Holding.{call_idle}
+use Rattle.fa_solo_laws.proofs.WholeReads.{whole_behind, whole_unlooked}
+use Rattle.fa_solo_laws.specs.Standing.{vain_looks}
+use Rattle.fa_types.specs.Store.{Gave, Refused}
+use Rattle.fa_types.specs.declared.blocks.BlockFault.TheVariants.{Lost}
 use Rattle.fa_solo_laws.specs.Rest.{IsAtRest, IsIdle, IsPlanFor, pages_of, range_in}
-use Rattle.std.proofs.Common.{List, ap, arith, refl, subst, sym, ℕ, ◌+◌, ◌∙◌, ◌≡◌, ◌≤◌}
-use Rattle.std.specs.Cmp.{nat_cmp_total}
-use Rattle.std.specs.FinMap.{FinMap, empty, get, get-empty, nat_cmp-IsAntisymmetric, same_map}
+use Rattle.std.proofs.Common.{List, [], ap, arith, inl, inr, refl, subst, ℕ, ◌+◌, ◌∙◌, ◌≡◌, ◌≤◌}
+use Rattle.std.specs.FinMap.{FinMap, get, get-empty}
 use Rattle.std.specs.Ordering.{nat_cmp}
 use Rattle.fa_solo_laws.proofs.rounds.a_read_takes_the_least_rounds.Goals as goal
 
@@ -30,20 +37,24 @@ quiet_at w core reached is idle rest = record {
   closed = λ batch. ap (λ (batches : FinMap nat_cmp OpenBatch). get batches batch) idle.batches ∙ get-empty nat_cmp batch;
 }
 
--- and the other way round, where the map is as it was
-rests_at : (old new : Core) → IsAtRest old → IsQuiet old.page_map old.copies new → IsIdle new × IsAtRest new
-rests_at old new rest quiet = (
-  record {
-    jobs = same_map nat_cmp_total nat_cmp-IsAntisymmetric new.jobs empty (λ die. quiet.free die ∙ sym (get-empty nat_cmp die));
-    batches = same_map nat_cmp_total nat_cmp-IsAntisymmetric new.batches empty
-        (λ batch. quiet.closed batch ∙ sym (get-empty nat_cmp batch));
-  },
-  record {
-    windows = λ die. ap (λ (m : MapState). wants_window m die) quiet.map ∙ rest.windows die;
-    steps = quiet.calm;
-    copies = λ page. (λ i. is_thin (quiet.copies_are i) (quiet.map i) page) ∙ rest.copies page;
-  },
-)
+-- and it is at rest, where the map is as it was
+rests_at : (old new : Core) → IsAtRest old → IsQuiet old.page_map old.copies new → IsAtRest new
+rests_at old new rest quiet = record {
+  windows = λ die. ap (λ (m : MapState). wants_window m die) quiet.map ∙ rest.windows die;
+  steps = quiet.calm;
+  copies = λ page. (λ i. is_thin (quiet.copies_are i) (quiet.map i) page) ∙ rest.copies page;
+}
+
+-- a call that is answered, and behind which no copy was looked at in vain, is not given up
+idle_still : {L M I A : Type 0} (made : I → ImageCall → ImageAnswer → I → Type 0) (task : Task) (bytes given : List ℕ) (old new : Inner L M I A)
+    → (call : MakesWhole made task bytes (Gave given) old new) → IsIdle old.locked.core → vain_looks made task bytes (Gave given) old new call ≡ 0
+    → IsIdle new.locked.core
+idle_still made task bytes given old new call idle none =
+    elim (call_idle made task bytes (Gave given) old new call idle) [
+      | inl still ↦ still
+      | inr (inl (most, is)) ↦ absurd (let e : Gave given ≡ Refused Lost = is in cc)
+      | inr (inr many) ↦ absurd (omega (arith, many, none))
+    ]
 
 -- a batch that is admitted before anything else is planned in no more rounds than any plan of its pages has
 planned_least : CertificateLaw → (first : Core) (pages : List ℕ) (places : List Place) → IsPlanFor first pages places
@@ -66,7 +77,12 @@ returns g c = record {
       let low = behind.round in let in_time = behind.is_in_time in omega (arith, low, in_time);
   rest = λ old new offset len given w reached is idle rest few whole same.
       let core : Core = old.locked.core in
-      rests_at core new.locked.core rest
-      (whole_behind g.I.Image.made old new offset len given (quiet_at w core reached is idle rest) rest.windows rest.copies
-      (λ round. Unit {0}) tt (λ before after admitted is step. tt) (omega (arith, few)) whole same).quiet;
+      let quiet = quiet_at w core reached is idle rest in (
+        idle_still g.I.Image.made _ [] given old new whole idle
+            (whole_unlooked g.I.Image.made old new offset len given quiet rest.windows rest.copies
+            (λ round. Unit {0}) tt (λ before after admitted is step. tt) (omega (arith, few)) whole same),
+        rests_at core new.locked.core rest
+            (whole_behind g.I.Image.made old new offset len given quiet rest.windows rest.copies
+            (λ round. Unit {0}) tt (λ before after admitted is step. tt) (omega (arith, few)) whole same).quiet,
+      );
 }

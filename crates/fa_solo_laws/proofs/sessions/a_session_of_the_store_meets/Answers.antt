@@ -11,13 +11,13 @@ returns g c =
       geometry = c.the_geometry_is_kept.ensures;
       falls = c.the_last_number_never_falls.ensures;
     } in record {
-      meets = λ old new export streams end w store session timely fair.
+      meets = λ old new export streams end w store session fair.
           session_meets g.I.Image.view g.I.Image.honest g.I.Image.made g.met.I.Image.whole g.met.I.Image.meets
           (record { asks = laws; flushes = c.flushes_are_counted.ensures; rounds = c.the_round_is_kept.ensures })
           (record {
             serves = c.a_request_serves.ensures.serves;
             meets = c.a_request_serves.ensures.meets;
             reached = c.a_request_serves.ensures.reached;
-          }) export streams old new end w store session timely fair;
+          }) export streams old new end w store session fair;
       seen = λ seen is old new export size streams end session. session_seen _ g.S.Blocks.made seen g.I.Image.made is export size streams old new end session;
     }

@@ -3,7 +3,7 @@ use Rattle.fa_solo_laws.proofs.Whole.{call_meets}
 use Rattle.fa_solo_laws.proofs.store_requests.a_call_of_the_store_meets.Goals as goal
 
 pub returns : goal.returns
-returns g c old new request bytes answer w of_old free apart inside has fits call timely fair =
+returns g c old new request bytes answer w of_old free apart inside has fits call fair =
     let laws : Laws = record {
       lives = c.live_dies_are_kept.ensures;
       spares = c.spares_are_kept.ensures;
@@ -17,5 +17,5 @@ returns g c old new request bytes answer w of_old free apart inside has fits cal
       serves = c.a_request_serves.ensures.serves;
       meets = c.a_request_serves.ensures.meets;
       reached = c.a_request_serves.ensures.reached;
-    }) old request bytes answer w of_old free apart inside has fits new call timely fair in
+    }) old request bytes answer w of_old free apart inside has fits new call fair in
     (met.last, met.of_new, met.meets_it, met.free_new)

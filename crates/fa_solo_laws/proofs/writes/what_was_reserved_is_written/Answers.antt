@@ -1,4 +1,4 @@
-use Rattle.fa_solo_laws.proofs.Changes.{claims_are, reservation_for}
+use Rattle.fa_solo_job.proofs.Changes.{claims_are, reservation_for}
 use Rattle.fa_solo_laws.proofs.Reserved.{commit_writes, reserved_now, run_reserved}
 use Rattle.fa_machine.specs.Reading.{zeros}
 use Rattle.fa_machine.specs.State.{Core}
