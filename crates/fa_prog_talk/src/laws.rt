@@ -19,8 +19,8 @@ use fa_types::MemBlocks;
 use std::alloc::Global;
 
 /// A client of an array that was mounted is answered as by a plain store whose bytes are what stood in the slots of its images, from the first
-/// byte to the last. The images return what was written, the current copies of one page agree as they are mounted, and no call of the store
-/// is given up.
+/// byte to the last. Or a call of the store was given up: its request took 2^64 - 1 turns, and was refused as lost, or a copy of a page was looked
+/// at as often in vain. The images return what was written, and the current copies of one page agree as they are mounted.
 pub fn a_conversation_is_right<L, M, I: Image>()
     ensures { (copies : ℕ) (unclean : Bool) (before mounted : List I) (array : List ℕ) (dies : List Standing) (core : Core)
         (export bytes written : List ℕ) (end : SessionEnd) (faults : List Fault) (closed : Result ℕ CloseFault)
