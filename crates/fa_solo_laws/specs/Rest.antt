@@ -1,4 +1,4 @@
--- An array at which nothing is under way, one that is in order, and the plans by which the pages of a range can be read.
+-- An array at which nothing is open, one that is at rest, and the plans by which the pages of a range can be read.
 use Rattle.std.specs.Prelude.{◌≡◌, ◌⊎◌, ℕ, ◌+◌, ◌-◌, true, false, List, None}
 use Rattle.std.specs.List.{range_with_len}
 use Rattle.std.specs.FinMap.{contains_key, empty, insert, remove}
