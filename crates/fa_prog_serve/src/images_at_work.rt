@@ -13,9 +13,9 @@ pub(crate) struct ImagesAtWork<I: Drop> {
     /// These dies, those alone that have an image.
     pub(crate) dies: Vec<Die>,
     /// Where the images of the dies belong among all images, by the dies' numbers.
-    pub(crate) indexes: Vec<Option<usize>>,
+    indexes: Vec<Option<usize>>,
     /// The places of all images, with the images of the others.
-    pub(crate) places: Places<I>,
+    places: Places<I>,
 }
 
 /// Images in the order in which they were opened, of an array whose dies stand so and whose pages have so many bytes. The error is out of
@@ -27,21 +27,15 @@ pub(crate) fn images_at_work<I: Drop>(
     page_bytes: u32,
 ) -> Result<ImagesAtWork<I>, AllocError> {
     let mut places = Places::new(global, images)?;
-    let mut indexes = Vec::with_capacity(global, standings.len())?;
-    let mut manned = Vec::with_capacity(global, standings.len())?;
-    let mut dies = Vec::with_capacity(global, standings.len())?;
+    let mut lists = Lists::new(global, standings.len())?;
     for number in 0..standings.len() {
-        let index = index_at_work(standings[number]);
-        indexes.push(index)?;
-        let image = match index {
-            Some(index) => places.lift(index),
-            None => None,
-        };
-        if image.is_some() {
-            dies.push(die_of(number))?;
-        }
-        manned.push(image)?;
+        lists.add(&mut places, number, standings[number]);
     }
+    let Lists {
+        manned,
+        dies,
+        indexes,
+    } = lists;
     let image_table = ImageTable::new(global, manned, page_bytes)?;
     Ok(ImagesAtWork {
         image_table,
@@ -49,6 +43,42 @@ pub(crate) fn images_at_work<I: Drop>(
         indexes,
         places,
     })
+}
+
+/// Lists by the dies' numbers, as they grow. There is memory for all dies.
+#[derive(Drop)]
+struct Lists<I: Drop> {
+    manned: Vec<Option<I>>,
+    dies: Vec<Die>,
+    indexes: Vec<Option<usize>>,
+}
+
+impl<I: Drop> Lists<I> {
+    /// Lists for so many dies. The error is out of memory.
+    fn new(global: Global, count: usize) -> Result<Lists<I>, AllocError> {
+        let dies = Vec::with_capacity(global, count)?;
+        let indexes = Vec::with_capacity(global, count)?;
+        let manned = Vec::with_capacity(global, count)?;
+        Ok(Lists {
+            manned,
+            dies,
+            indexes,
+        })
+    }
+
+    /// Adds the die of this number, which stands so, and takes its image from its place.
+    fn add(&mut self, places: &mut Places<I>, number: usize, standing: Standing) {
+        let index = index_at_work(standing);
+        let image = match index {
+            Some(index) => places.lift(index),
+            None => None,
+        };
+        if image.is_some() {
+            let _ = self.dies.push(die_of(number));
+        }
+        let _ = self.indexes.push(index);
+        let _ = self.manned.push(image);
+    }
 }
 
 /// The die of this number. An array has no more than 64.
@@ -68,13 +98,13 @@ fn index_at_work(standing: Standing) -> Option<usize> {
 }
 
 /// The images again, in the order in which they were opened.
-pub(crate) fn images_again<I: Drop>(
-    image_table: ImageTable<I>,
-    indexes: &[Option<usize>],
-    places: Places<I>,
-) -> Vec<I> {
-    let mut image_table = image_table;
-    let mut places = places;
+pub(crate) fn images_again<I: Drop>(images: ImagesAtWork<I>) -> Vec<I> {
+    let ImagesAtWork {
+        mut image_table,
+        indexes,
+        mut places,
+        ..
+    } = images;
     for die in 0..indexes.len() {
         if let (Some(index), Some(image)) = (indexes[die], image_table.lift(die_of(die))) {
             places.lay(index, image);
@@ -85,7 +115,7 @@ pub(crate) fn images_again<I: Drop>(
 
 /// A place for each image, by the order in which they were opened.
 #[derive(Drop)]
-pub(crate) struct Places<I: Drop> {
+struct Places<I: Drop> {
     /// The images that are in their places.
     laid: Vec<Option<I>>,
     /// Memory for all of them.

@@ -5,6 +5,7 @@ mod closing;
 mod die_workers;
 mod host;
 mod images_at_work;
+mod listening;
 mod plan;
 mod ready;
 mod serve;

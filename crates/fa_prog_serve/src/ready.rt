@@ -3,13 +3,12 @@ ghost use Rattle.std.specs.Prelude.{◌≡◌, List, ℕ, IfOk, string_bytes};
 ghost use Rattle.fa_prog_serve.specs.Serving.{address_line};
 
 use crate::images_at_work::{ImagesAtWork, images_at_work};
+use crate::listening::{Listening, listening_of};
 use crate::plan::ServePlan;
 use crate::tasks::{Tasks, tasks_of};
 use fa_map_calls::Map;
-use fa_mount::place_of;
 use fa_mount_headers::Standing;
-use fa_prog_clients::{AcceptQueue, Networked};
-use fa_settings::Settings;
+use fa_prog_clients::Networked;
 use fa_shared::Shared;
 use std::alloc::{AllocError, Allocator, Global};
 use std::net::{SocketAddrV4, TcpListener};
@@ -18,8 +17,8 @@ use std::sync::ledger::Ledger;
 /// What was made for a server.
 #[derive(Drop)]
 pub(crate) struct Ready<'a, L: Ledger, I: Drop> {
-    /// Where clients wait for a session.
-    pub(crate) accept_queue: AcceptQueue,
+    /// What its threads share beside the array.
+    pub(crate) listening: Listening<'a>,
     /// The images.
     pub(crate) images: ImagesAtWork<I>,
     /// What its threads are to do.
@@ -27,48 +26,22 @@ pub(crate) struct Ready<'a, L: Ledger, I: Drop> {
 }
 
 /// All that the server of a shared array needs, over images in the order in which they were opened. The error is out of memory, or of seats.
-pub(crate) fn ready_of<'a, R: Networked, L: Ledger, M: Map + Drop, I: Drop>(
+pub(crate) fn ready_of<'a, R: Networked, L: Ledger, M: Map + Drop, I: Drop, A: Allocator>(
     rt: &R,
     shared: &Shared<L, M>,
     dies: &[Standing],
     images: Vec<I>,
-    plan: ServePlan<'a>,
+    plan: &ServePlan<'a, A>,
 ) -> Result<Ready<'a, L, I>, AllocError> {
-    let images = images_at_work(rt.alloc(), dies, images, plan.page_bytes)?;
-    let accept_queue = AcceptQueue::new(rt.alloc(), plan.sessions)?;
-    let tasks = tasks_of(rt, shared, images.dies.as_slice(), plan)?;
+    let threads = plan.threads();
+    let images = images_at_work(rt.alloc(), dies, images, threads.page_bytes)?;
+    let listening = listening_of(rt.alloc(), dies, plan)?;
+    let tasks = tasks_of(rt, shared, images.dies.as_slice(), threads)?;
     Ok(Ready {
-        accept_queue,
+        listening,
         images,
         tasks,
     })
-}
-
-/// The paths of the dies' images, by the dies' numbers. The error is out of memory.
-pub(crate) fn paths_of<'a, A: Allocator>(
-    global: Global,
-    dies: &[Standing],
-    places: &[usize],
-    settings: &'a Settings<A>,
-) -> Result<Vec<&'a str>, AllocError> {
-    let mut paths = Vec::with_capacity(global, dies.len())?;
-    for standing in dies {
-        paths.push(path_of(*standing, places, settings))?;
-    }
-    Ok(paths)
-}
-
-/// The path of the image of a die that stands so.
-fn path_of<'a, A: Allocator>(
-    standing: Standing,
-    places: &[usize],
-    settings: &'a Settings<A>,
-) -> &'a str {
-    let place = place_of(standing).and_then(|index| places.get(index));
-    match place.and_then(|place| settings.images.get(*place)) {
-        Some(path) => path.as_str(),
-        None => "an image",
-    }
 }
 
 /// The line that tells where clients can connect: at the listener's address, or where it does not tell, at this one.

@@ -6,8 +6,8 @@ ghost use Rattle.fa_prog_serve.specs.Serving.{Listens, TellsEnd, TellsOn, TellsS
 
 use crate::closing::print_end;
 use crate::host::ServerHost;
-use crate::plan::{ServePlan, plan_of};
-use crate::ready::{listening_text, paths_of, ready_of};
+use crate::plan::ServePlan;
+use crate::ready::{listening_text, ready_of};
 use crate::serving::{Ended, serve_ready};
 use fa_core::Array;
 use fa_image::Image;
@@ -117,17 +117,20 @@ pub fn serve_on<R: ServerHost, I: Image + Send + Drop, N: Read, W: Write, A: All
 ) -> u8
     ensures { TellsOn (W.contents output.old) (W.contents output.new) result }
 {
+    let plan = ServePlan {
+        listener,
+        settings,
+        places,
+        verbose: serve.verbose,
+    };
     let mut images = images;
     match mount(rt, settings, serve.unclean, images.as_mut_slice()) {
         Ok(mounted) => serve_mounted::<Brand, R, PageMap, I, N, W, A>(
             rt,
             Blank::new(257),
-            listener,
             mounted,
             images,
-            places,
-            settings,
-            serve,
+            &plan,
             input,
             output,
         ),
@@ -153,12 +156,9 @@ fn serve_mounted<
 >(
     rt: &R,
     blank: Blank,
-    listener: &TcpListener,
     mounted: MountedArray<M>,
     images: Vec<I>,
-    places: &[usize],
-    settings: &Settings<A>,
-    serve: Serve,
+    plan: &ServePlan<'_, A>,
     input: &mut N,
     output: &mut W,
 ) -> u8
@@ -168,10 +168,8 @@ fn serve_mounted<
     ensures { TellsOn (W.contents output.old) (W.contents output.new) result }
 {
     let MountedArray { array, dies } = mounted;
-    let plan = plan_of(listener, settings, serve.verbose);
-    let paths = paths_of(rt.alloc(), dies.as_slice(), places, settings);
     match share::<L, M>(rt.alloc(), blank, array) {
-        Some(shared) => serve_over(rt, shared, dies, images, plan, paths, input, output),
+        Some(shared) => serve_over(rt, shared, dies, images, plan, input, output),
         None => refuse_for_memory(output),
     }
 }
@@ -197,29 +195,20 @@ fn serve_over<
     I: Image + Send + Drop,
     N: Read,
     W: Write,
+    A: Allocator,
 >(
     rt: &R,
     shared: Shared<L, M>,
     dies: Vec<Standing>,
     images: Vec<I>,
-    plan: ServePlan<'_>,
-    paths: Result<Vec<&str>, AllocError>,
+    plan: &ServePlan<'_, A>,
     input: &mut N,
     output: &mut W,
 ) -> u8
     requires { L.parts ≡ 257 }
     ensures { TellsOn (W.contents output.old) (W.contents output.new) result }
 {
-    let served = serve_lent(
-        rt,
-        &shared,
-        dies.as_slice(),
-        images,
-        plan,
-        paths,
-        input,
-        output,
-    );
+    let served = serve_lent(rt, &shared, dies.as_slice(), images, plan, input, output);
     match served {
         Some((ended, faults)) => end(rt, shared, dies, ended, faults, output),
         None => refuse_for_memory(output),
@@ -235,13 +224,13 @@ fn serve_lent<
     I: Image + Send + Drop,
     N: Read,
     W: Write,
+    A: Allocator,
 >(
     rt: &R,
     shared: &Shared<L, M>,
     dies: &[Standing],
     images: Vec<I>,
-    plan: ServePlan<'_>,
-    paths: Result<Vec<&str>, AllocError>,
+    plan: &ServePlan<'_, A>,
     input: &mut N,
     output: &mut W,
 ) -> Option<Served<I>>
@@ -249,17 +238,14 @@ fn serve_lent<
     ensures listens { IfSome result (λ _. Listens (W.contents output.old) (W.contents output.new)) }
     ensures refused { result ≡ None → W.contents output.new ≡ W.contents output.old }
 {
-    let Ok(paths) = paths else {
-        return None;
-    };
-    let Ok(line) = listening_text(rt.alloc(), plan.listener, plan.listen) else {
+    let Ok(line) = listening_text(rt.alloc(), plan.listener, plan.settings.listen) else {
         return None;
     };
     let Ok(ready) = ready_of(rt, shared, dies, images, plan) else {
         return None;
     };
     let _ = print(output, DONE, line.as_bytes());
-    let ended = serve_ready(rt, shared, plan, paths.as_slice(), ready, input);
+    let ended = serve_ready(rt, shared, ready, input);
     Some((ended, shared.faults(rt, rt.alloc())))
 }
 

@@ -3,9 +3,9 @@ ghost use Rattle.std.specs.Prelude.{◌≡◌};
 
 use crate::host::ServerHost;
 use crate::images_at_work::{ImagesAtWork, images_again};
-use crate::plan::ServePlan;
+use crate::listening::Listening;
 use crate::ready::Ready;
-use crate::site::{Listening, Site};
+use crate::site::Site;
 use crate::stop_waiter::StopWaiter;
 use crate::tasks::Tasks;
 use fa_image::Image;
@@ -48,42 +48,33 @@ pub(crate) fn serve_ready<
 >(
     rt: &R,
     shared: &Shared<L, M>,
-    plan: ServePlan<'_>,
-    paths: &[&str],
     ready: Ready<'_, L, I>,
     input: &mut N,
 ) -> Result<Ended<I>, AllocError>
     requires { L.parts ≡ 257 }
 {
     let Ready {
-        accept_queue,
+        listening,
         images,
         tasks,
     } = ready;
-    let ImagesAtWork {
-        image_table,
-        indexes,
-        places,
-        ..
-    } = images;
-    let listening = Listening {
-        listener: plan.listener,
-        accept_queue: &accept_queue,
-        paths,
-        copies: plan.copies,
-        window_rounds: plan.window_rounds,
-    };
-    let Back { seats, is_served } = serve_shared(
-        rt,
-        shared,
-        listening,
-        &image_table,
-        tasks,
-        input,
-    ).ok_or(AllocError)?;
+    let back = serve_shared(rt, shared, &listening, &images.image_table, tasks, input);
+    ended_of(rt, shared, images, back)
+}
+
+/// Takes the seats of all threads and the images back.
+fn ended_of<R: Networked, L: Ledger, M: Map + Drop, I: Drop>(
+    rt: &R,
+    shared: &Shared<L, M>,
+    images: ImagesAtWork<I>,
+    back: Option<Back<L>>,
+) -> Result<Ended<I>, AllocError>
+    requires { L.parts ≡ 257 }
+{
+    let Back { seats, is_served } = back.ok_or(AllocError)?;
     gather(rt, shared, seats);
     Ok(Ended {
-        images: images_again(image_table, indexes.as_slice(), places),
+        images: images_again(images),
         is_served,
     })
 }
@@ -112,7 +103,7 @@ fn serve_shared<
 >(
     rt: &R,
     shared: &Shared<L, M>,
-    listening: Listening<'_>,
+    listening: &Listening<'_>,
     image_table: &ImageTable<I>,
     tasks: Tasks<'_, L>,
     input: &mut N,
@@ -128,25 +119,25 @@ fn serve_shared<
         listening,
     };
     let mut stop_waiter = StopWaiter {
-        listener: listening.listener,
-        accept_queue: listening.accept_queue,
+        listening,
         input,
         is_served: false,
     };
-    let left = work_side_by_side(rt, &site, tasks, workers, &mut stop_waiter)?;
-    Some(Back {
-        seats: seats_of(left, seats),
-        is_served: stop_waiter.is_served,
-    })
+    let left = work_side_by_side(rt, &site, tasks, workers, &mut stop_waiter);
+    back_of(left, seats, stop_waiter.is_served)
 }
 
-/// The seats that are left of tasks, in a list that has room for them.
-fn seats_of<L: Ledger>(left: Vec<Option<Seat<L>>>, seats: Vec<Seat<L>>) -> Vec<Seat<L>> {
+/// What comes back of tasks, with their seats in a list that has room for them. None where none was begun.
+fn back_of<L: Ledger>(
+    left: Option<Vec<Option<Seat<L>>>>,
+    seats: Vec<Seat<L>>,
+    is_served: bool,
+) -> Option<Back<L>> {
     let mut seats = seats;
-    for seat in left {
+    for seat in left? {
         if let Some(seat) = seat {
             let _ = seats.push(seat);
         }
     }
-    seats
+    Some(Back { seats, is_served })
 }

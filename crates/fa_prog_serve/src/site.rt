@@ -1,17 +1,17 @@
 //! A shared array as the threads of a server see it, and what they do.
 use crate::die_workers::{collect, rebuild, work_die};
+use crate::listening::Listening;
 use crate::tasks::Task;
 use crate::watching::watch;
 use fa_core::Array;
 use fa_image::Image;
 use fa_map_calls::Map;
-use fa_prog_clients::{AcceptQueue, Networked, accept_clients, serve_clients};
+use fa_prog_clients::{Networked, accept_clients, serve_clients};
 use fa_shared::Shared;
 use fa_shared_lock::Seat;
 use fa_threads::Workplace;
 use fa_types::Die;
 use fa_workers::ImageTable;
-use std::net::TcpListener;
 use std::sync::ledger::Ledger;
 use std::thread;
 use std::time::Duration;
@@ -21,27 +21,12 @@ const COLLECT_LOOKS: u32 = 100;
 
 const COLLECT_MILLISECONDS: u64 = 10;
 
-/// What the threads of a server share beside the array.
-#[derive(Clone, Copy)]
-pub(crate) struct Listening<'a> {
-    /// Where clients connect.
-    pub(crate) listener: &'a TcpListener,
-    /// Where clients wait for a session.
-    pub(crate) accept_queue: &'a AcceptQueue,
-    /// The paths of the dies' images, by the dies' numbers.
-    pub(crate) paths: &'a [&'a str],
-    /// How many copies each page is to have.
-    pub(crate) copies: u32,
-    /// How many rounds a collector's window has.
-    pub(crate) window_rounds: u64,
-}
-
 /// A shared array, with what its threads work with.
 #[derive(Drop)]
 pub(crate) struct Site<'a, L: Ledger, M: Map + Drop, I: Image + Drop> {
     pub(crate) shared: &'a Shared<L, M>,
     pub(crate) image_table: &'a ImageTable<I>,
-    pub(crate) listening: Listening<'a>,
+    pub(crate) listening: &'a Listening<'a>,
 }
 
 impl<'a, 'b, R: Networked, L: Ledger, M: Map + Drop, I: Image + Drop> Workplace<
@@ -50,30 +35,30 @@ impl<'a, 'b, R: Networked, L: Ledger, M: Map + Drop, I: Image + Drop> Workplace<
     Option<Seat<L>>,
 > for Site<'a, L, M, I> {
     fn work(&self, rt: &R, task: Task<'b, L>) -> Option<Seat<L>> {
-        let Listening {
-            listener,
-            accept_queue,
-            paths,
-            copies,
-            window_rounds,
-        } = self.listening;
+        let listening = self.listening;
         match task {
             Task::Die(task) => Some(work_die(rt, self.shared, self.image_table, task)),
-            Task::Collect(seat) => Some(collect(rt, self.shared, seat, window_rounds)),
+            Task::Collect(seat) => Some(collect(rt, self.shared, seat, listening.window_rounds)),
             Task::Rebuild(seat) => Some(rebuild(rt, self.shared, seat)),
             Task::Watch(seen) => {
-                watch(rt, self.shared, paths, copies, seen);
+                watch(
+                    rt,
+                    self.shared,
+                    listening.paths.as_slice(),
+                    listening.copies,
+                    seen,
+                );
                 None
             }
             Task::Serve(session) => Some(serve_clients(
                 rt,
-                accept_queue,
+                &listening.accept_queue,
                 self.shared,
                 self.image_table,
                 session,
             )),
             Task::Accept => {
-                accept_clients(rt, listener, accept_queue);
+                accept_clients(rt, listening.listener, &listening.accept_queue);
                 None
             }
         }

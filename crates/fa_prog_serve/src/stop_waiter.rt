@@ -1,6 +1,7 @@
 //! Who waits for the stop while clients are served, and then sends them away.
+use crate::listening::Listening;
 use crate::stop_line::wait_for_stop;
-use fa_prog_clients::{AcceptQueue, Networked, stop_accepting};
+use fa_prog_clients::{Networked, stop_accepting};
 use fa_threads::Starter;
 use std::io::Read;
 use std::net::{TcpListener, TcpStream};
@@ -15,10 +16,7 @@ const WAKE_SECONDS: u64 = 1;
 /// Who starts the threads of a server.
 #[derive(Drop)]
 pub(crate) struct StopWaiter<'a, N: Read> {
-    /// Where clients connect.
-    pub(crate) listener: &'a TcpListener,
-    /// Where clients wait for a session.
-    pub(crate) accept_queue: &'a AcceptQueue,
+    pub(crate) listening: &'a Listening<'a>,
     /// What says when the server is to end.
     pub(crate) input: &'a mut N,
     /// Each thread could be started, and so clients were served.
@@ -29,14 +27,14 @@ impl<'a, R: Networked, N: Read> Starter<R> for StopWaiter<'a, N> {
     /// Lets clients be served until the input says stop, and then sends them away. Where a thread could not be started, which has closed the
     /// queue, no client is waited for.
     fn meanwhile(&mut self, rt: &R) {
-        self.is_served = !self.accept_queue.is_closing(rt);
+        let accept_queue = &self.listening.accept_queue;
+        self.is_served = !accept_queue.is_closing(rt);
         if self.is_served {
             wait_for_stop(self.input);
         }
-        self.accept_queue.close(rt);
-        wake(rt, self.listener);
-        self.accept_queue
-            .clear(rt, Duration::from_secs(LEAVE_SECONDS));
+        accept_queue.close(rt);
+        wake(rt, self.listening.listener);
+        accept_queue.clear(rt, Duration::from_secs(LEAVE_SECONDS));
     }
 }
 

@@ -1,6 +1,6 @@
 //! What the threads of a server are to do.
 use crate::die_workers::{DieTask, die_task};
-use crate::plan::ServePlan;
+use crate::plan::ThreadPlan;
 use crate::watching::{Sight, sight_of};
 use fa_map_calls::Map;
 use fa_prog_clients::{Networked, Service, Session};
@@ -44,7 +44,7 @@ pub(crate) fn tasks_of<'a, R: Networked, L: Ledger, M: Map + Drop>(
     rt: &R,
     shared: &Shared<L, M>,
     dies: &[Die],
-    plan: ServePlan<'a>,
+    plan: ThreadPlan<'a>,
 ) -> Result<Tasks<'a, L>, AllocError> {
     let count = dies.len().saturating_add(plan.sessions).saturating_add(4);
     let seats = Vec::with_capacity(rt.alloc(), count)?;
@@ -65,7 +65,7 @@ fn add_workers<'a, R: Networked, L: Ledger, M: Map + Drop>(
     rt: &R,
     shared: &Shared<L, M>,
     dies: &[Die],
-    plan: ServePlan<'a>,
+    plan: ThreadPlan<'a>,
     tasks: &mut Vec<Task<'a, L>>,
 ) -> Result<(), AllocError> {
     for die in dies {
@@ -84,7 +84,7 @@ fn add_workers<'a, R: Networked, L: Ledger, M: Map + Drop>(
 fn add_sessions<'a, R: Networked, L: Ledger, M: Map + Drop>(
     rt: &R,
     shared: &Shared<L, M>,
-    plan: ServePlan<'a>,
+    plan: ThreadPlan<'a>,
     tasks: &mut Vec<Task<'a, L>>,
 ) -> Result<(), AllocError> {
     for number in 0..plan.sessions {

@@ -184,16 +184,22 @@ impl<R: Eprint> Log for Warnings<'_, R> {
 
 /// Warns that a die went out.
 fn tell_fault<R: Networked>(rt: &R, paths: &[&str], fault: Fault) {
-    let (path, die, round) = (path_of(paths, fault.die), fault.die.0, fault.round.0);
-    let log = Warnings(rt);
     match fault.cause {
-        Cause::Image(cause) => {
-            warn!(log; "{path}: die {die} went out in round {round}: {cause}; replace it");
-        }
-        Cause::Wrong => {
-            warn!(log; "{path}: die {die} went out in round {round}: a slot has other bytes than were written; replace it");
-        }
+        Cause::Image(cause) => warn_of(rt, path_of(paths, fault.die), fault, cause),
+        Cause::Wrong => warn_of(
+            rt,
+            path_of(paths, fault.die),
+            fault,
+            "a slot has other bytes than were written",
+        ),
     }
+}
+
+/// Warns that a die went out for this cause.
+fn warn_of<R: Networked, C: Display + Drop>(rt: &R, path: &str, fault: Fault, cause: C) {
+    let (die, round) = (fault.die.0, fault.round.0);
+    let log = Warnings(rt);
+    warn!(log; "{path}: die {die} went out in round {round}: {cause}; replace it");
 }
 
 /// Tells of the dies that are live now and were not before.
