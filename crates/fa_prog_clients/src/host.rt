@@ -2,24 +2,15 @@
 use std::io::Eprint;
 use std::net::{Net, TcpListener, TcpStream};
 use std::sync::Wait;
-use std::thread::Threads;
 use std::time::Clock;
 
-/// What the threads of a server share: sockets, the memory of the process, a clock, and standard error.
+/// What each thread of a server has: sockets, the memory of the process, a clock, standard error, and other threads that it may wait for.
 pub trait Networked: Net<Listener = TcpListener, Stream = TcpStream>
     + AllocGlobal
     + Clock
     + Eprint
-    + Threads
-    + Wait
-    + Sync {}
+    + Wait {}
 
 impl<
-    R: Net<Listener = TcpListener, Stream = TcpStream>
-        + AllocGlobal
-        + Clock
-        + Eprint
-        + Threads
-        + Wait
-        + Sync,
+    R: Net<Listener = TcpListener, Stream = TcpStream> + AllocGlobal + Clock + Eprint + Wait,
 > Networked for R {}

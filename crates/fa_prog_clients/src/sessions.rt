@@ -20,7 +20,7 @@ use std::sync::ledger::Ledger;
 
 /// What a session has of its own. It is made before the session's thread is started.
 #[derive(Drop)]
-pub struct Session<'a, L: Ledger + Send> {
+pub struct Session<'a, L: Ledger> {
     service: Service<'a>,
     seat: Seat<L>,
     // Memory for the jobs that it makes of dies while its requests wait.
@@ -29,7 +29,7 @@ pub struct Session<'a, L: Ledger + Send> {
     connection: ConnectionMemory,
 }
 
-impl<'a, L: Ledger + Send> Session<'a, L> {
+impl<'a, L: Ledger> Session<'a, L> {
     /// A session that serves clients so, from this seat. It takes memory for what a client says and is told. The error is out of memory.
     pub fn new(
         global: Global,
@@ -60,7 +60,7 @@ pub struct Service<'a> {
 
 /// Serves an array to one client after another until the accept queue is closed, and hands the session's seat back. It blocks its thread: while its
 /// clients' requests wait it makes jobs of the dies whose images are in this table.
-pub fn serve_clients<R: Networked, L: Ledger + Send, M: Map + Drop, I: Image + Send + Drop>(
+pub fn serve_clients<R: Networked, L: Ledger, M: Map + Drop, I: Image + Drop>(
     rt: &R,
     accept_queue: &AcceptQueue,
     shared: &Shared<L, M>,
@@ -79,7 +79,7 @@ pub fn serve_clients<R: Networked, L: Ledger + Send, M: Map + Drop, I: Image + S
 
 /// The same over the shared array, with somebody who makes jobs of its dies while a request waits. It is a function of its own, so that no
 /// type is written that has the helper's inside of the store's.
-fn serve_with<R: Networked, L: Ledger + Send, M: Map + Drop, H: Hands<L, M, Global> + Drop>(
+fn serve_with<R: Networked, L: Ledger, M: Map + Drop, H: Hands<L, M, Global> + Drop>(
     rt: &R,
     accept_queue: &AcceptQueue,
     shared: &Shared<L, M>,

@@ -4,10 +4,16 @@
 mod closing;
 mod die_workers;
 mod host;
+mod images_at_work;
+mod listening;
+mod plan;
 mod ready;
 mod serve;
 mod serving;
+mod site;
 mod stop_line;
+mod stop_waiter;
+mod tasks;
 mod watching;
 
 pub use host::ServerHost;

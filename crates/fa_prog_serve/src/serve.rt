@@ -6,6 +6,7 @@ ghost use Rattle.fa_prog_serve.specs.Serving.{Listens, TellsEnd, TellsOn, TellsS
 
 use crate::closing::print_end;
 use crate::host::ServerHost;
+use crate::plan::ServePlan;
 use crate::ready::{listening_text, ready_of};
 use crate::serving::{Ended, serve_ready};
 use fa_core::Array;
@@ -116,17 +117,20 @@ pub fn serve_on<R: ServerHost, I: Image + Send + Drop, N: Read, W: Write, A: All
 ) -> u8
     ensures { TellsOn (W.contents output.old) (W.contents output.new) result }
 {
+    let plan = ServePlan {
+        listener,
+        settings,
+        places,
+        verbose: serve.verbose,
+    };
     let mut images = images;
     match mount(rt, settings, serve.unclean, images.as_mut_slice()) {
-        Ok(mounted) => serve_mounted::<Brand, R, I, N, W, A>(
+        Ok(mounted) => serve_mounted::<Brand, R, PageMap, I, N, W, A>(
             rt,
             Blank::new(257),
-            listener,
             mounted,
             images,
-            places,
-            settings,
-            serve,
+            &plan,
             input,
             output,
         ),
@@ -144,6 +148,7 @@ type Served<I> = (Result<Ended<I>, AllocError>, Result<Vec<Fault>, AllocError>);
 fn serve_mounted<
     L: Ledger + Send,
     R: ServerHost,
+    M: Map + Send + Drop,
     I: Image + Send + Drop,
     N: Read,
     W: Write,
@@ -151,25 +156,20 @@ fn serve_mounted<
 >(
     rt: &R,
     blank: Blank,
-    listener: &TcpListener,
-    mounted: MountedArray<PageMap>,
+    mounted: MountedArray<M>,
     images: Vec<I>,
-    places: &[usize],
-    settings: &Settings<A>,
-    serve: Serve,
+    plan: &ServePlan<'_, A>,
     input: &mut N,
     output: &mut W,
 ) -> u8
     requires name { blank.name ≡ L.name }
     requires parts { (blank.parts ≡ L.parts) × (blank.parts ≡ 257) }
-    requires whole { IsWhole page_view mounted.array }
+    requires whole { IsWhole M.view mounted.array }
     ensures { TellsOn (W.contents output.old) (W.contents output.new) result }
 {
     let MountedArray { array, dies } = mounted;
-    match share::<L, PageMap>(rt.alloc(), blank, array) {
-        Some(shared) => serve_over(
-            rt, shared, dies, listener, images, places, settings, serve, input, output,
-        ),
+    match share::<L, M>(rt.alloc(), blank, array) {
+        Some(shared) => serve_over(rt, shared, dies, images, plan, input, output),
         None => refuse_for_memory(output),
     }
 }
@@ -191,37 +191,24 @@ fn share<L: Ledger, M: Map + Drop>(
 fn serve_over<
     L: Ledger + Send,
     R: ServerHost,
+    M: Map + Send + Drop,
     I: Image + Send + Drop,
     N: Read,
     W: Write,
     A: Allocator,
 >(
     rt: &R,
-    shared: Shared<L, PageMap>,
+    shared: Shared<L, M>,
     dies: Vec<Standing>,
-    listener: &TcpListener,
     images: Vec<I>,
-    places: &[usize],
-    settings: &Settings<A>,
-    serve: Serve,
+    plan: &ServePlan<'_, A>,
     input: &mut N,
     output: &mut W,
 ) -> u8
     requires { L.parts ≡ 257 }
     ensures { TellsOn (W.contents output.old) (W.contents output.new) result }
 {
-    let served = serve_lent(
-        rt,
-        &shared,
-        dies.as_slice(),
-        listener,
-        images,
-        places,
-        settings,
-        serve,
-        input,
-        output,
-    );
+    let served = serve_lent(rt, &shared, dies.as_slice(), images, plan, input, output);
     match served {
         Some((ended, faults)) => end(rt, shared, dies, ended, faults, output),
         None => refuse_for_memory(output),
@@ -233,19 +220,17 @@ fn serve_over<
 fn serve_lent<
     L: Ledger + Send,
     R: ServerHost,
+    M: Map + Send + Drop,
     I: Image + Send + Drop,
     N: Read,
     W: Write,
     A: Allocator,
 >(
     rt: &R,
-    shared: &Shared<L, PageMap>,
+    shared: &Shared<L, M>,
     dies: &[Standing],
-    listener: &TcpListener,
     images: Vec<I>,
-    places: &[usize],
-    settings: &Settings<A>,
-    serve: Serve,
+    plan: &ServePlan<'_, A>,
     input: &mut N,
     output: &mut W,
 ) -> Option<Served<I>>
@@ -253,14 +238,14 @@ fn serve_lent<
     ensures listens { IfSome result (λ _. Listens (W.contents output.old) (W.contents output.new)) }
     ensures refused { result ≡ None → W.contents output.new ≡ W.contents output.old }
 {
-    let Ok(line) = listening_text(rt.alloc(), listener, settings.listen) else {
+    let Ok(line) = listening_text(rt.alloc(), plan.listener, plan.settings.listen) else {
         return None;
     };
-    let Ok(ready) = ready_of(rt, shared, dies, images, places, settings, serve) else {
+    let Ok(ready) = ready_of(rt, shared, dies, images, plan) else {
         return None;
     };
     let _ = print(output, DONE, line.as_bytes());
-    let ended = serve_ready(rt, shared, listener, ready, input);
+    let ended = serve_ready(rt, shared, ready, input);
     Some((ended, shared.faults(rt, rt.alloc())))
 }
 

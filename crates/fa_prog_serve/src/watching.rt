@@ -36,7 +36,7 @@ pub(crate) struct Sight {
 /// Tells on standard error which dies went out and came in, when all pages have their copies again, and that the array is running full,
 /// until the array is to end. The sight is how it stood before anybody worked for it, and the paths are those of the dies' images, by the
 /// dies' numbers.
-pub(crate) fn watch<R: Networked, L: Ledger + Send, M: Map + Drop>(
+pub(crate) fn watch<R: Networked, L: Ledger, M: Map + Drop>(
     rt: &R,
     shared: &Shared<L, M>,
     paths: &[&str],
@@ -87,7 +87,7 @@ fn tell_healed<R: Networked>(rt: &R, lost: u64) {
 }
 
 /// How many pages were written and stand on no live die.
-fn count_lost<R: Networked, L: Ledger + Send, M: Map + Drop>(rt: &R, shared: &Shared<L, M>) -> u64 {
+fn count_lost<R: Networked, L: Ledger, M: Map + Drop>(rt: &R, shared: &Shared<L, M>) -> u64 {
     let pages = shared.lock(rt).array().geometry().pages;
     let mut lost = 0u64;
     for hold in 0..pages / PAGES_A_HOLD + 1 {
@@ -147,7 +147,7 @@ pub(crate) fn sight_of<M: Map>(array: &Array<M>, copies: u32) -> Sight {
 
 /// Tells of the faults behind those that were told already, and answers how many were told now. Where there is no memory for them they
 /// are told later.
-fn tell_faults<R: Networked, L: Ledger + Send, M: Map + Drop>(
+fn tell_faults<R: Networked, L: Ledger, M: Map + Drop>(
     rt: &R,
     shared: &Shared<L, M>,
     paths: &[&str],
@@ -184,16 +184,22 @@ impl<R: Eprint> Log for Warnings<'_, R> {
 
 /// Warns that a die went out.
 fn tell_fault<R: Networked>(rt: &R, paths: &[&str], fault: Fault) {
-    let (path, die, round) = (path_of(paths, fault.die), fault.die.0, fault.round.0);
-    let log = Warnings(rt);
     match fault.cause {
-        Cause::Image(cause) => {
-            warn!(log; "{path}: die {die} went out in round {round}: {cause}; replace it");
-        }
-        Cause::Wrong => {
-            warn!(log; "{path}: die {die} went out in round {round}: a slot has other bytes than were written; replace it");
-        }
+        Cause::Image(cause) => warn_of(rt, path_of(paths, fault.die), fault, cause),
+        Cause::Wrong => warn_of(
+            rt,
+            path_of(paths, fault.die),
+            fault,
+            "a slot has other bytes than were written",
+        ),
     }
+}
+
+/// Warns that a die went out for this cause.
+fn warn_of<R: Networked, C: Display + Drop>(rt: &R, path: &str, fault: Fault, cause: C) {
+    let (die, round) = (fault.die.0, fault.round.0);
+    let log = Warnings(rt);
+    warn!(log; "{path}: die {die} went out in round {round}: {cause}; replace it");
 }
 
 /// Tells of the dies that are live now and were not before.

@@ -1,0 +1,45 @@
+//! What a server is asked to do.
+use fa_settings::Settings;
+use std::alloc::Allocator;
+use std::net::TcpListener;
+
+/// Which array is to be served, and where.
+#[derive(Drop)]
+pub(crate) struct ServePlan<'a, A: Allocator> {
+    /// Where clients connect.
+    pub(crate) listener: &'a TcpListener,
+    pub(crate) settings: &'a Settings<A>,
+    /// The places of the images among the settings' paths, in the order in which they were opened.
+    pub(crate) places: &'a [usize],
+    /// Clients that come and go are told on standard error.
+    pub(crate) verbose: bool,
+}
+
+/// What the threads of a server are told of its settings.
+#[derive(Clone, Copy)]
+pub(crate) struct ThreadPlan<'a> {
+    /// The export's name.
+    pub(crate) export: &'a str,
+    /// How many clients are served at once.
+    pub(crate) sessions: usize,
+    /// How many bytes a page has.
+    pub(crate) page_bytes: u32,
+    /// How many copies each page is to have.
+    pub(crate) copies: u32,
+    /// Clients that come and go are told on standard error.
+    pub(crate) verbose: bool,
+}
+
+impl<'a, A: Allocator> ServePlan<'a, A> {
+    /// What the threads are told.
+    pub(crate) fn threads(&self) -> ThreadPlan<'a> {
+        let settings = self.settings;
+        ThreadPlan {
+            export: settings.export.as_str(),
+            sessions: settings.sessions as usize,
+            page_bytes: settings.geometry.page_bytes,
+            copies: settings.copies.number,
+            verbose: self.verbose,
+        }
+    }
+}

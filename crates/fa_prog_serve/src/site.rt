@@ -1,0 +1,98 @@
+//! A shared array as the threads of a server see it, and what they do.
+use crate::die_workers::{collect, rebuild, work_die};
+use crate::listening::Listening;
+use crate::tasks::Task;
+use crate::watching::watch;
+use fa_core::Array;
+use fa_image::Image;
+use fa_map_calls::Map;
+use fa_prog_clients::{Networked, accept_clients, serve_clients};
+use fa_shared::Shared;
+use fa_shared_lock::Seat;
+use fa_threads::Workplace;
+use fa_types::Die;
+use fa_workers::ImageTable;
+use std::sync::ledger::Ledger;
+use std::thread;
+use std::time::Duration;
+
+/// How often it is looked whether the collector has done its work at the stop, and how long it is between two looks, in milliseconds.
+const COLLECT_LOOKS: u32 = 100;
+
+const COLLECT_MILLISECONDS: u64 = 10;
+
+/// A shared array, with what its threads work with.
+#[derive(Drop)]
+pub(crate) struct Site<'a, L: Ledger, M: Map + Drop, I: Image + Drop> {
+    pub(crate) shared: &'a Shared<L, M>,
+    pub(crate) image_table: &'a ImageTable<I>,
+    pub(crate) listening: &'a Listening<'a>,
+}
+
+impl<'a, 'b, R: Networked, L: Ledger, M: Map + Drop, I: Image + Drop> Workplace<
+    R,
+    Task<'b, L>,
+    Option<Seat<L>>,
+> for Site<'a, L, M, I> {
+    fn work(&self, rt: &R, task: Task<'b, L>) -> Option<Seat<L>> {
+        let listening = self.listening;
+        match task {
+            Task::Die(task) => Some(work_die(rt, self.shared, self.image_table, task)),
+            Task::Collect(seat) => Some(collect(rt, self.shared, seat, listening.window_rounds)),
+            Task::Rebuild(seat) => Some(rebuild(rt, self.shared, seat)),
+            Task::Watch(seen) => {
+                watch(
+                    rt,
+                    self.shared,
+                    listening.paths.as_slice(),
+                    listening.copies,
+                    seen,
+                );
+                None
+            }
+            Task::Serve(session) => Some(serve_clients(
+                rt,
+                &listening.accept_queue,
+                self.shared,
+                self.image_table,
+                session,
+            )),
+            Task::Accept => {
+                accept_clients(rt, listening.listener, &listening.accept_queue);
+                None
+            }
+        }
+    }
+
+    /// The array is stopped, and no client is served.
+    fn give_up(&self, rt: &R) {
+        self.shared.stop(rt);
+        self.listening.accept_queue.close(rt);
+    }
+
+    /// Nobody is served any more: the collector ends what it has begun, and then all who work for the array are told to end.
+    fn stop(&self, rt: &R) {
+        let_collect(rt, self.shared);
+        self.shared.stop(rt);
+    }
+}
+
+/// Waits until no die wants a window of the collector, or until a second has passed.
+fn let_collect<R: Networked, L: Ledger, M: Map + Drop>(rt: &R, shared: &Shared<L, M>) {
+    for _ in 0..COLLECT_LOOKS {
+        if shared.stopped(rt) || !is_collecting(shared.lock(rt).array()) {
+            return;
+        }
+        thread::sleep(rt, Duration::from_millis(COLLECT_MILLISECONDS));
+    }
+}
+
+/// Whether a live die has less room than a block, and a victim.
+fn is_collecting<M: Map>(array: &Array<M>) -> bool {
+    for number in 0..array.geometry().dies {
+        if array.wants_window(Die(number as u8)) {
+            return true;
+        }
+    }
+    false
+}

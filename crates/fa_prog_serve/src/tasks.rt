@@ -1,0 +1,107 @@
+//! What the threads of a server are to do.
+use crate::die_workers::{DieTask, die_task};
+use crate::plan::ThreadPlan;
+use crate::watching::{Sight, sight_of};
+use fa_map_calls::Map;
+use fa_prog_clients::{Networked, Service, Session};
+use fa_shared::Shared;
+use fa_shared_lock::Seat;
+use fa_types::Die;
+use std::alloc::AllocError;
+use std::sync::ledger::Ledger;
+
+/// What a thread is to do.
+#[derive(Drop)]
+pub(crate) enum Task<'a, L: Ledger> {
+    /// Work for a die.
+    Die(DieTask<L>),
+    /// Collect.
+    Collect(Seat<L>),
+    /// Rebuild.
+    Rebuild(Seat<L>),
+    /// Tell what changes of the array, which stood so before anybody worked for it.
+    Watch(Sight),
+    /// Serve one client after another.
+    Serve(Session<'a, L>),
+    /// Accept clients.
+    Accept,
+}
+
+/// What all threads are to do.
+#[derive(Drop)]
+pub(crate) struct Tasks<'a, L: Ledger> {
+    /// First the tasks of those who work for the array or watch it, and then those of the ones who serve clients.
+    pub(crate) tasks: Vec<Task<'a, L>>,
+    /// How many are of the first.
+    pub(crate) workers: usize,
+    /// Memory for the seats of all.
+    pub(crate) seats: Vec<Seat<L>>,
+}
+
+/// A task for each of these dies, for the collector, the rebuilder and the watch, for each session, and for the one who accepts. The error is
+/// out of memory, or of seats.
+pub(crate) fn tasks_of<'a, R: Networked, L: Ledger, M: Map + Drop>(
+    rt: &R,
+    shared: &Shared<L, M>,
+    dies: &[Die],
+    plan: ThreadPlan<'a>,
+) -> Result<Tasks<'a, L>, AllocError> {
+    let count = dies.len().saturating_add(plan.sessions).saturating_add(4);
+    let seats = Vec::with_capacity(rt.alloc(), count)?;
+    let mut tasks = Vec::with_capacity(rt.alloc(), count)?;
+    add_workers(rt, shared, dies, plan, &mut tasks)?;
+    let workers = tasks.len();
+    add_sessions(rt, shared, plan, &mut tasks)?;
+    add(&mut tasks, Task::Accept)?;
+    Ok(Tasks {
+        tasks,
+        workers,
+        seats,
+    })
+}
+
+/// Adds a task for each die, for the collector, for the rebuilder and for the watch.
+fn add_workers<'a, R: Networked, L: Ledger, M: Map + Drop>(
+    rt: &R,
+    shared: &Shared<L, M>,
+    dies: &[Die],
+    plan: ThreadPlan<'a>,
+    tasks: &mut Vec<Task<'a, L>>,
+) -> Result<(), AllocError> {
+    for die in dies {
+        let task = die_task(rt, shared, *die, plan.page_bytes)?;
+        add(tasks, Task::Die(task))?;
+    }
+    let collector = shared.seat(rt).ok_or(AllocError)?;
+    add(tasks, Task::Collect(collector))?;
+    let rebuilder = shared.seat(rt).ok_or(AllocError)?;
+    add(tasks, Task::Rebuild(rebuilder))?;
+    let sight = sight_of(shared.lock(rt).array(), plan.copies);
+    add(tasks, Task::Watch(sight))
+}
+
+/// Adds a task for each session.
+fn add_sessions<'a, R: Networked, L: Ledger, M: Map + Drop>(
+    rt: &R,
+    shared: &Shared<L, M>,
+    plan: ThreadPlan<'a>,
+    tasks: &mut Vec<Task<'a, L>>,
+) -> Result<(), AllocError> {
+    for number in 0..plan.sessions {
+        let service = Service {
+            number,
+            name: plan.export,
+            verbose: plan.verbose,
+        };
+        let seat = shared.seat(rt).ok_or(AllocError)?;
+        let session = Session::new(rt.alloc(), service, seat)?;
+        add(tasks, Task::Serve(session))?;
+    }
+    Ok(())
+}
+
+/// Adds a task. The error is out of memory.
+fn add<'a, L: Ledger>(tasks: &mut Vec<Task<'a, L>>, task: Task<'a, L>) -> Result<(), AllocError> {
+    tasks.push(task)?;
+    Ok(())
+}
