@@ -2,5 +2,4 @@ mod Allowed
 mod Alone
 mod Rising
 mod Tests
-mod Tracked
 mod Whole

@@ -1,3 +1,2 @@
 pub mod Array
-pub mod Begun
 pub mod Calls

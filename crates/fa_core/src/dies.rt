@@ -12,10 +12,10 @@ ghost use Rattle.fa_machine.specs.Looks.{counts as rule_counts};
 
 use crate::array::Array;
 use crate::call::{Answer, Call};
-use crate::keeping::{an_event_counts, an_event_keeps, is_a_number};
 use fa_core_dispatch::Job;
 use fa_core_dispatch::laws::what_is_handed_out_fits;
 use fa_core_outcome::Outcome;
+use fa_laws::invariants::{an_event_counts, an_event_keeps};
 use fa_map_calls::Map;
 use fa_types::Die;
 use std::alloc::Allocator;
@@ -98,4 +98,11 @@ impl<M: Map, A: Allocator + Copy> Array<M, A> {
         an_event_counts();
         Answer::Done(buffer)
     }
+}
+
+/// The number of an array has 16 bytes.
+fn is_a_number(number: &[u8; 16])
+    ensures { length number.now ≡ 16 }
+{
+    let _bytes = *number;
 }

@@ -6,7 +6,7 @@ ghost use Rattle.fa_machine.specs.Step.{FlushBegin, Fold, Step};
 
 use crate::array::Array;
 use crate::call::{Answer, Call};
-use crate::keeping::{an_event_counts, an_event_keeps};
+use fa_laws::invariants::{an_event_counts, an_event_keeps};
 use fa_machine::{Flush, FlushRefused, FlushState};
 use fa_map_calls::Map;
 use std::alloc::Allocator;

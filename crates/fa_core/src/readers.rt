@@ -11,9 +11,9 @@ ghost use Rattle.fa_machine.specs.Looks.{counts as rule_counts};
 
 use crate::array::Array;
 use crate::call::{Answer, Call};
-use crate::keeping::{an_event_counts, an_event_keeps};
 use fa_batch::Closed;
 use fa_core_read::Admitted;
+use fa_laws::invariants::{an_event_counts, an_event_keeps};
 use fa_machine::{AdmitRefused, BatchId, ReadState};
 use fa_map_calls::Map;
 use fa_plan::Planned;

@@ -6,7 +6,7 @@ ghost use Rattle.fa_machine.specs.Looks.{counts as rule_counts};
 
 use crate::array::Array;
 use crate::call::{Answer, Call};
-use crate::keeping::{an_event_counts, an_event_keeps};
+use fa_laws::invariants::{an_event_counts, an_event_keeps};
 use fa_machine::{
     AdvanceRefused, CommitCopyRefused, Copied, ReserveCopyRefused, SpareRefused, WindowRefused,
 };

@@ -7,6 +7,7 @@ pub mod beginnings;
 pub mod calendars;
 pub mod chains;
 pub mod histories;
+pub mod invariants;
 pub mod plans;
 pub mod promises;
 pub mod reads;

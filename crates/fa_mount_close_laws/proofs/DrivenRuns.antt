@@ -20,7 +20,7 @@ use Rattle.fa_mount_close_laws.specs.Images.{IsImageOf, OnlyCalled}
 use Rattle.fa_mount_scan.specs.ContentCells.{IsCellOf}
 use Rattle.fa_core_dispatch.specs.Fits.{IsJobFor}
 use Rattle.fa_types.specs.declared.geometry.Geometry.{Geometry}
-use Rattle.fa_workers.specs.Made.{MakesCall as MakesJobCall, MakesCalls, Ran}
+use Rattle.fa_jobs.specs.Made.{MakesCall as MakesJobCall, MakesCalls, Ran}
 use Rattle.std.proofs.Common.{Bool, IsTrue, List, Option, Some, [], ap, false, inl, inr, map, refl, subst, suc, sym, true, ℕ, ◌*◌, ◌++◌, ◌<◌}
 use Rattle.std.proofs.Common.{append_assoc, ◌==◌, ◌∙◌, ◌∷◌, ◌≡◌}
 use Rattle.std.proofs.lemmas.Bool.{cases_eq, eqb-true}

@@ -20,7 +20,7 @@ use Rattle.fa_core_dispatch.specs.Fits.{IsJobFor}
 use Rattle.fa_types.specs.declared.geometry.Geometry.{Geometry}
 use Rattle.fa_types.specs.declared.kind.Kind.{Kind}
 use Rattle.fa_types.specs.declared.kind.Kind.TheVariants.{Data, Hole}
-use Rattle.fa_workers.specs.Made.{MakesCall, MakesCalls, Ran}
+use Rattle.fa_jobs.specs.Made.{MakesCall, MakesCalls, Ran}
 use Rattle.std.proofs.Common.{Bool, IsTrue, List, None, Option, Some, [], ap, append_assoc, cond, false, map, refl, subst, sym, true, ℕ, ◌*◌, ◌++◌, ◌<◌}
 use Rattle.std.proofs.Common.{◌&&◌, ◌==◌, ◌∙◌, ◌∷◌, ◌≡◌}
 use Rattle.std.proofs.lemmas.Bool.{eq-eqb, false≢true, ne_eqb}

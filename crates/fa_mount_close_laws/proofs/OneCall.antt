@@ -17,7 +17,7 @@ use Rattle.fa_tag.specs.declared.tag.Opened.{Opened}
 use Rattle.fa_tag.specs.declared.tag.Opened.TheVariants.{Bad, Erased, Good}
 use Rattle.fa_core_dispatch.specs.Fits.{header_of}
 use Rattle.fa_types.specs.declared.geometry.Geometry.{Geometry}
-use Rattle.fa_workers.specs.Made.{IsGivenBy, IsMadeBy, IsSeen}
+use Rattle.fa_jobs.specs.Made.{IsGivenBy, IsMadeBy, IsSeen}
 use Rattle.std.proofs.Common.{Bool, IsTrue, List, None, Some, [], ap, arith, false, inl, inr, length, refl, replicate, slice_index_or, subst, sym, true}
 use Rattle.std.proofs.Common.{ℕ, ◌*◌, ◌+◌, ◌-◌, ◌/◌, ◌<◌, ◌∙◌, ◌∷◌, ◌≡◌, ◌≤◌, ◌⊎◌}
 use Rattle.std.proofs.Math.Nat.{add-mul, div-eq_of_lt-le, div-mul-le_self, lt-div-mul-add, mul-le-mul_right}

@@ -1,8 +1,10 @@
 //! The last faults that took dies out.
 ghost use Rattle.std.specs.Prelude.{◌≡◌, ◌∷◌, ◌++◌, [], IfOk};
 ghost use Rattle.circular_buffer.specs.Buffer.{keep_last};
+ghost use Rattle.fa_shared.specs.Causes.{cause_of as rule_cause, fault_of as rule_fault};
 
 use circular_buffer::HeapCircularBuffer;
+use fa_core_outcome::Outcome;
 use fa_image::ImageFault;
 use fa_types::{Die, Round};
 use std::alloc::{AllocError, Allocator, Global};
@@ -74,5 +76,36 @@ impl<A: Allocator> Faults<A> {
         ensures { IfOk result (λ faults. faults.items ≡ faults_of self.now) }
     {
         self.ring.to_vec(alloc)
+    }
+}
+
+/// What is noted of a die whose job ended so: why it went out, if it was live and is out.
+pub fn fault_of(
+    was_live: bool,
+    is_live: bool,
+    die: Die,
+    outcome: Outcome,
+    round: Round,
+) -> Option<Fault>
+    ensures { result ≡ rule_fault was_live is_live die outcome round }
+{
+    if was_live && !is_live {
+        Some(Fault {
+            die,
+            cause: cause_of(outcome),
+            round,
+        })
+    } else {
+        None
+    }
+}
+
+/// Why a die went out whose job ended so.
+fn cause_of(outcome: Outcome) -> Cause
+    ensures { result ≡ rule_cause outcome }
+{
+    match outcome {
+        Outcome::Fault(fault) => Cause::Image(fault),
+        _ => Cause::Wrong,
     }
 }

@@ -4,5 +4,5 @@
 mod faults;
 mod shared;
 
-pub use faults::{Cause, Fault, Faults, MAX_FAULTS};
+pub use faults::{Cause, Fault, Faults, MAX_FAULTS, fault_of};
 pub use shared::Shared;

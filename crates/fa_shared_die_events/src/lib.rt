@@ -2,7 +2,9 @@
 #![tactic(auto)]
 
 mod dies;
+mod spares;
 mod turning;
 
 pub use dies::{done, take};
+pub use spares::bring_in_spare;
 pub use turning::{advance, commit_copy, reserve_copy, spare_in, window};

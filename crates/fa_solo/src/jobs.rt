@@ -10,10 +10,9 @@ use fa_core::Array;
 use fa_image::Image;
 use fa_machine::{BatchId, ReadState};
 use fa_map_calls::Map;
-use fa_shared_die_events::advance;
+use fa_shared_die_events::{advance, bring_in_spare};
 use fa_solo_job::{Inner, run_next};
 use fa_types::Die;
-use fa_workers::bring_in_spare;
 use std::alloc::Allocator;
 use std::sync::ledger::Ledger;
 

@@ -8,7 +8,7 @@ use Rattle.fa_machine.specs.World.{Accepted, Gave, GaveCell, JobCall, Refused, n
 use Rattle.fa_machine.specs.declared.jobs.Flight.{Flight}
 use Rattle.fa_machine.specs.declared.jobs.Flight.TheVariants.{Header, Move, Erase, Read, Program, Sync}
 use Rattle.fa_types.specs.declared.geometry.Geometry.{Geometry}
-use Rattle.fa_workers.specs.Made.{MakesCalls, Ran}
+use Rattle.fa_jobs.specs.Made.{MakesCalls, Ran}
 
 given : (flight : Flight) (outcome wanted : Outcome) → Some wanted ≡ Some outcome → is_of_kind flight wanted ≡ true
     → is_of_kind flight outcome ≡ true

@@ -22,7 +22,7 @@ use Rattle.fa_solo_job.specs.declared.inner.Inner.{Inner}
 use Rattle.fa_core_dispatch.specs.Fits.{IsJobFor}
 use Rattle.fa_types.specs.declared.geometry.Geometry.{Geometry}
 use Rattle.fa_shared_lock.specs.Rest.{LeavesRest}
-use Rattle.fa_workers.specs.Made.{Ran}
+use Rattle.fa_jobs.specs.Made.{Ran}
 
 from_begins : (die seat : ℕ) (core : Core) (given : Option Handed) (job : Handed) (new : Core)
     → (Some job, new) ≡ begins die seat core given → get new.jobs die ≡ Some job.flight

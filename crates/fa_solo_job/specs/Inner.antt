@@ -15,7 +15,7 @@ use Rattle.fa_solo_job.specs.Orders.{Awaits, IsDone, IsHalted, Orders, Settles, 
 use Rattle.fa_solo_job.specs.declared.inner.Parts.{Parts}
 use Rattle.fa_solo_job.specs.declared.inner.Inner.{Inner}
 use Rattle.fa_shared_lock.specs.Rest.{LeavesRest}
-use Rattle.fa_workers.specs.Made.{Ran}
+use Rattle.fa_jobs.specs.Made.{Ran}
 
 -- an array with its images that is not in use
 abbrev pub house_in : {M I A : Type 0} → (M → MapState) → Parts M I A → House I

@@ -12,7 +12,7 @@ use Rattle.fa_machine.specs.World.{outcome_of, second_call}
 use Rattle.fa_machine.specs.declared.jobs.Flight.{Flight}
 use Rattle.fa_machine.specs.declared.jobs.Flight.TheVariants.{Erase, Header, Move, Program, Read, Sync}
 use Rattle.fa_types.specs.declared.geometry.Geometry.{Geometry}
-use Rattle.fa_workers.specs.Made.{IsGivenBy, IsMadeBy, MakesCall, MakesCalls, Ran}
+use Rattle.fa_jobs.specs.Made.{IsGivenBy, IsMadeBy, MakesCall, MakesCalls, Ran}
 use Rattle.std.proofs.Common.{Bool, List, None, Option, Some, [], ap, arith, cond, false, inl, inr, is_some, option_map, refl, sym, suc}
 use Rattle.std.proofs.Common.{true, zero, ℕ}
 use Rattle.std.proofs.Common.{◌+◌, ◌-◌, ◌<◌, ◌%◌, ◌^◌, ◌∙◌, ◌∷◌, ◌≡◌}

@@ -17,7 +17,7 @@ use Rattle.fa_solo_job.specs.House.{House}
 use Rattle.fa_solo_job.specs.Orders.{Commits, Endless, IsOver, Looks, NoLook, OneMore, ReadsPage, Settles}
 use Rattle.fa_core_dispatch.specs.Fits.{IsJobFor}
 use Rattle.fa_types.specs.declared.geometry.Geometry.{Geometry}
-use Rattle.fa_workers.specs.Made.{Ran}
+use Rattle.fa_jobs.specs.Made.{Ran}
 use Rattle.std.proofs.Common.{List, None, Ok, Err, Option, Some, [], ap, inl, inr, map, refl, slice_get, slice_set, subst, suc, sym, zero, ℕ}
 use Rattle.std.proofs.Common.{◌++◌, ◌∙◌, ◌∷◌, ◌≡◌}
 use Rattle.std.proofs.lemmas.Bool.{cases_eq}

@@ -30,7 +30,7 @@ use Rattle.fa_solo_job.specs.Orders.{CopiesPage}
 use Rattle.fa_solo.specs.Turns.{Asking, Asks}
 use Rattle.fa_core_dispatch.specs.Fits.{IsJobFor}
 use Rattle.fa_types.specs.declared.geometry.Geometry.{Geometry}
-use Rattle.fa_workers.specs.Made.{Ran}
+use Rattle.fa_jobs.specs.Made.{Ran}
 use Rattle.std.proofs.Common.{Bool, IsTrue, List, Some, [], ap, false, map, refl, subst, suc, sym, true, ℕ, ◌∙◌, ◌∷◌, ◌≡◌}
 
 -- a die that goes out does so as a job of it ends with a fault

@@ -1,5 +1,4 @@
 mod Begun
-mod Deeds
 mod Dies
 mod Held
 mod Holds

@@ -1,5 +1,5 @@
 -- Jobs whose calls were made, where what a read gave is opened behind them.
-use Rattle.std.specs.Prelude.{◌≡◌, ◌<◌, ◌≤◌, ℕ, zero, suc, List, [], ◌∷◌, length, slice_index_or, take}
+use Rattle.std.specs.Prelude.{◌≡◌, ◌<◌, ◌≤◌, ℕ, zero, suc, List, [], ◌∷◌, length, slice_index_or}
 use Rattle.fa_core_outcome.specs.Outcomes.{outcome_of as end_of}
 use Rattle.fa_core_outcome.specs.declared.outcome.Outcome.{Outcome as JobOutcome}
 use Rattle.fa_core_outcome.specs.declared.outcome.Outcome.TheVariants.{Read as WasRead}
@@ -10,17 +10,14 @@ use Rattle.fa_machine.specs.declared.jobs.Flight.TheVariants.{Read}
 use Rattle.fa_machine.specs.declared.places.Version.{Version}
 use Rattle.fa_tag.specs.SlotGrammar.{IsOpened}
 use Rattle.fa_tag.specs.declared.tag.Opened.{Opened}
+use Rattle.fa_jobs.specs.Made.{Ran}
+use Rattle.fa_jobs.specs.Opens.{Opens}
 use Rattle.fa_tag.specs.declared.tag.Opened.TheVariants.{Bad}
 use Rattle.fa_types.specs.declared.geometry.Geometry.{Geometry}
 use Rattle.fa_types.specs.declared.numbers.Page.{Page}
 use Rattle.fa_types.specs.declared.numbers.Slot.{Slot}
-use Rattle.fa_workers.specs.Made.{Ran}
 use Rattle.fa_workers.specs.declared.bench.MadeJob.{MadeJob}
 use Rattle.fa_workers.specs.declared.job_memory.JobMemory.{JobMemory}
-
--- A slot's bytes are opened, and the first of them, as many as a page has, are handed out.
-abbrev pub Opens : List ℕ → ℕ → JobOutcome → List ℕ → Type 0
-Opens bytes count outcome page = (opened : Opened) × IsOpened bytes opened × (outcome ≡ WasRead opened) × (page ≡ take count bytes)
 
 module _ {I : Type 0} (made : I → ImageCall → ImageAnswer → I → Type 0) (geometry : Geometry) (array : List ℕ) (die : ℕ) where
   -- The job ran, or its slot was read into these bytes, and stands as a bad one until it is opened.

@@ -1,17 +1,15 @@
 -- A turn of a die, and how its job ends.
-use Rattle.std.specs.Prelude.{◌≡◌, ◌⊎◌, ℕ, Bool, ◌&&◌, not, false, if◌then◌else◌, List, Option, Some, None, Result, Ok, Err}
+use Rattle.std.specs.Prelude.{◌≡◌, ◌⊎◌, ℕ, Bool, ◌&&◌, false, List, Option, Some, None, Result, Ok, Err}
 use Rattle.std.specs.FinMap.{get}
 use Rattle.std.specs.Option.{option_map_or}
 use Rattle.fa_core_outcome.specs.Outcomes.{outcome_of}
 use Rattle.fa_core_outcome.specs.declared.outcome.Outcome.{Outcome}
-use Rattle.fa_core_outcome.specs.declared.outcome.Outcome.TheVariants.{Fault as WasFault}
 use Rattle.fa_machine.specs.Cells.{is_of_kind}
 use Rattle.fa_machine.specs.State.{Core, is_live}
 use Rattle.fa_machine.specs.Step.{Advance, Done, Step, Take, is_die, is_sized}
 use Rattle.fa_machine.specs.declared.refusals.AdvanceRefused.{AdvanceRefused}
 use Rattle.fa_machine.specs.declared.refusals.AdvanceRefused.TheVariants.{Pending}
-use Rattle.fa_shared.specs.declared.faults.Cause.{Cause}
-use Rattle.fa_shared.specs.declared.faults.Cause.TheVariants.{Image, Wrong}
+use Rattle.fa_shared.specs.Causes.{fault_of}
 use Rattle.fa_shared.specs.declared.faults.Fault.{Fault}
 use Rattle.fa_core_dispatch.specs.Handed.{handed_of}
 use Rattle.fa_types.specs.declared.numbers.Die.{Die}
@@ -57,17 +55,7 @@ abbrev pub Ends : ℕ → Outcome → List ℕ → Core → Core → Type 0
 Ends die outcome bytes old new =
     Step old (Done die (outcome_of outcome bytes)) new ⊎ ((may_end old die outcome bytes ≡ false) × (new ≡ old))
 
--- why a die went out whose job ended so
-abbrev pub cause_of : Outcome → Cause
-cause_of (WasFault fault) = Image fault
-cause_of outcome = Wrong
-
--- what is noted of a die whose job ended so: it was live and is out
-abbrev pub fault_of : Bool → Bool → Die → Outcome → Round → Option Fault
-fault_of was_live is_live die outcome round =
-    if was_live && not is_live then Some (record { die = die; cause = cause_of outcome; round = round }) else None
-
--- and in which round
+-- what is noted of a die whose job ended so, and in which round
 abbrev pub noted : Core → Core → Die → Outcome → Option Fault
 noted old new die outcome =
     fault_of (is_live old.page_map die.0) (is_live new.page_map die.0) die outcome (record { 0 = new.calendar.round })

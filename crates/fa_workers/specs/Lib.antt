@@ -1,9 +1,6 @@
 pub mod Begun
 pub mod DieTurns
 pub mod Held
-pub mod Made
-pub mod Orders
 pub mod Rebuilding
 pub mod JobMemories
-pub mod Spares
 pub mod Windows

@@ -6,7 +6,7 @@ ghost use Rattle.fa_shared_lock.specs.Only.{TakesJobs};
 ghost use Rattle.fa_shared_lock.specs.Seats.{number_of};
 ghost use Rattle.fa_core_dispatch.specs.Handed.{handed_of};
 ghost use Rattle.fa_workers.specs.DieTurns.{Ends, Rests, TakesNext, Turns};
-ghost use Rattle.fa_workers.specs.DieTurns.{after_look as rule_look, cause_of as rule_cause, fault_of as rule_fault, noted};
+ghost use Rattle.fa_workers.specs.DieTurns.{after_look as rule_look, noted};
 ghost use Rattle.fa_workers.specs.Held.{die_taken, order_in as rule_order};
 ghost use Rattle.fa_shared_lock.specs.Rest.{LeavesRest};
 
@@ -15,7 +15,7 @@ use fa_core::Array;
 use fa_core_outcome::Outcome;
 use fa_machine::AdvanceRefused;
 use fa_map_calls::Map;
-use fa_shared::{Cause, Fault};
+use fa_shared::{Fault, fault_of};
 use fa_shared_die_events::{advance, done, take};
 use fa_shared_events::make_room;
 use fa_shared_lock::{Locked, Seat};
@@ -193,41 +193,10 @@ fn changes_more(outcome: Outcome) -> bool {
     !matches!(outcome, Outcome::Read(_))
 }
 
-/// What is noted of a die whose job ended so: why it went out, if it was live and is out.
-pub fn fault_of(
-    was_live: bool,
-    is_live: bool,
-    die: Die,
-    outcome: Outcome,
-    round: Round,
-) -> Option<Fault>
-    ensures { result ≡ rule_fault was_live is_live die outcome round }
-{
-    if was_live && !is_live {
-        Some(Fault {
-            die,
-            cause: cause_of(outcome),
-            round,
-        })
-    } else {
-        None
-    }
-}
-
 /// The buffer of a Done, whether it was made or not.
 fn either<A: Allocator>(ended: Result<Vec<u8, A>, Vec<u8, A>>) -> Vec<u8, A> {
     match ended {
         Ok(left) => left,
         Err(back) => back,
-    }
-}
-
-/// Why a die went out whose job ended so.
-fn cause_of(outcome: Outcome) -> Cause
-    ensures { result ≡ rule_cause outcome }
-{
-    match outcome {
-        Outcome::Fault(fault) => Cause::Image(fault),
-        _ => Cause::Wrong,
     }
 }

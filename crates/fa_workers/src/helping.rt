@@ -10,12 +10,11 @@ ghost use Rattle.fa_workers.specs.Held.{AddsPart, numbers_of, told_of};
 
 use crate::bench::{Bench, MadeJob, Task};
 use crate::die_events::{Ended, end_job, take_job};
-use crate::gate::Gate;
-use crate::handing::hand_over;
 use crate::image_table::ImageTable;
 use crate::job_memory::JobMemory;
 use fa_core_outcome::Outcome;
 use fa_image::Image;
+use fa_jobs::{Gate, hand_over};
 use fa_map_calls::Map;
 use fa_shared::{Fault, Shared};
 use fa_shared_lock::{Hands, Locked, Seat};

@@ -1,10 +1,10 @@
 //! The images of an array's dies, for all who work for the dies.
 use crate::bench::Bench;
-use crate::gate::Gate;
 use crate::job_memory::JobMemory;
 use crate::order::Order;
 use fa_core_outcome::Outcome;
 use fa_image::Image;
+use fa_jobs::Gate;
 use fa_types::Die;
 use std::alloc::{AllocError, Allocator, Global};
 use std::sync::{Mutex, Wait};

@@ -4,15 +4,13 @@ ghost use Rattle.fa_core_outcome.specs.Outcomes.{outcome_of};
 ghost use Rattle.fa_core_dispatch.specs.Fits.{IsJobFor};
 ghost use Rattle.fa_core_dispatch.specs.Handed.{handed_of};
 ghost use Rattle.fa_workers.specs.Begun.{Begins};
-ghost use Rattle.fa_workers.specs.Made.{Ran};
-ghost use Rattle.fa_workers.specs.Orders.{IsJobFor-prop};
+ghost use Rattle.fa_jobs.specs.Made.{Ran};
+ghost use Rattle.fa_jobs.specs.Orders.{IsJobFor-prop};
 
-use crate::gate::Gate;
-use crate::reading::begin_read;
-use crate::running::run_job;
 use fa_core_dispatch::Job;
 use fa_core_outcome::Outcome;
 use fa_image::{Image, ImageFault};
+use fa_jobs::{Gate, begin_read, run_job};
 use fa_machine::Flight;
 use fa_tag::Opened;
 use fa_types::{Die, Geometry, TAG_BYTES};

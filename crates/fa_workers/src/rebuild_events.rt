@@ -6,11 +6,10 @@ ghost use Rattle.fa_workers.specs.Rebuilding.{AfterBatch, IsNumbered, Rebuilds, 
 ghost use Rattle.fa_workers.specs.declared.rebuild_stage.RebuildStage.TheVariants.{Looking, Pausing, Reading, Reserving, Copying};
 
 use crate::rebuild_stage::{RebuildStage, ThinPage};
-use crate::spares::bring_in_spare;
 use fa_core::Admitted;
 use fa_machine::{AdmitRefused, BatchId, CommitCopyRefused, Copied, ReadState, ReserveCopyRefused};
 use fa_map_calls::Map;
-use fa_shared_die_events::{commit_copy, reserve_copy};
+use fa_shared_die_events::{bring_in_spare, commit_copy, reserve_copy};
 use fa_shared_events::{admit, end_batch};
 use fa_shared_lock::{Locked, Seat};
 use fa_tag::Payload;

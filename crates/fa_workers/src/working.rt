@@ -1,13 +1,13 @@
 //! The worker of a die.
 use crate::bench::{Bench, Lain};
 use crate::die_events::{Ended, Next, end_job, turn};
-use crate::gate::Gate;
 use crate::helping::open_read;
 use crate::image_table::ImageTable;
 use crate::job_memory::JobMemory;
 use crate::order::Order;
 use fa_core_outcome::Outcome;
 use fa_image::Image;
+use fa_jobs::Gate;
 use fa_map_calls::Map;
 use fa_shared::Shared;
 use fa_shared_lock::{Awaits, Seat};

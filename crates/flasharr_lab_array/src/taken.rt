@@ -1,13 +1,13 @@
 //! A job that a die has taken, with all that its calls want.
 ghost use Rattle.fa_core_dispatch.specs.Fits.{IsJobFor};
 ghost use Rattle.fa_core_dispatch.specs.Handed.{handed_of};
-ghost use Rattle.fa_workers.specs.Orders.{IsJobFor-prop};
+ghost use Rattle.fa_jobs.specs.Orders.{IsJobFor-prop};
 
 use fa_core::{Job, Outcome};
 use fa_image::Image;
+use fa_jobs::{Open, run_job};
 use fa_machine::Flight;
 use fa_types::{Die, Geometry, TAG_BYTES};
-use fa_workers::{Open, run_job};
 use flasharr_lab_parts::Heap;
 
 /// A job that a die has taken, of an array of this geometry and number.

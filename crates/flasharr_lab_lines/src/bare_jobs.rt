@@ -4,10 +4,10 @@ ghost use Rattle.fa_types.specs.declared.kind.Kind.TheVariants.{Data};
 
 use fa_core::{Job, Outcome};
 use fa_image::Image;
+use fa_jobs::{Open, run_job};
 use fa_machine::{BatchId, Flight, Version};
 use fa_tag::{Opened, Payload};
 use fa_types::{Die, Kind, Page, Seq, Slot};
-use fa_workers::{Open, run_job};
 use flasharr_lab_calls::{Buffers, Run, buffers_of, fits, make_bare, next_slot, run_of, use_bare};
 use flasharr_lab_parts::{ARRAY, DieImage, Tools, Yard};
 use flasharr_lab_words::{Bare, full_page};

@@ -1,7 +1,7 @@
 //! A gate that holds calls of images.
 use crate::users::Sight;
+use fa_jobs::{Gate, ImageCallKind};
 use fa_types::Die;
-use fa_workers::{Gate, ImageCallKind};
 use std::sync::Wait;
 use std::sync::atomic::{AtomicBool, AtomicU64, Ordering};
 use std::thread;

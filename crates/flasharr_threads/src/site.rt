@@ -3,6 +3,7 @@ use crate::host::ThreadHost;
 use crate::users::{Sight, User};
 use fa_core::Array;
 use fa_image::Image;
+use fa_jobs::Gate;
 use fa_map_calls::Map;
 use fa_shared::Shared;
 use fa_shared_lock::{Hands, NoHands, Seat};
@@ -10,7 +11,7 @@ use fa_shared_store::ArrayBlocks;
 use fa_threads::Workplace;
 use fa_types::Die;
 use fa_workers::{
-    Gate, Helper, HelperMemory, ImageTable, JobMemory, collector_worker, die_worker, rebuild_worker,
+    Helper, HelperMemory, ImageTable, JobMemory, collector_worker, die_worker, rebuild_worker,
 };
 use std::alloc::Global;
 use std::sync::Wait;

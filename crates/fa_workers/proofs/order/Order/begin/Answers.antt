@@ -1,8 +1,8 @@
 use Rattle.std.proofs.Common.{refl}
 use Rattle.fa_core_dispatch.specs.Handed.{handed_of}
 use Rattle.fa_image.specs.Image.{ReadingSlot}
-use Rattle.fa_workers.proofs.Begun.{refused_ran}
-use Rattle.fa_workers.proofs.Deeds.{refused_by}
+use Rattle.fa_jobs.proofs.Openings.{refused_ran}
+use Rattle.fa_jobs.proofs.Deeds.{refused_by}
 use Rattle.fa_workers.specs.Begun.{HasRead, HasRun}
 use Rattle.fa_workers.proofs.order.Order.begin.Goals as goal
 
