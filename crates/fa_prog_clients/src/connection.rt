@@ -24,14 +24,14 @@ const HELD_BYTES: usize = 65_536;
 
 /// Memory for a connection. It is made before the session's thread is started.
 #[derive(Drop)]
-pub(crate) struct ConnectionMemory {
+pub struct ConnectionMemory {
     ahead: Vec<u8>,
     held: Vec<u8>,
 }
 
 impl ConnectionMemory {
     /// Memory for both sides. The error is out of memory.
-    pub(crate) fn new(global: Global) -> Result<ConnectionMemory, AllocError> {
+    pub fn new(global: Global) -> Result<ConnectionMemory, AllocError> {
         Ok(ConnectionMemory {
             ahead: vec![in global; 0u8; AHEAD_BYTES]?,
             held: Vec::with_capacity(global, HELD_BYTES)?,

@@ -11,6 +11,7 @@ mod socket;
 
 pub use accept_queue::AcceptQueue;
 pub use accepting::accept_clients;
+pub use connection::ConnectionMemory;
 pub use host::Networked;
-pub use sessions::{Service, Session, serve_clients};
+pub use sessions::{Service, serve_clients};
 pub use socket::stop_accepting;

@@ -4,48 +4,11 @@ use crate::connection::{Connection, ConnectionMemory};
 use crate::export::Export;
 use crate::host::Networked;
 use crate::socket::prepare;
-use fa_image::Image;
-use fa_map_calls::Map;
 use fa_prog_host::tell;
 use fa_session::{SessionEnd, serve_stream};
-use fa_shared::Shared;
-use fa_shared_lock::{Hands, Seat};
-use fa_shared_store::ArrayBlocks;
 use fa_types::Blocks;
-use fa_workers::{Helper, HelperMemory, ImageTable, Open};
-use std::alloc::{AllocError, Global};
 use std::io::Write;
 use std::net::{SocketAddr, TcpStream};
-use std::sync::ledger::Ledger;
-
-/// What a session has of its own. It is made before the session's thread is started.
-#[derive(Drop)]
-pub struct Session<'a, L: Ledger> {
-    service: Service<'a>,
-    seat: Seat<L>,
-    // Memory for the jobs that it makes of dies while its requests wait.
-    memory: HelperMemory,
-    // Memory for what its clients say and are told.
-    connection: ConnectionMemory,
-}
-
-impl<'a, L: Ledger> Session<'a, L> {
-    /// A session that serves clients so, from this seat. It takes memory for what a client says and is told. The error is out of memory.
-    pub fn new(
-        global: Global,
-        service: Service<'a>,
-        seat: Seat<L>,
-    ) -> Result<Session<'a, L>, AllocError> {
-        let memory = HelperMemory::new(global)?;
-        let connection = ConnectionMemory::new(global)?;
-        Ok(Session {
-            service,
-            seat,
-            memory,
-            connection,
-        })
-    }
-}
 
 /// How a session serves clients.
 #[derive(Clone, Copy)]
@@ -58,50 +21,15 @@ pub struct Service<'a> {
     pub verbose: bool,
 }
 
-/// Serves an array to one client after another until the accept queue is closed, and hands the session's seat back. It blocks its thread: while its
-/// clients' requests wait it makes jobs of the dies whose images are in this table.
-pub fn serve_clients<R: Networked, L: Ledger, M: Map + Drop, I: Image + Drop>(
+/// Serves a store to one client after another until the accept queue is closed. It blocks its thread.
+pub fn serve_clients<R: Networked, B: Blocks>(
     rt: &R,
     accept_queue: &AcceptQueue,
-    shared: &Shared<L, M>,
-    image_table: &ImageTable<I>,
-    session: Session<'_, L>,
-) -> Seat<L> {
-    let Session {
-        service,
-        seat,
-        memory,
-        connection,
-    } = session;
-    let helper = Helper::new(rt, rt.alloc(), shared, image_table, &Open, memory);
-    serve_with(rt, accept_queue, shared, service, connection, seat, helper)
-}
-
-/// The same over the shared array, with somebody who makes jobs of its dies while a request waits. It is a function of its own, so that no
-/// type is written that has the helper's inside of the store's.
-fn serve_with<R: Networked, L: Ledger, M: Map + Drop, H: Hands<L, M, Global> + Drop>(
-    rt: &R,
-    accept_queue: &AcceptQueue,
-    shared: &Shared<L, M>,
     service: Service<'_>,
     connection: ConnectionMemory,
-    seat: Seat<L>,
-    hands: H,
-) -> Seat<L> {
-    let mut connection = Connection::new(connection);
-    let mut blocks = ArrayBlocks::new(rt, rt.alloc(), shared, seat, hands);
-    serve_each(rt, accept_queue, service, &mut connection, &mut blocks);
-    blocks.into_seat()
-}
-
-/// Serves a store to one client after another until the accept queue is closed.
-fn serve_each<R: Networked, B: Blocks>(
-    rt: &R,
-    accept_queue: &AcceptQueue,
-    service: Service<'_>,
-    connection: &mut Connection,
     blocks: &mut B,
 ) {
+    let mut connection = Connection::new(connection);
     for _ in rt.forever() {
         let Some(stream) = accept_queue.next_client(rt, service.number) else {
             break;
@@ -111,7 +39,7 @@ fn serve_each<R: Networked, B: Blocks>(
                 rt,
                 accept_queue,
                 &stream,
-                connection,
+                &mut connection,
                 blocks,
                 export,
                 service.verbose,

@@ -10,11 +10,11 @@ mod plan;
 mod ready;
 mod serve;
 mod serving;
+mod sessions;
 mod site;
 mod stop_line;
 mod stop_waiter;
 mod tasks;
-mod watching;
 
 pub use host::ServerHost;
 pub use serve::{Serve, run_serve, serve_on};

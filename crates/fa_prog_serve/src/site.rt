@@ -1,12 +1,13 @@
 //! A shared array as the threads of a server see it, and what they do.
 use crate::die_workers::{collect, rebuild, work_die};
 use crate::listening::Listening;
+use crate::sessions::serve_array;
 use crate::tasks::Task;
-use crate::watching::watch;
 use fa_core::Array;
 use fa_image::Image;
 use fa_map_calls::Map;
-use fa_prog_clients::{Networked, accept_clients, serve_clients};
+use fa_prog_clients::{Networked, accept_clients};
+use fa_prog_watch::watch;
 use fa_shared::Shared;
 use fa_shared_lock::Seat;
 use fa_threads::Workplace;
@@ -50,7 +51,7 @@ impl<'a, 'b, R: Networked, L: Ledger, M: Map + Drop, I: Image + Drop> Workplace<
                 );
                 None
             }
-            Task::Serve(session) => Some(serve_clients(
+            Task::Serve(session) => Some(serve_array(
                 rt,
                 &listening.accept_queue,
                 self.shared,

@@ -1,9 +1,10 @@
 //! What the threads of a server are to do.
 use crate::die_workers::{DieTask, die_task};
 use crate::plan::ThreadPlan;
-use crate::watching::{Sight, sight_of};
+use crate::sessions::Session;
 use fa_map_calls::Map;
-use fa_prog_clients::{Networked, Service, Session};
+use fa_prog_clients::{Networked, Service};
+use fa_prog_watch::{Sight, sight_of};
 use fa_shared::Shared;
 use fa_shared_lock::Seat;
 use fa_types::Die;

@@ -120,20 +120,28 @@ fn own<'a, R: BufRead + Drop, M: Map + Drop, I: DieImage>(
 ) -> Images<'a, I>
     requires { IsWhole M.view parts.mounted.array }
 {
-    let Parts { mounted, images } = parts;
-    let mut mounted = mounted;
-    let mut images = images;
+    let mut parts = parts;
     'stores: for _ in 0..u64::MAX {
-        match over_array(script, lab, yard, &mut mounted, &mut images) {
-            Some(rounds) => {
-                let parts = with_store(script, lab, yard, Parts { mounted, images }, rounds);
-                mounted = parts.mounted;
-                images = parts.images;
-            }
+        match over_parts(script, lab, yard, &mut parts) {
+            Some(rounds) => parts = with_store(script, lab, yard, parts, rounds),
             None => break 'stores,
         }
     }
-    images
+    parts.images
+}
+
+/// Does what lines ask of an array, until one asks for a store of it: then for how many rounds of a window, and else for nothing more.
+fn over_parts<'a, R: BufRead + Drop, M: Map + Drop, I: DieImage>(
+    script: &mut Script<R>,
+    lab: &mut Lab<'a>,
+    yard: &mut Yard<'a, I>,
+    parts: &mut Parts<M, I, &'a Heap>,
+) -> Option<u64>
+    requires { IsWhole M.view parts.old.mounted.array }
+    ensures { IsWhole M.view parts.new.mounted.array }
+{
+    let Parts { mounted, images } = parts;
+    over_array(script, lab, yard, mounted, images)
 }
 
 /// Does what lines ask of a store of the array, until a line is none of a store's. There is none where its windows would have no round, or too many.

@@ -22,7 +22,7 @@ const PAGES_A_HOLD: u64 = 1024;
 
 /// How an array stands.
 #[derive(Clone, Copy)]
-pub(crate) struct Sight {
+pub struct Sight {
     /// Which dies are live, by their numbers.
     live: [bool; 64],
     /// A page has fewer copies than it could have.
@@ -36,7 +36,7 @@ pub(crate) struct Sight {
 /// Tells on standard error which dies went out and came in, when all pages have their copies again, and that the array is running full,
 /// until the array is to end. The sight is how it stood before anybody worked for it, and the paths are those of the dies' images, by the
 /// dies' numbers.
-pub(crate) fn watch<R: Networked, L: Ledger, M: Map + Drop>(
+pub fn watch<R: Networked, L: Ledger, M: Map + Drop>(
     rt: &R,
     shared: &Shared<L, M>,
     paths: &[&str],
@@ -117,7 +117,7 @@ fn is_lost<M: Map>(array: &Array<M>, page: Page) -> bool {
 }
 
 /// How an array stands, each of whose pages is to have this number of copies.
-pub(crate) fn sight_of<M: Map>(array: &Array<M>, copies: u32) -> Sight {
+pub fn sight_of<M: Map>(array: &Array<M>, copies: u32) -> Sight {
     let mut live = [false; 64];
     let (mut dies, mut open, mut roomy) = (0u32, 0u32, 0u32);
     for number in 0..array.geometry().dies {

@@ -1,0 +1,75 @@
+//! A session of the server over the array: it serves one client after another, and works for the dies while their requests wait.
+use fa_image::Image;
+use fa_jobs::Open;
+use fa_map_calls::Map;
+use fa_prog_clients::{AcceptQueue, ConnectionMemory, Networked, Service, serve_clients};
+use fa_shared::Shared;
+use fa_shared_lock::{Hands, Seat};
+use fa_shared_store::ArrayBlocks;
+use fa_workers::{Helper, HelperMemory, ImageTable};
+use std::alloc::{AllocError, Global};
+use std::sync::ledger::Ledger;
+
+/// What a session has of its own. It is made before the session's thread is started.
+#[derive(Drop)]
+pub(crate) struct Session<'a, L: Ledger> {
+    service: Service<'a>,
+    seat: Seat<L>,
+    // Memory for the jobs that it makes of dies while its requests wait.
+    memory: HelperMemory,
+    // Memory for what its clients say and are told.
+    connection: ConnectionMemory,
+}
+
+impl<'a, L: Ledger> Session<'a, L> {
+    /// A session that serves clients so, from this seat. It takes memory for what a client says and is told. The error is out of memory.
+    pub(crate) fn new(
+        global: Global,
+        service: Service<'a>,
+        seat: Seat<L>,
+    ) -> Result<Session<'a, L>, AllocError> {
+        let memory = HelperMemory::new(global)?;
+        let connection = ConnectionMemory::new(global)?;
+        Ok(Session {
+            service,
+            seat,
+            memory,
+            connection,
+        })
+    }
+}
+
+/// Serves an array to one client after another until the accept queue is closed, and hands the session's seat back. It blocks its thread: while its
+/// clients' requests wait it makes jobs of the dies whose images are in this table.
+pub(crate) fn serve_array<R: Networked, L: Ledger, M: Map + Drop, I: Image + Drop>(
+    rt: &R,
+    accept_queue: &AcceptQueue,
+    shared: &Shared<L, M>,
+    image_table: &ImageTable<I>,
+    session: Session<'_, L>,
+) -> Seat<L> {
+    let Session {
+        service,
+        seat,
+        memory,
+        connection,
+    } = session;
+    let helper = Helper::new(rt, rt.alloc(), shared, image_table, &Open, memory);
+    serve_with(rt, accept_queue, shared, service, connection, seat, helper)
+}
+
+/// The same over the shared array, with somebody who makes jobs of its dies while a request waits. It is a function of its own, so that no
+/// type is written that has the helper's inside of the store's.
+fn serve_with<R: Networked, L: Ledger, M: Map + Drop, H: Hands<L, M, Global> + Drop>(
+    rt: &R,
+    accept_queue: &AcceptQueue,
+    shared: &Shared<L, M>,
+    service: Service<'_>,
+    connection: ConnectionMemory,
+    seat: Seat<L>,
+    hands: H,
+) -> Seat<L> {
+    let mut blocks = ArrayBlocks::new(rt, rt.alloc(), shared, seat, hands);
+    serve_clients(rt, accept_queue, service, connection, &mut blocks);
+    blocks.into_seat()
+}

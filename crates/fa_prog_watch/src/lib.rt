@@ -1,0 +1,6 @@
+//! What is told of an array while it is served.
+#![tactic(auto)]
+
+mod watching;
+
+pub use watching::{Sight, sight_of, watch};
