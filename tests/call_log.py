@@ -1,8 +1,10 @@
 """The library of tests/call_log.c, and the numbers that it has in common with a test."""
 import mmap
 import os
+import shutil
 import struct
 import subprocess
+import sys
 
 SOURCE = os.path.join(os.path.dirname(os.path.abspath(__file__)), "call_log.c")
 REFUSED, SYNC_NANOSECONDS, SYNCS, WRITES, ERASES = range(5)
@@ -11,6 +13,8 @@ CONTROL_BYTES = 4096
 
 def compiled(folder):
     """The path of the library, which `cc` makes in a folder."""
+    if not shutil.which("cc"):
+        sys.exit(f"{os.path.basename(sys.argv[0])}: it needs cc, a compiler of C: apt-get install gcc libc6-dev")
     path = os.path.join(folder, "call_log.so")
     subprocess.run(["cc", "-O2", "-Wall", "-Wextra", "-shared", "-fPIC", "-o", path, SOURCE], check=True)
     return path
