@@ -226,7 +226,8 @@ class Judge:
             if floor and not any(self.holds(other, page) for other in self.serving()):
                 self.gone += 1
                 self.floors[page] = 0
-                self.lost_up_to[page] = max((disk.slots[at].seq for disk in self.disks.values() for at in disk.of_page.get(page, ())), default=0)
+                slots = [disk.slots[at] for disk in self.disks.values() for at in disk.of_page.get(page, ())]
+                self.lost_up_to[page] = max((slot.seq for slot in slots), default=0)
 
     def holds(self, die, page):
         disk = self.disks[die]
