@@ -24,6 +24,22 @@ class Loss:
         return f"{self.what}; power was cut at {self.place}, and mounted are {images}"
 
 
+@dataclass
+class Counts:
+    """What a judge has seen: calls of images, moments at which a page was at stake, and pages that were lost with a die; of its cuts all,
+    those where a page was at stake, those with images missing, those that lost something, those of these that had all images, and the pages
+    that they compared."""
+    calls: int = 0
+    at_stake: int = 0
+    gone: int = 0
+    cuts: int = 0
+    aimed: int = 0
+    partial: int = 0
+    losing: int = 0
+    losing_whole: int = 0
+    compared: int = 0
+
+
 class Judge:
     """Follows a log of calls, and cuts the power along it.
 
@@ -38,7 +54,7 @@ class Judge:
         self.floors = [0] * self.geometry.pages
         self.lost_up_to = [0] * self.geometry.pages
         self.refused = set()
-        self.cuts = self.losing = self.aimed = self.partial = self.calls = self.pages_compared = self.gone = self.weak = 0
+        self.counts = Counts()
         self.losses = []
         self.at = 0
         self.due = self.due_aimed = 0.0
@@ -182,7 +198,7 @@ class Judge:
         disk = self.disks[record.die]
         self.last = str(record)
         if not record.is_end:
-            self.calls += 1
+            self.counts.calls += 1
             if record.kind != SYNC:
                 self.see_done(record.die)
         if record.kind in (WRITES, ERASE):
@@ -224,7 +240,7 @@ class Judge:
         self.refused.add(die)
         for page, floor in enumerate(self.floors):
             if floor and not any(self.holds(other, page) for other in self.serving()):
-                self.gone += 1
+                self.counts.gone += 1
                 self.floors[page] = 0
                 slots = [disk.slots[at] for disk in self.disks.values() for at in disk.of_page.get(page, ())]
                 self.lost_up_to[page] = max((slot.seq for slot in slots), default=0)
@@ -250,7 +266,7 @@ class Judge:
             return
         if not self.holds(die, page) or self.is_safe(die, page):
             return
-        self.weak += 1
+        self.counts.at_stake += 1
         self.known_weak.add((die, page))
         others = [it for it in self.serving() if self.is_safe(it, page)]
         kept = [it for it in self.disks if it not in others] if others else list(self.disks)
@@ -258,7 +274,7 @@ class Judge:
             if self.due_aimed < 1:
                 break
             self.due_aimed -= 1
-            self.aimed += 1
+            self.counts.aimed += 1
             if self.cut(kept, each_by_itself(self.disks, self.rng)):
                 break
 
@@ -275,20 +291,21 @@ class Judge:
 
     def cut(self, kept, chosen):
         """Cuts the power now, with these images left. Whether something is lost."""
-        self.cuts += 1
+        self.counts.cuts += 1
         self.due -= 1
         is_whole = all(die in kept for die in self.serving())
-        self.partial += not is_whole
+        self.counts.partial += not is_whole
         disks = {die: self.disks[die] for die in kept}
         its = mounted(disks, chosen, copies=self.copies)
         said = self.fault_of(its, kept, is_whole)
         if said:
+            self.counts.losing_whole += is_whole
             self.lose(said, self.last, tuple(kept))
         self.sample(self, disks, chosen)
         return bool(said)
 
     def lose(self, said, place, kept):
-        self.losing += 1
+        self.counts.losing += 1
         if len(self.losses) < 1000:
             self.losses.append(Loss(said, place, kept, len(self.disks)))
 
@@ -298,7 +315,7 @@ class Judge:
                 continue
             if not is_whole and not any(die not in self.refused and self.holds(die, page) for die in kept):
                 continue
-            self.pages_compared += 1
+            self.counts.compared += 1
             slot = its.pages.get(page)
             if slot is None or slot.seq < floor:
                 return (f"page {page} was flushed with number {floor}, and is mounted "
