@@ -1,9 +1,9 @@
 """Cuts of power along a log of calls, each mounted by the second reader of tests/crashes.py and compared with what was flushed."""
 from dataclasses import dataclass
 
-from asking import FLUSH, WRITE, flushes_in_order
-from crashes import ERASE, REFUSED, SYNC, Disk, any_choice, each_by_itself, mounted, read_image, records
-from crashes import WRITE as WRITES
+from asking import flushes_in_order
+from crashes import ERASE, REFUSED, SYNC, WRITE, Disk, any_choice, each_by_itself, mounted, read_image, records
+from images import HEADER_END
 
 # How many choices of sectors are tried to have a page lost that no disk has for sure.
 TRIES = 8
@@ -125,8 +125,8 @@ class Judge:
         """Where each page's number was programmed first, and what with: (page, seq) to (place, number of the write, kind)."""
         programs = {}
         for record in found:
-            if record.kind == WRITES and not record.is_end and record.count == self.reader.slot_bytes:
-                slot = self.reader.slot(record.die, (record.offset - 4096) // self.reader.slot_bytes, record.data)
+            if record.kind == WRITE and not record.is_end and record.count == self.reader.slot_bytes:
+                slot = self.reader.slot(record.die, (record.offset - HEADER_END) // self.reader.slot_bytes, record.data)
                 if slot and (slot.page, slot.seq) not in programs:
                     programs[slot.page, slot.seq] = record.at, slot.number, slot.kind
         return programs
@@ -201,12 +201,12 @@ class Judge:
             self.counts.calls += 1
             if record.kind != SYNC:
                 self.see_done(record.die)
-        if record.kind in (WRITES, ERASE):
+        if record.kind in (WRITE, ERASE):
             slots = disk.slots_in(record.offset, record.count)
             if record.is_end:
                 disk.write_ends(record.call)
                 for at in slots:
-                    if record.kind == WRITES and disk.slots[at]:
+                    if record.kind == WRITE and record.result == record.count and disk.slots[at]:
                         self.ended[record.die][at] = None
             else:
                 self.done[record.die].difference_update(slots)
@@ -323,7 +323,7 @@ class Judge:
         for page, slot in its.pages.items():
             if self.written.get((page, slot.seq)) != (slot.number, slot.kind):
                 return f"page {page} is mounted with number {slot.seq} and write {slot.number}, which no write of that number had"
-        if is_whole and self.is_recovering and len(kept) == len(self.disks) and its.refusal:
+        if self.is_recovering and len(kept) == len(self.disks) and its.refusal:
             return f"--recover would refuse, since {its.refusal}"
         if is_whole and its.is_clean:
             if {page: slot.seq for page, slot in self.newest().items()} != {page: slot.seq for page, slot in its.pages.items()}:
