@@ -22,7 +22,7 @@ class Mix:
     trim: int = 6
     zeroes: int = 4
     read: int = 25
-    flush: int = 5
+    flush: float = 5
     fua: float = 0.05
     most: int = 4
     hot: float = 0.0

@@ -5,10 +5,10 @@ from asking import flushes_in_order
 from crashes import ERASE, REFUSED, SYNC, WRITE, Disk, any_choice, each_by_itself, mounted, read_image, records
 from images import HEADER_END
 
-# How many choices of sectors are tried to have a page lost that no disk has for sure.
+# How many choices of sectors are tried to have a page lost that is at stake.
 TRIES = 8
-# How many of the cuts may be aimed at pages one behind the other. Half of all cuts may.
-MOST_AIMED = 100
+# How many cuts may be aimed at pages one behind the other. In the long run half of all cuts may.
+MOST_AIMED = 60
 
 
 @dataclass(frozen=True)
@@ -26,11 +26,12 @@ class Loss:
 
 @dataclass
 class Counts:
-    """What a judge has seen: calls of images, moments at which a page was at stake, and pages that were lost with a die; of its cuts all,
-    those where a page was at stake, those with images missing, those that lost something, those of these that had all images, and the pages
-    that they compared."""
+    """What a judge has seen: calls of images, moments at which a page was at stake, those of them at which no die had it for sure, and pages
+    that were lost with a die; of its cuts all, those where a page was at stake, those with images missing, those that lost something, those
+    of these that had all images, and the pages that they compared."""
     calls: int = 0
     at_stake: int = 0
+    on_none: int = 0
     gone: int = 0
     cuts: int = 0
     aimed: int = 0
@@ -57,7 +58,7 @@ class Judge:
         self.counts = Counts()
         self.losses = []
         self.at = 0
-        self.due = self.due_aimed = 0.0
+        self.due, self.due_aimed = 0.0, float(MOST_AIMED)
         self.last = "the beginning"
         self.forget_disks()
 
@@ -70,7 +71,8 @@ class Judge:
         self.done = {die: set(range(len(disk.slots))) for die, disk in self.disks.items()}
         self.ended = {die: {} for die in self.disks}
         self.begun = {die: set() for die in self.disks}
-        self.known_weak = set()
+        # The dies and pages, and the pages on all dies, for which the power was cut since the last sync.
+        self.at_stake, self.on_none = set(), set()
         self.written = {(slot.page, slot.seq): (slot.number, slot.kind)
                         for disk in self.disks.values() for slot in disk.slots if slot}
 
@@ -221,7 +223,8 @@ class Judge:
                 disk.sync_begins(record.call)
             elif record.result == 0:
                 disk.sync_ends(record.call)
-                self.known_weak = {it for it in self.known_weak if it[0] != record.die}
+                self.at_stake = {it for it in self.at_stake if it[0] != record.die}
+                self.on_none.clear()
         elif record.kind == REFUSED and record.die not in self.refused:
             self.goes_out(record.die)
 
@@ -261,17 +264,23 @@ class Judge:
             self.look_at(die, page)
 
     def look_at(self, die, page):
-        """Cuts the power where a die that holds a page does not have it for sure: once until its next sync."""
-        if not self.floors[page] or die in self.refused or (die, page) in self.known_weak:
+        """Cuts the power where something changed on a die and a page is at stake: once for each page until a die's next sync."""
+        if not self.floors[page] or die in self.refused:
             return
-        if not self.holds(die, page) or self.is_safe(die, page):
-            return
-        self.counts.at_stake += 1
-        self.known_weak.add((die, page))
-        others = [it for it in self.serving() if self.is_safe(it, page)]
-        kept = [it for it in self.disks if it not in others] if others else list(self.disks)
+        if page not in self.on_none and not any(self.is_safe(it, page) for it in self.serving()):
+            self.on_none.add(page)
+            self.counts.on_none += 1
+            self.aim(list(self.disks), 1)
+        if (die, page) not in self.at_stake and self.holds(die, page) and not self.is_safe(die, page):
+            self.at_stake.add((die, page))
+            self.counts.at_stake += 1
+            # Some of these cuts are kept back for the pages that no die has for sure.
+            self.aim([it for it in self.disks if it in self.refused or not self.is_safe(it, page)], MOST_AIMED / 2)
+
+    def aim(self, kept, least):
+        """Cuts the power until something is lost, where there are enough cuts left for that."""
         for _ in range(TRIES):
-            if self.due_aimed < 1:
+            if self.due_aimed < least:
                 break
             self.due_aimed -= 1
             self.counts.aimed += 1
