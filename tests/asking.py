@@ -16,8 +16,7 @@ NAMES = {READ: "READ", WRITE: "WRITE", FLUSH: "FLUSH", TRIM: "TRIM", WRITE_ZEROE
 
 @dataclass(frozen=True)
 class Mix:
-    """What clients ask for: the weights of the commands, the share of those with FUA, the greatest number of pages of a request, and
-    a share of the requests that go to the pages whose numbers have one rest by the hot step."""
+    """What clients ask for: the weights of the commands, the share of those with FUA, and the greatest number of pages of a request."""
     write: int = 60
     trim: int = 6
     zeroes: int = 4
@@ -25,8 +24,6 @@ class Mix:
     flush: float = 5
     fua: float = 0.05
     most: int = 4
-    hot: float = 0.0
-    hot_step: int = 4
 
     def command(self, rng):
         kinds = {WRITE: self.write, TRIM: self.trim, WRITE_ZEROES: self.zeroes, READ: self.read, FLUSH: self.flush}
@@ -34,8 +31,6 @@ class Mix:
 
     def pages(self, pages, rng):
         """The first page of a request, and how many it has."""
-        if rng.random() < self.hot:
-            return rng.randrange(0, pages, self.hot_step), 1
         count = rng.randint(1, self.most)
         return rng.randrange(pages - count + 1), count
 
