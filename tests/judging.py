@@ -26,9 +26,9 @@ class Loss:
 
 @dataclass
 class Counts:
-    """What a judge has seen: calls of images, moments at which a page was at stake on a die, and on all dies, and pages that were lost with a
-    die; of its cuts all, those where a page was at stake, those with images missing, those that lost something, those of these that had all
-    images, and the pages that they compared."""
+    """What a judge has seen: calls of images, moments at which a page was at stake on a die, and on all dies, and pages that were lost with
+    a die; of its cuts all, those where a page was at stake, those with images missing, those that lost something, those of these that had
+    all images, and the pages that they compared."""
     calls: int = 0
     at_stake: int = 0
     on_none: int = 0
