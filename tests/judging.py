@@ -121,6 +121,9 @@ class Judge:
                 self.cut_anyhow()
         for _, numbers in floors[next_floor:]:
             self.raise_floors(numbers)
+        # What is left of the last share is a whole cut.
+        while self.due > 0.001:
+            self.cut_anyhow()
         self.at = end
 
     def programs_of(self, found):
