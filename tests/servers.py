@@ -205,8 +205,8 @@ class Array:
         """Waits until so many dies are live and no page is thin. What came of it is for `check` to tell."""
         wait_until(lambda: self.standing() == (live, 0), HEAL)
 
-    def serve(self, *words):
-        server = Server(self, self.program, words)
+    def serve(self, *words, env=None):
+        server = Server(self, self.program, words, env=env)
         self.servers.append(server)
         return server.started()
 
@@ -229,9 +229,9 @@ class Array:
 class Server:
     """The program while it serves an array. What it prints is collected as it comes."""
 
-    def __init__(self, array, command, words, *, stdin=subprocess.PIPE, in_group=False):
+    def __init__(self, array, command, words, *, stdin=subprocess.PIPE, in_group=False, env=None):
         self.process = CHILDREN.start([command, "serve", SETTINGS, *words], cwd=array.folder, in_group=in_group, stdin=stdin,
-                                      stdout=subprocess.PIPE, stderr=subprocess.PIPE, bufsize=0)
+                                      stdout=subprocess.PIPE, stderr=subprocess.PIPE, bufsize=0, env=env)
         self.output, self.errors = [], []
         self.address = None
         self.readers = [threading.Thread(target=self.collect, args=it, daemon=True)

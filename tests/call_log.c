@@ -1,0 +1,177 @@
+// A library that a test puts before the C library of a server (LD_PRELOAD). It looks at the calls on images, the files named d0.img,
+// d1.img and so on, and passes each of them on. CALL_LOG names the file to which their records are appended, if there is to be one.
+// CALL_CONTROL names a file of seven numbers that the test and the server have in common:
+//
+//   0  the dies whose calls are refused with EIO and not made, a bit for each
+//   1  how many nanoseconds a sync waits before it is made
+//   2  how many syncs were made
+//   3  how many writes were made
+//   4  how many of these were of ff bytes alone
+//
+// A call has a record before it is made, and one after it. A record is its head and the bytes of a write, if they are not all ff. Each
+// record is appended by one call of the system, so the log has whole records alone, and its length is a moment of the server's life.
+#define _GNU_SOURCE
+#include <dlfcn.h>
+#include <errno.h>
+#include <fcntl.h>
+#include <pthread.h>
+#include <stdarg.h>
+#include <stdatomic.h>
+#include <stdint.h>
+#include <stdio.h>
+#include <stdlib.h>
+#include <string.h>
+#include <sys/mman.h>
+#include <sys/types.h>
+#include <sys/uio.h>
+#include <time.h>
+#include <unistd.h>
+
+enum { WRITE = 0, ERASE = 1, SYNC = 2, REFUSED = 3 };
+enum { DIES = 64, FILES = 4096 };
+
+struct head {
+    uint32_t data;
+    uint8_t kind, die, is_end, unused;
+    uint64_t call, offset, count;
+    int64_t result;
+};
+
+struct control {
+    _Atomic uint64_t refused, sync_nanoseconds, syncs, writes, erases;
+};
+
+static struct control unshared;
+static struct control *control = &unshared;
+static int log_file = -1;
+static _Atomic uint64_t calls;
+// One more than the die whose image a file is, and 0 for any other file.
+static unsigned char die_of[FILES];
+
+static int (*next_open)(const char *, int, ...);
+static int (*next_close)(int);
+static ssize_t (*next_pread)(int, void *, size_t, off_t);
+static ssize_t (*next_pwrite)(int, const void *, size_t, off_t);
+static int (*next_fsync)(int);
+static int (*next_fdatasync)(int);
+
+__attribute__((constructor)) static void begin(void) {
+    next_open = dlsym(RTLD_NEXT, "open");
+    next_close = dlsym(RTLD_NEXT, "close");
+    next_pread = dlsym(RTLD_NEXT, "pread");
+    next_pwrite = dlsym(RTLD_NEXT, "pwrite");
+    next_fsync = dlsym(RTLD_NEXT, "fsync");
+    next_fdatasync = dlsym(RTLD_NEXT, "fdatasync");
+    const char *path = getenv("CALL_LOG");
+    if (path && (log_file = next_open(path, O_WRONLY | O_APPEND | O_CREAT | O_CLOEXEC, 0600)) < 0)
+        abort();
+    path = getenv("CALL_CONTROL");
+    if (path) {
+        int file = next_open(path, O_RDWR | O_CLOEXEC);
+        void *shared = mmap(NULL, sizeof(struct control), PROT_READ | PROT_WRITE, MAP_SHARED, file, 0);
+        if (file < 0 || shared == MAP_FAILED)
+            abort();
+        control = shared;
+        next_close(file);
+    }
+}
+
+static int die_at(int file) {
+    return file >= 0 && file < FILES ? die_of[file] - 1 : -1;
+}
+
+static void append(struct head head, const void *data) {
+    struct iovec parts[] = {{&head, sizeof head}, {(void *)data, head.data}};
+    if (log_file >= 0 && writev(log_file, parts, 2) != (ssize_t)(sizeof head + head.data))
+        abort();
+}
+
+static int is_erase(const unsigned char *data, size_t count) {
+    return count && data[0] == 0xff && !memcmp(data, data + 1, count - 1);
+}
+
+// Whether a call of a die's image is refused, which is recorded.
+static int is_refused(int die) {
+    if (!(control->refused >> die & 1))
+        return 0;
+    append((struct head){.kind = REFUSED, .die = die, .is_end = 1, .call = calls++}, NULL);
+    errno = EIO;
+    return 1;
+}
+
+int open(const char *path, int flags, ...) {
+    va_list more;
+    va_start(more, flags);
+    int mode = flags & O_CREAT ? va_arg(more, int) : 0;
+    va_end(more);
+    int file = next_open(path, flags, mode);
+    const char *name = strrchr(path, '/');
+    unsigned die;
+    int end = 0;
+    if (file >= 0 && file < FILES)
+        die_of[file] = sscanf(name ? name + 1 : path, "d%2u.img%n", &die, &end) == 1 && end && die < DIES ? die + 1 : 0;
+    return file;
+}
+
+int close(int file) {
+    if (file >= 0 && file < FILES)
+        die_of[file] = 0;
+    return next_close(file);
+}
+
+ssize_t pread(int file, void *data, size_t count, off_t offset) {
+    int die = die_at(file);
+    if (die >= 0 && is_refused(die))
+        return -1;
+    return next_pread(file, data, count, offset);
+}
+
+ssize_t pwrite(int file, const void *data, size_t count, off_t offset) {
+    int die = die_at(file);
+    if (die < 0)
+        return next_pwrite(file, data, count, offset);
+    if (is_refused(die))
+        return -1;
+    int erases = is_erase(data, count);
+    struct head head = {.data = erases ? 0 : count, .kind = erases ? ERASE : WRITE, .die = die, .call = calls++,
+                        .offset = offset, .count = count};
+    append(head, data);
+    control->writes++;
+    control->erases += erases;
+    head.result = next_pwrite(file, data, count, offset);
+    int error = errno;
+    head.data = 0;
+    head.is_end = 1;
+    append(head, NULL);
+    errno = error;
+    return head.result;
+}
+
+static int synced(int file, int (*next)(int)) {
+    int die = die_at(file);
+    if (die < 0)
+        return next(file);
+    if (is_refused(die))
+        return -1;
+    struct head head = {.kind = SYNC, .die = die, .call = calls++};
+    append(head, NULL);
+    control->syncs++;
+    uint64_t wait = control->sync_nanoseconds;
+    struct timespec left = {wait / 1000000000, wait % 1000000000};
+    while (wait && nanosleep(&left, &left) && errno == EINTR)
+        ;
+    head.result = next(file);
+    int error = errno;
+    head.is_end = 1;
+    append(head, NULL);
+    errno = error;
+    return head.result;
+}
+
+int fsync(int file) {
+    return synced(file, next_fsync);
+}
+
+int fdatasync(int file) {
+    return synced(file, next_fdatasync);
+}
