@@ -15,6 +15,7 @@ from images import HEADER_END, TAG_BYTES, slot_bytes
 from nbd_client import Client
 
 ARRAY = bytes.fromhex("00112233445566778899aabbccddeeff")
+RECOVER = "--recover"
 SETTINGS = "array.toml"
 # What an installed program is started by.
 LAUNCHER = os.path.join(os.path.dirname(os.path.dirname(os.path.abspath(__file__))), "flasharr")
@@ -319,6 +320,12 @@ class Server:
 
 
 OWN_FILES = os.path.abspath(__file__), os.path.join(os.path.dirname(os.path.abspath(__file__)), "nbd_client.py")
+
+
+def unclean_word(program, folder):
+    """The word by which an array is served that was not closed: `--recover` where the program has it."""
+    array = Array(program, folder, formatted=False)
+    return RECOVER if RECOVER in array.run_words("serve", "--help")[1] else "--unclean"
 
 
 def fault_of(program, function):
