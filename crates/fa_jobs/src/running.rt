@@ -71,13 +71,12 @@ pub fn run_job<I: Image, G: Gate, A: Allocator, B: Allocator>(
                     version,
                     slot,
                     payload,
-                    job.lasting,
                     scratch.as_mut_slice(),
                     gate,
                 )
             }
             None => Outcome::Wrong,
         },
-        Flight::Sync { .. } => run_sync(die, image, gate),
+        Flight::Sync { flushes } => run_sync(die, image, flushes, gate),
     }
 }

@@ -5,5 +5,4 @@ pub mod Formatted
 pub mod Found
 pub mod Judged
 pub mod NewArray
-pub mod Recovering
 pub mod Rules

@@ -7,6 +7,5 @@ pub mod Mounting
 pub mod Pages
 pub mod ReadingAhead
 pub mod Readings
-pub mod Recovering
 pub mod Reported
 pub mod Scanned

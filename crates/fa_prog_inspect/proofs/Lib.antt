@@ -1,3 +1,2 @@
-pub mod ByTerms
 pub mod Inner
 pub mod Told

@@ -45,7 +45,6 @@ impl<'a, 'b, R: Networked, L: Ledger, M: Map + Drop, I: Image + Drop> Workplace<
                 watch(
                     rt,
                     self.shared,
-                    &listening.losses,
                     listening.paths.as_slice(),
                     listening.copies,
                     seen,
@@ -54,7 +53,7 @@ impl<'a, 'b, R: Networked, L: Ledger, M: Map + Drop, I: Image + Drop> Workplace<
             }
             Task::Serve(session) => Some(serve_array(
                 rt,
-                listening,
+                &listening.accept_queue,
                 self.shared,
                 self.image_table,
                 session,

@@ -5,4 +5,3 @@ pub mod Keys
 pub mod Meanings
 pub mod Settings
 pub mod Shapes
-pub mod Terms

@@ -12,7 +12,6 @@ mod reader;
 mod settings;
 mod shape;
 mod table;
-mod terms;
 mod values;
 
 pub use command_line::{Subcommand, command};
@@ -20,4 +19,3 @@ pub use fault::SettingsFault;
 pub use key::Key;
 pub use reader::found_at;
 pub use settings::Settings;
-pub use terms::Terms;

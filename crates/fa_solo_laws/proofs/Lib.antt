@@ -44,7 +44,6 @@ pub mod Syncing
 pub mod Sums
 pub mod Beginning
 pub mod Holding
-pub mod Between
 mod Admitting
 mod Changing
 mod ClosedRounds

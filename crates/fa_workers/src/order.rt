@@ -132,12 +132,13 @@ impl<A: Allocator> Order<A> {
     }
 }
 
-/// The first call of a job, which an image refuses that is not there.
+/// The call by which an image refuses a job.
 fn fault_of(flight: Flight) -> ImageFault {
     match flight {
         Flight::Header { .. } => ImageFault::WriteHeader,
         Flight::Move { .. } | Flight::Read { .. } => ImageFault::ReadSlot,
+        Flight::Erase { .. } => ImageFault::EraseBlock,
         Flight::Program { .. } => ImageFault::Program,
-        Flight::Erase { .. } | Flight::Sync { .. } => ImageFault::Sync,
+        Flight::Sync { .. } => ImageFault::Sync,
     }
 }

@@ -1,3 +1,0 @@
-pub mod Mounted
-pub mod Live
-pub mod Again
