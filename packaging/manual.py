@@ -141,7 +141,8 @@ def program_page(program, version):
     for name, *_ in listed["Commands"]:
         yield from command(program, name)
     yield from (".SH EXIT STATUS", *(line_of(inline(text)) for text in behind))
-    yield from (".SH FILES", ".TP", "\\fI/etc/flasharr/NAME.toml\\fR", "The settings of the array that the unit \\fBflasharr@NAME\\fR serves.")
+    yield from (".SH FILES", ".TP", "\\fI/etc/flasharr/NAME.toml\\fR", "The settings of the array that the unit \\fBflasharr@NAME\\fR serves.",
+                ".TP", "\\fI/etc/flasharr/NAME.toml.lost\\fR", "The pages of that array that were lost, if any were.")
     yield from (".SH SEE ALSO", "\\fBflasharr.toml\\fR(5), \\fBflasharr\\-format\\fR(5), and the documents in \\fI/usr/share/doc/flasharr\\fR.")
 
 

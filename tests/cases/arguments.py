@@ -24,13 +24,14 @@ Status: 0 where the work was done, 1 where it was refused or memory, input or ou
 
 HELP_OF_SERVE = """Serves an array over NBD, until the line `stop` comes on standard input
 
-Usage: flasharr serve SETTINGS [--unclean] [--verbose]
+Usage: flasharr serve SETTINGS [--unclean | --recover] [--verbose]
 
 Arguments:
   <SETTINGS>  The settings of the array, a TOML file
 
 Options:
       --unclean  Takes an array that was not closed, or whose images are not all there
+      --recover  Takes an array that was not closed, if the images that were in use are all there
       --verbose  Tells of clients that come and go, on standard error
   -h, --help     Print help
 
@@ -54,11 +55,12 @@ for each page, and the pages that show that no plan has fewer rounds.
 
 HELP_OF_TALK = """Serves one NBD client, whose bytes are given on standard input as lines of hexadecimal digits
 
-Usage: flasharr talk [--array SETTINGS [--unclean]] < LINES
+Usage: flasharr talk [--array SETTINGS [--unclean | --recover]] < LINES
 
 Options:
       --array <SETTINGS>  Serves the client the array of these settings, a TOML file
       --unclean           Takes an array that was not closed, or whose images are not all there
+      --recover           Takes an array that was not closed, if the images that were in use are all there
   -h, --help              Print help
 
 The client finds a store of 64 pages of 512 zero bytes under the name disk. Printed are the server's
@@ -89,12 +91,12 @@ For more information, try '--help'.
 
 WORD_TOO_MANY = """error: unexpected argument 'talk' found
 
-Usage: flasharr talk [--array SETTINGS [--unclean]] < LINES
+Usage: flasharr talk [--array SETTINGS [--unclean | --recover]] < LINES
 
 For more information, try '--help'.
 """
 
-USAGE = "usage: flasharr format | check | dump | serve | plan | talk [--array SETTINGS [--unclean]] | verify\n"
+USAGE = "usage: flasharr format | check | dump | serve | plan | talk [--array SETTINGS [--unclean | --recover]] | verify\n"
 
 SHOWN = [
     ("help", ("--help",), HELP), ("short_help", ("-h",), HELP),
@@ -111,6 +113,7 @@ MISTAKES = [
     ("die_64", ("format", "array.toml", "--die", "64"), "64"), ("die_below_0", ("format", "array.toml", "--die=-1"), "-1"),
     ("die_that_is_no_number", ("format", "array.toml", "--die", "x"), "'x'"),
     ("no_settings", ("check",), ""), ("unclean_format", ("format", "array.toml", "--unclean"), "--unclean"),
+    ("recover_format", ("format", "array.toml", "--recover"), "--recover"),
     ("json_twice", ("dump", "array.toml", "--json", "--json"), "--json"), ("array_without_a_path", ("talk", "--array"), "--array"),
     ("array_twice", ("talk", "--array", "a.toml", "--array", "a.toml"), "--array"),
 ]
@@ -135,7 +138,11 @@ def cases():
         yield Case(f"mistake/{name}", [Run(words, mistake(word), 2)])
     yield Case("mistake/no_text", [Run((b"talk", b"\xff"), USAGE, 2)])
     # There is no array that may be an unclean one.
-    yield Case("mistake/unclean_without_array", [Run(("talk", "--unclean"), USAGE, 2, "zz")])
+    for name in ("unclean", "recover"):
+        yield Case(f"mistake/{name}_without_array", [Run(("talk", f"--{name}"), USAGE, 2, "zz")])
+    # An array is taken on these terms or on those.
+    for words in (("check", "a.toml"), ("dump", "a.toml"), ("serve", "a.toml"), ("talk", "--array", "a.toml")):
+        yield Case(f"mistake/{words[0]}_on_two_terms", [Run((*words, "--unclean", "--recover"), USAGE, 2, "zz")])
     # The arguments are judged before the settings are read, and a command that reads no input leaves it alone.
     yield Case("mistake/before_the_settings", [Run(("check", "none.toml", "--cleanly"), mistake("--cleanly"), 2)])
     # An input that cannot be read, here a folder, and an output that takes nothing.

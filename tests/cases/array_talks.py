@@ -138,6 +138,19 @@ def unclean():
         Run(("talk", "--array", SETTINGS), "mount: 5 unclean\n", 1, said(read(1, 5)), errors=(advice.told_of_mount("die 2: unclean"),)),
         talk(read(1, 5), one, "--unclean"), check(lines(4, 4, 0, 2, True, 1, 0))],
         files(FOUR, headers={2: header(2, FOUR, clean=False)}, slots=page))
+    # The same with --recover, which takes no array of which a die is missing, and none of which pages were lost.
+    yield Case("recover/a_header_without_its_mark", [
+        talk(read(1, 5), one, "--recover"), check(lines(4, 4, 0, 2, True, 1, 0)), talk(read(1, 5), one, "--recover")],
+        files(FOUR, headers={2: header(2, FOUR, clean=False)}, slots=page))
+    for name, made, errors in [
+            ("an_image_that_is_missing", files(FOUR, headers={1: None}, slots=page), (missing, advice.told_of_mount("die 1: missed"))),
+            ("pages_that_were_lost", {**files(FOUR, slots=page), f"{SETTINGS}.lost": "pages 5 to 5\n"}, (f"{SETTINGS}.lost: {advice.LOST}",))]:
+        untouched = [has_bytes(path, made[path]) for path in DIES if path in made]
+        yield Case(f"recover/{name}", [
+            Run(("talk", "--array", SETTINGS, "--recover"), "mount: 5 unclean\n", 1, said(write(1, 5, 0xaa)), errors=errors), *untouched], made)
+    yield Case("recover/pages_that_were_lost_are_left_to_the_admin", [
+        talk(read(1, 5), one, "--unclean"), has_bytes(f"{SETTINGS}.lost", b"pages 5 to 5\n")],
+        {**files(FOUR, slots=page), f"{SETTINGS}.lost": "pages 5 to 5\n"})
     yield Case("unclean/an_image_that_is_missing", [
         Run(("talk", "--array", SETTINGS), "mount: 7 image fault\n", 1, said(read(1, 5)), errors=(missing,)),
         talk(read(1, 5), one, "--unclean", errors=(missing,)),
@@ -164,7 +177,7 @@ def limit_files():
 
 
 def limited(name, made, run, *behind):
-    """A case of one run that is limited so, and of looks at what it left."""
+    """A case of one run that is limited so, and of looks at what it left, which are runs or steps that are given the folder."""
     def faults(program):
         with tempfile.TemporaryDirectory(prefix="flasharr-case-") as folder:
             for path, content in made.items():
@@ -172,6 +185,9 @@ def limited(name, made, run, *behind):
                     out.write(content.encode() if isinstance(content, str) else content)
             told = []
             for step in (run, *behind):
+                if not isinstance(step, Run):
+                    step(folder)
+                    continue
                 said_there = step.input if isinstance(step.input, bytes) else step.input.encode()
                 done = subprocess.run([program, *step.words], cwd=folder, input=said_there, stdout=subprocess.PIPE, stderr=subprocess.PIPE,
                                       timeout=240, preexec_fn=limit_files if step is run else None, restore_signals=False)
@@ -180,6 +196,14 @@ def limited(name, made, run, *behind):
                     told.append(f"{' '.join(step.words)}: wanted {(step.status, step.output)!r}, and it was {found!r}"[:900])
             return told
     return Case(name, [Talk(faults)])
+
+
+def no_file(path):
+    """A step that asks that there is no such file."""
+    def look(folder):
+        if os.path.exists(os.path.join(folder, path)):
+            raise AssertionError(f"there is a file {path}")
+    return look
 
 
 def lost():
@@ -201,13 +225,16 @@ def lost():
                   talk(f"{write(1, 17, 0xaa)} {read(2, 5)} {read(3, 17)} {read(4, 6)} {FLUSH}",
                        f"{reply(1)} {reply(2, error=EIO)} {reply(3, 'aax512')} {reply(4, '00x512')} {FLUSHED}",
                        closed=f"{fault(1, 2)}{fault(3, 2)}closed unclean: 2\n"),
-                  Run(("check", SETTINGS), "mount: 5 unclean\n", 1))
+                  Run(("check", SETTINGS), "mount: 5 unclean\n", 1),
+                  # The page stands in the file beside the settings, and the array is not recovered.
+                  has_bytes(f"{SETTINGS}.lost", b"pages 5 to 5\n"), Run(("check", SETTINGS, "--recover"), "mount: 5 unclean\n", 1),
+                  check(lines(4, 2, 0, 4, False, 1, 0), "--unclean"), has_bytes(f"{SETTINGS}.lost", b"pages 5 to 5\n"))
     # A write of all of the page makes it good again.
     yield limited("lost/a_page_that_is_written_again", files(FOUR, slots=both),
                   talk(f"{write(1, 17, 0xaa)} {read(2, 5)} {write(3, 5, 0xbb)} {read(4, 5)}",
                        f"{reply(1)} {reply(2, error=EIO)} {reply(3)} {reply(4, 'bbx512')}",
                        closed=f"{fault(1, 2)}{fault(3, 2)}{CLEAN}"),
-                  check(lines(4, 2, 0, 4, True, 2, 0)))
+                  check(lines(4, 2, 0, 4, True, 2, 0)), no_file(f"{SETTINGS}.lost"))
     # No die can be written, and nothing was.
     yield limited("lost/all_dies", files(FOUR, slots={die: TAKEN for die in range(4)}),
                   talk(f"{write(1, 0, 0xaa)} {read(2, 0)} {FLUSH}",

@@ -427,6 +427,82 @@ def headers():
     yield Case("unclean/a_spare_with_a_torn_slot", [check(lines(4, 3, 0, 1, True))], files(slots=torn))
 
 
+# ---- recovering
+
+def recovered(*told, errors=()):
+    """What `check` and `dump` say of an array that is recovered: numbers for `lines`, and the lines of `dump`."""
+    return [check(lines(*told), "--recover", errors=errors)]
+
+
+def not_recovered(fault, said):
+    return [run(f"mount: {fault} {WORDS[fault]}\n", "--recover", status=1, errors=(said,)) for run in (check, dump)]
+
+
+def recovering():
+    # An array that was closed, and one that was not: a header without its mark, and one of an older epoch.
+    page = {1: [slot(5, 1, 1, 0)], 2: [slot(5, 1, 2, 0)]}
+    yield Case("recover/closed", [check(lines(4, 3, 1, 1, True, 1, 0), "--recover"), dump("page 5 seq 1 at 1:0 2:0\n", "--recover")],
+               files(slots=page))
+    for name, found, epoch in [("not_clean", header(1, clean=False), 1), ("an_older_epoch", header(1, epoch=2), 2)]:
+        yield Case(f"recover/{name}", [
+            check("mount: 5 unclean\n", status=1, errors=("die 1: unclean" if epoch == 1 else "die 0: unclean",)),
+            check(lines(4, 3, 1, epoch, False, 1, 0), "--recover"), dump("page 5 seq 1 at 1:0 2:0\n", "--recover")],
+            files(headers={1: found}, slots=page))
+    # A die of the mask without an image, without its path, and without a header.
+    missing = advice.image("d1.img", "No such file or directory")
+    yield Case("recover/a_missing_die", [
+        check("mount: 5 unclean\n", "--recover", status=1, errors=(missing, "die 1: missed")),
+        check(lines(4, 2, 1, 1, False), "--unclean", errors=(missing,))], files(headers={1: None}))
+    yield Case("recover/a_die_left_out", not_recovered(5, "die 1: missed"), files(names=["d0.img", "d2.img", "d3.img"]))
+    yield Case("recover/a_bad_header", not_recovered(5, "die 1: missed"), files(headers={1: bytes(112)}))
+    yield Case("recover/the_first_of_two_missing", not_recovered(5, "die 0: missed"), files(names=["d1.img", "d3.img"]))
+    # No die of the mask needs the image: it is left aside.
+    two = {0: header(0, epoch=2, mask=3, clean=False), 1: header(1, epoch=2, mask=3), 2: bytes(112)}
+    yield Case("recover/a_bad_header_that_nobody_needs", recovered(4, 2, 1, 2, False), files(headers=two))
+    # A spare that came in as the array was killed, of which nothing was used, and one that was used.
+    marked = header(1, spare=True, epoch=0, mask=0)
+    yield Case("recover/a_spare_in_the_mask", recovered(4, 2, 2, 1, False), files(headers={1: marked}))
+    yield Case("recover/a_used_spare_in_the_mask", [
+        *not_recovered(5, "d1.img: used spare"), check(lines(4, 2, 1, 1, False), "--unclean")],
+        files(headers={1: marked}, slots={1: [slot(5, 1, 1, 15)]}))
+    yield Case("recover/a_torn_slot_of_a_spare_in_the_mask", not_recovered(5, "d1.img: used spare"),
+               files(headers={1: marked}, slots={1: [(15, b"\xff" * 575 + b"\xfe")]}))
+    # A spare that is out takes no page with it. As many dies as there are copies do.
+    used = {3: [slot(0, 50, 3, 15)]}
+    yield Case("recover/a_used_spare_outside_the_mask", recovered(4, 3, 0, 1, True), files(slots=used))
+    out = {die: header(die, epoch=2, mask=3, clean=False) for die in (0, 1)}
+    yield Case("recover/one_die_is_out", recovered(4, 2, 1, 2, False), files(headers=out))
+    yield Case("recover/two_dies_are_out", [*not_recovered(5, "too few"), check(lines(4, 2, 0, 2, False), "--unclean")],
+               files(headers=out, slots=used))
+    five = (5, 1, 8, 4, 12)
+    many = {die: header(die, five, epoch=2, mask=7, clean=False) for die in range(3)}
+    yield Case("recover/two_of_three_copies_may_be_out", recovered(5, 3, 0, 2, False),
+               files(five, headers=many, slots={4: [slot(0, 50, 4, 0)]}, copies=3))
+    yield Case("recover/two_of_two_copies_may_not", not_recovered(5, "too few"), files(five, headers=many, slots={4: [slot(0, 50, 4, 0)]}))
+    yield Case("recover/the_mask_of_one_die", not_recovered(5, "too few"), files(headers={1: header(1, epoch=2, mask=2)}))
+    # A slot that cannot be read.
+    whole = files()
+    for die, warning in ((1, "d1.img"), (2, "d2.img")):
+        short = {**whole, f"d{die}.img": whole[f"d{die}.img"][:4096 + 15 * 576 + 575]}
+        yield Case(f"recover/a_slot_of_die_{die}_cannot_be_read", [
+            check("mount: 7 image fault\n", "--recover", status=1, errors=(f"{warning}: {LENGTH}", f"{warning}: image fault"))], short)
+    spare = {**whole, "d3.img": whole["d3.img"][:4096 + 15 * 576 + 575]}
+    yield Case("recover/a_slot_of_a_spare_cannot_be_read", recovered(4, 3, 0, 1, True, errors=(f"d3.img: {LENGTH}",)), spare)
+    # What is refused with --unclean is refused before.
+    for name, found, fault, said in [("another_array", header(1, array=OTHER_ARRAY), 2, "d1.img: arrays differ"),
+                                     ("die_0", header(0), 4, "d1.img: die twice"), ("another_mask", header(1, mask=3), 2, "d1.img: arrays differ")]:
+        yield Case(f"recover/{name}", not_recovered(fault, said), files(headers={1: found}))
+    yield Case("recover/a_spare_alone", not_recovered(6, "no die live"), files(names=["d3.img"]))
+    # Pages were lost, by the file beside the settings. It comes before the images, and only --recover asks for it.
+    lost = {f"{SETTINGS}.lost": "pages 5 to 5\n"}
+    yield Case("recover/pages_were_lost", [
+        *not_recovered(5, f"{SETTINGS}.lost: {advice.LOST}"), check(lines(4, 3, 1, 1, True)), check(lines(4, 3, 1, 1, True), "--unclean"),
+        has_bytes(f"{SETTINGS}.lost", b"pages 5 to 5\n")], {**files(), **lost})
+    yield Case("recover/an_empty_file_of_lost_pages", recovered(4, 3, 1, 1, True), {**files(), f"{SETTINGS}.lost": ""})
+    yield Case("recover/pages_were_lost_and_a_die_is_missing", not_recovered(5, f"{SETTINGS}.lost: {advice.LOST}"),
+               {**files(headers={1: None}), **lost})
+
+
 # ---- slots
 
 PATTERN = bytes((7 * i + 3) % 256 for i in range(512))
@@ -568,5 +644,5 @@ def documents():
 
 
 def cases():
-    for made in (formats, paths, lengths, headers, slots, documents):
+    for made in (formats, paths, lengths, headers, recovering, slots, documents):
         yield from made()

@@ -35,25 +35,27 @@ def headers(epoch, *live):
     return [step for die in live for step in ((f"take {die}", f"header epoch {epoch} live {told}"), (f"done {die} ok", DONE))]
 
 
-def programs(page, seq, byte, places, hole=False):
-    """A copy is programmed at each place, a die and a slot."""
+def programs(page, seq, byte, places, hole=False, new=()):
+    """A copy is programmed at each place, a die and a slot. The dies of `new` come to hold a page that was written before."""
     what = " hole" if hole else ""
     made = []
     for die, slot in places:
-        made += [(f"take {die}", f"program page {page} seq {seq}{what} slot {slot} of {byte}"), (f"done {die} ok", DONE)]
+        how = " lasting" if die in new else ""
+        made += [(f"take {die}", f"program page {page} seq {seq}{what} slot {slot} of {byte}{how}"), (f"done {die} ok", DONE)]
     return made
 
 
-def write_until_commit(page, seq, byte, *places, word="reserve"):
+def write_until_commit(page, seq, byte, *places, word="reserve", new=()):
     """A page is claimed, and its copies are programmed. The places are in the order of the page's dies."""
     hole = word == "reserve hole"
     asked = f"{word} {page}" if hole else f"{word} {page} {byte}"
-    return [(f"claim {page}", f"claim {page}"), (asked, f"seq {seq}"), *programs(page, seq, byte, places, hole)]
+    return [(f"claim {page}", f"claim {page}"), (asked, f"seq {seq}"), *programs(page, seq, byte, places, hole, new)]
 
 
-def write(page, seq, byte, *places, word="reserve"):
+def write(page, seq, byte, *places, word="reserve", new=()):
     """A page is written, from its claim to its release."""
-    return [*write_until_commit(page, seq, byte, *places, word=word), (f"commit {page}", f"seq {seq}"), (f"release {page}", "released")]
+    made = write_until_commit(page, seq, byte, *places, word=word, new=new)
+    return [*made, (f"commit {page}", f"seq {seq}"), (f"release {page}", "released")]
 
 
 def read(die, page, seq, slot, byte):
@@ -423,7 +425,7 @@ def reads():
         results 0 -> ready
         end 0 -> pages 8 page 0 of 10 page 1 of 11 page 2 of 12 page 3 of 13 page 4 of 14 page 5 of 15 page 6 of 16 page 7 of 17
         counts -> commits 8 starts 9
-    """) + write(1, 9, 31, (2, 5), (0, 5)) + [("page 1", "page 1 seq 9 at 0 5 at 2 5")],
+    """) + write(1, 9, 31, (2, 5), (0, 5), new=(0,)) + [("page 1", "page 1 seq 9 at 0 5 at 2 5")],
                ("claim", "reserve", "admit", "replan"))
 
     # A read comes before a program that waits, and that before a sync.
@@ -452,7 +454,7 @@ def reads():
         die 1 -> die 1 live room 8
         die 2 -> die 2 live room 4 victim 0
         admit 0 4 -> batch 0 rounds 1 least 1 place 0 0 1 place 4 1 1 short 0 4
-    """) + read(1, 4, 4, 1, 4) + write(0, 13, 30, (1, 4), (2, 8)) + pairs("""
+    """) + read(1, 4, 4, 1, 4) + write(0, 13, 30, (1, 4), (2, 8), new=(2,)) + pairs("""
         flush begin -> flush 1
         results 0 -> waiting
         take 0 -> sync
@@ -513,7 +515,7 @@ def reads():
         page 4 -> page 4 seq 5
         admit 7 1 -> batch 0 rounds 2 least 2 place 1 2 1 place 7 2 2 short 7 1
         end 0 -> pages 0
-    """) + write(4, 9, 30, (2, 5)) + pairs("""
+    """) + write(4, 9, 30, (2, 5), new=(2,)) + pairs("""
         page 4 -> page 4 seq 9 at 2 5
         admit 4 -> batch 1 rounds 1 least 1 place 4 2 1 short 4
     """) + read(2, 4, 9, 5, 30) + pairs("""
@@ -557,7 +559,7 @@ def reads():
         admit 0 5 -> refused: a page is lost 5
         admit 0 -> batch 1 rounds 1 least 1 place 0 0 1 short 0
     """) + headers(4, 0, 2) + read(0, 0, 1, 0, 10) + [("end 1", "pages 1 page 0 of 10")]
-               + write(5, 3, 25, (0, 1), (2, 0)) + pairs("""
+               + write(5, 3, 25, (0, 1), (2, 0), new=(0, 2)) + pairs("""
         page 5 -> page 5 seq 3 at 0 1 at 2 0
         advance -> round 2
         admit 5 -> batch 2 rounds 1 least 1 place 5 0 2 short 5
@@ -755,7 +757,7 @@ def copies():
     steps = MOUNTED + EIGHT + out_by_sync(1, live=(0, 2))
     for page, die, slot in ((0, 2, 5), (1, 0, 5), (4, 2, 6), (5, 0, 6), (6, 2, 7), (7, 0, 7)):
         steps = steps + [("next thin", f"page {page} to {die}"), (f"copy {page} {page + 1} {10 + page}", "reserved"),
-                         *programs(page, page + 1, 10 + page, ((die, slot),)), ("commit copy", "current")]
+                         *programs(page, page + 1, 10 + page, ((die, slot),), new=(die,)), ("commit copy", "current")]
     yield case("six_thin_pages", THREE, steps + pairs("""
         next thin -> none is thin
         page 0 -> page 0 seq 1 at 0 0 at 2 5
@@ -778,7 +780,7 @@ def copies():
         copy 1 2 11 -> refused: a copy is under way
         copy 1 3 11 -> refused: the page wants no such copy
         commit copy -> refused: the copy is pending
-        take 2 -> program page 0 seq 1 slot 5 of 10
+        take 2 -> program page 0 seq 1 slot 5 of 10 lasting
         commit copy -> refused: the copy is pending
         done 2 ok -> done
         next thin -> page 0 to 2
@@ -790,7 +792,7 @@ def copies():
     # The page is written while its copy is under way.
     yield case("a_copy_that_is_late", THREE, thin + pairs("""
         copy 0 1 10 -> reserved
-    """) + programs(0, 1, 10, ((2, 5),)) + write(0, 9, 30, (0, 5), (2, 6)) + pairs("""
+    """) + programs(0, 1, 10, ((2, 5),), new=(2,)) + write(0, 9, 30, (0, 5), (2, 6), new=(2,)) + pairs("""
         commit copy -> late
         page 0 -> page 0 seq 9 at 0 5 at 2 6
         commit copy -> stranger
@@ -799,7 +801,7 @@ def copies():
     # The die of a copy goes out.
     yield case("a_copy_that_fails", THREE, thin + pairs("""
         copy 0 1 10 -> reserved
-        take 2 -> program page 0 seq 1 slot 5 of 10
+        take 2 -> program page 0 seq 1 slot 5 of 10 lasting
         done 2 fault -> done
         commit copy -> refused: the copy failed
         commit copy -> stranger
@@ -822,7 +824,7 @@ def copies():
         next thin -> page 0 to 3
     """) + headers(4, 0, 2, 3) + pairs("""
         copy 0 1 10 -> reserved
-    """) + programs(0, 1, 10, ((3, 0),)) + pairs("""
+    """) + programs(0, 1, 10, ((3, 0),), new=(3,)) + pairs("""
         commit copy -> current
         page 0 -> page 0 seq 1 at 0 0 at 3 0
     """), ("claim", "reserve", "copy"))
@@ -948,7 +950,7 @@ def holes():
         admit 0 -> refused: a page is lost 0
         next thin -> none is thin
         end 0 -> pages 1 page 0 of 0
-    """) + headers(4, 2) + write(0, 2, 0, (2, 0), word=hole) + pairs("""
+    """) + headers(4, 2) + write(0, 2, 0, (2, 0), word=hole, new=(2,)) + pairs("""
         page 0 -> page 0 seq 2 hole at 2 0
         admit 0 -> batch 1 rounds 0 least 0
     """), ("claim", "hole", "admit"))
@@ -956,7 +958,7 @@ def holes():
     # One more copy of a hole is a hole, whatever is lent.
     yield case("a_copy_of_a_hole", THREE, MOUNTED + write(0, 1, 0, (0, 0), (1, 0), word=hole) + out_by_sync(1, live=(0, 2)) + pairs("""
         copy 0 1 99 -> reserved
-    """) + programs(0, 1, 0, ((2, 0),), hole=True) + pairs("""
+    """) + programs(0, 1, 0, ((2, 0),), hole=True, new=(2,)) + pairs("""
         commit copy -> current
         page 0 -> page 0 seq 1 hole at 0 0 at 2 0
     """), ("claim", "hole", "copy"))
@@ -993,10 +995,10 @@ def three_copies():
         page 5 -> page 5 seq 3 at 0 2
         next thin -> page 3 to 2
         admit 5 -> batch 0 rounds 1 least 1 place 5 0 1 short 5
-    """) + read(0, 5, 3, 2, 15) + [("end 0", "pages 1 page 5 of 15")] + write(5, 5, 25, (0, 4), (2, 1)) + pairs("""
+    """) + read(0, 5, 3, 2, 15) + [("end 0", "pages 1 page 5 of 15")] + write(5, 5, 25, (0, 4), (2, 1), new=(2,)) + pairs("""
         page 5 -> page 5 seq 5 at 0 4 at 2 1
         copy 3 2 13 -> reserved
-    """) + programs(3, 2, 13, ((2, 2),)) + pairs("""
+    """) + programs(3, 2, 13, ((2, 2),), new=(2,)) + pairs("""
         commit copy -> current
         next thin -> page 8 to 2
     """), ("claim", "reserve", "admit"))
@@ -1005,7 +1007,7 @@ def three_copies():
     yield case("a_third_copy", three, mounted + written + out_by_sync(2, live=(0, 1, 3)) + pairs("""
         next thin -> page 0 to 3
         copy 0 1 10 -> reserved
-    """) + programs(0, 1, 10, ((3, 3),)) + pairs("""
+    """) + programs(0, 1, 10, ((3, 3),), new=(3,)) + pairs("""
         commit copy -> current
         page 0 -> page 0 seq 1 at 0 0 at 1 0 at 3 3
         next thin -> none is thin

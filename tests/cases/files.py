@@ -244,7 +244,11 @@ def each_read_refused(desk):
                                  ("try mount 2", f"refused: image fault {die}"), ("try mount unclean 2", mounted(die))):
                 desk.ask(f"arm {die} {call}", "armed")
                 desk.ask(line, answer)
-        for line, answer in (("scan 2", "scanned 8"), ("scan together 2", "scanned 8"), ("try mount 2", mounted())):
+            # An array of which no die may be missed: a header that cannot be read is that of no die.
+            desk.ask(f"arm {die} {call}", "armed")
+            desk.ask("try recover 2", "refused: unclean" if call == 1 else f"refused: image fault {die}")
+        for line, answer in (("scan 2", "scanned 8"), ("scan together 2", "scanned 8"), ("try mount 2", mounted()),
+                             ("try recover 2", mounted())):
             desk.ask(f"arm {die} 18", "armed")
             desk.ask(line, answer)
         desk.ask(f"arm {die} 0", "armed")
@@ -253,18 +257,19 @@ def each_read_refused(desk):
 
 def each_request_refused(desk):
     """Each request for memory is refused alone, and then all of more than a given number of bytes."""
-    for number in range(1, 1_000):
-        desk.ask(f"heap refuse {number}", "heap")
-        answer = desk.lab.ask("try mount 2")
-        if answer != NO_MEMORY:
-            break
-    desk.same(answer, mounted(), "an array that is mounted at last")
-    desk.same(number > 20, True, "whether more than 20 requests were refused")
-    for most in (0, 64, 512, 4_096):
-        desk.ask(f"heap full {most}", "heap")
-        desk.ask("try mount 2", NO_MEMORY)
-    desk.ask("heap open", "heap")
-    desk.ask("try mount 2", mounted())
+    for line in ("try mount 2", "try recover 2"):
+        for number in range(1, 1_000):
+            desk.ask(f"heap refuse {number}", "heap")
+            answer = desk.lab.ask(line)
+            if answer != NO_MEMORY:
+                break
+        desk.same(answer, mounted(), "an array that is mounted at last")
+        desk.same(number > 20, True, "whether more than 20 requests were refused")
+        for most in (0, 64, 512, 4_096):
+            desk.ask(f"heap full {most}", "heap")
+            desk.ask(line, NO_MEMORY)
+        desk.ask("heap open", "heap")
+        desk.ask(line, mounted())
 
 
 def cases():

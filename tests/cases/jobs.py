@@ -80,7 +80,7 @@ ALONE = WRITTEN + [("flush begin", "flush 1")] + fails(1, "sync", "sync") + made
 
 
 def dies_that_fail():
-    yield case("a_die_fails_in_a_batch", THREE, HEALED + made(write(1, 9, 31, (2, 5), (0, 5))) + [("page 1", "page 1 seq 9 at 0 5 at 2 5")]
+    yield case("a_die_fails_in_a_batch", THREE, HEALED + made(write(1, 9, 31, (2, 5), (0, 5), new=(0,))) + [("page 1", "page 1 seq 9 at 0 5 at 2 5")]
                + slots((2, 5, "page 1 seq 9 of 31"), (0, 5, "page 1 seq 9 of 31")) + CLEAN)
 
     # Die 1's header passes, and its program of page 0 is refused. The headers of the others come before the programs of page 2.
@@ -220,19 +220,21 @@ def rebuilding():
         steps = steps + [("next thin", f"page {page} to {other}"),
                          (f"admit {page}", f"batch {batch} rounds 1 least 1 place {page} {die} {now} short {page}"),
                          *made(read(die, page, seq, slot, byte)), (f"end {batch}", f"pages 1 page {page} of {byte}"),
-                         (f"copy {page} {seq} {byte}", "reserved"), *made(programs(page, seq, byte, ((other, onto),))),
+                         (f"copy {page} {seq} {byte}", "reserved"), *made(programs(page, seq, byte, ((other, onto),), new=(other,))),
                          ("commit copy", "current"), ("advance", f"round {now + 1}")]
     yield case("six_thin_pages", THREE, steps + [("next thin", "none is thin")] + copies(new) + pairs("""
         page 0 -> page 0 seq 1 at 0 0 at 2 5
         page 7 -> page 7 seq 8 at 0 7 at 2 4
     """) + CLEAN)
 
-    # The program of a copy is refused.
-    yield case("a_copy_fails", THREE, ALONE + [("copy 0 1 10", "reserved")] + fails(2, "program page 0 seq 1 slot 5 of 10", "program")
-               + pairs("""
+    # The program of a copy is refused, and the sync behind it.
+    copied, failed = ALONE + [("copy 0 1 10", "reserved")], pairs("""
         commit copy -> refused: the copy failed
         page 0 -> page 0 seq 1 at 0 0
-    """) + slots((2, 5, "erased")))
+    """)
+    copy = "program page 0 seq 1 slot 5 of 10 lasting"
+    yield case("a_copy_fails", THREE, copied + fails(2, copy, "program") + failed + slots((2, 5, "erased")))
+    yield case("a_copy_that_is_not_synced", THREE, copied + fails(2, copy, "sync", at=2) + failed + slots((2, 5, "page 0 seq 1 of 10")))
 
 
 def collecting():
@@ -302,8 +304,10 @@ def collecting():
     """) + after)
     yield case("a_move_that_is_not_read", small, erased + fails(0, move, "read") + after + CLEAN)
     yield case("a_move_that_is_not_programmed", small, erased + fails(0, move, "program", at=2) + after + CLEAN)
-    yield case("an_erase_fails", small, in_window + fails(0, "erase 1", "erase") + slots((0, 4, "page 1 seq 5 of 24"))
-               + made(headers(3, 1)))
+    # An erase is behind a sync. Either of the two calls is refused.
+    stale = slots((0, 4, "page 1 seq 5 of 24")) + made(headers(3, 1))
+    yield case("an_erase_that_is_not_synced", small, in_window + fails(0, "erase 1", "sync") + stale)
+    yield case("an_erase_fails", small, in_window + fails(0, "erase 1", "erase", at=2) + stale)
 
 
 def three_copies():
@@ -430,7 +434,7 @@ def closing():
     """) + busy + pairs("""
         end 0 -> pages 0
         copy 0 1 10 -> reserved
-    """) + busy + made(programs(0, 1, 10, ((2, 5),))) + busy + pairs("""
+    """) + busy + made(programs(0, 1, 10, ((2, 5),), new=(2,))) + busy + pairs("""
         commit copy -> current
     """) + heads(3, (0, 2), 0, 2, clean=False) + [("close", "closed live 0 2")] + heads(3, (0, 2), 0, 2))
 
@@ -450,7 +454,7 @@ def mounting():
                + fails(1, "sync", "sync") + [("spare in 3", "in")] + made(headers(4, 0, 2, 3)) + pairs("""
         next thin -> page 0 to 3
         copy 0 1 10 -> reserved
-    """) + made(programs(0, 1, 10, ((3, 0),))) + pairs("""
+    """) + made(programs(0, 1, 10, ((3, 0),), new=(3,))) + pairs("""
         commit copy -> current
         page 0 -> page 0 seq 1 at 0 0 at 3 0
     """) + slots((3, 0, "page 0 seq 1 of 10")) + CLEAN)

@@ -1,7 +1,7 @@
 """The dies: jobs that are taken, made and ended, windows of the collector, and spares that come in."""
 from functools import partial
 
-from driving.jobs import job_of
+from driving.jobs import LASTING, job_of, judge_lasting
 from driving.kinds import DONE, SPARE_IN, TAKE, WINDOW
 
 # The most rounds of a window that is asked for.
@@ -10,6 +10,8 @@ MOST_ROUNDS = 6
 NEEDLESS_EVERY = 16
 # An image that is armed refuses one of its next MOST_CALLS calls. One in WRONG_EVERY gives wrong bytes at a read of a slot instead.
 MOST_CALLS, WRONG_EVERY = 12, 3
+# Before one Take in MAPPED_EVERY events it is looked where the copies of all pages are.
+MAPPED_EVERY = 8
 # The jobs that wrong bytes end, by what their end counts as.
 WRONG = {"done read of another slot": "read ", "done wrong move": "move "}
 
@@ -27,14 +29,21 @@ def work(desk, life, die):
     if life.jobs[die]:
         end_job(desk, life, die)
     else:
-        desk.event(TAKE, f"take {die}", partial(take, desk, life, die))
+        seen = []
+        if desk.counts["events"] % MAPPED_EVERY == 0:
+            desk.post("map", seen.append)
+        desk.event(TAKE, f"take {die}", partial(take, desk, life, die, seen))
 
 
-def take(desk, life, die, words):
+def take(desk, life, die, seen, words):
     """Keeps the job that a die has taken, if it has taken one."""
     if words == "no job":
         return
     life.jobs[die] = job_of(desk, life, die, words)
+    if words.startswith("program "):
+        desk.counts["lasting programs"] += words.endswith(LASTING)
+        for shown in seen:
+            judge_lasting(desk, die, words, shown)
     if die not in life.live:
         desk.differ(f"die {die} is out, and takes a job: {words}")
 

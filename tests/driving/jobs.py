@@ -1,6 +1,9 @@
 """The jobs that dies take, and what each is compared with as it is taken and as it ends well."""
 from driving.life import Version
 
+# What stands behind the words of a program that is synced before it ends.
+LASTING = " lasting"
+
 
 class Job:
     """A job that a die has taken, by its words: of those kinds that nothing is kept of."""
@@ -75,9 +78,17 @@ def read_of(desk, life, die, words):
 
 def program_of(desk, life, die, words):
     """A program, which is of a write that is reserved, or of the copy under way."""
-    parts = words.split()
+    parts = words.removesuffix(LASTING).split()
     page, write = int(parts[2]), Version(int(parts[4]), parts[5] == "hole", int(parts[-1]))
     reserved = [(claim.page, claim.reserved) for claim in life.claims]
     if (page, write) not in [*reserved, life.copy]:
         desk.differ(f"die {die}: {words}, and reserved are {reserved}, and the copy under way is {life.copy}")
     return Program(words, page, write)
+
+
+def judge_lasting(desk, die, words, shown):
+    """Compares whether a program is lasting with the pages' last writes and holders at its Take: so it is where its page was written before
+    and the die does not hold it."""
+    last, _, holders = shown.split()[1 + int(words.split()[2])].partition(":")
+    if words.endswith(LASTING) != (last != "0" and not int(holders) >> die & 1):
+        desk.differ(f"die {die}: {words}, and the page's last write is {last}, with holders {holders}")

@@ -72,7 +72,7 @@ EVENTS = (
 # What is counted besides events.
 MOUNTS = "mount", "mount of an unclean array", "mount refused: image fault", "mount refused: out of memory"
 CLOSES = "close", "close without a die that refuses", "close refused: busy", "close refused: lost page", "close refused: no die live"
-SUMS = "events", "arrays", "certificates", "pages compared", "differences"
+SUMS = "events", "arrays", "lasting programs", "certificates", "pages compared", "differences"
 
 
 def names_of(kinds):

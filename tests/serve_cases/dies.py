@@ -1,5 +1,6 @@
 """Dies that fail while clients work, spares that come in, and pages that are lost."""
 import os
+import re
 import time
 
 from nbd_client import EIO, READ, WRITE
@@ -151,6 +152,43 @@ def pages_that_are_lost(make):
         server.stop(faults=[1, 2])
     array.checked(dies=4, live=2, spare=0, written=192, thin=0)
     array.has_copies_of(bytes(content))
+
+
+@case
+def lost_pages_are_noted(make):
+    """Two dies fail at once. The pages that are lost stand in the file beside the settings as they are answered, and a server that is killed
+    then does not start with --recover."""
+    array = make(LARGER)
+    noted = array.path("array.toml.lost")
+    with array.serve("--recover") as server:
+        with server.client() as client:
+            client.write(0, os.urandom(LARGER.size))
+            client.flush()
+            equal(pages_in(noted), [], "the pages that are noted before any is lost")
+            array.take_away(1)
+            array.take_away(2)
+            lost = []
+            for page in range(LARGER.pages):
+                error, _ = client.request(READ, page * 512, 512)
+                if error:
+                    lost.append(page)
+                    ensure(page in pages_in(noted), f"page {page} is answered as lost, and not noted")
+            ensure(lost, "no page is lost")
+            equal(sorted(set(pages_in(noted))), lost, "the pages that are noted")
+        server.kill()
+    array.wanted("mount: 5 unclean\n", "serve", "--recover", status=1)
+    os.remove(noted)
+    # As many dies are out as there are copies.
+    array.wanted("mount: 5 unclean\n", "serve", "--recover", status=1)
+
+
+def pages_in(path):
+    """The pages that a file of lost pages names."""
+    if not os.path.exists(path):
+        return []
+    with open(path, encoding="ascii") as it:
+        ranges = [re.fullmatch(r"pages (\d+) to (\d+)\n", line).groups() for line in it]
+    return [page for first, last in ranges for page in range(int(first), int(last) + 1)]
 
 
 @case

@@ -193,6 +193,67 @@ def after_a_kill(make):
     array.has_copies_of(content)
 
 
+@case
+def recovered_after_kills(make):
+    """A server that is killed while it works starts again with --recover, again and again, with all that was answered."""
+    array = make()
+    content = bytearray(array.geometry.size)
+    for _ in range(4):
+        with array.serve("--recover") as server:
+            client = server.client()
+            same_bytes(client.read(0, len(content)), bytes(content), "the disk")
+            for _ in range(40):
+                page = random.randrange(array.geometry.pages)
+                content[page * 512:page * 512 + 512] = os.urandom(512)
+                client.write(page * 512, bytes(content[page * 512:page * 512 + 512]))
+            server.kill()
+            client.close()
+        array.wanted("mount: 5 unclean\n", "serve", status=1)
+        equal(array.check("--recover")["clean"], False, "whether the array is clean")
+    with array.serve("--recover") as server:
+        with server.client() as client:
+            same_bytes(client.read(0, len(content)), bytes(content), "the disk")
+        ensure(os.path.exists(array.path("array.toml.lost")), "there is no file of lost pages while a server runs")
+        server.stop()
+    ensure(not os.path.exists(array.path("array.toml.lost")), "an empty file of lost pages is left")
+    array.checked(live=4)
+    array.has_copies_of(bytes(content))
+
+
+@case
+def no_file_of_lost_pages(make):
+    """A server whose file of lost pages cannot be opened does not start."""
+    array = make()
+    os.mkdir(array.path("array.toml.lost"))
+    array.wanted("mount: 7 image fault\n", "serve", status=1)
+    os.rmdir(array.path("array.toml.lost"))
+    with array.serve() as server:
+        server.stop()
+    array.checked(live=4)
+
+
+@case
+def not_recovered_without_a_die(make):
+    """With --recover an array whose server was killed is not taken without one of its dies, and is taken with it."""
+    array = make()
+    content = os.urandom(array.geometry.size)
+    with array.serve("--recover") as server:
+        with server.client() as client:
+            client.write(0, content)
+            client.flush()
+        server.kill()
+    os.rename(array.image(2), array.path("away"))
+    for command in "serve", "check", "dump":
+        array.wanted("mount: 5 unclean\n", command, "--recover", status=1)
+    os.rename(array.path("away"), array.image(2))
+    with array.serve("--recover") as server:
+        with server.client() as client:
+            same_bytes(client.read(0, len(content)), content, "the disk")
+        server.stop()
+    array.checked(live=4, written=64, thin=0)
+    array.has_copies_of(content)
+
+
 def formats(array):
     """The format of each image's header, which is its third word."""
     found = []

@@ -11,10 +11,12 @@ ghost use Rattle.fa_machine.specs.Placement.{room as rule_room};
 ghost use Rattle.fa_machine.specs.State.{is_live as rule_live};
 ghost use Rattle.fa_machine.specs.Taking.{taken};
 ghost use Rattle.fa_core_tables.specs.Counted.{capped};
+ghost use Rattle.fa_mirror.specs.Order.{first_dies as rule_first, numbers_of};
 
 use crate::array::Array;
 use fa_machine::{BatchId, Block, ClaimId, HistoryEntry, JobKind, Version};
 use fa_map_calls::Map;
+use fa_mirror::Placing;
 use fa_types::{Die, Geometry, Page, Round, Seq, Slot};
 use std::alloc::Allocator;
 
@@ -111,6 +113,13 @@ impl<M: Map, A: Allocator + Clone> Array<M, A> {
             ≡ rule_thin (state_of M.view self.now).copies (state_of M.view self.now).page_map }
     {
         fa_mirror::next_thin(&self.state.page_map, self.state.copies)
+    }
+
+    /// The dies that a write of the page goes to where each has room.
+    pub fn first_dies(&self, page: Page) -> Placing
+        ensures { numbers_of result ≡ rule_first (state_of M.view self.now).copies (state_of M.view self.now).page_map page.0 }
+    {
+        fa_mirror::first_dies(&self.state.page_map, self.state.copies, page)
     }
 
     /// The entries of the history since the last fold, the oldest first.

@@ -125,12 +125,12 @@ urgent_tells core die flight e =
 
 other_tells : (core seen : Core) (die : ℕ) (job : Handed) → other_job seen die ≡ Some job → TellsState core job.flight
 other_tells core seen die job e =
-    elim (one_of_two (option_map program_of (find (is_for die) seen.waiting)) (option_map handed (sync_job seen die)) job e) [
+    elim (one_of_two (option_map (program_of seen.page_map) (find (is_for die) seen.waiting)) (option_map handed (sync_job seen die)) job e) [
       | inl program ↦ of_program (find (is_for die) seen.waiting) program
       | inr sync ↦ of_sync (sync_job seen die) refl sync
     ]
   where
-    of_program : (p : Option WaitingProgram) → option_map program_of p ≡ Some job → TellsState core job.flight
+    of_program : (p : Option WaitingProgram) → option_map (program_of seen.page_map) p ≡ Some job → TellsState core job.flight
     of_program None e = absurd (none-some job e)
     of_program (Some p) e = subst (λ (j : Handed). TellsState core j.flight) (same_Some _ job e) tt
 
@@ -216,7 +216,7 @@ module _ (core : Core) (sound : IsSound core) (ready : AreReady core) (limits : 
   read_fits : (page slot : ℕ) → copy_on core.page_map page die ≡ Some slot → slot < total
   read_fits page slot is = found_slot (is_current core.page_map page die) slot is
 
-  program_fits : (p : WaitingProgram) → is_live core.page_map die ≡ true → Among p core.waiting → Fits core array die (program_of p)
+  program_fits : (p : WaitingProgram) → is_live core.page_map die ≡ true → Among p core.waiting → Fits core array die (program_of core.page_map p)
   program_fits p on among tells =
       let w = ready.programs p among in
       let pages = limits.pages in let slots = limits.slots in let last = limits.last in

@@ -5,4 +5,4 @@ use Rattle.fa_core_dispatch.specs.declared.job.Job.{Job}
 
 module _ {A : Type 0} where
   abbrev pub handed_of : Job A → Handed
-  handed_of job = record { flight = job.flight; payload = unwrap_or job.payload [] }
+  handed_of job = record { flight = job.flight; payload = unwrap_or job.payload []; lasting = job.lasting }

@@ -10,4 +10,7 @@ pub struct Job<A: Allocator = Global> {
     pub flight: Flight,
     /// What a program writes. Another job has none.
     pub payload: Option<Payload<A>>,
+    /// Whether it is a program by which the die comes to hold a page that was written before: what was programmed is then synced before
+    /// the job ends.
+    pub lasting: bool,
 }

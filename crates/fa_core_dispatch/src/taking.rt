@@ -5,6 +5,7 @@ ghost use Rattle.fa_machine.specs.Conditions.{history_full};
 ghost use Rattle.fa_machine.specs.State.{is_live};
 ghost use Rattle.fa_machine.specs.Step.{is_die};
 ghost use Rattle.fa_machine.specs.Taking.{Takes, after_urgent, begun, is_idle as rule_idle, taken, urgent_job as rule_urgent, without_stale_booking};
+ghost use Rattle.fa_sound.specs.Ready.{AreReady};
 ghost use Rattle.fa_core_tables.specs.Dies.{by_die};
 ghost use Rattle.fa_core_state.specs.Core.{core_of};
 ghost use Rattle.fa_core_state.specs.Fitted.{IsFitted};
@@ -34,6 +35,7 @@ pub fn take<M: Map, A: Allocator + Clone>(
 ) -> Option<Job<A>>
     requires die { is_die (core_of M.view state.old) die.0 ≡ true }
     requires room { history_full (core_of M.view state.old) ≡ false }
+    requires ready { AreReady (core_of M.view state.old) }
     requires fitted { IsFitted M.view state.old }
     ensures takes { Takes (core_of M.view state.old) die.0 seat (option_map handed_of result) (core_of M.view state.new) }
     ensures fitted { IsFitted M.view state.new }
@@ -80,6 +82,7 @@ fn take_idle<M: Map, A: Allocator + Clone>(
     requires live { is_live (M.view state.old.page_map) die.0 ≡ true }
     requires idle { get (by_die state.old.jobs) die.0 ≡ None }
     requires room { history_full (core_of M.view state.old) ≡ false }
+    requires ready { AreReady (core_of M.view state.old) }
     requires fitted { IsFitted M.view state.old }
     ensures takes { (option_map handed_of result, core_of M.view state.new)
         ≡ after_urgent die.0 seat (core_of M.view state.old) (rule_urgent (core_of M.view state.old) die.0) }
@@ -91,6 +94,7 @@ fn take_idle<M: Map, A: Allocator + Clone>(
             Some(Job {
                 flight,
                 payload: None,
+                lasting: false,
             })
         }
         None => {

@@ -1,14 +1,15 @@
 -- How the calls of a job become what it ran.
 use Rattle.std.specs.Prelude.{◌≡◌, ℕ, ◌+◌, Bool, true, false, ◌==◌, ◌&&◌, cond, List, [], ◌∷◌, Some, None, is_some, length, take}
-use Rattle.std.proofs.Common.{ap, arith, refl, sym, ◌∙◌}
+use Rattle.std.proofs.Common.{ap, arith, refl, subst, sym, ◌∙◌}
 use Rattle.std.proofs.lemmas.Bool.{true≢false}
 use Rattle.fa_core_outcome.specs.Outcomes.{cell_of}
 use Rattle.fa_image.specs.Image.{ImageAnswer, ImageCall, IsAnswerTo, Refused as RefusedBy, fault_number, fault_of}
 use Rattle.fa_image.specs.Image.{ReadingSlot, Programming, Erasing, ReadingHeader, WritingHeader, Syncing}
 use Rattle.fa_image.specs.declared.fault.ImageFault.{ImageFault}
-use Rattle.fa_machine.specs.Cells.{Outcome, is_same_kind, moved_payload}
+use Rattle.fa_machine.specs.Cells.{DidProgram, Outcome, Sealed, is_same_kind, moved_payload}
 use Rattle.fa_machine.specs.Taking.{Handed}
-use Rattle.fa_machine.specs.World.{JobCall, Gave, next_call, outcome_of}
+use Rattle.fa_machine.specs.World.{Accepted, JobCall, Gave, ProgramsSlot, Syncs, next_call, outcome_of}
+use Rattle.fa_machine.specs.declared.jobs.Flight.TheVariants.{Program}
 use Rattle.fa_machine.specs.declared.places.Version.{Version}
 use Rattle.fa_tag.specs.SlotGrammar.{IsOpened, IsPayloadOf, payload_of}
 use Rattle.fa_tag.specs.declared.tag.Opened.{Opened}
@@ -16,13 +17,15 @@ use Rattle.fa_tag.specs.declared.tag.Opened.TheVariants.{Erased as OpenedErased,
 use Rattle.fa_types.specs.declared.geometry.Geometry.{Geometry}
 use Rattle.fa_types.specs.declared.kind.Kind.{Kind}
 use Rattle.fa_types.specs.declared.kind.Kind.TheVariants.{Data, Hole}
+use Rattle.fa_types.specs.declared.numbers.Page.{Page}
+use Rattle.fa_types.specs.declared.numbers.Slot.{Slot}
 use Rattle.fa_jobs.specs.Made.{MakesCall, Ran}
 
 module _ {I : Type 0} {made : I → ImageCall → ImageAnswer → I → Type 0} {geometry : Geometry} {array : List ℕ} {die : ℕ} where
   -- a job of one call
   pub ran_once : (job : Handed) (outcome : Outcome) (call : JobCall) (gave : Gave) (before after : I)
       → next_call die job [] ≡ Some call → MakesCall made geometry array die call gave before after
-      → outcome_of die job.flight job.payload (gave ∷ []) ≡ Some outcome → Ran made geometry array die job outcome before after
+      → outcome_of die job (gave ∷ []) ≡ Some outcome → Ran made geometry array die job outcome before after
   ran_once job outcome call gave before after next makes ends =
       record { gave = gave ∷ []; calls = (call, next, after, makes, refl); ends = ends }
 
@@ -30,9 +33,32 @@ module _ {I : Type 0} {made : I → ImageCall → ImageAnswer → I → Type 0} 
   pub ran_twice : (job : Handed) (outcome : Outcome) (first second : JobCall) (gave then : Gave) (before middle after : I)
       → next_call die job [] ≡ Some first → MakesCall made geometry array die first gave before middle
       → next_call die job (gave ∷ []) ≡ Some second → MakesCall made geometry array die second then middle after
-      → outcome_of die job.flight job.payload (gave ∷ then ∷ []) ≡ Some outcome → Ran made geometry array die job outcome before after
+      → outcome_of die job (gave ∷ then ∷ []) ≡ Some outcome → Ran made geometry array die job outcome before after
   ran_twice job outcome first second gave then before middle after next makes next_too makes_too ends =
       record { gave = gave ∷ then ∷ []; calls = (first, next, middle, makes, (second, next_too, after, makes_too, refl)); ends = ends }
+
+  -- a lasting program that was programmed, and its sync
+  pub ran_lasting : (page : Page) (version : Version) (slot : Slot) (payload : List ℕ) (lasting : Bool) (outcome : Outcome) (then : Gave)
+      (before middle after : I) → lasting ≡ true
+      → MakesCall made geometry array die (ProgramsSlot slot.0 (Sealed page.0 version die slot.0 payload)) Accepted before middle
+      → MakesCall made geometry array die Syncs then middle after
+      → outcome_of die (record { flight = Program page version slot; payload = payload; lasting = true }) (Accepted ∷ then ∷ []) ≡ Some outcome
+      → Ran made geometry array die (record { flight = Program page version slot; payload = payload; lasting = lasting }) outcome before after
+  ran_lasting page version slot payload lasting outcome then before middle after is programs syncs ends =
+      subst (λ (b : Bool). Ran made geometry array die (record { flight = Program page version slot; payload = payload; lasting = b }) outcome before after)
+      (sym is)
+      (ran_twice (record { flight = Program page version slot; payload = payload; lasting = true }) outcome
+      (ProgramsSlot slot.0 (Sealed page.0 version die slot.0 payload)) Syncs Accepted then before middle after refl programs refl syncs ends)
+
+  -- any other program that was programmed
+  pub ran_program : (page : Page) (version : Version) (slot : Slot) (payload : List ℕ) (lasting : Bool) (before after : I) → lasting ≡ false
+      → MakesCall made geometry array die (ProgramsSlot slot.0 (Sealed page.0 version die slot.0 payload)) Accepted before after
+      → Ran made geometry array die (record { flight = Program page version slot; payload = payload; lasting = lasting }) DidProgram before after
+  ran_program page version slot payload lasting before after is programs =
+      subst (λ (b : Bool). Ran made geometry array die (record { flight = Program page version slot; payload = payload; lasting = b }) DidProgram before after)
+      (sym is)
+      (ran_once (record { flight = Program page version slot; payload = payload; lasting = false }) DidProgram
+      (ProgramsSlot slot.0 (Sealed page.0 version die slot.0 payload)) Accepted before after refl programs refl)
 
 -- the fault that a refused call answers is the call's own
 pub refused_by : (call : ImageCall) (fault : ImageFault) (geometry : Geometry) → IsAnswerTo geometry call (RefusedBy fault)

@@ -1,5 +1,5 @@
 -- Reads whose slots are opened after they were read.
-use Rattle.std.proofs.Common.{ap, refl, subst, sym, List, Some, length, ℕ, ◌+◌, ◌≡◌}
+use Rattle.std.proofs.Common.{ap, refl, subst, sym, Bool, List, Some, length, ℕ, ◌+◌, ◌≡◌}
 use Rattle.fa_core_outcome.specs.Outcomes.{cell_of, outcome_of as end_of}
 use Rattle.fa_core_outcome.specs.declared.outcome.Outcome.{Outcome}
 use Rattle.fa_image.specs.Image.{Gave, ImageAnswer, ImageCall, ReadingSlot, Refused as RefusedBy, fault_number, fault_of}
@@ -20,11 +20,11 @@ use Rattle.fa_types.specs.declared.numbers.Slot.{Slot}
 
 -- a slot that was read and is opened is a read that ran
 pub read_ran : {I : Type 0} (made : I → ImageCall → ImageAnswer → I → Type 0) (geometry : Geometry) (array : List ℕ) (die : ℕ)
-    (batch : BatchId) (page : Page) (version : Version) (slot : Slot) (payload bytes handed : List ℕ) (n : ℕ) (outcome : Outcome) (before after : I)
+    (batch : BatchId) (page : Page) (version : Version) (slot : Slot) (payload : List ℕ) (lasting : Bool) (bytes handed : List ℕ) (n : ℕ) (outcome : Outcome) (before after : I)
     → made before (ReadingSlot slot.0) (Gave bytes) after → length bytes ≡ n + 64 → Opens bytes n outcome handed
-    → Ran made geometry array die (record { flight = Read batch page version slot; payload = payload }) (end_of outcome handed) before after
-read_ran made geometry array die batch page version slot payload bytes handed n outcome before after link sized (opened, is, same, taken) =
-    subst (λ (o : Outcome). Ran made geometry array die (record { flight = Read batch page version slot; payload = payload }) (end_of o handed) before after)
+    → Ran made geometry array die (record { flight = Read batch page version slot; payload = payload; lasting = lasting }) (end_of outcome handed) before after
+read_ran made geometry array die batch page version slot payload lasting bytes handed n outcome before after link sized (opened, is, same, taken) =
+    subst (λ (o : Outcome). Ran made geometry array die (record { flight = Read batch page version slot; payload = payload; lasting = lasting }) (end_of o handed) before after)
     (sym same)
     (ran_once _ _ (ReadsSlot slot.0) (GaveCell (cell_of opened handed)) _ _ refl
     (record {
@@ -43,7 +43,7 @@ pub opened_ran : {I : Type 0} (made : I → ImageCall → ImageAnswer → I → 
 opened_ran made geometry array die job batch page version slot bytes handed n outcome before after is link sized opens =
     subst (λ (j : Handed). Ran made geometry array die j (end_of outcome handed) before after)
     (sym (ap (λ (f : Flight). record job { flight = f }) is))
-    (read_ran made geometry array die batch page version slot job.payload bytes handed n outcome before after link sized opens)
+    (read_ran made geometry array die batch page version slot job.payload job.lasting bytes handed n outcome before after link sized opens)
 
 -- a slot that was refused is a read that ran
 pub refused_ran : {I : Type 0} (made : I → ImageCall → ImageAnswer → I → Type 0) (geometry : Geometry) (array : List ℕ) (die : ℕ)

@@ -8,7 +8,6 @@ use Rattle.fa_machine.specs.Cells.{Cell, Sealed, Outcome}
 use Rattle.fa_machine.specs.Taking.{Handed}
 use Rattle.fa_machine.specs.World.{JobCall, ReadsSlot, ProgramsSlot, ErasesBlock, WritesHeader, Syncs, Gave, GaveCell, Accepted}
 use Rattle.fa_machine.specs.World.{Refused, next_call, outcome_of}
-use Rattle.fa_machine.specs.declared.jobs.Flight.{Flight}
 use Rattle.fa_machine.specs.declared.places.Version.{Version}
 use Rattle.fa_tag.specs.HeaderGrammar.{header_bytes}
 use Rattle.fa_tag.specs.SlotGrammar.{IsOpened, payload_of, slot_2}
@@ -58,12 +57,11 @@ module _ {I : Type 0} (made : I → ImageCall → ImageAnswer → I → Type 0) 
   pub record Ran (job : Handed) (outcome : Outcome) (before after : I) : Type 0 where
     pub gave : List Gave
     pub calls : MakesCalls job [] gave before after
-    pub ends : outcome_of die job.flight job.payload gave ≡ Some outcome
+    pub ends : outcome_of die job gave ≡ Some outcome
 
 module _ {I : Type 0} (made : I → ImageCall → ImageAnswer → I → Type 0) (geometry : Geometry) (array : List ℕ) (die : ℕ) where
   -- The second call of a move, which programs the payload that its first call read, and how the move ends by it.
   pub record ProgramsMoved (page : ℕ) (version : Version) (to : ℕ) (payload : List ℕ) (outcome : JobOutcome) (before after : I) : Type 0 where
     pub gave : Gave
     pub call : MakesCall made geometry array die (ProgramsSlot to (Sealed page version die to payload)) gave before after
-    pub ends : (cell : Cell) (flight : Flight) (bytes carried : List ℕ)
-        → outcome_of die flight carried (GaveCell cell ∷ gave ∷ []) ≡ Some (end_of outcome bytes)
+    pub ends : (cell : Cell) (job : Handed) (bytes : List ℕ) → outcome_of die job (GaveCell cell ∷ gave ∷ []) ≡ Some (end_of outcome bytes)

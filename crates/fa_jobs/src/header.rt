@@ -1,5 +1,5 @@
 //! The job that writes a die's header.
-ghost use Rattle.std.specs.Prelude.{◌≡◌, ℕ, List, [], Some, length};
+ghost use Rattle.std.specs.Prelude.{◌≡◌, ℕ, Bool, List, [], Some, length};
 ghost use Rattle.fa_core_outcome.specs.Outcomes.{outcome_of};
 ghost use Rattle.fa_machine.specs.Taking.{Handed};
 ghost use Rattle.fa_machine.specs.declared.jobs.Flight.TheVariants.{Header as HeaderJob};
@@ -23,8 +23,8 @@ pub(crate) fn run_header<I: Image, G: Gate>(
     gate: &G,
 ) -> Outcome
     requires { IsHeader (header_of (I.view image.old).geometry array.now die.0 epoch live) }
-    ensures ran { (payload : List ℕ) (bytes : List ℕ) → Ran I.made (I.view image.old).geometry array.now die.0
-        (record { flight = HeaderJob epoch live; payload = payload }) (outcome_of result bytes) image.old image.new }
+    ensures ran { (payload bytes : List ℕ) (lasting : Bool) → Ran I.made (I.view image.old).geometry array.now die.0
+        (record { flight = HeaderJob epoch live; payload = payload; lasting = lasting }) (outcome_of result bytes) image.old image.new }
     ensures geometry { (I.view image.new).geometry ≡ (I.view image.old).geometry }
 {
     let header = Header {

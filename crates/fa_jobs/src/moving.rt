@@ -1,5 +1,5 @@
 //! The job that moves a copy.
-ghost use Rattle.std.specs.Prelude.{◌≡◌, ◌<◌, ℕ, List, is_some, length};
+ghost use Rattle.std.specs.Prelude.{◌≡◌, ◌<◌, ℕ, Bool, List, is_some, length};
 ghost use Rattle.fa_core_outcome.specs.Outcomes.{cell_of, outcome_of};
 ghost use Rattle.fa_image.specs.Image.{slot_bytes, slot_count};
 ghost use Rattle.fa_machine.specs.declared.jobs.Flight.TheVariants.{Move};
@@ -31,8 +31,9 @@ pub(crate) fn run_move<I: Image, G: Gate>(
     requires from { from.0 < slot_count (I.view image.old).geometry }
     requires to { to.0 < slot_count (I.view image.old).geometry }
     requires scratch { length scratch.old ≡ slot_bytes (I.view image.old).geometry }
-    ensures ran { (array payload bytes : List ℕ) → Ran I.made (I.view image.old).geometry array die.0
-        (record { flight = Move page version from to; payload = payload }) (outcome_of result bytes) image.old image.new }
+    ensures ran { (array payload bytes : List ℕ) (lasting : Bool) → Ran I.made (I.view image.old).geometry array die.0
+        (record { flight = Move page version from to; payload = payload; lasting = lasting }) (outcome_of result bytes)
+        image.old image.new }
     ensures geometry { (I.view image.new).geometry ≡ (I.view image.old).geometry }
     ensures scratch { length scratch.new ≡ length scratch.old }
 {

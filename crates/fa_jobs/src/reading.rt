@@ -1,5 +1,5 @@
 //! The job that reads a slot.
-ghost use Rattle.std.specs.Prelude.{◌≡◌, ◌<◌, ◌≤◌, ℕ, List, IfErr, OnOk, length};
+ghost use Rattle.std.specs.Prelude.{◌≡◌, ◌<◌, ◌≤◌, ℕ, Bool, List, IfErr, OnOk, length};
 ghost use Rattle.fa_core_outcome.specs.Outcomes.{outcome_of};
 ghost use Rattle.fa_image.specs.Image.{Gave, ReadingSlot, Refused, slot_bytes, slot_count};
 ghost use Rattle.fa_machine.specs.declared.jobs.Flight.TheVariants.{Read};
@@ -27,9 +27,10 @@ pub(crate) fn run_read<I: Image, G: Gate, B: Allocator>(
     requires slot { slot.0 < slot_count (I.view image.old).geometry }
     requires scratch { length scratch.old.items ≡ slot_bytes (I.view image.old).geometry }
     requires buffer { length buffer.old.items ≡ (I.view image.old).geometry.page_bytes }
-    ensures ran { (batch : BatchId) (page : Page) (version : Version) (array payload : List ℕ)
+    ensures ran { (batch : BatchId) (page : Page) (version : Version) (array payload : List ℕ) (lasting : Bool)
         → Ran I.made (I.view image.old).geometry array die.0
-        (record { flight = Read batch page version slot; payload = payload }) (outcome_of result buffer.new.items) image.old image.new }
+        (record { flight = Read batch page version slot; payload = payload; lasting = lasting }) (outcome_of result buffer.new.items)
+        image.old image.new }
     ensures geometry { (I.view image.new).geometry ≡ (I.view image.old).geometry }
     ensures scratch { length scratch.new.items ≡ length scratch.old.items }
     ensures buffer { length buffer.new.items ≡ length buffer.old.items }

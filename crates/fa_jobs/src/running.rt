@@ -71,12 +71,13 @@ pub fn run_job<I: Image, G: Gate, A: Allocator, B: Allocator>(
                     version,
                     slot,
                     payload,
+                    job.lasting,
                     scratch.as_mut_slice(),
                     gate,
                 )
             }
             None => Outcome::Wrong,
         },
-        Flight::Sync { flushes } => run_sync(die, image, flushes, gate),
+        Flight::Sync { .. } => run_sync(die, image, gate),
     }
 }

@@ -216,7 +216,7 @@ module _ (K : ℕ → ℕ → BatchId → Type 0) where
   other_good core g die seat (Some job) low u =
       elim u [
         | inl p ↦ subst (λ j. Good K (begins die seat core (Some j)).1) (sym p.2)
-            (record { timely = begun_timely _ _ core.jobs core.page_map.geometry.dies die (program_of p.0).flight refl low g.timely; all = g.all })
+            (record { timely = begun_timely _ _ core.jobs core.page_map.geometry.dies die (program_of core.page_map p.0).flight refl low g.timely; all = g.all })
         | inr f ↦ subst (λ j. Good K (begins die seat core (Some j)).1) (sym f.1)
             (record { timely = begun_timely _ _ core.jobs core.page_map.geometry.dies die (Sync f.0) refl low g.timely; all = g.all })
       ]

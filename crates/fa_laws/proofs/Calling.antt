@@ -79,7 +79,7 @@ module _ (s : Scene) (h : Sound s) (out : ℕ) (seen : ℕ → ℕ → Cell) (wo
 
   gave_elsewhere : (die : ℕ) → (die ≡ out → ⊥) → (flight : Flight) (gave : List Gave) → GaveFits s.bytes die flight gave → GaveFits now die flight gave
   gave_elsewhere die away (Read batch page version slot) (GaveCell cell ∷ []) g = g ∙ sym (c.elsewhere die slot.0 away)
-  gave_elsewhere die away (Program page version slot) (Accepted ∷ []) g = ap (moved_payload page.0 version die slot.0) (c.elsewhere die slot.0 away) ∙ g
+  gave_elsewhere die away (Program page version slot) (Accepted ∷ gave) g = ap (moved_payload page.0 version die slot.0) (c.elsewhere die slot.0 away) ∙ g
   gave_elsewhere die away (Move page version from to) (GaveCell cell ∷ []) g = g
   gave_elsewhere die away (Move page version from to) (GaveCell cell ∷ Accepted ∷ []) g =
       ap (moved_payload page.0 version die to.0) (c.elsewhere die to.0 away) ∙ g

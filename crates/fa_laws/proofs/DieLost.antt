@@ -28,7 +28,7 @@ use Rattle.fa_machine.specs.declared.places.Target.{Target}
 use Rattle.fa_types.specs.declared.kind.Kind.TheVariants.{Data}
 use Rattle.fa_types.specs.Geometry.{IsGeometry}
 use Rattle.fa_types.specs.declared.geometry.Geometry.{Geometry}
-use Rattle.std.proofs.Common.{Bool, List, None, [], eq-eqb, length, refl, suc, sym, true, ℕ, ◌∷◌, ◌≡◌}
+use Rattle.std.proofs.Common.{Bool, List, None, [], eq-eqb, length, false, refl, suc, sym, true, ℕ, ◌∷◌, ◌≡◌}
 use Rattle.std.specs.Cmp.{nat_cmp_total}
 use Rattle.std.specs.Prelude.{◌==◌}
 
@@ -276,28 +276,28 @@ module _ (size : ℕ) (within : IsGeometry 5 1 4 4 size 8) (bytes : ℕ → List
                               reserves g t13 v13 0 0 (bytes 0) (record { 0 = 1 }) tt refl refl refl (right 0),
                               (
                                 at g t15 v15,
-                                takes_program g t14 v14 0 0 (record { 0 = 0 }) (write_of 0) (record { 0 = 0 }) (bytes 0) tt tt refl refl refl refl,
+                                takes_program g t14 v14 0 0 (record { 0 = 0 }) (write_of 0) (record { 0 = 0 }) (bytes 0) false tt tt refl refl refl refl,
                                 (
                                   at g t15 v16,
-                                  takes_cell g t15 v15 0 (record { 0 = 0 }) (write_of 0) (record { 0 = 0 }) (bytes 0) refl,
+                                  takes_cell g t15 v15 0 (record { 0 = 0 }) (write_of 0) (record { 0 = 0 }) (bytes 0) false refl,
                                   (
                                     at g t17 v17,
                                     ends_program g t15 v16 0 (record { 0 = 0 }) (write_of 0) (record { 0 = 0 }) tt tt refl refl,
                                     (
                                       at g t18 v18,
-                                      takes_program g t17 v17 1 0 (record { 0 = 0 }) (write_of 0) (record { 0 = 0 }) (bytes 0) tt tt refl refl refl refl,
+                                      takes_program g t17 v17 1 0 (record { 0 = 0 }) (write_of 0) (record { 0 = 0 }) (bytes 0) false tt tt refl refl refl refl,
                                       (
                                         at g t18 v19,
-                                        takes_cell g t18 v18 1 (record { 0 = 0 }) (write_of 0) (record { 0 = 0 }) (bytes 0) refl,
+                                        takes_cell g t18 v18 1 (record { 0 = 0 }) (write_of 0) (record { 0 = 0 }) (bytes 0) false refl,
                                         (
                                           at g t20 v20,
                                           ends_program g t18 v19 1 (record { 0 = 0 }) (write_of 0) (record { 0 = 0 }) tt tt refl refl,
                                           (
                                             at g t21 v21,
-                                            takes_program g t20 v20 2 0 (record { 0 = 0 }) (write_of 0) (record { 0 = 0 }) (bytes 0) tt tt refl refl refl refl,
+                                            takes_program g t20 v20 2 0 (record { 0 = 0 }) (write_of 0) (record { 0 = 0 }) (bytes 0) false tt tt refl refl refl refl,
                                             (
                                               at g t21 v22,
-                                              takes_cell g t21 v21 2 (record { 0 = 0 }) (write_of 0) (record { 0 = 0 }) (bytes 0) refl,
+                                              takes_cell g t21 v21 2 (record { 0 = 0 }) (write_of 0) (record { 0 = 0 }) (bytes 0) false refl,
                                               (
                                                 at g t23 v23,
                                                 ends_program g t21 v22 2 (record { 0 = 0 }) (write_of 0) (record { 0 = 0 }) tt tt refl refl,

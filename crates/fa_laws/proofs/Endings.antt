@@ -11,7 +11,7 @@ use Rattle.std.specs.Prelude.{option_and_then, ◌&&◌}
 
 -- the outcome of a Done is what its job's calls gave
 abbrev pub HasOutcome : ℕ → Option Work → Outcome → Type 0
-HasOutcome die work outcome = option_and_then (λ k. outcome_of die k.job.flight k.job.payload k.gave) work ≡ Some outcome
+HasOutcome die work outcome = option_and_then (λ k. outcome_of die k.job k.gave) work ≡ Some outcome
 
 abbrev pub may_end : Core → Option Flight → Outcome → Bool
 may_end core flight outcome = option_map_or (λ job. is_of_kind job outcome) flight false && is_sized_read core outcome

@@ -28,20 +28,22 @@ wrong_if true e f = absurd (omega (arith, f))
 wrong_if false e f = absurd (false≢true e)
 
 -- no move finds the wrong slot
-never_wrong : (b : Bytes) (die : ℕ) (flight : Flight) (payload : List ℕ) (gave : List Gave)
-    → outcome_of die flight payload gave ≡ Some Wrong → is_of_kind flight Wrong ≡ true → GaveFits b die flight gave → ⊥
-never_wrong b die (Move page version from to) payload (GaveCell cell ∷ []) e k g =
+never_wrong : (b : Bytes) (die : ℕ) (flight : Flight) (payload : List ℕ) (lasting : Bool) (gave : List Gave)
+    → outcome_of die (record { flight = flight; payload = payload; lasting = lasting }) gave ≡ Some Wrong → is_of_kind flight Wrong ≡ true → GaveFits b die flight gave → ⊥
+never_wrong b die (Move page version from to) payload lasting (GaveCell cell ∷ []) e k g =
     wrong_if (is_some (moved_payload page.0 version die from.0 cell)) (ap is_some g) (ap tag e)
-never_wrong b die (Move page version from to) payload (GaveCell cell ∷ Accepted ∷ []) e k g = absurd (omega (arith, ap tag e))
-never_wrong b die (Move page version from to) payload (GaveCell cell ∷ Refused ∷ []) e k g = absurd (omega (arith, ap tag e))
-never_wrong b die (Move page version from to) payload (Accepted ∷ []) e k g = absurd (omega (arith, ap tag e))
-never_wrong b die (Move page version from to) payload (Refused ∷ []) e k g = absurd (omega (arith, ap tag e))
-never_wrong b die (Move page version from to) payload gave e k g = absurd (omega (arith, ap tag e))
-never_wrong b die (Read batch page version slot) payload gave e k g = absurd (false≢true k)
-never_wrong b die (Program page version slot) payload gave e k g = absurd (false≢true k)
-never_wrong b die (Header epoch live) payload gave e k g = absurd (false≢true k)
-never_wrong b die (Erase block) payload gave e k g = absurd (false≢true k)
-never_wrong b die (Sync flushes) payload gave e k g = absurd (false≢true k)
+never_wrong b die (Move page version from to) payload lasting (GaveCell cell ∷ Accepted ∷ []) e k g = absurd (omega (arith, ap tag e))
+never_wrong b die (Move page version from to) payload lasting (GaveCell cell ∷ Refused ∷ []) e k g = absurd (omega (arith, ap tag e))
+never_wrong b die (Move page version from to) payload lasting (Accepted ∷ []) e k g = absurd (omega (arith, ap tag e))
+never_wrong b die (Move page version from to) payload lasting (Accepted ∷ Accepted ∷ []) e k g = absurd (omega (arith, ap tag e))
+never_wrong b die (Move page version from to) payload lasting (Accepted ∷ Refused ∷ []) e k g = absurd (omega (arith, ap tag e))
+never_wrong b die (Move page version from to) payload lasting (Refused ∷ []) e k g = absurd (omega (arith, ap tag e))
+never_wrong b die (Move page version from to) payload lasting gave e k g = absurd (omega (arith, ap tag e))
+never_wrong b die (Read batch page version slot) payload lasting gave e k g = absurd (false≢true k)
+never_wrong b die (Program page version slot) payload lasting gave e k g = absurd (false≢true k)
+never_wrong b die (Header epoch live) payload lasting gave e k g = absurd (false≢true k)
+never_wrong b die (Erase block) payload lasting gave e k g = absurd (false≢true k)
+never_wrong b die (Sync flushes) payload lasting gave e k g = absurd (false≢true k)
 
 with_answer_live : (batch page : ℕ) (bytes : List ℕ) (b : Option OpenBatch) (core : Core) → (with_answer batch page bytes b core).page_map.live ≡ core.page_map.live
 with_answer_live batch page bytes None core = refl
@@ -57,24 +59,24 @@ header_live true x core e = e
 header_live false x core e = refl
 
 -- the job of a die ends with the dies live that were, or with a fault
-ends_live : (w : World) (h : Holds w) (die : ℕ) (flight : Flight) (payload : List ℕ) (gave : List Gave) (outcome : Outcome) (core : Core)
+ends_live : (w : World) (h : Holds w) (die : ℕ) (flight : Flight) (payload : List ℕ) (lasting : Bool) (gave : List Gave) (outcome : Outcome) (core : Core)
     → JobFits (scene_of w).bytes (scene_of w).places (scene_of w).in_block (w.due die).bytes die flight payload
     → GaveFits (scene_of w).bytes die flight gave
-    → outcome_of die flight payload gave ≡ Some outcome
+    → outcome_of die (record { flight = flight; payload = payload; lasting = lasting }) gave ≡ Some outcome
     → is_of_kind flight outcome ≡ true
     → ((finished die flight outcome core).page_map.live ≡ core.page_map.live)
     ⊎ ((call : ℕ) × (outcome ≡ Fault call) × ((finished die flight outcome core).page_map.live ≡ remove core.page_map.live die))
-ends_live w h die (Read batch page version slot) payload gave (DidRead cell) core fits g out kind =
+ends_live w h die (Read batch page version slot) payload lasting gave (DidRead cell) core fits g out kind =
     inl (read_live die batch.0 page.0 (payload_of page.0 version die slot.0 cell) (w.due die).bytes core
-    (ap (payload_of page.0 version die slot.0) (gave_read (scene_of w).bytes die batch page version slot payload gave cell out g) ∙ fits.cell))
-ends_live w h die (Program page version slot) payload gave DidProgram core fits g out kind = inl refl
-ends_live w h die (Move page version from to) payload gave DidMove core fits g out kind = inl refl
-ends_live w h die (Erase block) payload gave DidErase core fits g out kind = inl refl
-ends_live w h die (Header epoch live) payload gave DidWriteHeader core fits g out kind = inl (header_live (epoch == core.epoch) _ core refl)
-ends_live w h die (Sync flushes) payload gave DidSync core fits g out kind = inl refl
-ends_live w h die flight payload gave (Fault call) core fits g out kind = inr (call, refl, refl)
-ends_live w h die flight payload gave Wrong core fits g out kind = absurd (never_wrong (scene_of w).bytes die flight payload gave out kind g)
-ends_live w h die flight payload gave outcome core fits g out kind = absurd (false≢true kind)
+    (ap (payload_of page.0 version die slot.0) (gave_read (scene_of w).bytes die batch page version slot payload lasting gave cell out g) ∙ fits.cell))
+ends_live w h die (Program page version slot) payload lasting gave DidProgram core fits g out kind = inl refl
+ends_live w h die (Move page version from to) payload lasting gave DidMove core fits g out kind = inl refl
+ends_live w h die (Erase block) payload lasting gave DidErase core fits g out kind = inl refl
+ends_live w h die (Header epoch live) payload lasting gave DidWriteHeader core fits g out kind = inl (header_live (epoch == core.epoch) _ core refl)
+ends_live w h die (Sync flushes) payload lasting gave DidSync core fits g out kind = inl refl
+ends_live w h die flight payload lasting gave (Fault call) core fits g out kind = inr (call, refl, refl)
+ends_live w h die flight payload lasting gave Wrong core fits g out kind = absurd (never_wrong (scene_of w).bytes die flight payload lasting gave out kind g)
+ends_live w h die flight payload lasting gave outcome core fits g out kind = absurd (false≢true kind)
 
 live_kept : (old new : FinMap nat_cmp (Unit {0})) (die : ℕ) → new ≡ old → contains_key old die ≡ true → contains_key new die ≡ false → ⊥
 live_kept old new die e was is = false≢true (sym is ∙ ap (λ (m : FinMap nat_cmp (Unit {0})). contains_key m die) e ∙ was)
@@ -95,10 +97,10 @@ done_leaves w h out (Some flight) None outcome core die job works may worked end
 done_leaves w h out (Some flight) (Some work) outcome core die job works may worked ends was is =
     let same : work.job.flight ≡ flight = same_Some work.job.flight flight (sym (ap (option_map {T = Work} (λ k. k.job.flight)) works) ∙ sym (h.jobs out) ∙ job) in
     let fits = h.sound.works out work works in
-    elim (ends_live w h out flight work.job.payload work.gave outcome (record (w.core) { jobs = remove w.core.jobs out })
+    elim (ends_live w h out flight work.job.payload work.job.lasting work.gave outcome (record (w.core) { jobs = remove w.core.jobs out })
     (subst (λ f. JobFits (scene_of w).bytes (scene_of w).places (scene_of w).in_block (w.due out).bytes out f work.job.payload) same fits.job)
     (subst (λ f. GaveFits (scene_of w).bytes out f work.gave) same fits.gave)
-    (subst (λ f. outcome_of out f work.job.payload work.gave ≡ Some outcome) same worked)
+    (subst (λ f. outcome_of out (record (work.job) { flight = f }) work.gave ≡ Some outcome) same worked)
     (and_parts (is_of_kind flight outcome) (is_sized_read w.core outcome) may).0) [
       | inl kept ↦ absurd (live_kept w.core.page_map.live core.page_map.live die (ap (λ (c : Core). c.page_map.live) ends ∙ kept) was is)
       | inr fault ↦

@@ -271,7 +271,7 @@ module _ (w : World) (h : Holds w) (die : ℕ) (idle : w.works die ≡ None) whe
       here_too : (k : ℕ) → ◌≡◌ {A = ℕ} (if program_is_at die k p then 1 else 0) (if p.slot == k then 1 else 0)
       here_too k = ap {B = ℕ} (λ b. if b && p.slot == k then 1 else 0) (eq-eqb p.die die its_die)
 
-      pub program_fits : Fits w h die (program_of p) w.core.page_map.used left w.due calendar history idle
+      pub program_fits : Fits w h die (program_of w.core.page_map p) w.core.page_map.used left w.due calendar history idle
       program_fits = record {
         sound = h.sound;
         fewer = λ q among. among-without (is_for die) q w.core.waiting (subst (Among q) cut among);
@@ -322,7 +322,7 @@ other_holds w h die seat None idle u =
 other_holds w h die seat (Some job) idle u =
     elim u [
       | inl p ↦ subst (λ j. TakeHolds w die seat (begins die seat (without_stale_booking die w.core) (Some j))) (sym p.2)
-          (begin_holds w h die (program_of p.0) w.core.page_map.used (before_first (is_for die) w.core.waiting ++ after_first (is_for die) w.core.waiting) w.due
+          (begin_holds w h die (program_of w.core.page_map p.0) w.core.page_map.used (before_first (is_for die) w.core.waiting ++ after_first (is_for die) w.core.waiting) w.due
           (without_stale_booking die w.core).calendar w.core.history (idle_works w h die idle).1
           (program_fits w h die (idle_works w h die idle).1 (without_stale_booking die w.core).calendar w.core.history p.0 p.1))
       | inr f ↦ subst (λ j. TakeHolds w die seat (begins die seat (without_stale_booking die w.core) (Some j))) (sym f.1)

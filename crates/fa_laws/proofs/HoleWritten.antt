@@ -21,7 +21,7 @@ use Rattle.fa_types.specs.declared.kind.Kind.TheVariants.{Data, Hole}
 use Rattle.fa_machine.specs.declared.places.Version.{Version}
 use Rattle.fa_types.specs.Geometry.{IsGeometry}
 use Rattle.fa_types.specs.declared.geometry.Geometry.{Geometry}
-use Rattle.std.proofs.Common.{List, None, Some, [], ap, eq-eqb, length, refl, suc, sym, true, ℕ, ◌∙◌, ◌∷◌, ◌≡◌}
+use Rattle.std.proofs.Common.{List, None, Some, [], ap, eq-eqb, length, false, refl, suc, sym, true, ℕ, ◌∙◌, ◌∷◌, ◌≡◌}
 use Rattle.std.specs.Cmp.{nat_cmp_total}
 use Rattle.std.specs.FinMap.{empty, from_sorted, get, get-from_sorted, insert}
 use Rattle.std.specs.Ordering.{nat_cmp}
@@ -323,19 +323,19 @@ module _ (size : ℕ) (within : IsGeometry 2 0 4 4 size 8) (bytes : ℕ → List
                   reserves g t7 v7 0 0 (bytes 0) (write_of 0).seq tt refl refl refl (right 0),
                   (
                     at g t9 v9,
-                    takes_program g t8 v8 0 0 (record { 0 = 0 }) (write_of 0) (record { 0 = 0 }) (bytes 0) tt tt refl refl refl refl,
+                    takes_program g t8 v8 0 0 (record { 0 = 0 }) (write_of 0) (record { 0 = 0 }) (bytes 0) false tt tt refl refl refl refl,
                     (
                       at g t9 v10,
-                      takes_cell g t9 v9 0 (record { 0 = 0 }) (write_of 0) (record { 0 = 0 }) (bytes 0) refl,
+                      takes_cell g t9 v9 0 (record { 0 = 0 }) (write_of 0) (record { 0 = 0 }) (bytes 0) false refl,
                       (
                         at g t11 v11,
                         ends_program g t9 v10 0 (record { 0 = 0 }) (write_of 0) (record { 0 = 0 }) tt tt refl refl,
                         (
                           at g t12 v12,
-                          takes_program g t11 v11 1 0 (record { 0 = 0 }) (write_of 0) (record { 0 = 0 }) (bytes 0) tt tt refl refl refl refl,
+                          takes_program g t11 v11 1 0 (record { 0 = 0 }) (write_of 0) (record { 0 = 0 }) (bytes 0) false tt tt refl refl refl refl,
                           (
                             at g t12 v13,
-                            takes_cell g t12 v12 1 (record { 0 = 0 }) (write_of 0) (record { 0 = 0 }) (bytes 0) refl,
+                            takes_cell g t12 v12 1 (record { 0 = 0 }) (write_of 0) (record { 0 = 0 }) (bytes 0) false refl,
                             (
                               at g t14 v14,
                               ends_program g t12 v13 1 (record { 0 = 0 }) (write_of 0) (record { 0 = 0 }) tt tt refl refl,
@@ -353,19 +353,19 @@ module _ (size : ℕ) (within : IsGeometry 2 0 4 4 size 8) (bytes : ℕ → List
                                       reserves g t17 v17 0 1 (bytes 1) (write_of 1).seq tt refl refl refl (right 1),
                                       (
                                         at g t19 v19,
-                                        takes_program g t18 v18 0 0 (record { 0 = 1 }) (write_of 1) (record { 0 = 1 }) (bytes 1) tt tt refl refl refl refl,
+                                        takes_program g t18 v18 0 0 (record { 0 = 1 }) (write_of 1) (record { 0 = 1 }) (bytes 1) false tt tt refl refl refl refl,
                                         (
                                           at g t19 v20,
-                                          takes_cell g t19 v19 0 (record { 0 = 1 }) (write_of 1) (record { 0 = 1 }) (bytes 1) refl,
+                                          takes_cell g t19 v19 0 (record { 0 = 1 }) (write_of 1) (record { 0 = 1 }) (bytes 1) false refl,
                                           (
                                             at g t21 v21,
                                             ends_program g t19 v20 0 (record { 0 = 1 }) (write_of 1) (record { 0 = 1 }) tt tt refl refl,
                                             (
                                               at g t22 v22,
-                                              takes_program g t21 v21 1 0 (record { 0 = 1 }) (write_of 1) (record { 0 = 1 }) (bytes 1) tt tt refl refl refl refl,
+                                              takes_program g t21 v21 1 0 (record { 0 = 1 }) (write_of 1) (record { 0 = 1 }) (bytes 1) false tt tt refl refl refl refl,
                                               (
                                                 at g t22 v23,
-                                                takes_cell g t22 v22 1 (record { 0 = 1 }) (write_of 1) (record { 0 = 1 }) (bytes 1) refl,
+                                                takes_cell g t22 v22 1 (record { 0 = 1 }) (write_of 1) (record { 0 = 1 }) (bytes 1) false refl,
                                                 (
                                                   at g t24 v24,
                                                   ends_program g t22 v23 1 (record { 0 = 1 }) (write_of 1) (record { 0 = 1 }) tt tt refl refl,
@@ -383,19 +383,19 @@ module _ (size : ℕ) (within : IsGeometry 2 0 4 4 size 8) (bytes : ℕ → List
                                                           reserves g t27 v27 0 2 (bytes 2) (write_of 2).seq tt refl refl refl (right 2),
                                                           (
                                                             at g t29 v29,
-                                                            takes_program g t28 v28 0 0 (record { 0 = 2 }) (write_of 2) (record { 0 = 2 }) (bytes 2) tt tt refl refl refl refl,
+                                                            takes_program g t28 v28 0 0 (record { 0 = 2 }) (write_of 2) (record { 0 = 2 }) (bytes 2) false tt tt refl refl refl refl,
                                                             (
                                                               at g t29 v30,
-                                                              takes_cell g t29 v29 0 (record { 0 = 2 }) (write_of 2) (record { 0 = 2 }) (bytes 2) refl,
+                                                              takes_cell g t29 v29 0 (record { 0 = 2 }) (write_of 2) (record { 0 = 2 }) (bytes 2) false refl,
                                                               (
                                                                 at g t31 v31,
                                                                 ends_program g t29 v30 0 (record { 0 = 2 }) (write_of 2) (record { 0 = 2 }) tt tt refl refl,
                                                                 (
                                                                   at g t32 v32,
-                                                                  takes_program g t31 v31 1 0 (record { 0 = 2 }) (write_of 2) (record { 0 = 2 }) (bytes 2) tt tt refl refl refl refl,
+                                                                  takes_program g t31 v31 1 0 (record { 0 = 2 }) (write_of 2) (record { 0 = 2 }) (bytes 2) false tt tt refl refl refl refl,
                                                                   (
                                                                     at g t32 v33,
-                                                                    takes_cell g t32 v32 1 (record { 0 = 2 }) (write_of 2) (record { 0 = 2 }) (bytes 2) refl,
+                                                                    takes_cell g t32 v32 1 (record { 0 = 2 }) (write_of 2) (record { 0 = 2 }) (bytes 2) false refl,
                                                                     (
                                                                       at g t34 v34,
                                                                       ends_program g t32 v33 1 (record { 0 = 2 }) (write_of 2) (record { 0 = 2 }) tt tt refl refl,
@@ -507,19 +507,19 @@ module _ (size : ℕ) (within : IsGeometry 2 0 4 4 size 8) (bytes : ℕ → List
       reserves_hole g t37 v37 0 0 the_hole.seq tt refl refl refl,
       (
         at g t39 v39,
-        takes_program g t38 v38 0 0 (record { 0 = 0 }) the_hole (record { 0 = 3 }) (zero_bytes g) tt tt refl refl refl refl,
+        takes_program g t38 v38 0 0 (record { 0 = 0 }) the_hole (record { 0 = 3 }) (zero_bytes g) false tt tt refl refl refl refl,
         (
           at g t39 v40,
-          takes_cell g t39 v39 0 (record { 0 = 0 }) the_hole (record { 0 = 3 }) (zero_bytes g) refl,
+          takes_cell g t39 v39 0 (record { 0 = 0 }) the_hole (record { 0 = 3 }) (zero_bytes g) false refl,
           (
             at g t41 v41,
             ends_program g t39 v40 0 (record { 0 = 0 }) the_hole (record { 0 = 3 }) tt tt refl refl,
             (
               at g t42 v42,
-              takes_program g t41 v41 1 0 (record { 0 = 0 }) the_hole (record { 0 = 3 }) (zero_bytes g) tt tt refl refl refl refl,
+              takes_program g t41 v41 1 0 (record { 0 = 0 }) the_hole (record { 0 = 3 }) (zero_bytes g) false tt tt refl refl refl refl,
               (
                 at g t42 v43,
-                takes_cell g t42 v42 1 (record { 0 = 0 }) the_hole (record { 0 = 3 }) (zero_bytes g) refl,
+                takes_cell g t42 v42 1 (record { 0 = 0 }) the_hole (record { 0 = 3 }) (zero_bytes g) false refl,
                 (
                   at g t44 v44,
                   ends_program g t42 v43 1 (record { 0 = 0 }) the_hole (record { 0 = 3 }) tt tt refl refl,

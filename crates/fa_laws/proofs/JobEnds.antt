@@ -64,10 +64,10 @@ read_case w h die batch page version slot cell (Some bytes) gives is fits since 
     let same : bytes ≡ (w.due die).bytes = same_Some bytes (w.due die).bytes (sym gives ∙ ap (payload_of page version die slot) is ∙ fits.cell) in
     read_ends_holds (ended die w) (ended_holds w h die) die batch page version bytes same (same ∙ fits.right) fits.below since
 
-job_ends : (w : World) (h : Holds w) (die : ℕ) (flight : Flight) (payload : List ℕ) (gave : List Gave) (outcome : Outcome)
+job_ends : (w : World) (h : Holds w) (die : ℕ) (flight : Flight) (payload : List ℕ) (lasting : Bool) (gave : List Gave) (outcome : Outcome)
     → JobFits (scene_of w).bytes (scene_of w).places (scene_of w).in_block (w.due die).bytes die flight payload
     → GaveFits (scene_of w).bytes die flight gave
-    → outcome_of die flight payload gave ≡ Some outcome
+    → outcome_of die (record { flight = flight; payload = payload; lasting = lasting }) gave ≡ Some outcome
     → is_of_kind flight outcome ≡ true
     → ((slot : ℕ) → tally (program_is_at die slot) w.core.waiting + flight_writes flight slot ≤ 1)
     → ((batch : BatchId) (page : Page) (version : Version) (slot : Slot) (b : OpenBatch) → flight ≡ Read batch page version slot
@@ -77,30 +77,30 @@ job_ends : (w : World) (h : Holds w) (die : ℕ) (flight : Flight) (payload : Li
       core = finished die flight outcome (record (w.core) { jobs = remove w.core.jobs die });
       moment = suc w.moment;
     })
-job_ends w h die (Read batch page version slot) payload gave (DidRead cell) fits g out kind once since =
+job_ends w h die (Read batch page version slot) payload lasting gave (DidRead cell) fits g out kind once since =
     read_case w h die batch.0 page.0 version slot.0 cell (payload_of page.0 version die slot.0 cell) refl
-    (gave_read (scene_of w).bytes die batch page version slot payload gave cell out g) fits (λ b e. since batch page version slot b refl e)
-job_ends w h die (Program page version slot) payload gave DidProgram fits g out kind once since =
+    (gave_read (scene_of w).bytes die batch page version slot payload lasting gave cell out g) fits (λ b e. since batch page version slot b refl e)
+job_ends w h die (Program page version slot) payload lasting gave DidProgram fits g out kind once since =
     program_ends_holds (ended die w) (ended_holds w h die) die slot.0 page.0 version (is_over w die) fits.place
-    (gave_program (scene_of w).bytes die page version slot payload gave out g)
+    (gave_program (scene_of w).bytes die page version slot payload lasting gave out g)
     (λ p among e f. let n = waits_once die slot.0 w.core.waiting p among e f in let o = once slot.0 in let z = written_here slot.0 slot.0 refl in
     omega (arith, n, o, z))
-job_ends w h die (Move page version from to) payload gave DidMove fits g out kind once since =
+job_ends w h die (Move page version from to) payload lasting gave DidMove fits g out kind once since =
     move_ends_holds (ended die w) (ended_holds w h die) die (is_over w die) page version from.0 to.0 fits
-    (gave_move (scene_of w).bytes die page version from to payload gave out g)
+    (gave_move (scene_of w).bytes die page version from to payload lasting gave out g)
     (λ p among e f. let n = waits_once die to.0 w.core.waiting p among e f in let o = once to.0 in let z = written_here to.0 to.0 refl in
     omega (arith, n, o, z))
-job_ends w h die (Erase block) payload gave DidErase fits g out kind once since =
+job_ends w h die (Erase block) payload lasting gave DidErase fits g out kind once since =
     erase_ends_holds (ended die w) (ended_holds w h die) die (is_over w die) block.0
-job_ends w h die (Header epoch live) payload gave DidWriteHeader fits g out kind once since =
+job_ends w h die (Header epoch live) payload lasting gave DidWriteHeader fits g out kind once since =
     header_if (ended die w) (ended_holds w h die) (epoch == w.core.epoch) die
-job_ends w h die (Sync flushes) payload gave DidSync fits g out kind once since =
+job_ends w h die (Sync flushes) payload lasting gave DidSync fits g out kind once since =
     aside (ended die w) (ended_holds w h die) w.core.behind w.core.stepped (insert w.core.synced die flushes)
-job_ends w h die flight payload gave (Fault call) fits g out kind once since =
+job_ends w h die flight payload lasting gave (Fault call) fits g out kind once since =
     drop_holds (ended die w) (ended_holds w h die) die (is_over w die)
-job_ends w h die flight payload gave Wrong fits g out kind once since =
+job_ends w h die flight payload lasting gave Wrong fits g out kind once since =
     drop_holds (ended die w) (ended_holds w h die) die (is_over w die)
-job_ends w h die flight payload gave outcome fits g out kind once since = absurd (false≢true kind)
+job_ends w h die flight payload lasting gave outcome fits g out kind once since = absurd (false≢true kind)
 
 -- the job of the state and that of the world are one
 done_case : (w : World) (h : Holds w) (die : ℕ) (flight : Option Flight) (work : Option Work) (outcome : Outcome) (core : Core)
@@ -112,10 +112,10 @@ done_case w h die (Some flight) (Some work) outcome core job works may worked en
     let is : work.job.flight ≡ flight = same_Some work.job.flight flight (sym (ap (option_map {T = Work} (λ k. k.job.flight)) works) ∙ sym (h.jobs die) ∙ job) in
     let fits = h.sound.works die work works in
     subst (λ (c : Core). Holds (record (with_done die (Some flight) outcome w) { core = c; moment = suc w.moment })) (sym ends)
-    (job_ends w h die flight work.job.payload work.gave outcome
+    (job_ends w h die flight work.job.payload work.job.lasting work.gave outcome
     (subst (λ f. JobFits (scene_of w).bytes (scene_of w).places (scene_of w).in_block (w.due die).bytes die f work.job.payload) is fits.job)
     (subst (λ f. GaveFits (scene_of w).bytes die f work.gave) is fits.gave)
-    (subst (λ f. outcome_of die f work.job.payload work.gave ≡ Some outcome) is worked)
+    (subst (λ f. outcome_of die (record (work.job) { flight = f }) work.gave ≡ Some outcome) is worked)
     (and_parts (is_of_kind flight outcome) (is_sized_read w.core outcome) may).0
     (λ slot. let n = h.sound.once die slot in let e = ap (λ o. writes o slot) works in let f = ap (λ k. flight_writes k slot) is in omega (arith, n, e, f))
     (λ batch page version slot b e o. h.answered.reading die work batch page version slot b works (is ∙ e) o))

@@ -105,7 +105,7 @@ module _ (core : Core) (die : ℕ) where
   handed_now (Some f) x = x
 
   other_now : (p : Option WaitingProgram) (sync : Option Flight) → AreOfNow core sync
-      → HandedOfNow core (option_or (option_map program_of p) (option_map handed sync))
+      → HandedOfNow core (option_or (option_map (program_of core.page_map) p) (option_map handed sync))
   other_now None sync x = handed_now sync x
   other_now (Some p) sync x = tt
 

@@ -207,7 +207,7 @@ module _ (s : Scene) (h : Sound s) (payloads : ℕ → ℕ → List ℕ) (last :
   gave_recorded : (die : ℕ) (due : List ℕ) (in_block : ℕ → ℕ → Bool) (p : Places) (flight : Flight) (payload : List ℕ) (gave : List Gave)
       → JobFits s.bytes p in_block due die flight payload → GaveFits s.bytes die flight gave → GaveFits now die flight gave
   gave_recorded die due in_block p (Read batch page version slot) (payload) (GaveCell cell ∷ []) job g = g
-  gave_recorded die due in_block p (Program page version slot) payload (Accepted ∷ []) job g = bytes_of _ page.0 version.seq.0 job.below g
+  gave_recorded die due in_block p (Program page version slot) payload (Accepted ∷ gave) job g = bytes_of _ page.0 version.seq.0 job.below g
   gave_recorded die due in_block p (Move page version from to) payload (GaveCell cell ∷ []) job g = bytes_of _ page.0 version.seq.0 job.below g
   gave_recorded die due in_block p (Move page version from to) payload (GaveCell cell ∷ Accepted ∷ []) job g = bytes_of _ page.0 version.seq.0 job.below g
   gave_recorded die due in_block p (Header epoch live) payload gave job g = g

@@ -30,32 +30,36 @@ if_wrong : (b : Bool) → tag (cond b None (Some Wrong)) ≡ 3 → ⊥
 if_wrong true e = absurd (omega (arith, e))
 if_wrong false e = absurd (omega (arith, e))
 
-pub gave_program : (b : Bytes) (die : ℕ) (page : Page) (version : Version) (slot : Slot) (payload : List ℕ) (gave : List Gave)
-    → outcome_of die (Program page version slot) payload gave ≡ Some DidProgram
+pub gave_program : (b : Bytes) (die : ℕ) (page : Page) (version : Version) (slot : Slot) (payload : List ℕ) (lasting : Bool) (gave : List Gave)
+    → outcome_of die (record { flight = Program page version slot; payload = payload; lasting = lasting }) gave ≡ Some DidProgram
     → GaveFits b die (Program page version slot) gave → Stands b page.0 version die slot.0
-gave_program b die page version slot payload (Accepted ∷ []) e g = g
-gave_program b die page version slot payload (GaveCell cell ∷ Accepted ∷ []) e g = absurd (omega (arith, ap tag e))
-gave_program b die page version slot payload (GaveCell cell ∷ Refused ∷ []) e g = absurd (omega (arith, ap tag e))
-gave_program b die page version slot payload (GaveCell cell ∷ []) e g = absurd (omega (arith, ap tag e))
-gave_program b die page version slot payload (Refused ∷ []) e g = absurd (omega (arith, ap tag e))
-gave_program b die page version slot payload gave e g = absurd (omega (arith, ap tag e))
+gave_program b die page version slot payload lasting (Accepted ∷ gave) e g = g
+gave_program b die page version slot payload lasting (GaveCell cell ∷ Accepted ∷ []) e g = absurd (omega (arith, ap tag e))
+gave_program b die page version slot payload lasting (GaveCell cell ∷ Refused ∷ []) e g = absurd (omega (arith, ap tag e))
+gave_program b die page version slot payload lasting (GaveCell cell ∷ []) e g = absurd (omega (arith, ap tag e))
+gave_program b die page version slot payload lasting (Refused ∷ []) e g = absurd (omega (arith, ap tag e))
+gave_program b die page version slot payload lasting gave e g = absurd (omega (arith, ap tag e))
 
-pub gave_move : (b : Bytes) (die : ℕ) (page : Page) (version : Version) (from to : Slot) (payload : List ℕ) (gave : List Gave)
-    → outcome_of die (Move page version from to) payload gave ≡ Some DidMove
+pub gave_move : (b : Bytes) (die : ℕ) (page : Page) (version : Version) (from to : Slot) (payload : List ℕ) (lasting : Bool) (gave : List Gave)
+    → outcome_of die (record { flight = Move page version from to; payload = payload; lasting = lasting }) gave ≡ Some DidMove
     → GaveFits b die (Move page version from to) gave → Stands b page.0 version die to.0
-gave_move b die page version from to payload (GaveCell cell ∷ Accepted ∷ []) e g = g
-gave_move b die page version from to payload (GaveCell cell ∷ Refused ∷ []) e g = absurd (omega (arith, ap tag e))
-gave_move b die page version from to payload (GaveCell cell ∷ []) e g = absurd (if_wrong (is_some (moved_payload page.0 version die from.0 cell)) (ap tag e))
-gave_move b die page version from to payload (Accepted ∷ []) e g = absurd (omega (arith, ap tag e))
-gave_move b die page version from to payload (Refused ∷ []) e g = absurd (omega (arith, ap tag e))
-gave_move b die page version from to payload gave e g = absurd (omega (arith, ap tag e))
+gave_move b die page version from to payload lasting (GaveCell cell ∷ Accepted ∷ []) e g = g
+gave_move b die page version from to payload lasting (GaveCell cell ∷ Refused ∷ []) e g = absurd (omega (arith, ap tag e))
+gave_move b die page version from to payload lasting (GaveCell cell ∷ []) e g = absurd (if_wrong (is_some (moved_payload page.0 version die from.0 cell)) (ap tag e))
+gave_move b die page version from to payload lasting (Accepted ∷ []) e g = absurd (omega (arith, ap tag e))
+gave_move b die page version from to payload lasting (Accepted ∷ Accepted ∷ []) e g = absurd (omega (arith, ap tag e))
+gave_move b die page version from to payload lasting (Accepted ∷ Refused ∷ []) e g = absurd (omega (arith, ap tag e))
+gave_move b die page version from to payload lasting (Refused ∷ []) e g = absurd (omega (arith, ap tag e))
+gave_move b die page version from to payload lasting gave e g = absurd (omega (arith, ap tag e))
 
-pub gave_read : (b : Bytes) (die : ℕ) (batch : BatchId) (page : Page) (version : Version) (slot : Slot) (payload : List ℕ) (gave : List Gave) (cell : Cell)
-    → outcome_of die (Read batch page version slot) payload gave ≡ Some (DidRead cell)
+pub gave_read : (b : Bytes) (die : ℕ) (batch : BatchId) (page : Page) (version : Version) (slot : Slot) (payload : List ℕ) (lasting : Bool) (gave : List Gave) (cell : Cell)
+    → outcome_of die (record { flight = Read batch page version slot; payload = payload; lasting = lasting }) gave ≡ Some (DidRead cell)
     → GaveFits b die (Read batch page version slot) gave → cell ≡ b.seen die slot.0
-gave_read b die batch page version slot payload (GaveCell found ∷ []) cell e g = sym (ap (cell_of found) e) ∙ g
-gave_read b die batch page version slot payload (GaveCell found ∷ Accepted ∷ []) cell e g = absurd (omega (arith, ap tag e))
-gave_read b die batch page version slot payload (GaveCell found ∷ Refused ∷ []) cell e g = absurd (omega (arith, ap tag e))
-gave_read b die batch page version slot payload (Accepted ∷ []) cell e g = absurd (omega (arith, ap tag e))
-gave_read b die batch page version slot payload (Refused ∷ []) cell e g = absurd (omega (arith, ap tag e))
-gave_read b die batch page version slot payload gave cell e g = absurd (omega (arith, ap tag e))
+gave_read b die batch page version slot payload lasting (GaveCell found ∷ []) cell e g = sym (ap (cell_of found) e) ∙ g
+gave_read b die batch page version slot payload lasting (GaveCell found ∷ Accepted ∷ []) cell e g = absurd (omega (arith, ap tag e))
+gave_read b die batch page version slot payload lasting (GaveCell found ∷ Refused ∷ []) cell e g = absurd (omega (arith, ap tag e))
+gave_read b die batch page version slot payload lasting (Accepted ∷ []) cell e g = absurd (omega (arith, ap tag e))
+gave_read b die batch page version slot payload lasting (Accepted ∷ Accepted ∷ []) cell e g = absurd (omega (arith, ap tag e))
+gave_read b die batch page version slot payload lasting (Accepted ∷ Refused ∷ []) cell e g = absurd (omega (arith, ap tag e))
+gave_read b die batch page version slot payload lasting (Refused ∷ []) cell e g = absurd (omega (arith, ap tag e))
+gave_read b die batch page version slot payload lasting gave cell e g = absurd (omega (arith, ap tag e))

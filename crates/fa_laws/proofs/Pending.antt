@@ -278,8 +278,8 @@ gave_right w h die batch page version slot cell (Some work) job works worked =
     let fits = h.sound.works die work works in
     let reading = subst (λ f. JobFits (scene_of w).bytes (scene_of w).places (scene_of w).in_block (w.due die).bytes die f work.job.payload) is fits.job in
     let gave = subst (λ f. GaveFits (scene_of w).bytes die f work.gave) is fits.gave in
-    let out = subst (λ f. outcome_of die f work.job.payload work.gave ≡ Some (DidRead cell)) is worked in
-    ap (payload_of page.0 version die slot.0) (gave_read (scene_of w).bytes die batch page version slot work.job.payload work.gave cell out gave) ∙ reading.cell
+    let out = subst (λ f. outcome_of die (record (work.job) { flight = f }) work.gave ≡ Some (DidRead cell)) is worked in
+    ap (payload_of page.0 version die slot.0) (gave_read (scene_of w).bytes die batch page version slot work.job.payload work.job.lasting work.gave cell out gave) ∙ reading.cell
 
 pub read_gives : (w middle last after : World) (die seat : ℕ) (job : Handed) (batch : BatchId) (page : Page) (version : Version) (slot : Slot)
     (happenings : List Happening) (cell : Cell) → IsReached w → HappensEvent w (Take die seat (Some job)) middle → job.flight ≡ Read batch page version slot

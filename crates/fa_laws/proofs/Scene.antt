@@ -151,7 +151,7 @@ JobFits b p in_block due die (Sync flushes) payload = Unit {0}
 -- what the calls of a job gave so far
 abbrev pub GaveFits : Bytes → ℕ → Flight → List Gave → Type 0
 GaveFits b die (Read batch page version slot) (GaveCell cell ∷ []) = cell ≡ b.seen die slot.0
-GaveFits b die (Program page version slot) (Accepted ∷ []) = Stands b page.0 version die slot.0
+GaveFits b die (Program page version slot) (Accepted ∷ gave) = Stands b page.0 version die slot.0
 GaveFits b die (Move page version from to) (GaveCell cell ∷ []) =
     moved_payload page.0 version die from.0 cell ≡ Some (b.payloads page.0 version.seq.0)
 GaveFits b die (Move page version from to) (GaveCell cell ∷ Accepted ∷ []) = Stands b page.0 version die to.0

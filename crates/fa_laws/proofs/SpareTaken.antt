@@ -17,7 +17,7 @@ use Rattle.fa_laws.proofs.Writes.{claimed_in, claims_page, ends_program, keeps_p
 use Rattle.fa_laws.proofs.Writes.{released_claim, releases, reserved_in, reserves, takes_cell, takes_program}
 use Rattle.fa_laws.specs.EightPages.{write_of}
 use Rattle.fa_laws.specs.SpareComesIn.{answering, copying, erasing, giving_up, mending, read_on, reading_again, the_erase}
-use Rattle.fa_laws.specs.Telling.{pages_of, program_of_page, read_of_page}
+use Rattle.fa_laws.specs.Telling.{lasting_program_of_page, pages_of, read_of_page}
 use Rattle.fa_machine.specs.Cells.{Cell, DidErase, DidProgram, DidWriteHeader, Empty}
 use Rattle.fa_machine.specs.Collecting.{is_in_block}
 use Rattle.fa_machine.specs.Copies.{holders}
@@ -25,8 +25,8 @@ use Rattle.fa_machine.specs.Maps.{place_cmp}
 use Rattle.fa_machine.specs.Run.{HappensEvent, Run}
 use Rattle.fa_machine.specs.State.{Reservation, used_at}
 use Rattle.fa_machine.specs.Step.{Fold}
-use Rattle.fa_machine.specs.Taking.{handed}
-use Rattle.fa_machine.specs.World.{Accepted, DieImage, ErasesBlock, GaveCell, World, with_cell}
+use Rattle.fa_machine.specs.Taking.{Handed, handed}
+use Rattle.fa_machine.specs.World.{Accepted, DieImage, ErasesBlock, GaveCell, Syncs, Work, World, with_cell}
 use Rattle.fa_machine.specs.declared.jobs.Flight.TheVariants.{Header}
 use Rattle.fa_machine.specs.declared.places.Copying.{Copying}
 use Rattle.fa_machine.specs.declared.places.Target.{Target}
@@ -90,6 +90,10 @@ module _ (size : ℕ) (within : IsGeometry 5 1 4 4 size 8) (bytes : ℕ → List
 
   abbrev the_copy : Copying
   the_copy = record { page = record { 0 = 0 }; version = write_of 0; target = target 4 0 true }
+
+  -- a job whose first call was accepted
+  abbrev half_done : Handed → Work
+  half_done job = record { job = job; gave = Accepted ∷ [] }
 
   -- an image whose block 0 is erased
   abbrev emptied : DieImage → DieImage
@@ -286,19 +290,22 @@ module _ (size : ℕ) (within : IsGeometry 5 1 4 4 size 8) (bytes : ℕ → List
   v48 = record v47 { moment = suc v47.moment }
 
   abbrev pub t49 : Table
-  t49 = program_taken 4 (program_of_page 0 0 (write_of 0) (bytes 0)) t48
+  t49 = program_taken 4 (lasting_program_of_page 0 0 (write_of 0) (bytes 0)) t48
 
   abbrev pub v49 : World
-  v49 = took 4 (program_of_page 0 0 (write_of 0) (bytes 0)) v48
+  v49 = took 4 (lasting_program_of_page 0 0 (write_of 0) (bytes 0)) v48
 
   abbrev pub v50 : World
-  v50 = called 4 Accepted (with_cell 0 (cell 4 0 0) (v49.images 4)) (fresh g (program_of_page 0 0 (write_of 0) (bytes 0))) v49
+  v50 = called 4 Accepted (with_cell 0 (cell 4 0 0) (v49.images 4)) (fresh g (lasting_program_of_page 0 0 (write_of 0) (bytes 0))) v49
+
+  abbrev pub v50_synced : World
+  v50_synced = called 4 Accepted (v50.images 4) (half_done (lasting_program_of_page 0 0 (write_of 0) (bytes 0))) v50
 
   abbrev pub t51 : Table
   t51 = program_done 0 4 0 t49
 
   abbrev pub v51 : World
-  v51 = did 4 (program_of_page 0 0 (write_of 0) (bytes 0)).flight DidProgram v50
+  v51 = did 4 (lasting_program_of_page 0 0 (write_of 0) (bytes 0)).flight DidProgram v50_synced
 
   abbrev pub t52 : Table
   t52 = copy_committed the_copy t51
@@ -312,17 +319,21 @@ module _ (size : ℕ) (within : IsGeometry 5 1 4 4 size 8) (bytes : ℕ → List
     reserves_copy g t47 (in_order t47 tt) v47 0 1 (bytes 0) (write_of 0) 4 refl (right 0) refl refl refl (0, omega arith, refl),
     (
       at g t49 v49,
-      takes_program g t48 v48 4 0 (record { 0 = 0 }) (write_of 0) (record { 0 = 0 }) (bytes 0) tt tt refl refl refl refl,
+      takes_program g t48 v48 4 0 (record { 0 = 0 }) (write_of 0) (record { 0 = 0 }) (bytes 0) true tt tt refl refl refl refl,
       (
         at g t49 v50,
-        takes_cell g t49 v49 4 (record { 0 = 0 }) (write_of 0) (record { 0 = 0 }) (bytes 0) refl,
+        takes_cell g t49 v49 4 (record { 0 = 0 }) (write_of 0) (record { 0 = 0 }) (bytes 0) true refl,
         (
-          at g t51 v51,
-          ends_program g t49 v50 4 (record { 0 = 0 }) (write_of 0) (record { 0 = 0 }) tt tt refl refl,
+          at g t49 v50_synced,
+          calls (at g t49 v50) 4 Accepted (v50.images 4) (half_done (lasting_program_of_page 0 0 (write_of 0) (bytes 0))) Syncs refl refl refl,
           (
-            at g t52 v52,
-            commits_copy g t51 (in_order t51 tt) v51 the_copy refl refl refl refl,
-            refl,
+            at g t51 v51,
+            ends_program g t49 v50_synced 4 (record { 0 = 0 }) (write_of 0) (record { 0 = 0 }) tt tt refl refl,
+            (
+              at g t52 v52,
+              commits_copy g t51 (in_order t51 tt) v51 the_copy refl refl refl refl,
+              refl,
+            ),
           ),
         ),
       ),
@@ -396,8 +407,11 @@ module _ (size : ℕ) (within : IsGeometry 5 1 4 4 size 8) (bytes : ℕ → List
   abbrev pub v59 : World
   v59 = took 3 the_erase v58
 
+  abbrev pub v59_synced : World
+  v59_synced = called 3 Accepted (v59.images 3) (fresh g the_erase) v59
+
   abbrev pub v60 : World
-  v60 = called 3 Accepted (emptied (v59.images 3)) (fresh g the_erase) v59
+  v60 = called 3 Accepted (emptied (v59_synced.images 3)) (half_done the_erase) v59_synced
 
   abbrev pub t61 : Table
   t61 = erase_done g 3 (record { 0 = 0 }) t59
@@ -416,12 +430,16 @@ module _ (size : ℕ) (within : IsGeometry 5 1 4 4 size 8) (bytes : ℕ → List
         at g t59 v59,
         takes_erase g t58 (in_order t58 tt) 3 v58 0 (record { 0 = 0 }) refl refl refl refl refl,
         (
-          at g t59 v60,
-          calls (at g t59 v59) 3 Accepted (emptied (v59.images 3)) (fresh g the_erase) (ErasesBlock 0) refl refl refl,
+          at g t59 v59_synced,
+          calls (at g t59 v59) 3 Accepted (v59.images 3) (fresh g the_erase) Syncs refl refl refl,
           (
-            at g t61 v61,
-            ends_erase g t59 v60 3 (record { 0 = 0 }) tt tt refl refl,
-            refl,
+            at g t59 v60,
+            calls (at g t59 v59_synced) 3 Accepted (emptied (v59_synced.images 3)) (half_done the_erase) (ErasesBlock 0) refl refl refl,
+            (
+              at g t61 v61,
+              ends_erase g t59 v60 3 (record { 0 = 0 }) tt tt refl refl,
+              refl,
+            ),
           ),
         ),
       ),

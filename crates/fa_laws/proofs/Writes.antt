@@ -5,6 +5,7 @@ use Rattle.fa_laws.proofs.Listed.{change_listed, insert_listed, inserts_listed, 
 use Rattle.fa_laws.proofs.Making.{called, calls, ends, none_first, takes_other}
 use Rattle.fa_machine.proofs.Maps.{nat_same, place_cmp_total, place_same}
 use Rattle.fa_laws.proofs.Placing.{asked_same, erased_in, erased_same, targets_in, targets_same}
+use Rattle.fa_laws.proofs.Planning.{copies_same, copy_in}
 use Rattle.fa_laws.proofs.Table.{Ordered, Table, core_of, in_order, is_ordered}
 use Rattle.fa_laws.proofs.Tabled.{at, at_number, can_take, did, free_in, fresh, idle_in, is_none_there, took, with_number, without_number}
 use Rattle.fa_machine.specs.Cells.{DidProgram, Sealed}
@@ -12,7 +13,7 @@ use Rattle.fa_machine.specs.Conditions.{claim_open, first_that, history_full, is
 use Rattle.fa_machine.specs.Maps.{change, keep, place_cmp}
 use Rattle.fa_machine.specs.Placement.{copies_asked, targets}
 use Rattle.fa_machine.specs.Run.{Happens, HappensEvent, ImageCall}
-use Rattle.fa_machine.specs.State.{Core, OpenClaim, Reservation}
+use Rattle.fa_machine.specs.State.{Core, OpenClaim, Reservation, WaitingProgram}
 use Rattle.fa_machine.specs.Step.{Claim, Commit, Done, Release, Reserve, ReserveHole, Take, is_page}
 use Rattle.fa_machine.specs.Taking.{Handed, handed, is_for, mark, mark_claim, program_of, read_of, other_job, urgent_job, without_stale_booking}
 use Rattle.fa_machine.specs.World.{Accepted, ProgramsSlot, World, with_cell, with_value_at}
@@ -237,9 +238,17 @@ module _ (g : Geometry) where
         };
       }
 
+  -- a program that waited, as it is handed out
+  abbrev program_in : Table → WaitingProgram → Handed
+  program_in t p = record {
+    flight = Program (record { 0 = p.page }) p.version (record { 0 = p.slot });
+    payload = p.payload;
+    lasting = is_some (at_number p.page t.versions) && not (is_some (copy_in g t p.page p.die));
+  }
+
   -- the job behind the booked reads
   abbrev pub other_in : Table → ℕ → Option Handed
-  other_in t die = option_or (option_map program_of (find (is_for die) t.waiting))
+  other_in t die = option_or (option_map (program_in t) (find (is_for die) t.waiting))
       (option_map handed (if nat_lt (unwrap_or (at_number die t.synced) 0) (unwrap_or (at_number die t.asked) 0) then Some (Sync t.flushes) else None))
 
   -- nothing comes before a waiting program
@@ -263,8 +272,15 @@ module _ (g : Geometry) where
         (get-from_sorted nat_cmp t.windows die o.windows ∙ is_none_there (at_number die t.windows) b.0)
         (ap (option_and_then (read_of (core_of g t).page_map die)) (get-from_sorted place_cmp t.bookings (die, t.round) o.bookings) ∙ is_none_there _ b.1)
 
+    program_same : program_of (core_of g t).page_map ≡ program_in t
+    program_same = λ i p. record {
+      flight = Program (record { 0 = p.page }) p.version (record { 0 = p.slot });
+      payload = p.payload;
+      lasting = is_some (get-from_sorted nat_cmp t.versions p.page o.versions i) && not (is_some (copies_same g t o p.page p.die i));
+    }
+
     other_same : other_job (without_stale_booking die (core_of g t)) die ≡ other_in t die
-    other_same = λ i. option_or (option_map program_of (find (is_for die) t.waiting)) (option_map handed
+    other_same = λ i. option_or (option_map (program_same i) (find (is_for die) t.waiting)) (option_map handed
         (if nat_lt (unwrap_or (get-from_sorted nat_cmp t.synced die o.synced i) 0) (unwrap_or (get-from_sorted nat_cmp t.asked die o.asked i) 0)
         then Some (Sync t.flushes) else None))
 
@@ -273,17 +289,17 @@ module _ (g : Geometry) where
         ≡ from_sorted (filter (λ e. not ((e.0.0 == die && e.0.1 == t.round)) || e.1.started) t.bookings)
     bookings_same left = keep_listed place_cmp_total place_same (λ place b. not ((place.0 == die && place.1 == t.round)) || b.started) t.bookings o.bookings left
 
-  pub takes_program : (t : Table) (v : World) (die seat : ℕ) (page : Page) (version : Version) (slot : Slot) (payload : List ℕ)
-      → T (is_ordered t) → T (is_ordered (program_taken die (record { flight = Program page version slot; payload = payload }) t))
+  pub takes_program : (t : Table) (v : World) (die seat : ℕ) (page : Page) (version : Version) (slot : Slot) (payload : List ℕ) (lasting : Bool)
+      → T (is_ordered t) → T (is_ordered (program_taken die (record { flight = Program page version slot; payload = payload; lasting = lasting }) t))
       → can_take g t die ≡ true → free_in g t die ≡ true → none_urgent t die ≡ true
-      → other_in t die ≡ Some (record { flight = Program page version slot; payload = payload })
-      → HappensEvent (at g t v) (Take die seat (Some (record { flight = Program page version slot; payload = payload })))
-      (at g (program_taken die (record { flight = Program page version slot; payload = payload }) t)
-      (took die (record { flight = Program page version slot; payload = payload }) v))
-  takes_program t v die seat page version slot payload ordered then_ordered can free none other =
+      → other_in t die ≡ Some (record { flight = Program page version slot; payload = payload; lasting = lasting })
+      → HappensEvent (at g t v) (Take die seat (Some (record { flight = Program page version slot; payload = payload; lasting = lasting })))
+      (at g (program_taken die (record { flight = Program page version slot; payload = payload; lasting = lasting }) t)
+      (took die (record { flight = Program page version slot; payload = payload; lasting = lasting }) v))
+  takes_program t v die seat page version slot payload lasting ordered then_ordered can free none other =
       let o = in_order t ordered in
-      let l = in_order (program_taken die (record { flight = Program page version slot; payload = payload }) t) then_ordered in
-      let job : Handed = record { flight = Program page version slot; payload = payload } in
+      let l = in_order (program_taken die (record { flight = Program page version slot; payload = payload; lasting = lasting }) t) then_ordered in
+      let job : Handed = record { flight = Program page version slot; payload = payload; lasting = lasting } in
       takes_other (at g t v) die seat job (core_of g (program_taken die job t)) can (idle_in g t o die free)
       (nothing_first t o die none) (other_same t o die ∙ other)
       (λ i. record (core_of g t) {
@@ -306,14 +322,14 @@ module _ (g : Geometry) where
       })
 
   -- the image takes a program
-  pub takes_cell : (t : Table) (v : World) (die : ℕ) (page : Page) (version : Version) (slot : Slot) (payload : List ℕ)
-      → v.works die ≡ Some (fresh g (record { flight = Program page version slot; payload = payload }))
+  pub takes_cell : (t : Table) (v : World) (die : ℕ) (page : Page) (version : Version) (slot : Slot) (payload : List ℕ) (lasting : Bool)
+      → v.works die ≡ Some (fresh g (record { flight = Program page version slot; payload = payload; lasting = lasting }))
       → Happens (at g t v) (ImageCall die Accepted)
       (at g t (called die Accepted (with_cell slot.0 (Sealed page.0 version die slot.0 payload) (v.images die))
-      (fresh g (record { flight = Program page version slot; payload = payload })) v))
-  takes_cell t v die page version slot payload there =
+      (fresh g (record { flight = Program page version slot; payload = payload; lasting = lasting })) v))
+  takes_cell t v die page version slot payload lasting there =
       calls (at g t v) die Accepted (with_cell slot.0 (Sealed page.0 version die slot.0 payload) (v.images die))
-      (fresh g (record { flight = Program page version slot; payload = payload }))
+      (fresh g (record { flight = Program page version slot; payload = payload; lasting = lasting }))
       (ProgramsSlot slot.0 (Sealed page.0 version die slot.0 payload)) there refl refl
 
   pub ends_program : (t : Table) (v : World) (die : ℕ) (page : Page) (version : Version) (slot : Slot) → T (is_ordered t)

@@ -19,7 +19,7 @@ use Rattle.fa_machine.specs.Taking.{Handed, handed}
 use Rattle.fa_machine.specs.World.{World, Accepted, Refused}
 use Rattle.fa_laws.specs.EightPages.{write_of}
 use Rattle.fa_laws.specs.Formatted.{formatted, new_core}
-use Rattle.fa_laws.specs.Telling.{gives, next_round, pages_of, place_of, programs, starts, writes_header}
+use Rattle.fa_laws.specs.Telling.{gives, next_round, pages_of, place_of, programs, programs_and_syncs, starts, writes_header}
 
 -- five dies, of which one is a spare, each of 4 blocks of 4 slots, with 8 pages
 pub record HasFiveDies (geometry : Geometry) : Type 0 where
@@ -73,10 +73,10 @@ abbrev pub answering : (ℕ → List ℕ) → List Happening
 answering bytes =
     Event (Replan 0 (Ok (read_on 1 1))) ∷ starts 1 0 0 ∷ gives bytes 1 0 0 ++ Event (EndBatch 0 ((0, bytes 0) ∷ [])) ∷ []
 
--- what was read is copied to die 4
+-- what was read is copied to die 4, which syncs it
 abbrev pub copying : (ℕ → List ℕ) → List Happening
 copying bytes =
-    Event (ReserveCopy 0 1 (bytes 0) (Ok tt)) ∷ programs 4 0 0 (write_of 0) (bytes 0) ++ Event (CommitCopy (Ok Current)) ∷ []
+    Event (ReserveCopy 0 1 (bytes 0) (Ok tt)) ∷ programs_and_syncs 4 0 0 (write_of 0) (bytes 0) ++ Event (CommitCopy (Ok Current)) ∷ []
 
 -- a write of page 3 is given up before it is programmed: its slots on dies 3, 1 and 4 are stale
 abbrev pub giving_up : (ℕ → List ℕ) → List Happening
@@ -84,14 +84,14 @@ giving_up bytes =
     Event (Claim 3 (Ok (record { 0 = 0 }))) ∷ Event (Reserve 0 (bytes 3) (Ok (record { 0 = 2 })))
     ∷ Event (Abandon 0 (Ok tt)) ∷ Event (Release 0) ∷ []
 
--- in its window, round 2, die 3 erases its block 0
+-- in its window, round 2, die 3 erases its block 0, behind a sync
 abbrev pub the_erase : Handed
 the_erase = handed (Erase (record { 0 = 0 }))
 
 abbrev pub erasing : List Happening
 erasing =
     Event (Window 3 1 (Ok (record { 0 = 2 }))) ∷ next_round 2 ∷ Event (Take 3 0 (Some the_erase)) ∷ ImageCall 3 Accepted
-    ∷ Event (Done 3 DidErase) ∷ []
+    ∷ ImageCall 3 Accepted ∷ Event (Done 3 DidErase) ∷ []
 
 -- page 0 is read from its new copy, on die 4
 abbrev pub reading_again : (ℕ → List ℕ) → List Happening

@@ -1,5 +1,5 @@
 -- Words for what happens in the chains of events.
-use Rattle.std.specs.Prelude.{ℕ, List, [], ◌∷◌, map, Ok, Some}
+use Rattle.std.specs.Prelude.{ℕ, List, [], ◌∷◌, map, Ok, Some, true, false}
 use Rattle.fa_types.specs.declared.numbers.Page.{Page}
 use Rattle.fa_batch.specs.declared.plan.Place.{Place}
 use Rattle.fa_machine.specs.declared.jobs.Flight.TheVariants.{Header, Program, Read, Sync}
@@ -42,12 +42,22 @@ pages_of pages = map (λ page. record { 0 = page }) pages
 -- a slot is to be programmed with a page
 abbrev pub program_of_page : (page slot : ℕ) → Version → List ℕ → Handed
 program_of_page page slot version payload =
-    record { flight = Program (record { 0 = page }) version (record { 0 = slot }); payload = payload }
+    record { flight = Program (record { 0 = page }) version (record { 0 = slot }); payload = payload; lasting = false }
 
 -- a die programs a slot with a page
 abbrev pub programs : (die page slot : ℕ) → Version → List ℕ → List Happening
 programs die page slot version payload =
     Event (Take die 0 (Some (program_of_page page slot version payload))) ∷ ImageCall die Accepted ∷ Event (Done die DidProgram) ∷ []
+
+-- a slot is to be programmed with a page that others hold, and the die comes to hold it
+abbrev pub lasting_program_of_page : (page slot : ℕ) → Version → List ℕ → Handed
+lasting_program_of_page page slot version payload = record (program_of_page page slot version payload) { lasting = true }
+
+-- a die programs a slot with such a page, and syncs it
+abbrev pub programs_and_syncs : (die page slot : ℕ) → Version → List ℕ → List Happening
+programs_and_syncs die page slot version payload =
+    Event (Take die 0 (Some (lasting_program_of_page page slot version payload))) ∷ ImageCall die Accepted ∷ ImageCall die Accepted
+    ∷ Event (Done die DidProgram) ∷ []
 
 -- a die syncs, for the flushes begun so far
 abbrev pub syncs : (die flushes : ℕ) → List Happening

@@ -43,7 +43,7 @@ IsUrgent core die flight = ⊥
 abbrev pub IsOther : Core → ℕ → Option Handed → Type 0
 IsOther core die None = Unit {0}
 IsOther core die (Some job) =
-    ((p : WaitingProgram) × (find (is_for die) core.waiting ≡ Some p) × (job ≡ program_of p)) ⊎ ((flushes : ℕ) × (job ≡ handed (Sync flushes)))
+    ((p : WaitingProgram) × (find (is_for die) core.waiting ≡ Some p) × (job ≡ program_of core.page_map p)) ⊎ ((flushes : ℕ) × (job ≡ handed (Sync flushes)))
 
 one_of_two : {A : Type 0} (a b : Option A) (x : A) → option_or a b ≡ Some x → (a ≡ Some x) ⊎ (b ≡ Some x)
 one_of_two None b x e = inr e
@@ -108,7 +108,7 @@ sync_is core die job None is e = absurd (none-some job e)
 sync_is core die job (Some flight) is e = sym (same_Some _ job e) ∙ ap handed (sym (same_Some _ flight (if_some _ _ flight is).1))
 
 other_is : (core : Core) (die : ℕ) (found : Option WaitingProgram) (job : Option Handed) → find (is_for die) core.waiting ≡ found
-    → option_or (option_map program_of found) (option_map handed (sync_job core die)) ≡ job → IsOther core die job
+    → option_or (option_map (program_of core.page_map) found) (option_map handed (sync_job core die)) ≡ job → IsOther core die job
 other_is core die found None is e = tt
 other_is core die (Some p) (Some job) is e = inl (p, is, sym (same_Some _ job e))
 other_is core die None (Some job) is e = inr (core.flushes, sync_is core die job (sync_job core die) refl e)

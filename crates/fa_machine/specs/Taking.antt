@@ -1,6 +1,6 @@
 -- The events of dies: Take hands out the first job that applies, Done ends the job in flight.
-use Rattle.std.specs.Prelude.{◌≡◌, ℕ, ◌+◌, ◌/◌, ◌^◌, Bool, true, not, ◌==◌, ◌&&◌, ◌||◌, nat_lt, if◌then◌else◌, List, [], ◌∷◌, ◌++◌}
-use Rattle.std.specs.Prelude.{Option, Some, None, unwrap_or, option_and_then, option_map, map, find, filter, fold}
+use Rattle.std.specs.Prelude.{◌≡◌, ℕ, ◌+◌, ◌/◌, ◌^◌, Bool, true, false, not, ◌==◌, ◌&&◌, ◌||◌, nat_lt, if◌then◌else◌, List, [], ◌∷◌, ◌++◌}
+use Rattle.std.specs.Prelude.{Option, Some, None, is_some, unwrap_or, option_and_then, option_map, map, find, filter, fold}
 use Rattle.std.specs.List.{before_first, after_first}
 use Rattle.std.specs.Option.{option_map_or, option_or}
 use Rattle.std.specs.FinMap.{FinMap, insert, remove, contains_key, get}
@@ -18,18 +18,19 @@ use Rattle.fa_machine.specs.declared.places.Version.{Version}
 use Rattle.fa_machine.specs.Cells.{Outcome, DidRead, DidProgram, DidMove, DidErase, DidWriteHeader, DidSync, Fault, Wrong, payload_of}
 use Rattle.fa_machine.specs.Collecting.{is_in_block, next_step, move_place}
 use Rattle.fa_machine.specs.Conditions.{drop_die}
-use Rattle.fa_machine.specs.Copies.{copy_on, is_current, is_reserved_slot}
+use Rattle.fa_machine.specs.Copies.{copy_on, holds_page, is_current, is_reserved_slot}
 use Rattle.fa_machine.specs.Maps.{place_cmp, keep, change}
 use Rattle.fa_types.specs.Windows.{is_in_window}
 use Rattle.fa_machine.specs.State.{Core, MapState, dies_of, OpenBatch, OpenClaim, Reservation, WaitingProgram, is_live, used_at}
 
--- a job as it is handed out, with the payload of a program
+-- a job as it is handed out, with the payload of a program, and whether that program is lasting: synced before the job ends
 pub record Handed : Type 0 where
   pub flight : Flight
   pub payload : List ℕ
+  pub lasting : Bool
 
 abbrev pub handed : Flight → Handed
-handed flight = record { flight = flight; payload = [] }
+handed flight = record { flight = flight; payload = []; lasting = false }
 
 -- the live dies as a header tells them: bit d stands for die d
 abbrev pub mask_of : MapState → ℕ
@@ -67,9 +68,18 @@ read_of m die b = if b.started then None else read_from b (get m.versions b.page
 abbrev pub read_job : Core → ℕ → Option Flight
 read_job core die = option_and_then (read_of core.page_map die) (get core.calendar.bookings (die, core.calendar.round))
 
--- the oldest program that waits for the die
-abbrev pub program_of : WaitingProgram → Handed
-program_of p = record { flight = Program (record { 0 = p.page }) p.version (record { 0 = p.slot }); payload = p.payload }
+-- A program is lasting where its page was written before and its die holds no current copy of it at this moment: so a die comes to
+-- hold a page that others hold with a copy only that was synced.
+abbrev pub is_lasting : MapState → (page die : ℕ) → Bool
+is_lasting m page die = is_some (get m.versions page) && not (holds_page m page die)
+
+-- a program that waited, as it is handed out
+abbrev pub program_of : MapState → WaitingProgram → Handed
+program_of m p = record {
+  flight = Program (record { 0 = p.page }) p.version (record { 0 = p.slot });
+  payload = p.payload;
+  lasting = is_lasting m p.page p.die;
+}
 
 abbrev pub is_for : ℕ → WaitingProgram → Bool
 is_for die p = p.die == die
@@ -83,7 +93,7 @@ abbrev pub urgent_job : Core → ℕ → Option Flight
 urgent_job core die = option_or (header_job core die) (option_or (step_job core die) (read_job core die))
 
 abbrev pub other_job : Core → ℕ → Option Handed
-other_job core die = option_or (option_map program_of (find (is_for die) core.waiting)) (option_map handed (sync_job core die))
+other_job core die = option_or (option_map (program_of core.page_map) (find (is_for die) core.waiting)) (option_map handed (sync_job core die))
 
 -- the state with other slots in use, and with other bookings
 abbrev pub with_used : FinMap place_cmp Used → Core → Core

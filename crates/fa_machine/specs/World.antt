@@ -1,6 +1,6 @@
 -- The array with its images: what stands in each slot, the calls that the jobs in flight have made, and the plain array,
 -- which changes at Commit alone. A run is a list of events and of image calls, of which any may fail.
-use Rattle.std.specs.Prelude.{◌≡◌, ℕ, Bool, ◌==◌, ◌&&◌, cond, if◌then◌else◌, List, [], ◌∷◌, ◌++◌, Option, Some, None, Ok}
+use Rattle.std.specs.Prelude.{◌≡◌, ℕ, Bool, true, ◌==◌, ◌&&◌, cond, if◌then◌else◌, List, [], ◌∷◌, ◌++◌, Option, Some, None, Ok}
 use Rattle.std.specs.Prelude.{Contains, option_and_then, option_map, filter_map, fold, slice_index_or, is_some}
 use Rattle.std.specs.FinMap.{get}
 use Rattle.fa_types.specs.Plain.{put}
@@ -35,10 +35,11 @@ number_of_call (ErasesBlock block) = 3
 number_of_call (WritesHeader epoch live) = 5
 number_of_call Syncs = 6
 
+-- an erase is behind a sync, so that what replaces the block's slots is durable before they are gone
 abbrev pub first_call : ℕ → Flight → List ℕ → JobCall
 first_call die (Header epoch live) payload = WritesHeader epoch live
 first_call die (Move page version from to) payload = ReadsSlot from.0
-first_call die (Erase block) payload = ErasesBlock block.0
+first_call die (Erase block) payload = Syncs
 first_call die (Read batch page version slot) payload = ReadsSlot slot.0
 first_call die (Program page version slot) payload = ProgramsSlot slot.0 (Sealed page.0 version die slot.0 payload)
 first_call die (Sync flushes) payload = Syncs
@@ -49,6 +50,12 @@ second_call die (Move page version from to) cell =
     option_map (λ payload. ProgramsSlot to.0 (Sealed page.0 version die to.0 payload)) (moved_payload page.0 version die from.0 cell)
 second_call die flight cell = None
 
+-- the call behind an accepted first one: an erase behind its sync, and a sync behind a lasting program
+abbrev pub call_behind : Flight → Bool → Option JobCall
+call_behind (Erase block) lasting = Some (ErasesBlock block.0)
+call_behind (Program page version slot) true = Some Syncs
+call_behind flight lasting = None
+
 -- a job in flight, and what its calls gave so far
 pub record Work : Type 0 where
   pub job : Handed
@@ -57,21 +64,33 @@ pub record Work : Type 0 where
 abbrev pub next_call : ℕ → Handed → List Gave → Option JobCall
 next_call die job [] = Some (first_call die job.flight job.payload)
 next_call die job (GaveCell cell ∷ []) = second_call die job.flight cell
+next_call die job (Accepted ∷ []) = call_behind job.flight job.lasting
 next_call die job gave = None
 
--- The outcome of a job whose calls gave this, if it made them all: a move goes on where it read the slot that was asked for.
-abbrev pub outcome_of : ℕ → Flight → List ℕ → List Gave → Option Outcome
-outcome_of die flight payload (Refused ∷ []) = Some (Fault (number_of_call (first_call die flight payload)))
-outcome_of die flight payload (GaveCell cell ∷ Accepted ∷ []) = Some DidMove
-outcome_of die flight payload (GaveCell cell ∷ Refused ∷ []) = Some (Fault 2)
-outcome_of die (Move page version from to) payload (GaveCell cell ∷ []) =
-    cond (is_some (moved_payload page.0 version die from.0 cell)) None (Some Wrong)
-outcome_of die (Read batch page version slot) payload (GaveCell cell ∷ []) = Some (DidRead cell)
-outcome_of die (Program page version slot) payload (Accepted ∷ []) = Some DidProgram
-outcome_of die (Erase block) payload (Accepted ∷ []) = Some DidErase
-outcome_of die (Header epoch live) payload (Accepted ∷ []) = Some DidWriteHeader
-outcome_of die (Sync flushes) payload (Accepted ∷ []) = Some DidSync
-outcome_of die flight payload gave = None
+-- how a job ends whose first call gave a cell: a move goes on where it read the slot that was asked for
+abbrev pub read_by : ℕ → Flight → Cell → Option Outcome
+read_by die (Move page version from to) cell = cond (is_some (moved_payload page.0 version die from.0 cell)) None (Some Wrong)
+read_by die (Read batch page version slot) cell = Some (DidRead cell)
+read_by die flight cell = None
+
+-- how a job ends whose calls were all accepted
+abbrev pub ended_by : Flight → Option Outcome
+ended_by (Program page version slot) = Some DidProgram
+ended_by (Erase block) = Some DidErase
+ended_by (Header epoch live) = Some DidWriteHeader
+ended_by (Sync flushes) = Some DidSync
+ended_by flight = None
+
+-- The outcome of a job whose calls gave this, if it made them all.
+abbrev pub outcome_of : ℕ → Handed → List Gave → Option Outcome
+outcome_of die job (Refused ∷ []) = Some (Fault (number_of_call (first_call die job.flight job.payload)))
+outcome_of die job (GaveCell cell ∷ []) = read_by die job.flight cell
+outcome_of die job (GaveCell cell ∷ Accepted ∷ []) = Some DidMove
+outcome_of die job (GaveCell cell ∷ Refused ∷ []) = Some (Fault 2)
+outcome_of die job (Accepted ∷ []) = cond (is_some (call_behind job.flight job.lasting)) None (ended_by job.flight)
+outcome_of die job (Accepted ∷ Accepted ∷ []) = option_and_then (λ call. ended_by job.flight) (call_behind job.flight job.lasting)
+outcome_of die job (Accepted ∷ Refused ∷ []) = option_map (λ call. Fault (number_of_call call)) (call_behind job.flight job.lasting)
+outcome_of die job gave = None
 
 -- what a header tells that a job wrote: the epoch and the live dies, and no clean mark
 pub record HeaderTells : Type 0 where
@@ -196,6 +215,6 @@ followed act w = w
 -- What an event owes to the world: a Done tells the outcome that its job's calls gave, and one more copy that is reserved has
 -- bytes that were answered by a read which started while the page had this number.
 abbrev pub IsTold : World → Act → Type 0
-IsTold w (Done die outcome) = option_and_then (λ k. outcome_of die k.job.flight k.job.payload k.gave) (w.works die) ≡ Some outcome
+IsTold w (Done die outcome) = option_and_then (λ k. outcome_of die k.job k.gave) (w.works die) ≡ Some outcome
 IsTold w (ReserveCopy page seq payload (Ok done)) = Contains w.told (record { page = page; seq = seq; bytes = payload })
 IsTold w act = Unit {0}

@@ -1,6 +1,6 @@
 -- What is looked at in turn: the dies that were passed so far, those of them that pass a test, and the first that does.
 use Rattle.fa_machine.specs.Maps.{below, is_one_of}
-use Rattle.fa_machine.specs.Placement.{copies_asked, has_room, order_of, targets}
+use Rattle.fa_machine.specs.Placement.{copies_asked, order_of}
 use Rattle.fa_machine.specs.State.{MapState}
 use Rattle.fa_mirror.specs.Order.{first_of, homes_in_use, looks, looks_from, numbers_of}
 use Rattle.fa_types.specs.declared.numbers.Die.{Die}
@@ -105,10 +105,10 @@ module _ (copies : ℕ) (m : MapState) (page : ℕ) (found : ℕ) (homes : List 
   pub order_looked : seen (looks found homes dies) ≡ order_of copies m page
   order_looked = (λ i. seen (looks_from (first i) (as_many i))) ∙ order_seen (homes_in_use copies m page) m.geometry.dies
 
-  -- what was chosen of all looks is the targets of the page
-  pub targets_looked : (asked : ℕ) (xs : List ℕ) → asked ≡ copies_asked copies m
-      → xs ≡ take asked (filter (has_room m) (seen (looks found homes dies))) → xs ≡ targets copies m page
-  targets_looked asked xs wanted is = is ∙ (λ i. take (wanted i) (filter (has_room m) (order_looked i)))
+  -- what was chosen of all looks is the first dies of the page that pass the test
+  pub all_looked : (test : ℕ → Bool) (asked : ℕ) (xs : List ℕ) → asked ≡ copies_asked copies m
+      → xs ≡ take asked (filter test (seen (looks found homes dies))) → xs ≡ take (copies_asked copies m) (filter test (order_of copies m page))
+  all_looked test asked xs wanted is = is ∙ (λ i. take (wanted i) (filter test (order_looked i)))
 
 module _ (all : List (Option ℕ)) where
   -- what the first n looks gave

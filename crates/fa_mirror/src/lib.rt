@@ -10,7 +10,7 @@ mod slot;
 mod thin;
 
 pub use home::homes;
-pub use placement::{copies_asked, copy_place, is_thin, targets};
+pub use placement::{copies_asked, copy_place, first_dies, is_thin, targets};
 pub use placing::Placing;
 pub use slot::slot_on;
 pub use thin::next_thin;

@@ -4,7 +4,7 @@ ghost use Rattle.std.specs.List.{All};
 ghost use Rattle.fa_machine.specs.Placement.{copies_asked as rule_asked, copy_place as rule_place, has_room as rule_room};
 ghost use Rattle.fa_machine.specs.Placement.{is_thin as rule_thin, targets as rule_targets};
 ghost use Rattle.fa_mirror.specs.Chosen.{AreApart, TakesWrites};
-ghost use Rattle.fa_mirror.specs.Order.{numbers_of, takes_copy as rule_takes};
+ghost use Rattle.fa_mirror.specs.Order.{first_dies as rule_first, numbers_of, takes_copy as rule_takes};
 
 use crate::order::order_of;
 use crate::placing::Placing;
@@ -28,6 +28,26 @@ pub fn targets<M: Map>(map: &M, copies: Copies, page: Page) -> Placing
         }
         if let Some(die) = order.die_at(look) {
             if has_room(map, die) {
+                placing.push(die);
+            }
+        }
+    }
+    placing
+}
+
+/// The dies that a write of the page goes to where each has room: the first live ones in its order, as many as it asks for copies.
+pub fn first_dies<M: Map>(map: &M, copies: Copies, page: Page) -> Placing
+    ensures { numbers_of result ≡ rule_first copies.number (M.view map.now) page.0 }
+{
+    let asked = copies_asked(map, copies) as usize;
+    let order = order_of(map, copies, page);
+    let mut placing = Placing::none();
+    for look in 0..order.looks() {
+        if placing.len() == asked {
+            break;
+        }
+        if let Some(die) = order.die_at(look) {
+            if map.is_live(die) {
                 placing.push(die);
             }
         }

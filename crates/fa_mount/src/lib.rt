@@ -9,10 +9,12 @@ pub mod laws;
 mod losing;
 mod masks;
 mod mounting;
+mod recovering;
 mod standings;
 mod telling;
 
 pub use array::MountedArray;
 pub use closing::{CloseFault, close_clean};
 pub use mounting::{mount, mount_found, mount_found_side_by_side};
+pub use recovering::{recover, recover_found, recover_found_side_by_side};
 pub use standings::place_of;

@@ -14,8 +14,9 @@ use Rattle.fa_machine.specs.Cells.{Broken, Cell, Empty, Sealed, is_same_kind, mo
 use Rattle.fa_machine.specs.Collecting.{is_in_block}
 use Rattle.fa_machine.specs.Run.{CallsNext}
 use Rattle.fa_machine.specs.State.{is_live, used_at}
+use Rattle.fa_machine.specs.Taking.{Handed}
 use Rattle.fa_machine.specs.World.{Accepted, Calls, DieImage, Gave, GaveCell, ProgramsSlot, Refused, Work, World, first_call, next_call}
-use Rattle.fa_machine.specs.World.{second_call, with_cell, with_value}
+use Rattle.fa_machine.specs.World.{call_behind, second_call, with_cell, with_value}
 use Rattle.fa_machine.specs.Writing.{is_programming}
 use Rattle.fa_machine.specs.declared.ids.Block.{Block}
 use Rattle.fa_machine.specs.declared.jobs.Flight.{Flight}
@@ -79,13 +80,13 @@ sealed_so page version die slot (Sealed p v d s payload) bytes e = of_kind (is_s
         λ i. Sealed (eqb-true p page three.0 i) (one_version v version (eqb-true v.seq.0 version.seq.0 three.1) (same_kinds v.kind version.kind k) i)
         (eqb-true d die two.1 i) (eqb-true s slot one.1 i) (found.1 i)
 
-abbrev working : Flight → List ℕ → List Gave → Work
-working flight payload gave = record { job = record { flight = flight; payload = payload }; gave = gave }
+abbrev working : Bool → Flight → List ℕ → List Gave → Work
+working lasting flight payload gave = record { job = record { flight = flight; payload = payload; lasting = lasting }; gave = gave }
 
-abbrev then_world : World → ℕ → Flight → List ℕ → List Gave → DieImage → World
-then_world w die flight payload gave image = record w {
+abbrev then_world : World → ℕ → Bool → Flight → List ℕ → List Gave → DieImage → World
+then_world w die lasting flight payload gave image = record w {
   images = with_value die image w.images;
-  works = with_value die (Some (working flight payload gave)) w.works;
+  works = with_value die (Some (working lasting flight payload gave)) w.works;
 }
 
 module _ (w : World) (h : Holds w) (ranged : Ranged w.core) (s : IsSound w.core) (k : Known (sight_of w)) where
@@ -109,17 +110,17 @@ module _ (w : World) (h : Holds w) (ranged : Ranged w.core) (s : IsSound w.core)
             same = λ same. (sym (old.same some.0 some.1 (sym same)), refl);
           })
 
-  module _ (die : ℕ) (flight : Flight) (payload : List ℕ) (list : List Gave) (works : w.works die ≡ Some (working flight payload list))
+  module _ (die : ℕ) (lasting : Bool) (flight : Flight) (payload : List ℕ) (list : List Gave) (works : w.works die ≡ Some (working lasting flight payload list))
       (was_fine : has_refused list ≡ false) where
     fits : JobFits (scene_of w).bytes (scene_of w).places (scene_of w).in_block (w.due die).bytes die flight payload
-    fits = (h.sound.works die (working flight payload list) works).job
+    fits = (h.sound.works die (working lasting flight payload list) works).job
 
     module _ (image : DieImage) (gave : List Gave) where
       abbrev images_then : ℕ → DieImage
       images_then = with_value die image w.images
 
       abbrev works_then : ℕ → Option Work
-      works_then = with_value die (Some (working flight payload gave)) w.works
+      works_then = with_value die (Some (working lasting flight payload gave)) w.works
 
       abbrev KnownAt : ℕ → Type 0
       KnownAt d = (p slot : ℕ) (v : Version) (bytes : List ℕ) → p < w.core.page_map.geometry.pages → (sight_of w).there d ≡ true → slot < slots_total w.core
@@ -129,8 +130,8 @@ module _ (w : World) (h : Holds w) (ranged : Ranged w.core) (s : IsSound w.core)
       same_flight : (d : ℕ) → flight_at (works_then d) ≡ flight_at (w.works d)
       same_flight d =
           elim (cases_eq d die) [
-            | inl same ↦ ap flight_at (one_value_same die (Some (working flight payload gave)) w.works d same) ∙ sym (ap flight_at (ap w.works same ∙ works))
-            | inr apart ↦ ap flight_at (one_value_other die (Some (working flight payload gave)) w.works d apart)
+            | inl same ↦ ap flight_at (one_value_same die (Some (working lasting flight payload gave)) w.works d same) ∙ sym (ap flight_at (ap w.works same ∙ works))
+            | inr apart ↦ ap flight_at (one_value_other die (Some (working lasting flight payload gave)) w.works d apart)
           ]
 
       to_then : (d slot p : ℕ) (v : Version) (bytes : List ℕ) → IsKnown (sight_of w) p d slot v bytes
@@ -143,21 +144,21 @@ module _ (w : World) (h : Holds w) (ranged : Ranged w.core) (s : IsSound w.core)
           → HasTarget own d slot.0
       programs_then d job page version slot e is =
           elim (cases_eq d die) [
-            | inr apart ↦ k.programs d job page version slot (sym (one_value_other die (Some (working flight payload gave)) w.works d apart) ∙ e) is
+            | inr apart ↦ k.programs d job page version slot (sym (one_value_other die (Some (working lasting flight payload gave)) w.works d apart) ∙ e) is
             | inl same ↦
-                let new = same_Some (working flight payload gave) job (sym (one_value_same die (Some (working flight payload gave)) w.works d same) ∙ e) in
-                k.programs d (working flight payload list) page version slot (ap w.works same ∙ works) (ap (λ (u : Work). u.job.flight) new ∙ is)
+                let new = same_Some (working lasting flight payload gave) job (sym (one_value_same die (Some (working lasting flight payload gave)) w.works d same) ∙ e) in
+                k.programs d (working lasting flight payload list) page version slot (ap w.works same ∙ works) (ap (λ (u : Work). u.job.flight) new ∙ is)
           ]
 
       -- of each slot that is sealed now it is known why, or it was so before
       called_known : (has_refused gave ≡ false → (p slot : ℕ) (v : Version) (bytes : List ℕ) → p < w.core.page_map.geometry.pages
           → image.seen slot ≡ Sealed p v die slot bytes → ((w.images die).seen slot ≡ Sealed p v die slot bytes) ⊎ IsKnown (sight_of w) p die slot v bytes)
-          → Known (sight_of (then_world w die flight payload gave image))
+          → Known (sight_of (then_world w die lasting flight payload gave image))
       called_known touched = record { cells = λ p d slot v bytes low there inside fine cell. at d p slot v bytes low there inside fine cell; waits = k.waits; programs = programs_then }
         where
           here : KnownAt die
           here p slot v bytes low there inside fine cell =
-              let now_fine = sym (ap has_failed (one_value_same die (Some (working flight payload gave)) w.works die refl)) ∙ fine in
+              let now_fine = sym (ap has_failed (one_value_same die (Some (working lasting flight payload gave)) w.works die refl)) ∙ fine in
               let now_cell = sym (ap (λ (i : DieImage). i.seen slot) (one_value_same die image w.images die refl)) ∙ cell in
               elim (touched now_fine p slot v bytes low now_cell) [
                 | inl same ↦ to_then die slot p v bytes (k.cells p die slot v bytes low there inside (ap has_failed works ∙ was_fine) same)
@@ -170,20 +171,20 @@ module _ (w : World) (h : Holds w) (ranged : Ranged w.core) (s : IsSound w.core)
                 | inl same ↦ subst KnownAt (sym same) here
                 | inr apart ↦ λ p slot v bytes low there inside fine cell. to_then d slot p v bytes
                     (k.cells p d slot v bytes low there inside
-                    (sym (ap has_failed (one_value_other die (Some (working flight payload gave)) w.works d apart)) ∙ fine)
+                    (sym (ap has_failed (one_value_other die (Some (working lasting flight payload gave)) w.works d apart)) ∙ fine)
                     (sym (ap (λ (i : DieImage). i.seen slot) (one_value_other die image w.images d apart)) ∙ cell))
               ]
 
-      unseen_known : ((slot : ℕ) → image.seen slot ≡ (w.images die).seen slot) → Known (sight_of (then_world w die flight payload gave image))
+      unseen_known : ((slot : ℕ) → image.seen slot ≡ (w.images die).seen slot) → Known (sight_of (then_world w die lasting flight payload gave image))
       unseen_known same = called_known (λ fine p slot v bytes low cell. inl (sym (same slot) ∙ cell))
 
-      refused_known : has_refused gave ≡ true → Known (sight_of (then_world w die flight payload gave image))
+      refused_known : has_refused gave ≡ true → Known (sight_of (then_world w die lasting flight payload gave image))
       refused_known refused = called_known (λ fine p slot v bytes low cell. absurd (false≢true (sym fine ∙ refused)))
 
       -- a call that seals one slot, of whose new cell it is known why it stands there
       sealed_known : (page : ℕ) (version : Version) (to : ℕ) (bytes : List ℕ) → image ≡ with_cell to (Sealed page version die to bytes) (w.images die)
           → (page < w.core.page_map.geometry.pages → IsKnown (sight_of w) page die to version bytes)
-          → Known (sight_of (then_world w die flight payload gave image))
+          → Known (sight_of (then_world w die lasting flight payload gave image))
       sealed_known page version to bytes is known = called_known (λ fine p slot v b low cell.
           elim (cases_eq slot to) [
             | inr apart ↦ inl (sym (ap (λ (i : DieImage). i.seen slot) is ∙ with_cell_other to slot (Sealed page version die to bytes) (w.images die) apart) ∙ cell)
@@ -198,15 +199,15 @@ module _ (w : World) (h : Holds w) (ranged : Ranged w.core) (s : IsSound w.core)
           ])
 
   -- a program seals what is reserved under a claim, or is copied
-  program_sealed : (die : ℕ) (page : Page) (version : Version) (slot : Slot) (payload : List ℕ) (list : List Gave)
-      → w.works die ≡ Some (working (Program page version slot) payload list) → IsKnown (sight_of w) page.0 die slot.0 version payload
-  program_sealed die page version slot payload list works = by_owner t.owner t.at
+  program_sealed : (die : ℕ) (lasting : Bool) (page : Page) (version : Version) (slot : Slot) (payload : List ℕ) (list : List Gave)
+      → w.works die ≡ Some (working lasting (Program page version slot) payload list) → IsKnown (sight_of w) page.0 die slot.0 version payload
+  program_sealed die lasting page version slot payload list works = by_owner t.owner t.at
     where
       t : HasTarget own die slot.0
-      t = k.programs die (working (Program page version slot) payload list) page version slot works refl
+      t = k.programs die (working lasting (Program page version slot) payload list) page version slot works refl
 
       fits : IsWriting (scene_of w).bytes (scene_of w).places die page.0 version slot.0 payload
-      fits = (h.sound.works die (working (Program page version slot) payload list) works).job
+      fits = (h.sound.works die (working lasting (Program page version slot) payload list) works).job
 
       by_owner : (q : Option ℕ) → IsTargetAt own die slot.0 q t.owned t.target → IsKnown (sight_of w) page.0 die slot.0 version payload
       by_owner (Some id) at =
@@ -227,13 +228,13 @@ module _ (w : World) (h : Holds w) (ranged : Ranged w.core) (s : IsSound w.core)
           {x = (t.owned.page, t.owned.version)} {y = (page.0, version)} (λ i. (is.1 i, is.2 i)) (copied_last t.owned at.owns)))
 
   -- a move seals what stands where it came from
-  move_sealed : (die : ℕ) (page : Page) (version : Version) (from to : Slot) (payload : List ℕ) (cell : Cell)
-      → w.works die ≡ Some (working (Move page version from to) payload (GaveCell cell ∷ [])) → page.0 < w.core.page_map.geometry.pages
+  move_sealed : (die : ℕ) (lasting : Bool) (page : Page) (version : Version) (from to : Slot) (payload : List ℕ) (cell : Cell)
+      → w.works die ≡ Some (working lasting (Move page version from to) payload (GaveCell cell ∷ [])) → page.0 < w.core.page_map.geometry.pages
       → IsKnown (sight_of w) page.0 die to.0 version (w.payloads page.0 version.seq.0)
-  move_sealed die page version from to payload cell works low =
+  move_sealed die lasting page version from to payload cell works low =
       let fits : IsMoving (scene_of w).bytes (scene_of w).places die page.0 version from.0 to.0 =
-      (h.sound.works die (working (Move page version from to) payload (GaveCell cell ∷ [])) works).job in
-      let alive = works_live w h s k die (working (Move page version from to) payload (GaveCell cell ∷ [])) works in
+      (h.sound.works die (working lasting (Move page version from to) payload (GaveCell cell ∷ [])) works).job in
+      let alive = works_live w h s k die (working lasting (Move page version from to) payload (GaveCell cell ∷ [])) works in
       elim (k.cells page.0 die from.0 version (w.payloads page.0 version.seq.0) low
       (or_left (is_live w.core.page_map die) _ alive) (inside (used_at w.core.page_map die from.0) refl fits.settled) (ap has_failed works)
       (sealed_so page.0 version die from.0 ((w.images die).seen from.0) _ fits.cell)) [
@@ -246,10 +247,10 @@ module _ (w : World) (h : Holds w) (ranged : Ranged w.core) (s : IsSound w.core)
       inside None e settled = absurd (false≢true settled)
       inside (Some u) e settled = ranged die from.0 u e
 
-  erase_known : (die : ℕ) (block : Block) (payload : List ℕ) (image : DieImage) → w.works die ≡ Some (working (Erase block) payload [])
+  erase_known : (die : ℕ) (lasting : Bool) (block : Block) (payload : List ℕ) (image : DieImage) → w.works die ≡ Some (working lasting (Erase block) payload (Accepted ∷ []))
       → image ≡ record (w.images die) { seen = λ slot. if is_in_block w.core.page_map block.0 slot then Empty else (w.images die).seen slot }
-      → Known (sight_of (then_world w die (Erase block) payload (Accepted ∷ []) image))
-  erase_known die block payload image works is = called_known die (Erase block) payload [] works refl image (Accepted ∷ []) (λ fine p slot v bytes low cell.
+      → Known (sight_of (then_world w die lasting (Erase block) payload (Accepted ∷ Accepted ∷ []) image))
+  erase_known die lasting block payload image works is = called_known die lasting (Erase block) payload (Accepted ∷ []) works refl image (Accepted ∷ Accepted ∷ []) (λ fine p slot v bytes low cell.
       elim (cases_Bool (is_in_block w.core.page_map block.0 slot)) [
         | inl inside ↦ absurd (false≢true (ap is_sealed (sym (ap (λ (i : DieImage). i.seen slot) is
             ∙ ap {B = Cell} (λ b. if b then Empty else (w.images die).seen slot) inside) ∙ cell)))
@@ -257,73 +258,98 @@ module _ (w : World) (h : Holds w) (ranged : Ranged w.core) (s : IsSound w.core)
             ∙ ap {B = Cell} (λ b. if b then Empty else (w.images die).seen slot) outside) ∙ cell)
       ])
 
-  first_known : (die : ℕ) (flight : Flight) (payload : List ℕ) (g : Gave) (image : DieImage) → w.works die ≡ Some (working flight payload [])
+  first_known : (die : ℕ) (lasting : Bool) (flight : Flight) (payload : List ℕ) (g : Gave) (image : DieImage) → w.works die ≡ Some (working lasting flight payload [])
       → Calls (is_in_block w.core.page_map) (first_call die flight payload) g (w.images die) image
-      → Known (sight_of (then_world w die flight payload (g ∷ []) image))
-  first_known die (Header epoch live) payload Accepted image works c =
-      unseen_known die (Header epoch live) payload [] works refl image (Accepted ∷ []) (λ slot. ap (λ (i : DieImage). i.seen slot) c)
-  first_known die (Header epoch live) payload Refused image works c = refused_known die (Header epoch live) payload [] works refl image (Refused ∷ []) refl
-  first_known die (Header epoch live) payload (GaveCell cell) image works c = absurd c
-  first_known die (Sync flushes) payload Accepted image works c =
-      unseen_known die (Sync flushes) payload [] works refl image (Accepted ∷ []) (λ slot. ap (λ (i : DieImage). i.seen slot) c)
-  first_known die (Sync flushes) payload Refused image works c = refused_known die (Sync flushes) payload [] works refl image (Refused ∷ []) refl
-  first_known die (Sync flushes) payload (GaveCell cell) image works c = absurd c
-  first_known die (Read batch page version slot) payload (GaveCell cell) image works c =
-      unseen_known die (Read batch page version slot) payload [] works refl image (GaveCell cell ∷ []) (λ slot. ap (λ (i : DieImage). i.seen slot) c.1)
-  first_known die (Read batch page version slot) payload Refused image works c =
-      refused_known die (Read batch page version slot) payload [] works refl image (Refused ∷ []) refl
-  first_known die (Read batch page version slot) payload Accepted image works c = absurd c
-  first_known die (Move page version from to) payload (GaveCell cell) image works c =
-      unseen_known die (Move page version from to) payload [] works refl image (GaveCell cell ∷ []) (λ slot. ap (λ (i : DieImage). i.seen slot) c.1)
-  first_known die (Move page version from to) payload Refused image works c =
-      refused_known die (Move page version from to) payload [] works refl image (Refused ∷ []) refl
-  first_known die (Move page version from to) payload Accepted image works c = absurd c
-  first_known die (Erase block) payload Accepted image works c = erase_known die block payload image works c
-  first_known die (Erase block) payload Refused image works c = refused_known die (Erase block) payload [] works refl image (Refused ∷ []) refl
-  first_known die (Erase block) payload (GaveCell cell) image works c = absurd c
-  first_known die (Program page version slot) payload Accepted image works c =
-      sealed_known die (Program page version slot) payload [] works refl image (Accepted ∷ []) page.0 version slot.0 payload c
-      (λ low. program_sealed die page version slot payload [] works)
-  first_known die (Program page version slot) payload Refused image works c =
-      refused_known die (Program page version slot) payload [] works refl image (Refused ∷ []) refl
-  first_known die (Program page version slot) payload (GaveCell cell) image works c = absurd c
+      → Known (sight_of (then_world w die lasting flight payload (g ∷ []) image))
+  first_known die lasting (Header epoch live) payload Accepted image works c =
+      unseen_known die lasting (Header epoch live) payload [] works refl image (Accepted ∷ []) (λ slot. ap (λ (i : DieImage). i.seen slot) c)
+  first_known die lasting (Header epoch live) payload Refused image works c = refused_known die lasting (Header epoch live) payload [] works refl image (Refused ∷ []) refl
+  first_known die lasting (Header epoch live) payload (GaveCell cell) image works c = absurd c
+  first_known die lasting (Sync flushes) payload Accepted image works c =
+      unseen_known die lasting (Sync flushes) payload [] works refl image (Accepted ∷ []) (λ slot. ap (λ (i : DieImage). i.seen slot) c)
+  first_known die lasting (Sync flushes) payload Refused image works c = refused_known die lasting (Sync flushes) payload [] works refl image (Refused ∷ []) refl
+  first_known die lasting (Sync flushes) payload (GaveCell cell) image works c = absurd c
+  first_known die lasting (Read batch page version slot) payload (GaveCell cell) image works c =
+      unseen_known die lasting (Read batch page version slot) payload [] works refl image (GaveCell cell ∷ []) (λ slot. ap (λ (i : DieImage). i.seen slot) c.1)
+  first_known die lasting (Read batch page version slot) payload Refused image works c =
+      refused_known die lasting (Read batch page version slot) payload [] works refl image (Refused ∷ []) refl
+  first_known die lasting (Read batch page version slot) payload Accepted image works c = absurd c
+  first_known die lasting (Move page version from to) payload (GaveCell cell) image works c =
+      unseen_known die lasting (Move page version from to) payload [] works refl image (GaveCell cell ∷ []) (λ slot. ap (λ (i : DieImage). i.seen slot) c.1)
+  first_known die lasting (Move page version from to) payload Refused image works c =
+      refused_known die lasting (Move page version from to) payload [] works refl image (Refused ∷ []) refl
+  first_known die lasting (Move page version from to) payload Accepted image works c = absurd c
+  first_known die lasting (Erase block) payload Accepted image works c =
+      unseen_known die lasting (Erase block) payload [] works refl image (Accepted ∷ []) (λ slot. ap (λ (i : DieImage). i.seen slot) c)
+  first_known die lasting (Erase block) payload Refused image works c = refused_known die lasting (Erase block) payload [] works refl image (Refused ∷ []) refl
+  first_known die lasting (Erase block) payload (GaveCell cell) image works c = absurd c
+  first_known die lasting (Program page version slot) payload Accepted image works c =
+      sealed_known die lasting (Program page version slot) payload [] works refl image (Accepted ∷ []) page.0 version slot.0 payload c
+      (λ low. program_sealed die lasting page version slot payload [] works)
+  first_known die lasting (Program page version slot) payload Refused image works c =
+      refused_known die lasting (Program page version slot) payload [] works refl image (Refused ∷ []) refl
+  first_known die lasting (Program page version slot) payload (GaveCell cell) image works c = absurd c
 
-  second_move : (die : ℕ) (page : Page) (version : Version) (from to : Slot) (payload : List ℕ) (cell : Cell) (g : Gave) (image : DieImage)
-      → w.works die ≡ Some (working (Move page version from to) payload (GaveCell cell ∷ []))
+  second_move : (die : ℕ) (lasting : Bool) (page : Page) (version : Version) (from to : Slot) (payload : List ℕ) (cell : Cell) (g : Gave) (image : DieImage)
+      → w.works die ≡ Some (working lasting (Move page version from to) payload (GaveCell cell ∷ []))
       → Calls (is_in_block w.core.page_map) (ProgramsSlot to.0 (Sealed page.0 version die to.0 (w.payloads page.0 version.seq.0))) g (w.images die) image
-      → Known (sight_of (then_world w die (Move page version from to) payload (GaveCell cell ∷ g ∷ []) image))
-  second_move die page version from to payload cell Accepted image works c =
-      sealed_known die (Move page version from to) payload (GaveCell cell ∷ []) works refl image (GaveCell cell ∷ Accepted ∷ [])
-      page.0 version to.0 (w.payloads page.0 version.seq.0) c (move_sealed die page version from to payload cell works)
-  second_move die page version from to payload cell Refused image works c =
-      refused_known die (Move page version from to) payload (GaveCell cell ∷ []) works refl image (GaveCell cell ∷ Refused ∷ []) refl
-  second_move die page version from to payload cell (GaveCell other) image works c = absurd c
+      → Known (sight_of (then_world w die lasting (Move page version from to) payload (GaveCell cell ∷ g ∷ []) image))
+  second_move die lasting page version from to payload cell Accepted image works c =
+      sealed_known die lasting (Move page version from to) payload (GaveCell cell ∷ []) works refl image (GaveCell cell ∷ Accepted ∷ [])
+      page.0 version to.0 (w.payloads page.0 version.seq.0) c (move_sealed die lasting page version from to payload cell works)
+  second_move die lasting page version from to payload cell Refused image works c =
+      refused_known die lasting (Move page version from to) payload (GaveCell cell ∷ []) works refl image (GaveCell cell ∷ Refused ∷ []) refl
+  second_move die lasting page version from to payload cell (GaveCell other) image works c = absurd c
 
-  second_known : (die : ℕ) (flight : Flight) (payload : List ℕ) (cell : Cell) (g : Gave) (after : World)
-      → w.works die ≡ Some (working flight payload (GaveCell cell ∷ []))
-      → CallsNext w die (Some (working flight payload (GaveCell cell ∷ []))) (second_call die flight cell) g after → Known (sight_of after)
-  second_known die (Move page version from to) payload cell g after works c =
+  second_known : (die : ℕ) (lasting : Bool) (flight : Flight) (payload : List ℕ) (cell : Cell) (g : Gave) (after : World)
+      → w.works die ≡ Some (working lasting flight payload (GaveCell cell ∷ []))
+      → CallsNext w die (Some (working lasting flight payload (GaveCell cell ∷ []))) (second_call die flight cell) g after → Known (sight_of after)
+  second_known die lasting (Move page version from to) payload cell g after works c =
       let gives : moved_payload page.0 version die from.0 cell ≡ Some (w.payloads page.0 version.seq.0) =
-      (h.sound.works die (working (Move page version from to) payload (GaveCell cell ∷ [])) works).gave in
-      let d = subst (λ o. CallsNext w die (Some (working (Move page version from to) payload (GaveCell cell ∷ [])))
+      (h.sound.works die (working lasting (Move page version from to) payload (GaveCell cell ∷ [])) works).gave in
+      let d = subst (λ o. CallsNext w die (Some (working lasting (Move page version from to) payload (GaveCell cell ∷ [])))
       (option_map (λ bytes. ProgramsSlot to.0 (Sealed page.0 version die to.0 bytes)) o) g after) gives c in
-      subst (λ (v : World). Known (sight_of v)) (sym d.2) (second_move die page version from to payload cell g d.0 works d.1)
-  second_known die (Header epoch live) payload cell g after works c = absurd c
-  second_known die (Erase block) payload cell g after works c = absurd c
-  second_known die (Read batch page version slot) payload cell g after works c = absurd c
-  second_known die (Program page version slot) payload cell g after works c = absurd c
-  second_known die (Sync flushes) payload cell g after works c = absurd c
+      subst (λ (v : World). Known (sight_of v)) (sym d.2) (second_move die lasting page version from to payload cell g d.0 works d.1)
+  second_known die lasting (Header epoch live) payload cell g after works c = absurd c
+  second_known die lasting (Erase block) payload cell g after works c = absurd c
+  second_known die lasting (Read batch page version slot) payload cell g after works c = absurd c
+  second_known die lasting (Program page version slot) payload cell g after works c = absurd c
+  second_known die lasting (Sync flushes) payload cell g after works c = absurd c
 
-  next_known : (die : ℕ) (flight : Flight) (payload : List ℕ) (list : List Gave) (g : Gave) (after : World) → w.works die ≡ Some (working flight payload list)
-      → CallsNext w die (Some (working flight payload list)) (next_call die (record { flight = flight; payload = payload }) list) g after → Known (sight_of after)
-  next_known die flight payload [] g after works c = subst (λ (v : World). Known (sight_of v)) (sym c.2) (first_known die flight payload g c.0 works c.1)
-  next_known die flight payload (GaveCell cell ∷ []) g after works c = second_known die flight payload cell g after works c
-  next_known die flight payload (Accepted ∷ []) g after works c = absurd c
-  next_known die flight payload list g after works c = absurd c
+  behind_known : (die : ℕ) (lasting : Bool) (flight : Flight) (payload : List ℕ) (g : Gave) (after : World)
+      → w.works die ≡ Some (working lasting flight payload (Accepted ∷ []))
+      → CallsNext w die (Some (working lasting flight payload (Accepted ∷ []))) (call_behind flight lasting) g after → Known (sight_of after)
+  behind_known die lasting (Erase block) payload Accepted after works c =
+      subst (λ (v : World). Known (sight_of v)) (sym c.2) (erase_known die lasting block payload c.0 works c.1)
+  behind_known die lasting (Erase block) payload Refused after works c =
+      subst (λ (v : World). Known (sight_of v)) (sym c.2)
+      (refused_known die lasting (Erase block) payload (Accepted ∷ []) works refl c.0 (Accepted ∷ Refused ∷ []) refl)
+  behind_known die lasting (Erase block) payload (GaveCell cell) after works c = absurd c.1
+  behind_known die true (Program page version slot) payload Accepted after works c =
+      subst (λ (v : World). Known (sight_of v)) (sym c.2)
+      (unseen_known die true (Program page version slot) payload (Accepted ∷ []) works refl c.0 (Accepted ∷ Accepted ∷ [])
+      (λ k. ap (λ (i : DieImage). i.seen k) c.1))
+  behind_known die true (Program page version slot) payload Refused after works c =
+      subst (λ (v : World). Known (sight_of v)) (sym c.2)
+      (refused_known die true (Program page version slot) payload (Accepted ∷ []) works refl c.0 (Accepted ∷ Refused ∷ []) refl)
+  behind_known die true (Program page version slot) payload (GaveCell cell) after works c = absurd c.1
+  behind_known die false (Program page version slot) payload g after works c = absurd c
+  behind_known die lasting (Header epoch live) payload g after works c = absurd c
+  behind_known die lasting (Move page version from to) payload g after works c = absurd c
+  behind_known die lasting (Read batch page version slot) payload g after works c = absurd c
+  behind_known die lasting (Sync flushes) payload g after works c = absurd c
+
+  next_known : (die : ℕ) (job : Handed) (list : List Gave) (g : Gave) (after : World) → w.works die ≡ Some (record { job = job; gave = list })
+      → CallsNext w die (Some (record { job = job; gave = list })) (next_call die job list) g after → Known (sight_of after)
+  next_known die job [] g after works c =
+      subst (λ (v : World). Known (sight_of v)) (sym c.2) (first_known die job.lasting job.flight job.payload g c.0 works c.1)
+  next_known die job (GaveCell cell ∷ []) g after works c = second_known die job.lasting job.flight job.payload cell g after works c
+  next_known die job (Accepted ∷ []) g after works c = behind_known die job.lasting job.flight job.payload g after works c
+  next_known die job list g after works c = absurd c
 
   work_case : (die : ℕ) (work : Option Work) (g : Gave) (after : World) → w.works die ≡ work → HappensCall w die work g after → Known (sight_of after)
   work_case die None g after works c = absurd c
-  work_case die (Some work) g after works c = next_known die work.job.flight work.job.payload work.gave g after works c
+  work_case die (Some work) g after works c = next_known die work.job work.gave g after works c
 
   -- an image call of a job in flight
   pub call_known : (die : ℕ) (g : Gave) (after : World) → HappensCall w die (w.works die) g after → Known (sight_of after)

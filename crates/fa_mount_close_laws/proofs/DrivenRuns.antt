@@ -296,5 +296,5 @@ module _ {I : Type 0} (made : I → ImageCall → ImageAnswer → I → Type 0) 
         all.0,
         all.1,
         all.2,
-        ap (option_and_then (λ (k : Work). outcome_of die k.job.flight k.job.payload k.gave)) all.2.works ∙ ran.ends,
+        ap (option_and_then (λ (k : Work). outcome_of die k.job k.gave)) all.2.works ∙ ran.ends,
       )

@@ -20,7 +20,8 @@ use Rattle.fa_machine.specs.State.{Core, OpenBatch, WaitingProgram, is_live}
 use Rattle.fa_machine.specs.Step.{Done, Take, allowed, is_sized_read}
 use Rattle.fa_machine.specs.Taking.{EndsJob, Handed, Takes, begins, begun, finished, handed, is_for, is_idle, mark, program_of, read_ends, with_answer}
 use Rattle.fa_machine.specs.Taking.{without_stale_booking}
-use Rattle.fa_machine.specs.World.{Gave, GaveCell, Refused, Work, World, outcome_of, with_end, with_told, with_value}
+use Rattle.fa_machine.specs.World.{Accepted, Gave, GaveCell, JobCall, Refused, Work, World, call_behind, number_of_call, outcome_of}
+use Rattle.fa_machine.specs.World.{with_end, with_told, with_value}
 use Rattle.fa_machine.specs.Writing.{is_programming}
 use Rattle.fa_machine.specs.declared.jobs.Flight.{Flight}
 use Rattle.fa_machine.specs.declared.jobs.Flight.TheVariants.{Erase, Header, Move, Program, Read, Sync}
@@ -70,11 +71,11 @@ module _ (w : World) (h : Holds w) (k : Known (sight_of w)) (die seat : ℕ) whe
 
   program_known : (p : WaitingProgram) → w.works die ≡ None → (p.die ≡ die) → Among p w.core.waiting
       → Known (record (sight_of w) {
-        works = with_value die (Some (record { job = program_of p; gave = [] })) w.works;
+        works = with_value die (Some (record { job = program_of w.core.page_map p; gave = [] })) w.works;
         waiting = before_first (is_for die) w.core.waiting ++ after_first (is_for die) w.core.waiting;
       })
   program_known p idle on among =
-      begun_is_known (sight_of w) k die (program_of p) (before_first (is_for die) w.core.waiting ++ after_first (is_for die) w.core.waiting) idle
+      begun_is_known (sight_of w) k die (program_of w.core.page_map p) (before_first (is_for die) w.core.waiting ++ after_first (is_for die) w.core.waiting) idle
       (λ q i. among-without (is_for die) q w.core.waiting (subst (Among q) (cut_first (is_for die) w.core.waiting) i))
       (λ page version slot e. subst (λ (t : ℕ × ℕ). HasTarget (sight_of w).own t.0 t.1) {x = (p.die, p.slot)} {y = (die, slot.0)}
       (λ i. (on i, ap slot_in e i)) (k.waits p among))
@@ -101,11 +102,16 @@ is_fault (Fault call) = true
 is_fault outcome = false
 
 -- a job of which a call was refused ends with a fault
-not_refused : (die : ℕ) (flight : Flight) (payload : List ℕ) (gave : List Gave) (outcome : Outcome) → outcome_of die flight payload gave ≡ Some outcome
+not_refused : (die : ℕ) (job : Handed) (gave : List Gave) (outcome : Outcome) → outcome_of die job gave ≡ Some outcome
     → is_fault outcome ≡ false → has_refused gave ≡ false
-not_refused die flight payload (Refused ∷ []) outcome e n = absurd (true≢false (ap is_fault (same_Some _ outcome e) ∙ n))
-not_refused die flight payload (GaveCell cell ∷ Refused ∷ []) outcome e n = absurd (true≢false (ap is_fault (same_Some _ outcome e) ∙ n))
-not_refused die flight payload gave outcome e n = refl
+not_refused die job (Refused ∷ []) outcome e n = absurd (true≢false (ap is_fault (same_Some _ outcome e) ∙ n))
+not_refused die job (GaveCell cell ∷ Refused ∷ []) outcome e n = absurd (true≢false (ap is_fault (same_Some _ outcome e) ∙ n))
+not_refused die job (Accepted ∷ Refused ∷ []) outcome e n = behind (call_behind job.flight job.lasting) e
+  where
+    behind : (call : Option JobCall) → option_map (λ call. Fault (number_of_call call)) call ≡ Some outcome → has_refused (Accepted ∷ Refused ∷ []) ≡ false
+    behind None e = absurd (none-some outcome e)
+    behind (Some call) e = absurd (true≢false (ap is_fault (same_Some _ outcome e) ∙ n))
+not_refused die job gave outcome e n = refl
 
 module _ (w : World) (h : Holds w) (s : IsSound w.core) (k : Known (sight_of w)) (die : ℕ) (work : Work) (works : w.works die ≡ Some work) where
   abbrev over : Core
@@ -250,7 +256,7 @@ module _ (w : World) (h : Holds w) (s : IsSound w.core) (k : Known (sight_of w))
 
   job_known : (flight : Flight) → work.job.flight ≡ flight → (outcome : Outcome)
       → JobFits (scene_of w).bytes (scene_of w).places (scene_of w).in_block (w.due die).bytes die flight work.job.payload
-      → outcome_of die flight work.job.payload work.gave ≡ Some outcome → is_of_kind flight outcome ≡ true
+      → outcome_of die (record (work.job) { flight = flight }) work.gave ≡ Some outcome → is_of_kind flight outcome ≡ true
       → Known (sight_of (record (with_end die (Some flight) outcome w) {
         works = with_value die None w.works;
         core = finished die flight outcome over;
@@ -258,20 +264,20 @@ module _ (w : World) (h : Holds w) (s : IsSound w.core) (k : Known (sight_of w))
       }))
   job_known (Read batch page version slot) is (DidRead cell) fits out kind =
       read_known batch.0 page.0 version.seq.0 (payload_of page.0 version die slot.0 cell)
-      (over_known (not_refused die (Read batch page version slot) work.job.payload work.gave (DidRead cell) out refl)
+      (over_known (not_refused die (record (work.job) { flight = Read batch page version slot }) work.gave (DidRead cell) out refl)
       (λ n. ap (λ f. is_programming (Some f) n) is))
   job_known (Program page version slot) is DidProgram fits out kind =
-      programmed_known (not_refused die (Program page version slot) work.job.payload work.gave DidProgram out refl) page version slot is
+      programmed_known (not_refused die (record (work.job) { flight = Program page version slot }) work.gave DidProgram out refl) page version slot is
       (λ q x t at. (fits.place.target q x t at).1)
   job_known (Move page version from to) is DidMove fits out kind =
-      over_known (not_refused die (Move page version from to) work.job.payload work.gave DidMove out refl) (λ n. ap (λ f. is_programming (Some f) n) is)
+      over_known (not_refused die (record (work.job) { flight = Move page version from to }) work.gave DidMove out refl) (λ n. ap (λ f. is_programming (Some f) n) is)
   job_known (Erase block) is DidErase fits out kind =
-      over_known (not_refused die (Erase block) work.job.payload work.gave DidErase out refl) (λ n. ap (λ f. is_programming (Some f) n) is)
+      over_known (not_refused die (record (work.job) { flight = Erase block }) work.gave DidErase out refl) (λ n. ap (λ f. is_programming (Some f) n) is)
   job_known (Header epoch live) is DidWriteHeader fits out kind =
       header_known (epoch == w.core.epoch)
-      (over_known (not_refused die (Header epoch live) work.job.payload work.gave DidWriteHeader out refl) (λ n. ap (λ f. is_programming (Some f) n) is))
+      (over_known (not_refused die (record (work.job) { flight = Header epoch live }) work.gave DidWriteHeader out refl) (λ n. ap (λ f. is_programming (Some f) n) is))
   job_known (Sync flushes) is DidSync fits out kind =
-      over_known (not_refused die (Sync flushes) work.job.payload work.gave DidSync out refl) (λ n. ap (λ f. is_programming (Some f) n) is)
+      over_known (not_refused die (record (work.job) { flight = Sync flushes }) work.gave DidSync out refl) (λ n. ap (λ f. is_programming (Some f) n) is)
   job_known flight is (Fault call) fits out kind = drop_known
   job_known flight is Wrong fits out kind = drop_known
   job_known flight is outcome fits out kind = absurd (false≢true kind)
@@ -286,7 +292,7 @@ done_case w h s k die (Some flight) (Some work) outcome core job works may worke
     subst (λ (c : Core). Known (sight_of (record (with_done die (Some flight) outcome w) { core = c; moment = suc w.moment }))) (sym ends)
     (job_known w h s k die work works flight is outcome
     (subst (λ f. JobFits (scene_of w).bytes (scene_of w).places (scene_of w).in_block (w.due die).bytes die f work.job.payload) is (h.sound.works die work works).job)
-    (subst (λ f. outcome_of die f work.job.payload work.gave ≡ Some outcome) is worked)
+    (subst (λ f. outcome_of die (record (work.job) { flight = f }) work.gave ≡ Some outcome) is worked)
     (and_parts (is_of_kind flight outcome) (is_sized_read w.core outcome) may).0)
 
 pub done_known : (w : World) → Holds w → IsSound w.core → Known (sight_of w) → (die : ℕ) (outcome : Outcome) (core : Core)

@@ -128,7 +128,7 @@ given_follow act works are = are
 
 pub is_told : {I : Type 0} (act : Act) (w : World) (s : Driven I) → AreWorks s.works w → w.told ≡ s.told → IsOwed s act → IsTold w act
 is_told (Done die outcome) w s are told owed =
-    ap (option_and_then (λ (k : Work). outcome_of die k.job.flight k.job.payload k.gave)) (are die) ∙ owed
+    ap (option_and_then (λ (k : Work). outcome_of die k.job k.gave)) (are die) ∙ owed
 is_told (ReserveCopy page seq payload (Ok done)) w s are told owed =
     subst (λ (l : List Told). Contains l (record { page = page; seq = seq; bytes = payload })) (sym told) owed
 is_told (ReserveCopy page seq payload (Err refused)) w s are told owed = tt

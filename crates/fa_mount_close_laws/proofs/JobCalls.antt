@@ -8,7 +8,7 @@ use Rattle.fa_machine.specs.State.{Core}
 use Rattle.fa_machine.specs.Step.{Done}
 use Rattle.fa_machine.specs.Taking.{Handed}
 use Rattle.fa_machine.specs.World.{Accepted, DieImage, Gave, GaveCell, IsTold, JobCall, ProgramsSlot, Refused, Work, World, first_call}
-use Rattle.fa_machine.specs.World.{next_call, outcome_of, second_call, with_value}
+use Rattle.fa_machine.specs.World.{ErasesBlock, Syncs, call_behind, next_call, outcome_of, second_call, with_value}
 use Rattle.fa_machine.specs.declared.jobs.Flight.{Flight}
 use Rattle.fa_machine.specs.declared.jobs.Flight.TheVariants.{Erase, Header, Move, Program, Read, Sync}
 use Rattle.fa_machine.specs.declared.places.Version.{Version}
@@ -16,7 +16,7 @@ use Rattle.fa_mount_close_laws.proofs.OneCall.{IsSomeCell, IsWritable, call_lead
 use Rattle.fa_mount_close_laws.specs.Images.{IsImageOf, OnlyCalled}
 use Rattle.fa_mount_scan.specs.ContentCells.{IsCellOf}
 use Rattle.fa_tag.specs.SlotGrammar.{IsPayloadOf}
-use Rattle.fa_core_dispatch.specs.Fits.{IsJobFor}
+use Rattle.fa_core_dispatch.specs.Fits.{IsFlightFor, IsJobFor}
 use Rattle.fa_types.specs.declared.geometry.Geometry.{Geometry}
 use Rattle.fa_types.specs.declared.kind.Kind.{Kind}
 use Rattle.fa_types.specs.declared.kind.Kind.TheVariants.{Data, Hole}
@@ -65,7 +65,7 @@ moved_kind page version die slot (Sealed p v d s bytes) payload e some =
     (subst (λ (l : List ℕ). IsPayloadOf v.kind l) (same_Some bytes payload own.1) some.1.1)
 
 module _ (geometry : Geometry) (array : List ℕ) (die : ℕ) where
-  first_writable : (flight : Flight) (payload : List ℕ) → IsJobFor geometry array die (record { flight = flight; payload = payload })
+  first_writable : (flight : Flight) (payload : List ℕ) → IsFlightFor geometry array die payload flight
       → IsWritable (first_call die flight payload)
   first_writable (Header epoch live) payload fits = tt
   first_writable (Move page version from to) payload fits = tt
@@ -75,7 +75,7 @@ module _ (geometry : Geometry) (array : List ℕ) (die : ℕ) where
   first_writable (Sync flushes) payload fits = tt
 
   second_writable : (flight : Flight) (payload : List ℕ) (cell : Cell) (call : JobCall)
-      → IsJobFor geometry array die (record { flight = flight; payload = payload }) → IsSomeCell (GaveCell cell)
+      → IsFlightFor geometry array die payload flight → IsSomeCell (GaveCell cell)
       → second_call die flight cell ≡ Some call → IsWritable call
   second_writable (Header epoch live) payload cell call fits some e = absurd (none-some call e)
   second_writable (Erase block) payload cell call fits some e = absurd (none-some call e)
@@ -91,13 +91,23 @@ module _ (geometry : Geometry) (array : List ℕ) (die : ℕ) where
           subst IsWritable (same_Some (ProgramsSlot to.0 (Sealed page.0 version die to.0 bytes)) call e)
           (fits.0, moved_kind page.0 version die from.0 cell bytes is some)
 
+  behind_writable : (flight : Flight) (lasting : Bool) (call : JobCall) → call_behind flight lasting ≡ Some call → IsWritable call
+  behind_writable (Header epoch live) lasting call e = absurd (none-some call e)
+  behind_writable (Move page version from to) lasting call e = absurd (none-some call e)
+  behind_writable (Erase block) lasting call e = subst IsWritable (same_Some (ErasesBlock block.0) call e) tt
+  behind_writable (Read batch page version slot) lasting call e = absurd (none-some call e)
+  behind_writable (Program page version slot) true call e = subst IsWritable (same_Some Syncs call e) tt
+  behind_writable (Program page version slot) false call e = absurd (none-some call e)
+  behind_writable (Sync flushes) lasting call e = absurd (none-some call e)
+
   writable : (job : Handed) (gave : List Gave) (call : JobCall) → IsJobFor geometry array die job → AllByRecursion IsSomeCell gave
       → next_call die job gave ≡ Some call → IsWritable call
   writable job [] call fits some e =
       subst IsWritable (same_Some (first_call die job.flight job.payload) call e) (first_writable job.flight job.payload fits)
   writable job (GaveCell cell ∷ []) call fits some e = second_writable job.flight job.payload cell call fits some.0 e
   writable job (GaveCell cell ∷ next ∷ rest) call fits some e = absurd (none-some call e)
-  writable job (Accepted ∷ rest) call fits some e = absurd (none-some call e)
+  writable job (Accepted ∷ []) call fits some e = behind_writable job.flight job.lasting call e
+  writable job (Accepted ∷ next ∷ rest) call fits some e = absurd (none-some call e)
   writable job (Refused ∷ rest) call fits some e = absurd (none-some call e)
 
 pub all_and : (xs : List Gave) (x : Gave) → AllByRecursion IsSomeCell xs → IsSomeCell x → AllByRecursion IsSomeCell (xs ++ x ∷ [])
@@ -211,5 +221,5 @@ module _ {I : Type 0} (view : I → ImageState) (honest : I → Bool) (made : I 
         runs.run,
         runs.only,
         runs.image,
-        ap (option_and_then (λ (k : Work). outcome_of die k.job.flight k.job.payload k.gave)) runs.works ∙ ran.ends,
+        ap (option_and_then (λ (k : Work). outcome_of die k.job k.gave)) runs.works ∙ ran.ends,
       )

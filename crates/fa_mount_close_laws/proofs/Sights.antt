@@ -7,7 +7,7 @@ use Rattle.fa_machine.specs.Among.{Among}
 use Rattle.fa_machine.specs.Cells.{Cell, Sealed}
 use Rattle.fa_machine.specs.State.{WaitingProgram}
 use Rattle.fa_machine.specs.Taking.{Handed}
-use Rattle.fa_machine.specs.World.{Gave, GaveCell, Refused, Work, World, with_value}
+use Rattle.fa_machine.specs.World.{Accepted, Gave, GaveCell, Refused, Work, World, with_value}
 use Rattle.fa_machine.specs.Writing.{is_programming}
 use Rattle.fa_machine.specs.declared.jobs.Flight.{Flight}
 use Rattle.fa_machine.specs.declared.jobs.Flight.TheVariants.{Program}
@@ -52,6 +52,7 @@ sight_of w = record {
 abbrev pub has_refused : List Gave → Bool
 has_refused (Refused ∷ []) = true
 has_refused (GaveCell cell ∷ Refused ∷ []) = true
+has_refused (Accepted ∷ Refused ∷ []) = true
 has_refused gave = false
 
 abbrev pub has_failed : Option Work → Bool

@@ -11,9 +11,9 @@ use Rattle.std.specs.Prelude.{option_and_then}
 
 module _ {I : Type 0} (old new : Driven I) (die : ℕ) where
   pub told_so : (work : Work) (outcome : Outcome) → old.works die ≡ Some work → HasEvent old (Done die outcome) new
-      → outcome_of die work.job.flight work.job.payload work.gave ≡ Some outcome
+      → outcome_of die work.job work.gave ≡ Some outcome
   told_so work outcome is event =
-      sym (ap (option_and_then (λ (k : Work). outcome_of die k.job.flight k.job.payload k.gave)) is) ∙ event.owed
+      sym (ap (option_and_then (λ (k : Work). outcome_of die k.job k.gave)) is) ∙ event.owed
 
   pub too_early : (job : Handed) (outcome : Outcome) → old.works die ≡ Some (record { job = job; gave = [] })
       → ¬ (HasEvent old (Done die outcome) new)

@@ -52,7 +52,7 @@ works_after act works = works
 -- bytes that a read has answered for the page with this number.
 abbrev pub IsOwed : {I : Type 0} → Driven I → Act → Type 0
 IsOwed old (Done die outcome) =
-    option_and_then (λ work. outcome_of die work.job.flight work.job.payload work.gave) (old.works die) ≡ Some outcome
+    option_and_then (λ work. outcome_of die work.job work.gave) (old.works die) ≡ Some outcome
 IsOwed old (ReserveCopy page seq payload (Ok done)) = Contains old.told (record { page = page; seq = seq; bytes = payload })
 IsOwed old act = Unit {0}
 

@@ -109,7 +109,7 @@ pub fn what_was_driven_and_closed_is_mounted_again<I: Image, A>()
 /// A Done tells the outcome that its job's calls gave, so it comes after them, and a call is one of a job that is in flight.
 pub fn wrong_drives_are_none<I: Image>()
     ensures told { (old new : Driven I) (die : ℕ) (work : Work) (outcome : Outcome) → old.works die ≡ Some work
-        → HasEvent old (Done die outcome) new → outcome_of die work.job.flight work.job.payload work.gave ≡ Some outcome }
+        → HasEvent old (Done die outcome) new → outcome_of die work.job work.gave ≡ Some outcome }
     ensures early { (old new : Driven I) (die : ℕ) (job : Handed) (outcome : Outcome)
         → old.works die ≡ Some (record { job = job; gave = [] }) → ¬ (HasEvent old (Done die outcome) new) }
     ensures untaken { (old new : Driven I) (array : List ℕ) (die : ℕ) → old.works die ≡ None → ¬ (MakesNext I.made array old die new) }

@@ -6,4 +6,5 @@ pub mod NewArray
 pub mod NewImages
 pub mod Numbers
 pub mod Reading
+pub mod Recovered
 pub mod Rows

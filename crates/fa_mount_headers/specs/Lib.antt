@@ -5,4 +5,5 @@ pub mod Formatted
 pub mod Found
 pub mod Judged
 pub mod NewArray
+pub mod Recovering
 pub mod Rules

@@ -73,7 +73,7 @@ pub fn judge<A: Allocator + Copy>(
 }
 
 /// The first of these images, if they are of one array that can be mounted.
-fn one_array(seen: &[Seen], copies: Copies, unclean: bool) -> Result<Seen, MountRefused>
+pub(crate) fn one_array(seen: &[Seen], copies: Copies, unclean: bool) -> Result<Seen, MountRefused>
     ensures refused { result_err result ≡ rules.seen_refusal copies.number unclean seen.now }
     ensures first { IfOk result (λ first. first_seen seen.now ≡ Some first) }
 {
@@ -108,7 +108,11 @@ fn one_epoch(
 }
 
 /// What images of one array say of it.
-fn judgement<A: Allocator>(alloc: A, first: &Seen, seen: &[Seen]) -> Result<Judged<A>, AllocError>
+pub(crate) fn judgement<A: Allocator>(
+    alloc: A,
+    first: &Seen,
+    seen: &[Seen],
+) -> Result<Judged<A>, AllocError>
     requires { first_seen seen.now ≡ Some first.now }
     ensures { IfOk result (IsJudged seen.now) }
 {

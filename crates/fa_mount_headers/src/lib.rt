@@ -9,6 +9,7 @@ mod formatting;
 mod found;
 mod judging;
 pub mod laws;
+mod recovering;
 mod rules;
 mod seen;
 
@@ -17,3 +18,5 @@ pub use fault::{FormatFault, MountFault, MountRefused};
 pub use formatting::{format, format_1, format_spare};
 pub use found::{Found, HeaderFound, read_headers};
 pub use judging::{Judged, Standing, judge};
+pub use recovering::judge_whole;
+pub use rules::is_in;

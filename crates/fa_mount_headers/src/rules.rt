@@ -176,7 +176,7 @@ pub(crate) fn one_mask(seen: &[Seen], epoch: u64, mask: u64) -> Result<(), Mount
 }
 
 /// Whether a die is in a mask.
-pub(crate) fn is_in(mask: u64, die: u8) -> bool
+pub fn is_in(mask: u64, die: u8) -> bool
     ensures { result ≡ rules.is_in mask die }
 {
     match mask.checked_shr(u32::from(die)) {
@@ -256,7 +256,7 @@ fn has_live_die(seen: &[Seen], mask: u64) -> bool
 }
 
 /// The fault of a die.
-fn of_die(fault: MountFault, die: u8) -> MountRefused
+pub(crate) fn of_die(fault: MountFault, die: u8) -> MountRefused
     ensures { result ≡ rules.refused_die fault die }
 {
     MountRefused {

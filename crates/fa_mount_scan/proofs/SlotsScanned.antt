@@ -1,10 +1,12 @@
 -- What was read of dies, and what is mounted of it.
-use Rattle.std.proofs.Common.{◌≡◌, ◌∙◌, List, Result, Ok, Err, length, subst, ap}
+use Rattle.std.proofs.Common.{◌≡◌, ◌∙◌, ℕ, List, Option, Result, Ok, Err, length, subst, sym, ap}
 use Rattle.std.specs.Result.{IfOk, MatchResult}
 use Rattle.fa_types.specs.declared.geometry.Geometry.{Geometry}
 use Rattle.fa_image.specs.Image.{ImageCall, ImageAnswer}
 use Rattle.fa_mount_scan.specs.Content.{AreContents, Contents}
 use Rattle.fa_mount_scan.specs.ContentReading.{AreOutcomes}
+use Rattle.fa_mount_headers.specs.declared.fault.MountRefused.{MountRefused}
+use Rattle.fa_mount_scan.specs.Recovering.{slots_refusal}
 use Rattle.fa_mount_scan.specs.Scanned.{AreSettled, Outcome}
 use Rattle.fa_mount_headers.specs.declared.judging.Standing.{Standing}
 use Rattle.fa_mount_scan.proofs.ContentsRead.{are_contents}
@@ -40,3 +42,13 @@ module _ {I : Type 0} (made : I → ImageCall → ImageAnswer → I → Type 0) 
       → AreSettled standings outcomes dies contents → AreContents geometry contents
   contents_of all dies contents settles =
       are_contents made geometry images after standings outcomes outcomes_of dies contents settles as_many_of all
+
+-- why what was read of dies, which were lent, is not recovered
+pub refused_of : (copies mask : ℕ) (lent standings : List Standing) (lent_outcomes outcomes : List Outcome) (told refusal : Option MountRefused)
+    → lent ≡ standings → lent_outcomes ≡ outcomes → told ≡ slots_refusal copies mask lent lent_outcomes → told ≡ refusal
+    → slots_refusal copies mask standings outcomes ≡ refusal
+refused_of copies mask lent standings lent_outcomes outcomes told refusal same alike is was =
+    ap (λ (l : List Standing). slots_refusal copies mask l outcomes) (sym same)
+    ∙ ap (λ (l : List Outcome). slots_refusal copies mask lent l) (sym alike)
+    ∙ sym is
+    ∙ was

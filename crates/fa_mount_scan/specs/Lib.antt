@@ -7,5 +7,6 @@ pub mod Mounting
 pub mod Pages
 pub mod ReadingAhead
 pub mod Readings
+pub mod Recovering
 pub mod Reported
 pub mod Scanned

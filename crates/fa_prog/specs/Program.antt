@@ -22,11 +22,11 @@ use Rattle.fa_prog_text.specs.Verify.{RunsVerify}
 abbrev pub RunsCommand : Type 0 → Option Wanted → Streams → ℕ → Type 0
 RunsCommand A (Some (Formats settings text)) s status =
     Reads s [] × ((die : Option Die) × IsDie text die × TellsFormat A die s.held_before s.held_after status)
-RunsCommand A (Some (Checks settings unclean json)) s status = Reads s [] × TellsLook A Check unclean json s.held_before s.held_after status
-RunsCommand A (Some (Dumps settings unclean json)) s status = Reads s [] × TellsLook A Dump unclean json s.held_before s.held_after status
-RunsCommand A (Some (Serves settings unclean verbose)) s status = TellsServe A s.held_before s.held_after status
+RunsCommand A (Some (Checks settings terms json)) s status = Reads s [] × TellsLook A Check terms json s.held_before s.held_after status
+RunsCommand A (Some (Dumps settings terms json)) s status = Reads s [] × TellsLook A Dump terms json s.held_before s.held_after status
+RunsCommand A (Some (Serves settings terms verbose)) s status = TellsServe A s.held_before s.held_after status
 RunsCommand A (Some Talks) s status = RunsTalk 32768 (codes "disk") s status
-RunsCommand A (Some (TalksOver settings unclean)) s status = RunsTalkArray A unclean s status
+RunsCommand A (Some (TalksOver settings terms)) s status = RunsTalkArray A terms s status
 RunsCommand A (Some Plans) s status = RunsPlan s status
 RunsCommand A (Some Verifies) s status = RunsVerify s status
 RunsCommand A None s status = Reads s [] × ShowsUsage s.held_before s.held_after status

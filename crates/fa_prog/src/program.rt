@@ -26,7 +26,7 @@ use std::net::{Net, TcpListener, TcpStream};
 
 /// What is printed where the arguments cannot be had.
 const USAGE: &[u8] =
-    b"usage: flasharr format | check | dump | serve | plan | talk [--array SETTINGS [--unclean]] | verify\n";
+    b"usage: flasharr format | check | dump | serve | plan | talk [--array SETTINGS [--unclean | --recover]] | verify\n";
 
 /// Runs the program with all of its arguments, of which the first is its name, as [`run`] does with
 /// those behind it. Where the arguments cannot be had, it prints that memory was refused, with status
@@ -65,18 +65,19 @@ pub fn start<
 ///
 /// `format` makes the images of the array of the settings, or with `--die` one die's image as a spare's.
 /// `check` prints how the dies of an array are and how many pages were written, and `dump` where each page
-/// is; with `--unclean` also of one that was not closed, and with `--json` as one JSON document. These three
-/// read nothing of the input, and tell on standard error what an admin has to look at.
+/// is; with `--unclean` also of one that was not closed, with `--recover` of such a one whose dies are all there, and
+/// with `--json` as one JSON document. These three read nothing of the input, and tell on standard error what an admin
+/// has to look at.
 ///
 /// `serve` mounts the array of the settings and serves it over NBD at their address, in many threads, until the
-/// input has the line `stop`, ends or fails, and then closes it; with `--unclean` also one that was not closed. It
-/// prints where it listens, and at the end the faults that took dies out and how the array was closed. With
+/// input has the line `stop`, ends or fails, and then closes it; with `--unclean` or `--recover` also one that was not
+/// closed. It prints where it listens, and at the end the faults that took dies out and how the array was closed. With
 /// `--verbose` it tells on standard error of clients that come and go.
 ///
 /// `talk` reads lines of hexadecimal digits as the bytes of one NBD client, serves them over a plain
 /// store of 64 pages of 512 zero bytes under the name `disk`, and prints the server's bytes, in
 /// hexadecimal on one line, and then how the connection ended. With `--array` it serves them over the array of
-/// the settings, which it mounts and then closes, with `--unclean` also one that was not closed; it prints the
+/// the settings, which it mounts and then closes, with `--unclean` or `--recover` also one that was not closed; it prints the
 /// faults that took dies out and how the array was closed besides.
 ///
 /// `plan` reads a batch text, and prints the text of a plan of the least number of rounds with the pages
@@ -107,7 +108,7 @@ pub fn run<
             Some(
                 Subcommand::Check {
                     settings,
-                    unclean,
+                    terms,
                     json,
                 },
             ),
@@ -115,7 +116,7 @@ pub fn run<
             let asked = Asked::Check;
             let look = Look {
                 asked,
-                unclean,
+                terms,
                 json,
                 watched,
             };
@@ -125,7 +126,7 @@ pub fn run<
             Some(
                 Subcommand::Dump {
                     settings,
-                    unclean,
+                    terms,
                     json,
                 },
             ),
@@ -133,7 +134,7 @@ pub fn run<
             let asked = Asked::Dump;
             let look = Look {
                 asked,
-                unclean,
+                terms,
                 json,
                 watched,
             };
@@ -143,7 +144,7 @@ pub fn run<
             Some(
                 Subcommand::Serve {
                     settings,
-                    unclean,
+                    terms,
                     verbose,
                 },
             ),
@@ -151,16 +152,19 @@ pub fn run<
             run_serve(
                 rt,
                 alloc,
-                settings,
-                Serve { unclean, verbose },
+                Serve {
+                    settings,
+                    terms,
+                    verbose,
+                },
                 input,
                 output,
             )
         }
         Ok(Some(Subcommand::Plan)) => run_plan(alloc, input, output),
         Ok(Some(Subcommand::Talk)) => run_talk(alloc, input, output),
-        Ok(Some(Subcommand::TalkArray { settings, unclean })) => {
-            run_talk_array(rt, alloc, settings, unclean, input, output)
+        Ok(Some(Subcommand::TalkArray { settings, terms })) => {
+            run_talk_array(rt, alloc, settings, terms, input, output)
         }
         Ok(Some(Subcommand::Verify)) => run_verify(alloc, input, output),
         Ok(None) => show_usage(output),

@@ -4,12 +4,14 @@
 mod complaint;
 mod host;
 mod images;
+mod lost;
 pub mod printing;
 mod settings_file;
 mod watched;
 
 pub use complaint::{complain, tell};
 pub use host::Host;
-pub use images::{NotOpened, OpenImages, images_alone, open_images, tell_refused};
+pub use images::{NotOpened, OpenImages, Opening, images_alone, open_images, tell_refused};
+pub use lost::lost_path;
 pub use settings_file::{NoSettings, refuse_settings, settings_at};
 pub use watched::{Watched, clear};

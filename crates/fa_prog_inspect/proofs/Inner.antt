@@ -1,5 +1,5 @@
 -- What was done with images that tell how far a command is, was done with the images within.
-use Rattle.std.proofs.Common.{◌≡◌, ℕ, suc, Bool, List, [], ◌∷◌, map, length, Option, Some, None, option_map, Result, Ok, Err, sym, ap, ◌∙◌, inl, inr}
+use Rattle.std.proofs.Common.{◌≡◌, ℕ, suc, Bool, true, List, [], ◌∷◌, map, length, Option, Some, None, option_map, Result, Ok, Err, sym, ap, ◌∙◌, inl, inr}
 use Rattle.std.proofs.lemmas.Option.{slice_get-map}
 use Rattle.std.proofs.lemmas.List.{length-map}
 use Rattle.fa_types.specs.declared.geometry.Geometry.{Geometry}
@@ -15,7 +15,10 @@ use Rattle.fa_mount_headers.specs.declared.found.Found.{Found}
 use Rattle.fa_mount_headers.specs.declared.judging.Judged.{Judged}
 use Rattle.fa_mount_headers.specs.declared.judging.Standing.{Standing}
 use Rattle.fa_settings.specs.declared.settings.Settings.{Settings}
-use Rattle.fa_prog_inspect.specs.Mount.{Array, MountsArray, RefusesArray}
+use Rattle.fa_mount_scan.specs.Recovering.{RefusesRecovery}
+use Rattle.fa_settings.specs.Terms.{leaves_aside}
+use Rattle.fa_settings.specs.declared.terms.Terms.{Terms}
+use Rattle.fa_prog_inspect.specs.Mount.{Array, MountsArray, RefusesArray, RefusesByTerms}
 
 module _ {J I : Type 0} (f : J → I) (view : I → ImageState) (made : I → ImageCall → ImageAnswer → I → Type 0) where
   abbrev pub outer_view : J → ImageState
@@ -102,18 +105,37 @@ module _ {J I : Type 0} (f : J → I) (view : I → ImageState) (made : I → Im
     refuses before after refusal (inr (inr h)) =
         inr (inr (map f h.0, h.1, says before h.0 h.1 h.2, h.3, outcomes h.1.geometry h.0 after h.1.dies.items h.3 h.4, h.5))
 
-  module _ {A : Type 0} (settings : Settings A) (unclean : Bool) (before after : List J) where
-    pub mounts_within : (founds : List Found) (mounted : Array) → MountsArray outer_view outer_made settings unclean before after founds mounted
-        → MountsArray view made settings unclean (map f before) (map f after) founds mounted
+  recovery_refused : (B : Type 0) (copies : ℕ) (before after : List J) (refusal : MountRefused)
+      → RefusesRecovery B outer_view outer_made copies before after refusal → RefusesRecovery B view made copies (map f before) (map f after) refusal
+  recovery_refused B copies before after refusal (inl none) = inl none
+  recovery_refused B copies before after refusal (inr (inl h)) = inr (inl (h.0, headers before after h.0 h.1, as_many h.0 before h.2, h.3))
+  recovery_refused B copies before after refusal (inr (inr h)) = inr (inr (
+    map f h.0,
+    h.1,
+    says B copies true before h.0 h.1 h.2,
+    h.3,
+    outcomes h.1.geometry h.0 after h.1.dies.items h.3 h.4,
+    h.5,
+  ))
+
+  module _ {A : Type 0} (settings : Settings A) (terms : Terms) (before after : List J) where
+    pub mounts_within : (founds : List Found) (mounted : Array) → MountsArray outer_view outer_made settings terms before after founds mounted
+        → MountsArray view made settings terms (map f before) (map f after) founds mounted
     unfolding mounts says
     mounts_within founds mounted h = record {
       expected = h.expected;
-      mounts = mounts _ settings.copies.number unclean before after mounted.array mounted.epoch mounted.clean mounted.dies.items _ h.mounts;
+      mounts = mounts _ settings.copies.number (leaves_aside terms) before after mounted.array mounted.epoch mounted.clean mounted.dies.items _ h.mounts;
       by_these = h.by_these;
+      whole = h.whole;
     }
 
-    pub refuses_within : (refusal : MountRefused) → RefusesArray outer_view outer_made settings unclean before after refusal
-        → RefusesArray view made settings unclean (map f before) (map f after) refusal
+    by_terms : (refusal : MountRefused) → RefusesByTerms outer_view outer_made settings terms before after refusal
+        → RefusesByTerms view made settings terms (map f before) (map f after) refusal
+    by_terms refusal (inl why) = inl (refuses _ settings.copies.number (leaves_aside terms) before after refusal why)
+    by_terms refusal (inr h) = inr (h.0, recovery_refused _ settings.copies.number before after refusal h.1)
+
+    pub refuses_within : (refusal : MountRefused) → RefusesArray outer_view outer_made settings terms before after refusal
+        → RefusesArray view made settings terms (map f before) (map f after) refusal
     refuses_within refusal (inl none) = inl none
     refuses_within refusal (inr (inl h)) = inr (inl (h.0, (headers before after h.0 h.1.0, as_many h.0 before h.1.1), h.2))
     refuses_within refusal (inr (inr h)) = inr (inr (
@@ -121,5 +143,5 @@ module _ {J I : Type 0} (f : J → I) (view : I → ImageState) (made : I → Im
       map f h.1,
       (headers before h.1 h.0 h.2.0, as_many h.0 before h.2.1),
       h.3,
-      refuses _ settings.copies.number unclean before after refusal h.4,
+      by_terms refusal h.4,
     ))

@@ -1,2 +1,3 @@
+pub mod ByTerms
 pub mod Inner
 pub mod Told

@@ -4,20 +4,21 @@ ghost use Rattle.fa_image.specs.FileMade.{file_view, FileMade};
 ghost use Rattle.fa_prog_inspect.specs.Array.{IsTold, IsLines, IsDocument, IsDocumentWith, IsNotTold, TellsLook, TellsArray, mount_line as line_of, not_told_of};
 ghost use Rattle.fa_mount_headers.specs.Expected.{IsExpected};
 ghost use Rattle.fa_mount_headers.specs.Found.{AreFound, IsReadOf};
+ghost use Rattle.fa_settings.specs.Terms.{leaves_aside};
 ghost use Rattle.fa_prog_inspect.specs.Mount.{MountsArray, RefusesArray, RefusesHeaders};
 
 use fa_image::{FileImage, Image};
 use fa_map::PageMap;
 use fa_map_calls::Map;
 use fa_mount_headers::{Found, MountFault, MountRefused, expect, read_headers};
-use fa_mount_scan::{Mounted, scan_found_side_by_side};
+use fa_mount_scan::{Mounted, recover_found_side_by_side, scan_found_side_by_side};
 use fa_prog_host::printing::{DONE, REFUSED, print, refuse_for_memory};
 use fa_prog_host::{
-    Host, NotOpened, OpenImages, Watched, clear, complain, open_images, refuse_settings,
+    Host, NotOpened, OpenImages, Opening, Watched, clear, complain, open_images, refuse_settings,
     settings_at, tell,
 };
 use fa_prog_report::{DieRow, check_json, check_text, dump_json, dump_text, path_of, rows_of};
-use fa_settings::Settings;
+use fa_settings::{Settings, Terms};
 use fa_types::Copies;
 use std::alloc::{AllocError, Allocator};
 use std::io::{Eprint, Write};
@@ -36,8 +37,8 @@ pub enum Asked {
 pub struct Look {
     /// What is to be told.
     pub asked: Asked,
-    /// The array may be one that was not closed, and images may be missing.
-    pub unclean: bool,
+    /// On what terms its images are taken.
+    pub terms: Terms,
     /// One JSON document is printed.
     pub json: bool,
     /// How far it is is told on standard error.
@@ -52,10 +53,10 @@ pub fn run_look<R: Host, W: Write, A: Allocator + Copy>(
     look: Look,
     output: &mut W,
 ) -> u8
-    ensures { TellsLook A look.asked look.unclean look.json (W.contents output.old) (W.contents output.new) result }
+    ensures { TellsLook A look.asked look.terms look.json (W.contents output.old) (W.contents output.new) result }
 {
     match settings_at(rt, alloc, path) {
-        Ok(settings) => tell_array(rt, &settings, look, output),
+        Ok(settings) => tell_array(rt, &settings, path, look, output),
         Err(refused) => refuse_settings(alloc, refused, output),
     }
 }
@@ -84,12 +85,13 @@ impl From<AllocError> for NotTold {
 fn tell_array<R: Host, W: Write, A: Allocator>(
     rt: &R,
     settings: &Settings<A>,
+    path: &str,
     look: Look,
     output: &mut W,
 ) -> u8
-    ensures { TellsArray settings.now look.asked look.unclean look.json (W.contents output.old) (W.contents output.new) result }
+    ensures { TellsArray settings.now look.asked look.terms look.json (W.contents output.old) (W.contents output.new) result }
 {
-    match text_of(rt, settings, look) {
+    match text_of(rt, settings, path, look) {
         Ok(text) => print(output, DONE, text.as_bytes()),
         Err(NotTold::Mount(fault)) => print(output, REFUSED, mount_line(fault)),
         Err(NotTold::NoMemory) => refuse_for_memory(output),
@@ -100,17 +102,18 @@ fn tell_array<R: Host, W: Write, A: Allocator>(
 fn text_of<R: Host, A: Allocator>(
     rt: &R,
     settings: &Settings<A>,
+    path: &str,
     look: Look,
 ) -> Result<String, NotTold>
-    ensures text { IfOk result (λ text. IsTold settings.now look.asked look.unclean look.json (string_bytes text)) }
-    ensures refused { IfErr result (IsNotTold settings.now look.unclean) }
+    ensures text { IfOk result (λ text. IsTold settings.now look.asked look.terms look.json (string_bytes text)) }
+    ensures refused { IfErr result (IsNotTold settings.now look.terms) }
 {
-    let OpenImages { mut images, places } = match open_images(
-        rt,
-        settings,
-        look.unclean,
-        look.watched,
-    ) {
+    let opening = Opening {
+        terms: look.terms,
+        syncs: look.terms.is_whole(),
+        watched: look.watched,
+    };
+    let OpenImages { mut images, places } = match open_images(rt, settings, path, opening) {
         Ok(opened) => opened,
         Err(refused) => return Err(not_told(refused)),
     };
@@ -139,6 +142,7 @@ fn not_told(refused: NotOpened) -> NotTold
 {
     match refused {
         NotOpened::Image => NotTold::Mount(MountFault::ImageFault),
+        NotOpened::PagesLost => NotTold::Mount(MountFault::Unclean),
         NotOpened::NoMemory => NotTold::NoMemory,
     }
 }
@@ -160,18 +164,18 @@ fn mounted_of<R: Host, A: Allocator>(
     images: &mut [Watched<'_, R, FileImage>],
     places: &[usize],
 ) -> Result<FoundArray, NotTold>
-    ensures mounted { IfOk result (λ array. MountsArray file_view FileMade settings.now look.unclean
+    ensures mounted { IfOk result (λ array. MountsArray file_view FileMade settings.now look.terms
         (map (λ watched. watched.image) images.old) (map (λ watched. watched.image) images.new) array.founds.items array.mounted) }
     ensures refused { IfErr result (λ refused. (refusal : MountRefused) × (refused ≡ NotTold.Mount refusal.fault)
-        × RefusesArray file_view FileMade settings.now look.unclean
+        × RefusesArray file_view FileMade settings.now look.terms
         (map (λ watched. watched.image) images.old) (map (λ watched. watched.image) images.new) refusal) }
 {
-    let result = mount(rt, settings, look.unclean, images);
+    let result = mount(rt, settings, look.terms, images);
     clear(rt, look.watched);
     match result {
         Ok(array) => Ok(array),
         Err(refused) => {
-            explain(rt, settings, places, &refused);
+            explain(rt, settings, places, look.terms, &refused);
             Err(NotTold::Mount(refused.fault))
         }
     }
@@ -181,19 +185,20 @@ fn mounted_of<R: Host, A: Allocator>(
 pub fn read_expected<R: Host, I: Image, A: Allocator>(
     rt: &R,
     settings: &Settings<A>,
-    unclean: bool,
+    terms: Terms,
     images: &mut [I],
 ) -> Result<Vec<Found>, MountRefused>
     ensures { MatchResult result
         (λ founds. IsReadOf I.view I.made images.old images.new founds.items
-        × IsExpected settings.now.geometry settings.now.array unclean founds.items (Ok tt))
-        (RefusesHeaders I.view I.made settings.now unclean images.old images.new) }
+        × IsExpected settings.now.geometry settings.now.array (leaves_aside terms) founds.items (Ok tt))
+        (RefusesHeaders I.view I.made settings.now terms images.old images.new) }
 {
     let Ok(founds) = read_headers(rt.alloc(), images) else {
         return Err(MountRefused::of_nobody(MountFault::NoMemory));
     };
     let (geometry, array) = (settings.geometry, settings.array);
-    match expect(rt.alloc(), founds.as_slice(), geometry, array, unclean) {
+    let left = terms.leaves_aside();
+    match expect(rt.alloc(), founds.as_slice(), geometry, array, left) {
         Ok(()) => Ok(founds),
         Err(refused) => Err(refused),
     }
@@ -203,18 +208,18 @@ pub fn read_expected<R: Host, I: Image, A: Allocator>(
 fn mount<R: Host, I: Image + Send, A: Allocator>(
     rt: &R,
     settings: &Settings<A>,
-    unclean: bool,
+    terms: Terms,
     images: &mut [I],
 ) -> Result<FoundArray, MountRefused>
     ensures { MatchResult result
-        (λ array. MountsArray I.view I.made settings.now unclean images.old images.new array.founds.items array.mounted)
-        (RefusesArray I.view I.made settings.now unclean images.old images.new) }
+        (λ array. MountsArray I.view I.made settings.now terms images.old images.new array.founds.items array.mounted)
+        (RefusesArray I.view I.made settings.now terms images.old images.new) }
 {
-    let founds = match read_expected(rt, settings, unclean, images) {
+    let founds = match read_expected(rt, settings, terms, images) {
         Ok(founds) => founds,
         Err(refused) => return Err(refused),
     };
-    match scan_expected(rt, settings, unclean, images, founds.as_slice()) {
+    match scan_expected(rt, settings, terms, images, founds.as_slice()) {
         Ok(mounted) => Ok(FoundArray { founds, mounted }),
         Err(refused) => Err(refused),
     }
@@ -224,17 +229,22 @@ fn mount<R: Host, I: Image + Send, A: Allocator>(
 fn scan_expected<R: Host, I: Image + Send, A: Allocator>(
     rt: &R,
     settings: &Settings<A>,
-    unclean: bool,
+    terms: Terms,
     images: &mut [I],
     founds: &[Found],
 ) -> Result<Mounted<PageMap>, MountRefused>
     requires found { AreFound I.view I.made images.old founds.now }
-    requires expected { IsExpected settings.now.geometry settings.now.array unclean founds.now (Ok tt) }
+    requires expected { IsExpected settings.now.geometry settings.now.array (leaves_aside terms) founds.now (Ok tt) }
     ensures { (before : List I) → IsReadOf I.view I.made before images.old founds.now → MatchResult result
-        (MountsArray I.view I.made settings.now unclean before images.new founds.now)
-        (RefusesArray I.view I.made settings.now unclean before images.new) }
+        (MountsArray I.view I.made settings.now terms before images.new founds.now)
+        (RefusesArray I.view I.made settings.now terms before images.new) }
 {
-    scan_found_side_by_side(rt, rt.alloc(), images, founds, settings.copies, unclean)
+    let (alloc, copies) = (rt.alloc(), settings.copies);
+    match terms {
+        Terms::Closed => scan_found_side_by_side(rt, alloc, images, founds, copies, false),
+        Terms::Whole => recover_found_side_by_side(rt, alloc, images, founds, copies),
+        Terms::Unclean => scan_found_side_by_side(rt, alloc, images, founds, copies, true),
+    }
 }
 
 /// What is to be told, in lines.
@@ -293,9 +303,10 @@ pub fn explain<R: Eprint, A: Allocator>(
     rt: &R,
     settings: &Settings<A>,
     places: &[usize],
+    terms: Terms,
     refused: &MountRefused,
 ) {
-    let words = words_of(refused.fault);
+    let words = words_of(terms, refused);
     match (
         path_of(&settings.images, places, refused.image),
         refused.die,
@@ -309,8 +320,31 @@ pub fn explain<R: Eprint, A: Allocator>(
     }
 }
 
+/// Why images are not mounted on these terms, and what to do next.
+fn words_of(terms: Terms, refused: &MountRefused) -> &'static str {
+    match refused.fault {
+        MountFault::Unclean if terms.is_whole() => words_of_missing(refused),
+        fault => words_of_fault(fault),
+    }
+}
+
+/// Why an array is not recovered, and what to do next.
+fn words_of_missing(refused: &MountRefused) -> &'static str {
+    match (refused.image, refused.die) {
+        (Some(_), _) => {
+            "a spare by its header, and yet it was used: look with check --unclean, then serve --unclean"
+        }
+        (None, Some(_)) => {
+            "this die was in use, and no image has a header of it: bring it back, or look with check --unclean, then serve --unclean"
+        }
+        (None, None) => {
+            "as many dies are out as each page has copies, so pages may be lost: look with check --unclean, then serve --unclean"
+        }
+    }
+}
+
 /// Why images are not mounted, and what to do next.
-fn words_of(fault: MountFault) -> &'static str {
+fn words_of_fault(fault: MountFault) -> &'static str {
     match fault {
         MountFault::HeaderBad => {
             "header bad: this is no image: correct its path, or take it out until its die is replaced"
@@ -323,7 +357,7 @@ fn words_of(fault: MountFault) -> &'static str {
         }
         MountFault::DieTwice => "die twice: take out the older of the two images of this die",
         MountFault::Unclean => {
-            "the array was not closed, or lacks this die: look with check --unclean, then serve --unclean"
+            "the array was not closed, or lacks this die: serve --recover where all images are there, else look with check --unclean, then serve --unclean"
         }
         MountFault::NoDieLive => "no die live: bring back the images of dies that were in use",
         MountFault::ImageFault => {

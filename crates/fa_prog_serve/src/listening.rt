@@ -3,6 +3,7 @@ use crate::plan::ServePlan;
 use fa_mount::place_of;
 use fa_mount_headers::Standing;
 use fa_prog_clients::AcceptQueue;
+use fa_prog_lost::Losses;
 use fa_settings::Settings;
 use std::alloc::{AllocError, Allocator, Global};
 use std::net::TcpListener;
@@ -14,6 +15,8 @@ pub(crate) struct Listening<'a> {
     pub(crate) listener: &'a TcpListener,
     /// Where clients wait for a session.
     pub(crate) accept_queue: AcceptQueue,
+    /// Which pages were lost.
+    pub(crate) losses: Losses<'a>,
     /// The paths of the dies' images, by the dies' numbers.
     pub(crate) paths: Vec<&'a str>,
     /// How many copies each page is to have.
@@ -22,10 +25,11 @@ pub(crate) struct Listening<'a> {
     pub(crate) window_rounds: u64,
 }
 
-/// What the threads share for an array whose dies stand so. The error is out of memory.
+/// What the threads share for an array whose dies stand so, with what is known of its lost pages. The error is out of memory.
 pub(crate) fn listening_of<'a, A: Allocator>(
     global: Global,
     dies: &[Standing],
+    losses: Losses<'a>,
     plan: &ServePlan<'a, A>,
 ) -> Result<Listening<'a>, AllocError> {
     let settings = plan.settings;
@@ -34,6 +38,7 @@ pub(crate) fn listening_of<'a, A: Allocator>(
     Ok(Listening {
         listener: plan.listener,
         accept_queue,
+        losses,
         paths,
         copies: settings.copies.number,
         window_rounds: u64::from(settings.window_rounds),

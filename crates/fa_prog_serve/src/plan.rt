@@ -9,6 +9,8 @@ pub(crate) struct ServePlan<'a, A: Allocator> {
     /// Where clients connect.
     pub(crate) listener: &'a TcpListener,
     pub(crate) settings: &'a Settings<A>,
+    /// The path of the settings.
+    pub(crate) path: &'a str,
     /// The places of the images among the settings' paths, in the order in which they were opened.
     pub(crate) places: &'a [usize],
     /// Clients that come and go are told on standard error.

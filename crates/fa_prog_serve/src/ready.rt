@@ -5,10 +5,12 @@ ghost use Rattle.fa_prog_serve.specs.Serving.{address_line};
 use crate::images_at_work::{ImagesAtWork, images_at_work};
 use crate::listening::{Listening, listening_of};
 use crate::plan::ServePlan;
+use crate::serve::Held;
 use crate::tasks::{Tasks, tasks_of};
 use fa_map_calls::Map;
 use fa_mount_headers::Standing;
 use fa_prog_clients::Networked;
+use fa_prog_lost::Losses;
 use fa_shared::Shared;
 use std::alloc::{AllocError, Allocator, Global};
 use std::net::{SocketAddrV4, TcpListener};
@@ -25,17 +27,21 @@ pub(crate) struct Ready<'a, L: Ledger, I: Drop> {
     pub(crate) tasks: Tasks<'a, L>,
 }
 
-/// All that the server of a shared array needs, over images in the order in which they were opened. The error is out of memory, or of seats.
+/// All that the server of a shared array needs, over images in the order in which they were opened, and the open file of its lost
+/// pages. The error is out of memory, or of seats.
 pub(crate) fn ready_of<'a, R: Networked, L: Ledger, M: Map + Drop, I: Drop, A: Allocator>(
     rt: &R,
     shared: &Shared<L, M>,
     dies: &[Standing],
-    images: Vec<I>,
+    held: Held<I>,
     plan: &ServePlan<'a, A>,
 ) -> Result<Ready<'a, L, I>, AllocError> {
     let threads = plan.threads();
+    let Held { images, lost } = held;
     let images = images_at_work(rt.alloc(), dies, images, threads.page_bytes)?;
-    let listening = listening_of(rt.alloc(), dies, plan)?;
+    let epoch = shared.lock(rt).array().epoch();
+    let losses = Losses::new(plan.path, epoch, lost);
+    let listening = listening_of(rt.alloc(), dies, losses, plan)?;
     let tasks = tasks_of(rt, shared, images.dies.as_slice(), threads)?;
     Ok(Ready {
         listening,

@@ -13,16 +13,19 @@ use fa_core::Array;
 use fa_image::Image;
 use fa_map::PageMap;
 use fa_map_calls::Map;
-use fa_mount::MountedArray;
+use fa_mount::{CloseFault, MountedArray};
 use fa_mount_headers::{MountFault, Standing};
 use fa_prog_array::{close, mount, refuse_mount};
-use fa_prog_clients::Networked;
 use fa_prog_host::printing::{DONE, REFUSED, print, refuse_for_memory};
-use fa_prog_host::{NotOpened, OpenImages, open_images, refuse_settings, settings_at, tell};
+use fa_prog_host::{
+    NotOpened, OpenImages, Opening, open_images, refuse_settings, settings_at, tell,
+};
 use fa_prog_inspect::explain;
-use fa_settings::Settings;
+use fa_prog_lost::{keep_lost_at_end, open_lost, remove_if_empty, tell_not_kept};
+use fa_settings::{Settings, Terms};
 use fa_shared::{Fault, Shared};
 use std::alloc::{AllocError, Allocator, Global};
+use std::fs::File;
 use std::io::{Read, Write};
 use std::marker::Brand;
 use std::net::TcpListener;
@@ -30,9 +33,11 @@ use std::sync::ledger::{Blank, Ledger};
 
 /// How an array is served.
 #[derive(Clone, Copy)]
-pub struct Serve {
-    /// The array may be one that was not closed, and images may be missing.
-    pub unclean: bool,
+pub struct Serve<'a> {
+    /// The path of the settings.
+    pub settings: &'a str,
+    /// On what terms its images are taken.
+    pub terms: Terms,
     /// Clients that come and go are told on standard error.
     pub verbose: bool,
 }
@@ -45,14 +50,13 @@ pub struct Serve {
 pub fn run_serve<R: ServerHost, N: Read, W: Write, A: Allocator + Copy>(
     rt: &R,
     alloc: A,
-    path: &str,
-    serve: Serve,
+    serve: Serve<'_>,
     input: &mut N,
     output: &mut W,
 ) -> u8
     ensures { TellsServe A (W.contents output.old) (W.contents output.new) result }
 {
-    match settings_at(rt, alloc, path) {
+    match settings_at(rt, alloc, serve.settings) {
         Ok(settings) => listen(rt, &settings, serve, input, output),
         Err(refused) => refuse_settings(alloc, refused, output),
     }
@@ -62,7 +66,7 @@ pub fn run_serve<R: ServerHost, N: Read, W: Write, A: Allocator + Copy>(
 fn listen<R: ServerHost, N: Read, W: Write, A: Allocator>(
     rt: &R,
     settings: &Settings<A>,
-    serve: Serve,
+    serve: Serve<'_>,
     input: &mut N,
     output: &mut W,
 ) -> u8
@@ -88,30 +92,54 @@ fn open<R: ServerHost, N: Read, W: Write, A: Allocator>(
     rt: &R,
     listener: &TcpListener,
     settings: &Settings<A>,
-    serve: Serve,
+    serve: Serve<'_>,
     input: &mut N,
     output: &mut W,
 ) -> u8
     ensures { TellsOn (W.contents output.old) (W.contents output.new) result }
 {
-    match open_images(rt, settings, serve.unclean, false) {
+    let opening = Opening {
+        terms: serve.terms,
+        syncs: true,
+        watched: false,
+    };
+    match open_images(rt, settings, serve.settings, opening) {
         Ok(OpenImages { images, places }) => {
             let places = places.as_slice();
-            serve_on(rt, listener, images, places, settings, serve, input, output)
+            match open_lost(rt, serve.settings) {
+                Ok(lost) => {
+                    let held = Held { images, lost };
+                    serve_on(rt, listener, held, places, settings, serve, input, output)
+                }
+                Err(refused) => {
+                    tell_not_kept(rt, serve.settings, &refused);
+                    refuse_mount(MountFault::ImageFault, output)
+                }
+            }
         }
         Err(NotOpened::Image) => refuse_mount(MountFault::ImageFault, output),
+        Err(NotOpened::PagesLost) => refuse_mount(MountFault::Unclean, output),
         Err(NotOpened::NoMemory) => refuse_for_memory(output),
     }
+}
+
+/// The files that a server has open.
+#[derive(Drop)]
+pub struct Held<I: Drop> {
+    /// The images.
+    pub images: Vec<I>,
+    /// The file of lost pages.
+    pub lost: File,
 }
 
 /// Serves the array of these images to those who connect to the listener. The images are at these places of the settings' paths.
 pub fn serve_on<R: ServerHost, I: Image + Send + Drop, N: Read, W: Write, A: Allocator>(
     rt: &R,
     listener: &TcpListener,
-    images: Vec<I>,
+    held: Held<I>,
     places: &[usize],
     settings: &Settings<A>,
-    serve: Serve,
+    serve: Serve<'_>,
     input: &mut N,
     output: &mut W,
 ) -> u8
@@ -120,22 +148,23 @@ pub fn serve_on<R: ServerHost, I: Image + Send + Drop, N: Read, W: Write, A: All
     let plan = ServePlan {
         listener,
         settings,
+        path: serve.settings,
         places,
         verbose: serve.verbose,
     };
-    let mut images = images;
-    match mount(rt, settings, serve.unclean, images.as_mut_slice()) {
+    let mut held = held;
+    match mount(rt, settings, serve.terms, held.images.as_mut_slice()) {
         Ok(mounted) => serve_mounted::<Brand, R, PageMap, I, N, W, A>(
             rt,
             Blank::new(257),
             mounted,
-            images,
+            held,
             &plan,
             input,
             output,
         ),
         Err(refused) => {
-            explain(rt, settings, places, &refused);
+            explain(rt, settings, places, serve.terms, &refused);
             refuse_mount(refused.fault, output)
         }
     }
@@ -157,7 +186,7 @@ fn serve_mounted<
     rt: &R,
     blank: Blank,
     mounted: MountedArray<M>,
-    images: Vec<I>,
+    held: Held<I>,
     plan: &ServePlan<'_, A>,
     input: &mut N,
     output: &mut W,
@@ -169,7 +198,7 @@ fn serve_mounted<
 {
     let MountedArray { array, dies } = mounted;
     match share::<L, M>(rt.alloc(), blank, array) {
-        Some(shared) => serve_over(rt, shared, dies, images, plan, input, output),
+        Some(shared) => serve_over(rt, shared, dies, held, plan, input, output),
         None => refuse_for_memory(output),
     }
 }
@@ -200,7 +229,7 @@ fn serve_over<
     rt: &R,
     shared: Shared<L, M>,
     dies: Vec<Standing>,
-    images: Vec<I>,
+    held: Held<I>,
     plan: &ServePlan<'_, A>,
     input: &mut N,
     output: &mut W,
@@ -208,9 +237,9 @@ fn serve_over<
     requires { L.parts ≡ 257 }
     ensures { TellsOn (W.contents output.old) (W.contents output.new) result }
 {
-    let served = serve_lent(rt, &shared, dies.as_slice(), images, plan, input, output);
+    let served = serve_lent(rt, &shared, dies.as_slice(), held, plan, input, output);
     match served {
-        Some((ended, faults)) => end(rt, shared, dies, ended, faults, output),
+        Some((ended, faults)) => end(rt, plan.path, shared, dies, ended, faults, output),
         None => refuse_for_memory(output),
     }
 }
@@ -229,7 +258,7 @@ fn serve_lent<
     rt: &R,
     shared: &Shared<L, M>,
     dies: &[Standing],
-    images: Vec<I>,
+    held: Held<I>,
     plan: &ServePlan<'_, A>,
     input: &mut N,
     output: &mut W,
@@ -241,7 +270,7 @@ fn serve_lent<
     let Ok(line) = listening_text(rt.alloc(), plan.listener, plan.settings.listen) else {
         return None;
     };
-    let Ok(ready) = ready_of(rt, shared, dies, images, plan) else {
+    let Ok(ready) = ready_of(rt, shared, dies, held, plan) else {
         return None;
     };
     let _ = print(output, DONE, line.as_bytes());
@@ -250,8 +279,9 @@ fn serve_lent<
 }
 
 /// Closes an array that was served, and tells how.
-fn end<R: Networked, L: Ledger, M: Map + Drop, I: Image + Drop, W: Write>(
+fn end<R: ServerHost, L: Ledger, M: Map + Drop, I: Image + Drop, W: Write>(
     rt: &R,
+    path: &str,
     shared: Shared<L, M>,
     dies: Vec<Standing>,
     ended: Result<Ended<I>, AllocError>,
@@ -264,12 +294,13 @@ fn end<R: Networked, L: Ledger, M: Map + Drop, I: Image + Drop, W: Write>(
         array: shared.into_array(),
         dies,
     };
-    end_lent(rt, &mounted, ended, faults, output)
+    end_lent(rt, path, &mounted, ended, faults, output)
 }
 
 /// The same of an array that is lent.
-fn end_lent<R: Networked, M: Map + Drop, I: Image + Drop, W: Write>(
+fn end_lent<R: ServerHost, M: Map + Drop, I: Image + Drop, W: Write>(
     rt: &R,
+    path: &str,
     mounted: &MountedArray<M>,
     ended: Result<Ended<I>, AllocError>,
     faults: Result<Vec<Fault>, AllocError>,
@@ -283,8 +314,17 @@ fn end_lent<R: Networked, M: Map + Drop, I: Image + Drop, W: Write>(
     };
     let mut images = images;
     let closed = close(mounted, images.as_mut_slice());
+    note_lost(rt, path, closed);
+    remove_if_empty(rt, path);
     match faults {
         Ok(faults) if is_served => print_end(rt.alloc(), faults, closed, output),
         _ => refuse_for_memory(output),
+    }
+}
+
+/// Has a page in the file of lost pages that closing found to be lost.
+fn note_lost<R: ServerHost>(rt: &R, path: &str, closed: Result<u64, CloseFault>) {
+    if let Err(CloseFault::Lost(page)) = closed {
+        keep_lost_at_end(rt, path, page);
     }
 }

@@ -1,8 +1,10 @@
 //! A session of the server over the array: it serves one client after another, and works for the dies while their requests wait.
+use crate::listening::Listening;
 use fa_image::Image;
 use fa_jobs::Open;
 use fa_map_calls::Map;
-use fa_prog_clients::{AcceptQueue, ConnectionMemory, Networked, Service, serve_clients};
+use fa_prog_clients::{ConnectionMemory, Networked, Service, serve_clients};
+use fa_prog_lost::TellingStore;
 use fa_shared::Shared;
 use fa_shared_lock::{Hands, Seat};
 use fa_shared_store::ArrayBlocks;
@@ -43,7 +45,7 @@ impl<'a, L: Ledger> Session<'a, L> {
 /// clients' requests wait it makes jobs of the dies whose images are in this table.
 pub(crate) fn serve_array<R: Networked, L: Ledger, M: Map + Drop, I: Image + Drop>(
     rt: &R,
-    accept_queue: &AcceptQueue,
+    listening: &Listening<'_>,
     shared: &Shared<L, M>,
     image_table: &ImageTable<I>,
     session: Session<'_, L>,
@@ -55,21 +57,22 @@ pub(crate) fn serve_array<R: Networked, L: Ledger, M: Map + Drop, I: Image + Dro
         connection,
     } = session;
     let helper = Helper::new(rt, rt.alloc(), shared, image_table, &Open, memory);
-    serve_with(rt, accept_queue, shared, service, connection, seat, helper)
+    serve_with(rt, listening, shared, service, connection, seat, helper)
 }
 
 /// The same over the shared array, with somebody who makes jobs of its dies while a request waits. It is a function of its own, so that no
 /// type is written that has the helper's inside of the store's.
 fn serve_with<R: Networked, L: Ledger, M: Map + Drop, H: Hands<L, M, Global> + Drop>(
     rt: &R,
-    accept_queue: &AcceptQueue,
+    listening: &Listening<'_>,
     shared: &Shared<L, M>,
     service: Service<'_>,
     connection: ConnectionMemory,
     seat: Seat<L>,
     hands: H,
 ) -> Seat<L> {
-    let mut blocks = ArrayBlocks::new(rt, rt.alloc(), shared, seat, hands);
-    serve_clients(rt, accept_queue, service, connection, &mut blocks);
-    blocks.into_seat()
+    let blocks = ArrayBlocks::new(rt, rt.alloc(), shared, seat, hands);
+    let mut store = TellingStore::new(rt, shared, &listening.losses, blocks);
+    serve_clients(rt, &listening.accept_queue, service, connection, &mut store);
+    store.into_blocks().into_seat()
 }

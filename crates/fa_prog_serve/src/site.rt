@@ -45,6 +45,7 @@ impl<'a, 'b, R: Networked, L: Ledger, M: Map + Drop, I: Image + Drop> Workplace<
                 watch(
                     rt,
                     self.shared,
+                    &listening.losses,
                     listening.paths.as_slice(),
                     listening.copies,
                     seen,
@@ -53,7 +54,7 @@ impl<'a, 'b, R: Networked, L: Ledger, M: Map + Drop, I: Image + Drop> Workplace<
             }
             Task::Serve(session) => Some(serve_array(
                 rt,
-                &listening.accept_queue,
+                listening,
                 self.shared,
                 self.image_table,
                 session,

@@ -1,5 +1,5 @@
 -- From the parts of `talk --array` to what it prints.
-use Rattle.std.proofs.Common.{◌≡◌, ◌∙◌, ◌++◌, ℕ, suc, Bool, true, false, List, [], ◌∷◌, Option, Result, ap, length, map, refl, subst, sym, take, inl, inr, string_bytes}
+use Rattle.std.proofs.Common.{◌≡◌, ◌∙◌, ◌++◌, ℕ, suc, true, List, [], ◌∷◌, Option, Result, ap, length, map, refl, subst, sym, take, inl, inr, string_bytes}
 use Rattle.std.proofs.Math.Seq.{take-append_seam}
 use Rattle.std.proofs.lemmas.List.{length-map}
 use Rattle.fa_image.specs.FileMade.{FileMade, file_is_honest, file_view}
@@ -10,7 +10,6 @@ use Rattle.fa_mount_headers.specs.Found.{AreOnlyRead}
 use Rattle.fa_mount_headers.specs.declared.judging.Standing.{Standing}
 use Rattle.fa_prog_array.specs.Mounting.{MountsSettings}
 use Rattle.fa_prog_host.specs.Opened.{AreOpened}
-use Rattle.fa_prog_host.specs.declared.images.NotOpened.TheVariants.{Image, NoMemory}
 use Rattle.fa_mount.specs.declared.closing.CloseFault.{CloseFault}
 use Rattle.fa_prog_talk.specs.Conversation.{Converses}
 use Rattle.fa_prog_talk.specs.Right.{IsRight}
@@ -18,12 +17,8 @@ use Rattle.fa_prog_talk.specs.TalkArray.{TellsClient, TellsMounted}
 use Rattle.fa_prog_text.specs.Talk.{known}
 use Rattle.fa_session.specs.declared.session_end.SessionEnd.{SessionEnd}
 use Rattle.fa_settings.specs.declared.settings.Settings.{Settings}
+use Rattle.fa_settings.specs.declared.terms.Terms.{Terms}
 use Rattle.fa_shared.specs.declared.faults.Fault.{Fault}
-
--- an image that was not opened is told of an array that was closed alone
-pub closed_alone : (unclean : Bool) → (unclean ≡ true → Image ≡ NoMemory) → unclean ≡ false
-closed_alone true refused = absurd (let same : Image ≡ NoMemory = refused refl in cc)
-closed_alone false refused = refl
 
 -- what was only read is as long as it was
 only_long : (xs ys : List ImageState) → AreOnlyRead xs ys → length xs ≡ length ys
@@ -39,18 +34,18 @@ lent_back view count old new rest many read =
     let long : count ≡ length new = sym many ∙ sym (length-map old view) ∙ only_long (map view old) (map view new) read ∙ length-map new view in
     ap (λ n. take n (new ++ rest)) long ∙ take-append_seam new rest
 
-module _ (L M : Type 0) {A : Type 0} (settings : Settings A) (unclean : Bool) where
+module _ (L M : Type 0) {A : Type 0} (settings : Settings A) (terms : Terms) where
   -- what is told of an array that was mounted is told of the settings' array
   pub mounted_told : (places : List ℕ) (opened lent mounted : List FileImage) (array : List ℕ) (dies : List Standing) (core : Core) (bytes : List ℕ)
-      (old new : Option (List ℕ)) (status : ℕ) → AreOpened settings.geometry (length settings.images.items) unclean places opened
-      → MountsSettings file_view FileMade settings unclean opened mounted array dies core
+      (old new : Option (List ℕ)) (status : ℕ) → AreOpened settings.geometry (length settings.images.items) terms true places opened
+      → MountsSettings file_view FileMade settings terms opened mounted array dies core
       → AreOnlyRead (map file_view opened) (map file_view mounted) → length dies ≡ core.page_map.geometry.dies → lent ≡ mounted
       → ((written : List ℕ) (end : SessionEnd) (faults : List Fault) (closed : Result ℕ CloseFault)
       → (c : Converses file_view file_is_honest FileMade L M (string_bytes settings.export) bytes array dies core mounted written end faults closed)
       → IsRight file_view file_is_honest FileMade (string_bytes settings.export) (known bytes c.left [] written) end dies core mounted c.first c.last
       c.session)
       → TellsMounted file_view file_is_honest FileMade L M (string_bytes settings.export) bytes array dies core lent old new status
-      → TellsClient L M settings unclean bytes old new status
+      → TellsClient L M settings terms bytes old new status
   mounted_told places opened lent mounted array dies core bytes old new status opens mounts only_read many back right
       (inl (written, end, faults, closed, converses, tells)) =
       let its = subst (λ (images : List FileImage). Converses file_view file_is_honest FileMade L M (string_bytes settings.export) bytes array dies core

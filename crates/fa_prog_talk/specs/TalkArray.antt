@@ -1,5 +1,5 @@
 -- The command `talk --array`: hexadecimal lines are the bytes of one client of an array.
-use Rattle.std.specs.Prelude.{◌≡◌, ◌⊎◌, ◌≤◌, ℕ, Bool, false, List, [], ◌∷◌, ◌++◌, codes, length, map, string_bytes, Ok, Option, Result}
+use Rattle.std.specs.Prelude.{◌≡◌, ◌⊎◌, ◌≤◌, ℕ, Bool, true, List, [], ◌∷◌, ◌++◌, codes, length, map, string_bytes, Ok, Option, Some, Result}
 use Rattle.std.specs.declared.alloc.Global.{Global}
 use Rattle.std.specs.declared.marker.Brand.{Brand}
 use Rattle.fa_image.specs.FileMade.{FileMade, file_is_honest, file_view}
@@ -11,15 +11,15 @@ use Rattle.fa_map.specs.declared.page_map.PageMap.{PageMap}
 use Rattle.fa_mount.specs.declared.closing.CloseFault.{CloseFault}
 use Rattle.fa_mount_headers.specs.Found.{AreOnlyRead}
 use Rattle.fa_mount_headers.specs.declared.fault.MountFault.{MountFault}
-use Rattle.fa_mount_headers.specs.declared.fault.MountFault.TheVariants.{ImageFault}
 use Rattle.fa_mount_headers.specs.declared.fault.MountRefused.{MountRefused}
 use Rattle.fa_mount_headers.specs.declared.judging.Standing.{Standing}
 use Rattle.fa_prog_array.specs.Ending.{closed_line, closed_status, fault_lines}
 use Rattle.fa_prog_array.specs.Mounting.{MountsSettings, RefusesSettingsArray}
-use Rattle.fa_prog_host.specs.Opened.{AreOpened}
+use Rattle.fa_prog_host.specs.Opened.{AreOpened, IsNotOpened}
+use Rattle.fa_prog_host.specs.declared.images.NotOpened.{NotOpened}
 use Rattle.fa_prog_host.specs.Printing.{Prints, TellsNoMemory}
 use Rattle.fa_prog_host.specs.SettingsRefused.{RefusesSettings}
-use Rattle.fa_prog_inspect.specs.Array.{mount_line}
+use Rattle.fa_prog_inspect.specs.Array.{fault_of, mount_line}
 use Rattle.fa_prog_talk.specs.Conversation.{Converses}
 use Rattle.fa_prog_talk.specs.Right.{IsRight}
 use Rattle.fa_prog_text.specs.HexLines.{bytes_of_text}
@@ -28,6 +28,7 @@ use Rattle.fa_prog_text.specs.Talk.{RefusesText, known, talk_text}
 use Rattle.fa_session.specs.declared.session_end.SessionEnd.{SessionEnd}
 use Rattle.fa_settings.specs.Settings.{IsSettingsText}
 use Rattle.fa_settings.specs.declared.settings.Settings.{Settings}
+use Rattle.fa_settings.specs.declared.terms.Terms.{Terms}
 use Rattle.fa_shared.specs.declared.faults.Fault.{Fault}
 
 -- what is printed of a conversation: the server's bytes, the number of the end, the faults, and how the array was closed
@@ -54,15 +55,14 @@ TellsMounted view honest made L M export bytes array dies core mounted old new s
 abbrev pub MayBeServed : {A : Type 0} → Settings A → Type 0
 MayBeServed settings = (1 ≤ settings.window_rounds) × (settings.window_rounds ≤ 64) × (length (string_bytes settings.export) ≤ 4096)
 
-module _ (L M : Type 0) {A : Type 0} (settings : Settings A) (unclean : Bool) where
-  -- Why images are not mounted: one was not opened, which only an array that was closed may not miss; or images were opened, and this is why
-  -- they were refused.
+module _ (L M : Type 0) {A : Type 0} (settings : Settings A) (terms : Terms) where
+  -- Why images are not mounted: they were not opened, or they were, and this is why they were refused.
   abbrev pub IsNotMounted : MountFault → Type 0
   IsNotMounted fault =
-      ((fault ≡ ImageFault) × (unclean ≡ false))
+      ((refused : NotOpened) × IsNotOpened terms refused × (Some fault ≡ fault_of refused))
       ⊎ ((places : List ℕ) × (before after : List FileImage) × (refusal : MountRefused)
-      × AreOpened settings.geometry (length settings.images.items) unclean places before
-      × RefusesSettingsArray file_view FileMade settings unclean before after refusal × (fault ≡ refusal.fault))
+      × AreOpened settings.geometry (length settings.images.items) terms true places before
+      × RefusesSettingsArray file_view FileMade settings terms before after refusal × (fault ≡ refusal.fault))
 
   -- The images of the settings' array were opened and mounted, a client who says these bytes was served the array, and it was closed. Over
   -- images that return what was written the client was answered as by a plain store of the bytes that stood in their slots.
@@ -73,8 +73,8 @@ module _ (L M : Type 0) {A : Type 0} (settings : Settings A) (unclean : Bool) wh
     pub array : List ℕ
     pub dies : List Standing
     pub core : Core
-    pub opens : AreOpened settings.geometry (length settings.images.items) unclean places opened
-    pub mounts : MountsSettings file_view FileMade settings unclean opened mounted array dies core
+    pub opens : AreOpened settings.geometry (length settings.images.items) terms true places opened
+    pub mounts : MountsSettings file_view FileMade settings terms opened mounted array dies core
     pub only_read : AreOnlyRead (map file_view opened) (map file_view mounted)
     pub many : length dies ≡ core.page_map.geometry.dies
     pub converses : Converses file_view file_is_honest FileMade L M (string_bytes settings.export) bytes array dies core mounted written end
@@ -99,8 +99,8 @@ module _ (L M : Type 0) {A : Type 0} (settings : Settings A) (unclean : Bool) wh
 
 -- What the command does. Where there are no settings it reads nothing of the input, and where the input is not read to its end, or spells no
 -- bytes, it has opened no image.
-abbrev pub RunsTalkArray : Type 0 → Bool → Streams → ℕ → Type 0
-RunsTalkArray A unclean s status =
+abbrev pub RunsTalkArray : Type 0 → Terms → Streams → ℕ → Type 0
+RunsTalkArray A terms s status =
     (Reads s [] × (RefusesSettings A s.held_before s.held_after status ⊎ TellsNoMemory s.held_before s.held_after status))
     ⊎ ((text : List ℕ) × (settings : Settings A) × IsSettingsText text settings
-    × RunsOver (TellsLines Brand (PageMap Global) settings unclean) (codes "talk: cannot read" ++ 10 ∷ []) s status)
+    × RunsOver (TellsLines Brand (PageMap Global) settings terms) (codes "talk: cannot read" ++ 10 ∷ []) s status)

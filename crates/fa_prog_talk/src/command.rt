@@ -1,5 +1,5 @@
 //! The command `talk --array`, from its settings to what it prints.
-ghost use Rattle.std.specs.Prelude.{◌≡◌, [], ◌∷◌, ◌++◌, List, IfOk, codes, length, string_bytes};
+ghost use Rattle.std.specs.Prelude.{◌≡◌, true, [], ◌∷◌, ◌++◌, List, IfOk, codes, length, string_bytes};
 ghost use Rattle.std.specs.declared.alloc.Global.{Global as Heap};
 ghost use Rattle.fa_core.specs.Array.{IsWhole, number_of, state_of};
 ghost use Rattle.fa_io.specs.Streams.{between};
@@ -14,20 +14,31 @@ use crate::laws::a_conversation_is_right;
 use fa_image::{FileImage, Image};
 use fa_map::PageMap;
 use fa_map_calls::Map;
+use fa_mount::CloseFault;
 use fa_mount_headers::MountFault;
 use fa_prog_array::{end_text, mount, refuse_mount, status_of};
 use fa_prog_host::printing::{print, refuse_for_memory};
 use fa_prog_host::{
-    Host, NotOpened, OpenImages, images_alone, open_images, refuse_settings, settings_at,
+    Host, NotOpened, OpenImages, Opening, images_alone, open_images, refuse_settings, settings_at,
 };
 use fa_prog_inspect::explain;
+use fa_prog_lost::{keep_lost_at_end, keep_or_tell};
 use fa_prog_text::{read_hex_lines, read_input, refuse_text, refuse_unread, talk_text};
-use fa_settings::Settings;
+use fa_settings::{Settings, Terms};
 use fa_solo::Parts;
 use std::alloc::{AllocError, Allocator, Global};
 use std::io::{Read, Write};
 use std::marker::Brand;
 use std::sync::ledger::Blank;
+
+/// Which array is taken, and how.
+#[derive(Clone, Copy)]
+pub(crate) struct Taken<'a> {
+    /// The path of the settings.
+    path: &'a str,
+    /// On what terms its images are taken.
+    terms: Terms,
+}
 
 /// The command `talk` over the array of the settings in the file of this path: serves one NBD client, whose bytes are given by lines of
 /// hexadecimal digits, and closes the array.
@@ -39,15 +50,15 @@ pub fn run_talk_array<R: Host, N: Read, W: Write, A: Allocator + Copy>(
     rt: &R,
     alloc: A,
     path: &str,
-    unclean: bool,
+    terms: Terms,
     input: &mut N,
     output: &mut W,
 ) -> u8
     ensures { let streams = between (N.remaining input.old) (N.remaining input.new) (W.contents output.old) (W.contents output.new) in
-        RunsTalkArray A unclean streams result }
+        RunsTalkArray A terms streams result }
 {
     match settings_at(rt, alloc, path) {
-        Ok(settings) => hear(rt, alloc, &settings, unclean, input, output),
+        Ok(settings) => hear(rt, alloc, &settings, Taken { path, terms }, input, output),
         Err(refused) => refuse_settings(alloc, refused, output),
     }
 }
@@ -57,16 +68,16 @@ fn hear<R: Host, N: Read, W: Write, A: Allocator + Copy>(
     rt: &R,
     alloc: A,
     settings: &Settings<A>,
-    unclean: bool,
+    taken: Taken<'_>,
     input: &mut N,
     output: &mut W,
 ) -> u8
     requires served { MayBeServed settings.now }
     ensures { let streams = between (N.remaining input.old) (N.remaining input.new) (W.contents output.old) (W.contents output.new) in
-        RunsOver (TellsLines Brand (PageTables Heap) settings.now unclean) (codes "talk: cannot read" ++ 10 ∷ []) streams result }
+        RunsOver (TellsLines Brand (PageTables Heap) settings.now taken.entry.terms) (codes "talk: cannot read" ++ 10 ∷ []) streams result }
 {
     match read_input(alloc, input) {
-        Ok(text) => answer(rt, alloc, settings, unclean, text.as_slice(), output),
+        Ok(text) => answer(rt, alloc, settings, taken, text.as_slice(), output),
         Err(kind) => refuse_unread(output, kind),
     }
 }
@@ -76,15 +87,15 @@ fn answer<R: Host, W: Write, A: Allocator + Copy>(
     rt: &R,
     alloc: A,
     settings: &Settings<A>,
-    unclean: bool,
+    taken: Taken<'_>,
     text: &[u8],
     output: &mut W,
 ) -> u8
     requires served { MayBeServed settings.now }
-    ensures { TellsLines Brand (PageTables Heap) settings.now unclean text.now (W.contents output.old) (W.contents output.new) result }
+    ensures { TellsLines Brand (PageTables Heap) settings.now taken.entry.terms text.now (W.contents output.old) (W.contents output.new) result }
 {
     match read_hex_lines(alloc, text) {
-        Ok(bytes) => open(rt, alloc, settings, unclean, bytes.as_slice(), output),
+        Ok(bytes) => open(rt, alloc, settings, taken, bytes.as_slice(), output),
         Err(fault) => refuse_text(alloc, fault, output),
     }
 }
@@ -94,22 +105,28 @@ fn open<R: Host, W: Write, A: Allocator + Copy>(
     rt: &R,
     alloc: A,
     settings: &Settings<A>,
-    unclean: bool,
+    taken: Taken<'_>,
     bytes: &[u8],
     output: &mut W,
 ) -> u8
     requires served { MayBeServed settings.now }
-    ensures { TellsClient Brand (PageTables Heap) settings.now unclean bytes.now (W.contents output.old) (W.contents output.new) result }
+    ensures { TellsClient Brand (PageTables Heap) settings.now taken.entry.terms bytes.now (W.contents output.old) (W.contents output.new) result }
 {
-    match open_images(rt, settings, unclean, false) {
+    let opening = Opening {
+        terms: taken.terms,
+        syncs: true,
+        watched: false,
+    };
+    match open_images(rt, settings, taken.path, opening) {
         Ok(OpenImages { images, places }) => match images_alone(rt.alloc(), images) {
             Ok(images) => {
                 let places = places.as_slice();
-                talk_over(rt, alloc, settings, unclean, images, places, bytes, output)
+                talk_over(rt, alloc, settings, taken, images, places, bytes, output)
             }
             Err(AllocError) => refuse_for_memory(output),
         },
         Err(NotOpened::Image) => refuse_mount(MountFault::ImageFault, output),
+        Err(NotOpened::PagesLost) => refuse_mount(MountFault::Unclean, output),
         Err(NotOpened::NoMemory) => refuse_for_memory(output),
     }
 }
@@ -119,29 +136,30 @@ fn talk_over<R: Host, W: Write, A: Allocator + Copy>(
     rt: &R,
     alloc: A,
     settings: &Settings<A>,
-    unclean: bool,
+    taken: Taken<'_>,
     images: Vec<FileImage>,
     places: &[usize],
     bytes: &[u8],
     output: &mut W,
 ) -> u8
     requires served { MayBeServed settings.now }
-    requires opened { AreOpened settings.now.geometry (length settings.now.images.items) unclean places.now images.items }
-    ensures { TellsClient Brand (PageTables Heap) settings.now unclean bytes.now (W.contents output.old) (W.contents output.new) result }
+    requires opened { AreOpened settings.now.geometry (length settings.now.images.items) taken.entry.terms true places.now images.items }
+    ensures { TellsClient Brand (PageTables Heap) settings.now taken.entry.terms bytes.now (W.contents output.old) (W.contents output.new) result }
 {
     a_conversation_is_right::<Brand, PageMap, FileImage>();
     let mut images = images;
-    match mount(rt, settings, unclean, images.as_mut_slice()) {
+    match mount(rt, settings, taken.terms, images.as_mut_slice()) {
         Ok(mounted) => talk_mounted(
             rt,
             alloc,
             settings,
+            taken.path,
             Parts { mounted, images },
             bytes,
             output,
         ),
         Err(refused) => {
-            explain(rt, settings, places, &refused);
+            explain(rt, settings, places, taken.terms, &refused);
             refuse_mount(refused.fault, output)
         }
     }
@@ -152,6 +170,7 @@ fn talk_mounted<R: Host, M: Map + Drop, I: Image + Drop, W: Write, A: Allocator 
     rt: &R,
     alloc: A,
     settings: &Settings<A>,
+    path: &str,
     parts: Parts<M, I>,
     bytes: &[u8],
     output: &mut W,
@@ -162,8 +181,20 @@ fn talk_mounted<R: Host, M: Map + Drop, I: Image + Drop, W: Write, A: Allocator 
         parts.mounted.dies.items (state_of M.view parts.mounted.array) parts.images.items (W.contents output.old) (W.contents output.new) result }
 {
     match converse::<Brand, M, I, A>(rt.alloc(), alloc, Blank::new(257), parts, settings, bytes) {
-        Ok(said) => print_said(rt.alloc(), alloc, said, output),
+        Ok(said) => {
+            keep_lost(rt, path, &said);
+            print_said(rt.alloc(), alloc, said, output)
+        }
         Err(AllocError) => refuse_for_memory(output),
+    }
+}
+
+/// Has the pages that were lost in their file, if there are any.
+fn keep_lost<R: Host, A: Allocator>(rt: &R, path: &str, said: &Said<A>) {
+    match (&said.lost, said.closed) {
+        (Ok(lines), _) if !lines.is_empty() => keep_or_tell(rt, path, lines),
+        (_, Err(CloseFault::Lost(page))) => keep_lost_at_end(rt, path, page),
+        _ => {}
     }
 }
 
@@ -197,6 +228,7 @@ fn said_text<A: Allocator + Copy>(
         written,
         end,
         faults,
+        lost: _,
         closed,
     } = said;
     let last = end_text(global, faults?, closed)?;

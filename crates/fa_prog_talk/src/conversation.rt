@@ -11,6 +11,7 @@ use fa_image::Image;
 use fa_map_calls::Map;
 use fa_mount::CloseFault;
 use fa_prog_array::close;
+use fa_prog_lost::lost_lines;
 use fa_session::{SessionEnd, serve_stream};
 use fa_settings::Settings;
 use fa_shared::Fault;
@@ -27,6 +28,8 @@ pub(crate) struct Said<A: Allocator> {
     pub(crate) end: SessionEnd,
     /// The last faults that took dies out.
     pub(crate) faults: Result<Vec<Fault>, AllocError>,
+    /// The lines of the pages that were lost before the array was closed.
+    pub(crate) lost: Result<String, AllocError>,
     /// How the array was closed.
     pub(crate) closed: Result<u64, CloseFault>,
 }
@@ -77,11 +80,13 @@ fn served<L: Ledger, M: Map + Drop, I: Image + Drop, A: Allocator + Copy>(
         mounted,
         mut images,
     } = store.into_parts();
+    let lost = lost_lines(global, &mounted.array);
     let closed = close(&mounted, images.as_mut_slice());
     Said {
         written,
         end,
         faults,
+        lost,
         closed,
     }
 }

@@ -3,6 +3,7 @@ use fa_core::Array;
 use fa_map_calls::Map;
 use fa_prog_clients::Networked;
 use fa_prog_host::tell;
+use fa_prog_lost::{Losses, PAGES_A_HOLD, is_lost};
 use fa_shared::{Cause, Fault, Shared};
 use fa_types::{Die, Page};
 use log::kv::Source;
@@ -16,9 +17,6 @@ use std::time::Duration;
 
 /// How long it is between two looks at the array, in milliseconds.
 const LOOK_MILLISECONDS: u64 = 200;
-
-/// How many pages are looked at in one hold of the array's lock.
-const PAGES_A_HOLD: u64 = 1024;
 
 /// How an array stands.
 #[derive(Clone, Copy)]
@@ -34,11 +32,12 @@ pub struct Sight {
 }
 
 /// Tells on standard error which dies went out and came in, when all pages have their copies again, and that the array is running full,
-/// until the array is to end. The sight is how it stood before anybody worked for it, and the paths are those of the dies' images, by the
+/// until the array is to end. Pages that were lost as a die went out it has in their file. The sight is how it stood before anybody worked for it, and the paths are those of the dies' images, by the
 /// dies' numbers.
 pub fn watch<R: Networked, L: Ledger, M: Map + Drop>(
     rt: &R,
     shared: &Shared<L, M>,
+    losses: &Losses<'_>,
     paths: &[&str],
     copies: u32,
     seen: Sight,
@@ -51,6 +50,7 @@ pub fn watch<R: Networked, L: Ledger, M: Map + Drop>(
     let mut told = 0usize;
     for _ in rt.forever() {
         let is_last = shared.stopped(rt);
+        losses.keep(rt, shared);
         let sight = sight_of(shared.lock(rt).array(), copies);
         told = tell_faults(rt, shared, paths, told);
         tell_comers(rt, paths, &seen, &sight);
@@ -100,20 +100,6 @@ fn count_lost<R: Networked, L: Ledger, M: Map + Drop>(rt: &R, shared: &Shared<L,
         }
     }
     lost
-}
-
-/// Whether a page was written and stands on no live die.
-fn is_lost<M: Map>(array: &Array<M>, page: Page) -> bool {
-    if !array.is_page(page) || array.version(page).is_none() {
-        return false;
-    }
-    for number in 0..array.geometry().dies {
-        let die = Die(number as u8);
-        if array.is_live(die) && array.copy_on(page, die).is_some() {
-            return false;
-        }
-    }
-    true
 }
 
 /// How an array stands, each of whose pages is to have this number of copies.

@@ -11,8 +11,11 @@ use Rattle.clap.specs.Walk.{Row, Rule, first_of, one_of}
 use Rattle.clap.specs.declared.builder.action.ArgAction.TheVariants.{Set, SetTrue}
 use Rattle.clap.specs.declared.builder.value_parser.ValueParser.TheVariants.{Signed}
 use Rattle.fa_types.specs.declared.numbers.Die.{Die}
+use Rattle.fa_settings.specs.Terms.{terms_by}
 use Rattle.fa_settings.specs.declared.command_line.Subcommand.{Subcommand}
 use Rattle.fa_settings.specs.declared.command_line.Subcommand.TheVariants.{Format, Check, Dump, Serve, Plan, Talk, TalkArray, Verify}
+use Rattle.fa_settings.specs.declared.terms.Terms.{Terms}
+use Rattle.fa_settings.specs.declared.terms.Terms.TheVariants.{Closed}
 
 -- the path of the settings, which has to be given
 abbrev pub settings_argument : Rule
@@ -50,11 +53,11 @@ program = record (new_shape (codes "flasharr")) {
 
 -- the arguments of a command that mounts an array, which has this flag besides
 abbrev pub array_arguments : List ℕ → List Rule
-array_arguments name = settings_argument ∷ flag (codes "unclean") ∷ flag name ∷ []
+array_arguments name = settings_argument ∷ flag (codes "unclean") ∷ flag (codes "recover") ∷ flag name ∷ []
 
 -- the arguments of `talk`
 abbrev pub talk_arguments : List Rule
-talk_arguments = array_argument ∷ flag (codes "unclean") ∷ []
+talk_arguments = array_argument ∷ flag (codes "unclean") ∷ flag (codes "recover") ∷ []
 
 -- the program with its commands, each of which has --help besides
 abbrev pub command_line : App
@@ -74,42 +77,47 @@ found_instead arguments = fault_of command_line arguments
 -- what a command asks for; what follows --die is its text
 pub data Wanted : Type 0 where
   Formats : (settings : List ℕ) (die : Option (List ℕ)) → Wanted
-  Checks : (settings : List ℕ) (unclean json : Bool) → Wanted
-  Dumps : (settings : List ℕ) (unclean json : Bool) → Wanted
-  Serves : (settings : List ℕ) (unclean verbose : Bool) → Wanted
+  Checks : (settings : List ℕ) (terms : Terms) (json : Bool) → Wanted
+  Dumps : (settings : List ℕ) (terms : Terms) (json : Bool) → Wanted
+  Serves : (settings : List ℕ) (terms : Terms) (verbose : Bool) → Wanted
   Plans : Wanted
   Talks : Wanted
-  TalksOver : (settings : List ℕ) (unclean : Bool) → Wanted
+  TalksOver : (settings : List ℕ) (terms : Terms) → Wanted
   Verifies : Wanted
 
 -- whether a flag was given
 abbrev pub is_given : List ℕ → List Row → Bool
 is_given name rows = option_map_or (λ text. bytes_eq text (codes "true")) (first_of name rows) false
 
+-- the terms that the flags name
+abbrev pub terms_in : List Row → Option Terms
+terms_in rows = terms_by (is_given (codes "unclean") rows) (is_given (codes "recover") rows)
+
+-- what a command asks for with a path, and with terms where there are some
+abbrev pub with_terms : Option (List ℕ) → Option Terms → (List ℕ → Terms → Wanted) → Option Wanted
+with_terms path terms wanted = option_and_then (λ p. option_map (wanted p) terms) path
+
 -- what the commands with arguments ask for, by what was found of these; there is always a path
 abbrev pub formats : List Row → Option Wanted
 formats rows = option_map (λ path. Formats path (one_of (codes "die") rows)) (first_of (codes "settings") rows)
 
 abbrev pub checks : List Row → Option Wanted
-checks rows =
-    option_map (λ path. Checks path (is_given (codes "unclean") rows) (is_given (codes "json") rows)) (first_of (codes "settings") rows)
+checks rows = with_terms (first_of (codes "settings") rows) (terms_in rows) (λ path terms. Checks path terms (is_given (codes "json") rows))
 
 abbrev pub dumps : List Row → Option Wanted
-dumps rows =
-    option_map (λ path. Dumps path (is_given (codes "unclean") rows) (is_given (codes "json") rows)) (first_of (codes "settings") rows)
+dumps rows = with_terms (first_of (codes "settings") rows) (terms_in rows) (λ path terms. Dumps path terms (is_given (codes "json") rows))
 
 abbrev pub serves : List Row → Option Wanted
-serves rows =
-    option_map (λ path. Serves path (is_given (codes "unclean") rows) (is_given (codes "verbose") rows)) (first_of (codes "settings") rows)
+serves rows = with_terms (first_of (codes "settings") rows) (terms_in rows) (λ path terms. Serves path terms (is_given (codes "verbose") rows))
 
 -- `talk` asks for an array where the path of its settings is given, and else for a store in memory. Nothing is asked for where there is no
--- array and yet it may be an unclean one.
-abbrev pub talks_without : Bool → Option Wanted
-talks_without unclean = if unclean then None else Some Talks
+-- array and yet terms are named for one.
+abbrev pub talks_without : Option Terms → Option Wanted
+talks_without (Some Closed) = Some Talks
+talks_without terms = None
 
 abbrev pub talks : List Row → Option Wanted
-talks rows = option_map_or (λ path. Some (TalksOver path (is_given (codes "unclean") rows))) (first_of (codes "array") rows)
-    (talks_without (is_given (codes "unclean") rows))
+talks rows = option_map_or (λ path. option_map (TalksOver path) (terms_in rows)) (first_of (codes "array") rows) (talks_without (terms_in rows))
 
 -- what the command of a name asks for with what was found of its arguments
 abbrev pub wanted_by : List ℕ → List Row → Option Wanted
@@ -134,11 +142,11 @@ IsDie (Some text) (Some die) =
 abbrev pub IsWanted : Option Subcommand → Option Wanted → Type 0
 IsWanted None None = Unit {0}
 IsWanted (Some (Format settings die)) (Some (Formats path text)) = (settings.now ≡ path) × IsDie text die
-IsWanted (Some (Check settings unclean json)) (Some (Checks path u j)) = (settings.now ≡ path) × (unclean ≡ u) × (json ≡ j)
-IsWanted (Some (Dump settings unclean json)) (Some (Dumps path u j)) = (settings.now ≡ path) × (unclean ≡ u) × (json ≡ j)
-IsWanted (Some (Serve settings unclean verbose)) (Some (Serves path u v)) = (settings.now ≡ path) × (unclean ≡ u) × (verbose ≡ v)
+IsWanted (Some (Check settings terms json)) (Some (Checks path t j)) = (settings.now ≡ path) × (terms ≡ t) × (json ≡ j)
+IsWanted (Some (Dump settings terms json)) (Some (Dumps path t j)) = (settings.now ≡ path) × (terms ≡ t) × (json ≡ j)
+IsWanted (Some (Serve settings terms verbose)) (Some (Serves path t v)) = (settings.now ≡ path) × (terms ≡ t) × (verbose ≡ v)
 IsWanted (Some Plan) (Some Plans) = Unit {0}
 IsWanted (Some Talk) (Some Talks) = Unit {0}
-IsWanted (Some (TalkArray settings unclean)) (Some (TalksOver path u)) = (settings.now ≡ path) × (unclean ≡ u)
+IsWanted (Some (TalkArray settings terms)) (Some (TalksOver path t)) = (settings.now ≡ path) × (terms ≡ t)
 IsWanted (Some Verify) (Some Verifies) = Unit {0}
 IsWanted found wanted = ⊥

@@ -5,3 +5,4 @@ pub mod Keys
 pub mod Meanings
 pub mod Settings
 pub mod Shapes
+pub mod Terms

@@ -6,10 +6,11 @@ ghost use Rattle.clap.specs.declared.builder.command.Command.TheViews.{out-Comma
 ghost use Rattle.clap.specs.Walk.{rows_of, rule_of, first_of, one_of};
 ghost use Rattle.clap.specs.Matches.{found_of};
 ghost use Rattle.fa_settings.specs.CommandLine.{command_line as line, found_instead, wanted_in, wanted_by, formats, checks, dumps, serves, talks, IsWanted, IsDie};
-ghost use Rattle.fa_settings.specs.CommandLine.{is_given as flag_given, with_arguments, array_arguments, talk_arguments};
+ghost use Rattle.fa_settings.specs.CommandLine.{is_given as flag_given, terms_in, with_arguments, array_arguments, talk_arguments};
 ghost use Rattle.fa_settings.specs.CommandLine.{program as program_shape, settings_argument as settings_rule, die_argument as die_rule, array_argument as array_rule, flag as flag_rule};
 
 use crate::help::{self, Help};
+use crate::terms::Terms;
 use clap::{Arg, ArgAction, ArgMatches, Command, Error};
 use fa_types::Die;
 use std::alloc::{AllocError, Allocator, Global};
@@ -28,8 +29,8 @@ pub enum Subcommand<'a> {
     Check {
         /// The path of the settings.
         settings: &'a str,
-        /// The array may be one that was not closed, and images may be missing.
-        unclean: bool,
+        /// On what terms its images are taken.
+        terms: Terms,
         /// One JSON document is printed.
         json: bool,
     },
@@ -37,8 +38,8 @@ pub enum Subcommand<'a> {
     Dump {
         /// The path of the settings.
         settings: &'a str,
-        /// The array may be one that was not closed, and images may be missing.
-        unclean: bool,
+        /// On what terms its images are taken.
+        terms: Terms,
         /// One JSON document is printed.
         json: bool,
     },
@@ -46,8 +47,8 @@ pub enum Subcommand<'a> {
     Serve {
         /// The path of the settings.
         settings: &'a str,
-        /// The array may be one that was not closed, and images may be missing.
-        unclean: bool,
+        /// On what terms its images are taken.
+        terms: Terms,
         /// Clients that come and go are told on standard error.
         verbose: bool,
     },
@@ -59,8 +60,8 @@ pub enum Subcommand<'a> {
     TalkArray {
         /// The path of the settings.
         settings: &'a str,
-        /// The array may be one that was not closed, and images may be missing.
-        unclean: bool,
+        /// On what terms its images are taken.
+        terms: Terms,
     },
     /// Checks a certificate.
     Verify,
@@ -163,7 +164,8 @@ fn with_format<'a>(global: Global, program: Command<'a>) -> Result<Command<'a>, 
     program.subcommand(format)
 }
 
-/// The program with a command besides that mounts an array. It has a flag besides `--unclean`, of this name and with this help.
+/// The program with a command besides that mounts an array. It has a flag besides
+/// `--unclean` and `--recover`, of this name and with this help.
 fn with_array<'a>(
     global: Global,
     program: Command<'a>,
@@ -182,6 +184,9 @@ fn with_array<'a>(
     let Ok(array) = array.arg(flag(global, "unclean", help::ABOUT_UNCLEAN)) else {
         return Err(AllocError);
     };
+    let Ok(array) = array.arg(flag(global, "recover", help::ABOUT_RECOVER)) else {
+        return Err(AllocError);
+    };
     let Ok(array) = array.arg(flag(global, flag_name, about)) else {
         return Err(AllocError);
     };
@@ -198,6 +203,9 @@ fn with_talk<'a>(global: Global, program: Command<'a>) -> Result<Command<'a>, Al
         return Err(AllocError);
     };
     let Ok(talk) = talk.arg(flag(global, "unclean", help::ABOUT_UNCLEAN)) else {
+        return Err(AllocError);
+    };
+    let Ok(talk) = talk.arg(flag(global, "recover", help::ABOUT_RECOVER)) else {
         return Err(AllocError);
     };
     program.subcommand(talk)
@@ -284,13 +292,13 @@ fn wanted_format<'a>(found: &ArgMatches<'a>) -> Option<Subcommand<'a>>
 fn wanted_check<'a>(found: &ArgMatches<'a>) -> Option<Subcommand<'a>>
     ensures { IsWanted result (checks (rows_of (found_of found.now))) }
 {
-    match text_of(found, "settings") {
-        Some(settings) => Some(Subcommand::Check {
+    match (text_of(found, "settings"), terms_of(found)) {
+        (Some(settings), Some(terms)) => Some(Subcommand::Check {
             settings,
-            unclean: is_given(found, "unclean"),
+            terms,
             json: is_given(found, "json"),
         }),
-        None => None,
+        _ => None,
     }
 }
 
@@ -298,13 +306,13 @@ fn wanted_check<'a>(found: &ArgMatches<'a>) -> Option<Subcommand<'a>>
 fn wanted_dump<'a>(found: &ArgMatches<'a>) -> Option<Subcommand<'a>>
     ensures { IsWanted result (dumps (rows_of (found_of found.now))) }
 {
-    match text_of(found, "settings") {
-        Some(settings) => Some(Subcommand::Dump {
+    match (text_of(found, "settings"), terms_of(found)) {
+        (Some(settings), Some(terms)) => Some(Subcommand::Dump {
             settings,
-            unclean: is_given(found, "unclean"),
+            terms,
             json: is_given(found, "json"),
         }),
-        None => None,
+        _ => None,
     }
 }
 
@@ -312,25 +320,36 @@ fn wanted_dump<'a>(found: &ArgMatches<'a>) -> Option<Subcommand<'a>>
 fn wanted_serve<'a>(found: &ArgMatches<'a>) -> Option<Subcommand<'a>>
     ensures { IsWanted result (serves (rows_of (found_of found.now))) }
 {
-    match text_of(found, "settings") {
-        Some(settings) => Some(Subcommand::Serve {
+    match (text_of(found, "settings"), terms_of(found)) {
+        (Some(settings), Some(terms)) => Some(Subcommand::Serve {
             settings,
-            unclean: is_given(found, "unclean"),
+            terms,
             verbose: is_given(found, "verbose"),
         }),
-        None => None,
+        _ => None,
     }
 }
 
-/// What `talk` is asked to do. No array may be one that was not closed where there is none.
+/// What `talk` is asked to do. No terms are named for an array where there is none.
 fn wanted_talk<'a>(found: &ArgMatches<'a>) -> Option<Subcommand<'a>>
     ensures { IsWanted result (talks (rows_of (found_of found.now))) }
 {
-    let unclean = is_given(found, "unclean");
-    match text_of(found, "array") {
-        Some(settings) => Some(Subcommand::TalkArray { settings, unclean }),
-        None if unclean => None,
-        None => Some(Subcommand::Talk),
+    match (text_of(found, "array"), terms_of(found)) {
+        (Some(settings), Some(terms)) => Some(Subcommand::TalkArray { settings, terms }),
+        (None, Some(Terms::Closed)) => Some(Subcommand::Talk),
+        _ => None,
+    }
+}
+
+/// The terms that the flags name. There are none where both flags are given.
+fn terms_of(found: &ArgMatches<'_>) -> Option<Terms>
+    ensures { result ≡ terms_in (rows_of (found_of found.now)) }
+{
+    match (is_given(found, "unclean"), is_given(found, "recover")) {
+        (false, false) => Some(Terms::Closed),
+        (false, true) => Some(Terms::Whole),
+        (true, false) => Some(Terms::Unclean),
+        (true, true) => None,
     }
 }
 

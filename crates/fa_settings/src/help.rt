@@ -29,6 +29,10 @@ pub const ABOUT_SETTINGS: &str = "The settings of the array, a TOML file";
 pub const ABOUT_UNCLEAN: &str =
     "Takes an array that was not closed, or whose images are not all there";
 
+/// What help says of `--recover`.
+pub const ABOUT_RECOVER: &str =
+    "Takes an array that was not closed, if the images that were in use are all there";
+
 /// What help says of `--array`.
 pub const ABOUT_ARRAY: &str = "Serves the client the array of these settings, a TOML file";
 
@@ -52,7 +56,7 @@ die is made, as a spare's.",
 /// The help of `check`.
 pub const CHECK: Help = Help {
     about: "Reads the images of an array, and tells what they hold",
-    usage: "flasharr check SETTINGS [--unclean] [--json]",
+    usage: "flasharr check SETTINGS [--unclean | --recover] [--json]",
     more: "Printed are the dies, those that are live and the spares; the epoch, and whether the array was closed
 clean; the pages that were written, and those with fewer copies than there could be. Nothing is written.",
 };
@@ -60,14 +64,14 @@ clean; the pages that were written, and those with fewer copies than there could
 /// The help of `dump`.
 pub const DUMP: Help = Help {
     about: "Reads the images of an array, and lists its written pages",
-    usage: "flasharr dump SETTINGS [--unclean] [--json]",
+    usage: "flasharr dump SETTINGS [--unclean | --recover] [--json]",
     more: "Printed is, for each written page, its number and the die and slot of each copy. Nothing is written.",
 };
 
 /// The help of `serve`.
 pub const SERVE: Help = Help {
     about: "Serves an array over NBD, until the line `stop` comes on standard input",
-    usage: "flasharr serve SETTINGS [--unclean] [--verbose]",
+    usage: "flasharr serve SETTINGS [--unclean | --recover] [--verbose]",
     more: "Printed is first `listening ADDRESS`, where clients can connect. The server also stops where the input ends
 or fails. At the end follow the last 64 faults that took dies out, a line `fault die D cause C round R` for
 each, where C is 1 slot not read, 2 slot not programmed, 3 block not erased, 4 header not read, 5 header not
@@ -86,7 +90,7 @@ for each page, and the pages that show that no plan has fewer rounds.",
 /// The help of `talk`.
 pub const TALK: Help = Help {
     about: "Serves one NBD client, whose bytes are given on standard input as lines of hexadecimal digits",
-    usage: "flasharr talk [--array SETTINGS [--unclean]] < LINES",
+    usage: "flasharr talk [--array SETTINGS [--unclean | --recover]] < LINES",
     more: "The client finds a store of 64 pages of 512 zero bytes under the name disk. Printed are the server's
 bytes, in hexadecimal on one line, and `end E`, where E is 1 disconnected, 2 aborted, 3 closed for a wrong
 message, 4 input ended, 5 read failed, 6 write failed, 7 no memory in the negotiation.

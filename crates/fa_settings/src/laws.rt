@@ -3,6 +3,7 @@ ghost use Rattle.std.specs.Prelude.{◌≡◌, ℕ, List, [], ◌∷◌, Some, N
 ghost use Rattle.clap.specs.declared.error.kind.ErrorKind.TheVariants.{DisplayHelp, DisplayVersion, MissingRequiredArgument};
 ghost use Rattle.clap.specs.declared.error.kind.ErrorKind.TheVariants.{MissingSubcommand, UnknownArgument, ValueValidation};
 ghost use Rattle.fa_settings.specs.CommandLine.{found_instead, wanted_in, Formats, Checks, Dumps, Serves, Plans, Talks, TalksOver, Verifies};
+ghost use Rattle.fa_settings.specs.declared.terms.Terms.TheVariants.{Closed, Whole, Unclean};
 ghost use Rattle.std.specs.declared.alloc.Global.{Global};
 ghost use Rattle.fa_settings.specs.Settings.{IsSettingsText, IsFault};
 ghost use Rattle.fa_settings.specs.declared.settings.Settings.{Settings};
@@ -17,32 +18,43 @@ pub fn settings_or_fault()
 
 /// The grammar of the command line has the words that it should: each command with its arguments, help of the
 /// program and of each command, and the version; no words, and a word too many, are mistakes, and so are
-/// settings left out and a die above 63. Nothing is asked for where `talk` has no array and yet an unclean one would do.
+/// settings left out and a die above 63. Nothing is asked for where `talk` has no array and yet terms for one, and where
+/// `--unclean` and `--recover` stand together.
 pub fn words_of_the_command_line()
     ensures format { let words = codes "format" ∷ codes "a.toml" ∷ [] in
         (found_instead words ≡ []) × (wanted_in words ≡ Some (Formats (codes "a.toml") None)) }
     ensures format_one { let words = codes "format" ∷ codes "a.toml" ∷ codes "--die" ∷ codes "3" ∷ [] in
         (found_instead words ≡ []) × (wanted_in words ≡ Some (Formats (codes "a.toml") (Some (codes "3")))) }
     ensures check { let words = codes "check" ∷ codes "a.toml" ∷ [] in
-        (found_instead words ≡ []) × (wanted_in words ≡ Some (Checks (codes "a.toml") false false)) }
+        (found_instead words ≡ []) × (wanted_in words ≡ Some (Checks (codes "a.toml") Closed false)) }
     ensures check_unclean { let words = codes "check" ∷ codes "a.toml" ∷ codes "--unclean" ∷ [] in
-        (found_instead words ≡ []) × (wanted_in words ≡ Some (Checks (codes "a.toml") true false)) }
+        (found_instead words ≡ []) × (wanted_in words ≡ Some (Checks (codes "a.toml") Unclean false)) }
+    ensures check_recover { let words = codes "check" ∷ codes "a.toml" ∷ codes "--recover" ∷ [] in
+        (found_instead words ≡ []) × (wanted_in words ≡ Some (Checks (codes "a.toml") Whole false)) }
     ensures dump_json { let words = codes "dump" ∷ codes "--json" ∷ codes "a.toml" ∷ [] in
-        (found_instead words ≡ []) × (wanted_in words ≡ Some (Dumps (codes "a.toml") false true)) }
+        (found_instead words ≡ []) × (wanted_in words ≡ Some (Dumps (codes "a.toml") Closed true)) }
     ensures serve { let words = codes "serve" ∷ codes "a.toml" ∷ [] in
-        (found_instead words ≡ []) × (wanted_in words ≡ Some (Serves (codes "a.toml") false false)) }
+        (found_instead words ≡ []) × (wanted_in words ≡ Some (Serves (codes "a.toml") Closed false)) }
     ensures serve_verbose { let words = codes "serve" ∷ codes "--verbose" ∷ codes "a.toml" ∷ [] in
-        (found_instead words ≡ []) × (wanted_in words ≡ Some (Serves (codes "a.toml") false true)) }
+        (found_instead words ≡ []) × (wanted_in words ≡ Some (Serves (codes "a.toml") Closed true)) }
     ensures serve_both { let words = codes "serve" ∷ codes "a.toml" ∷ codes "--unclean" ∷ codes "--verbose" ∷ [] in
-        (found_instead words ≡ []) × (wanted_in words ≡ Some (Serves (codes "a.toml") true true)) }
+        (found_instead words ≡ []) × (wanted_in words ≡ Some (Serves (codes "a.toml") Unclean true)) }
+    ensures serve_recover { let words = codes "serve" ∷ codes "--recover" ∷ codes "a.toml" ∷ [] in
+        (found_instead words ≡ []) × (wanted_in words ≡ Some (Serves (codes "a.toml") Whole false)) }
+    ensures terms_of_two_kinds { let words = codes "serve" ∷ codes "a.toml" ∷ codes "--recover" ∷ codes "--unclean" ∷ [] in
+        (found_instead words ≡ []) × (wanted_in words ≡ None) }
     ensures no_settings { found_instead (codes "check" ∷ []) ≡ MissingRequiredArgument ∷ [] }
     ensures die_too_great { found_instead (codes "format" ∷ codes "a.toml" ∷ codes "--die" ∷ codes "64" ∷ []) ≡ ValueValidation ∷ [] }
     ensures plan { (found_instead (codes "plan" ∷ []) ≡ []) × (wanted_in (codes "plan" ∷ []) ≡ Some Plans) }
     ensures talk { (found_instead (codes "talk" ∷ []) ≡ []) × (wanted_in (codes "talk" ∷ []) ≡ Some Talks) }
     ensures talk_array { let words = codes "talk" ∷ codes "--array" ∷ codes "a.toml" ∷ [] in
-        (found_instead words ≡ []) × (wanted_in words ≡ Some (TalksOver (codes "a.toml") false)) }
+        (found_instead words ≡ []) × (wanted_in words ≡ Some (TalksOver (codes "a.toml") Closed)) }
     ensures talk_unclean { let words = codes "talk" ∷ codes "--unclean" ∷ codes "--array" ∷ codes "a.toml" ∷ [] in
-        (found_instead words ≡ []) × (wanted_in words ≡ Some (TalksOver (codes "a.toml") true)) }
+        (found_instead words ≡ []) × (wanted_in words ≡ Some (TalksOver (codes "a.toml") Unclean)) }
+    ensures talk_recover { let words = codes "talk" ∷ codes "--array" ∷ codes "a.toml" ∷ codes "--recover" ∷ [] in
+        (found_instead words ≡ []) × (wanted_in words ≡ Some (TalksOver (codes "a.toml") Whole)) }
+    ensures talk_recover_without { let words = codes "talk" ∷ codes "--recover" ∷ [] in
+        (found_instead words ≡ []) × (wanted_in words ≡ None) }
     ensures talk_without { let words = codes "talk" ∷ codes "--unclean" ∷ [] in (found_instead words ≡ []) × (wanted_in words ≡ None) }
     ensures verify { (found_instead (codes "verify" ∷ []) ≡ []) × (wanted_in (codes "verify" ∷ []) ≡ Some Verifies) }
     ensures help { (found_instead (codes "--help" ∷ []) ≡ DisplayHelp ∷ [])

@@ -12,6 +12,7 @@ mod reader;
 mod settings;
 mod shape;
 mod table;
+mod terms;
 mod values;
 
 pub use command_line::{Subcommand, command};
@@ -19,3 +20,4 @@ pub use fault::SettingsFault;
 pub use key::Key;
 pub use reader::found_at;
 pub use settings::Settings;
+pub use terms::Terms;

@@ -1,6 +1,7 @@
 //! A request, from its beginning to its answer.
 
 use crate::kinds::{kind_of, turn_from};
+use crate::room;
 use crate::stages::{answer_len, memory_for, prepare_stage, turn_stage};
 use fa_machine::ReadState;
 use fa_map_calls::Map;
@@ -202,6 +203,24 @@ impl<A: Allocator + Copy, B: Allocator> Op<A, B> {
         ensures { result ≡ rule_room (stage_of self.now) }
     {
         matches!(&self.stage, Stage::Reserving(_, _))
+    }
+
+    /// Whether it is about to reserve copies of a page, and a die has no room that one of these would go to. What is told is a matter of speed alone,
+    /// and in no clause.
+    pub fn lacks_home<L: Ledger, M: Map + Drop>(&self, locked: &Locked<L, M, A>) -> bool {
+        match &self.stage {
+            Stage::Reserving(held, _) => room::lacks_home(locked.array(), held.page),
+            _ => false,
+        }
+    }
+
+    /// Whether such a die gets room before long, so that it is better to wait than to write the copy to another die, where its program is to be
+    /// synced. What is told is a matter of speed alone, and in no clause.
+    pub fn may_wait_for_home<L: Ledger, M: Map + Drop>(&self, locked: &Locked<L, M, A>) -> bool {
+        match &self.stage {
+            Stage::Reserving(held, _) => room::may_wait_for_home(locked.array(), held.page),
+            _ => false,
+        }
     }
 
     /// Whether what it may have to wait for is its flush.

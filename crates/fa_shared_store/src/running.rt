@@ -235,7 +235,8 @@ pub(crate) fn turn_on<R: Wait, L: Ledger, M: Map + Drop, A: Allocator + Copy, B:
     turn_further(rt, op, locked, seat)
 }
 
-/// Makes turns of a request while each leads to the next.
+/// Makes turns of a request while each leads to the next. It waits before it reserves where a die gets room before long that its page's copy
+/// belongs on.
 fn turn_further<R: Wait, L: Ledger, M: Map + Drop, A: Allocator + Copy, B: Allocator>(
     rt: &R,
     op: &mut Op<A, B>,
@@ -248,6 +249,9 @@ fn turn_further<R: Wait, L: Ledger, M: Map + Drop, A: Allocator + Copy, B: Alloc
         return Turn::End;
     }
     for _ in rt.forever() {
+        if op.may_wait_for_home(locked) {
+            return Turn::Wait;
+        }
         let turn = op.turn(locked, seat);
         if matches!(turn, Turn::Wait) {
             return turn;

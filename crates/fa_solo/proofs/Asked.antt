@@ -218,3 +218,7 @@ module _ {L M I A : Type 0} (made : I → ImageCall → ImageAnswer → I → Ty
   pub runs_behind : (a b c : Inner L M I A) (x y z : OpView A) → (one : RunsOn made bytes a x b y) × (1 ≤ one.turns) → RunsOn made bytes b y c z
       → (all : RunsOn made bytes a x c z) × (1 ≤ all.turns)
   runs_behind a b c x y z (one, some) two = let all = runs_both a b c x y z one two in (all.0, omega (arith, some, all.1))
+
+  pub runs_ahead : (a b c : Inner L M I A) (x y z : OpView A) → RunsOn made bytes a x b y → (two : RunsOn made bytes b y c z) × (1 ≤ two.turns)
+      → (all : RunsOn made bytes a x c z) × (1 ≤ all.turns)
+  runs_ahead a b c x y z one (two, some) = let all = runs_both a b c x y z one two in (all.0, omega (arith, some, all.1))

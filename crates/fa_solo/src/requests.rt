@@ -137,10 +137,59 @@ fn step<L: Ledger, M: Map + Drop, I: Image, A: Allocator + Copy, B: Allocator>(
 )
     ensures { (bytes : List ℕ) → (runs : RunsOn I.made bytes inner.old op.old inner.new op.new) × (1 ≤ runs.turns) }
 {
+    wait_for_home(inner, op);
     let came = turn(inner, op);
     if came == Turn::Wait {
         pass_time(inner, op);
     }
+}
+
+/// Has dies collected that have no room, where the request is about to reserve and its page's copies belong on such a die. Where that gives none the
+/// request reserves at once.
+fn wait_for_home<L: Ledger, M: Map + Drop, I: Image, A: Allocator + Copy, B: Allocator>(
+    inner: &mut Inner<L, M, I, A>,
+    op: &Op<A, B>,
+)
+    ensures { (bytes : List ℕ) → RunsOn I.made bytes inner.old op.now inner.new op.now }
+{
+    if !op.may_wait() {
+        return;
+    }
+    if op.awaits_flush() {
+        return;
+    }
+    collect_home(inner, op);
+}
+
+/// The same for a request that may have to wait.
+fn collect_home<L: Ledger, M: Map + Drop, I: Image, A: Allocator + Copy, B: Allocator>(
+    inner: &mut Inner<L, M, I, A>,
+    op: &Op<A, B>,
+)
+    ensures { Does I.made (IsMeanwhile false) inner.old inner.new }
+{
+    for looks in 0..u64::MAX {
+        if !op.lacks_home(&inner.locked) {
+            return;
+        }
+        if !collect_more(inner, op) {
+            return;
+        }
+    }
+}
+
+/// Gives windows to dies without room, and makes what there is to be done then. Whether a die may get room that the request waits for.
+fn collect_more<L: Ledger, M: Map + Drop, I: Image, A: Allocator + Copy, B: Allocator>(
+    inner: &mut Inner<L, M, I, A>,
+    op: &Op<A, B>,
+) -> bool
+    ensures { Does I.made (IsMeanwhile false) inner.old inner.new }
+{
+    let windows = give_windows(inner, true);
+    if matches!(windows, Windows::Refused(_)) || !op.may_wait_for_home(&inner.locked) {
+        return false;
+    }
+    work_at_once(inner, None)
 }
 
 /// A turn of a request. What its last batch handed out is given back first.

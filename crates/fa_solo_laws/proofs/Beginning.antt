@@ -22,7 +22,7 @@ use Rattle.fa_mount_scan.specs.ContentCells.{IsCellOf}
 use Rattle.fa_mount_scan.specs.ContentReading.{image_read}
 use Rattle.fa_mount_scan.specs.MountedWorld.{CopiesAgree, IsMountedWorld, SlotBytes, bytes_of, is_spare_of}
 use Rattle.fa_solo.specs.Stores.{StoreState}
-use Rattle.fa_solo_laws.proofs.Holding.{beginning_idle}
+use Rattle.fa_solo_laws.proofs.Between.{beginning_idle}
 use Rattle.fa_solo_laws.specs.Rest.{IsIdle}
 use Rattle.std.proofs.Common.{Bool, IsTrue, List, None, Option, Some, ap, length, map, refl, slice_get, subst, sym, true, ℕ, ◌*◌, ◌∙◌, ◌≡◌, ◌||◌}
 use Rattle.std.proofs.lemmas.Option.{none-some}

@@ -11,7 +11,7 @@ use Rattle.fa_cmds.specs.declared.request.Command.{Command}
 use Rattle.fa_cmds.specs.declared.request.Command.TheVariants.{Disconnect, Flush as FlushIt, Other, Read as ReadIt, Trim as TrimIt, Write as WriteIt, WriteZeroes}
 use Rattle.fa_cmds.specs.declared.request.Request.{Request as SentRequest}
 use Rattle.fa_solo_laws.proofs.Behind.{StepLaws}
-use Rattle.fa_solo_laws.proofs.Holding.{call_idle}
+use Rattle.fa_solo_laws.proofs.Between.{call_idle}
 use Rattle.fa_solo_laws.proofs.Served.{RequestLaws}
 use Rattle.fa_solo_laws.proofs.Whole.{call_dies, call_leads, call_meets, whole_fair}
 use Rattle.fa_solo_laws.specs.Driving.{image_on}

@@ -109,10 +109,10 @@ urgent_cases core die none P header read nothing =
     at_read (Some flight) is = read flight is
 
 -- a program, a sync, or nothing
-other_cases : (core : Core) (die : ℕ) (P : Option Handed → Type 0) → P None → ((p : WaitingProgram) → P (Some (program_of p)))
+other_cases : (core : Core) (die : ℕ) (P : Option Handed → Type 0) → P None → ((p : WaitingProgram) → P (Some (program_of core.page_map p)))
     → ((flushes : ℕ) → P (Some (handed (Sync flushes)))) → P (other_job core die)
 other_cases core die P nothing program sync =
-    elim (find (is_for die) core.waiting) as (λ f. P (option_or (option_map program_of f) (option_map handed (sync_job core die)))) [
+    elim (find (is_for die) core.waiting) as (λ f. P (option_or (option_map (program_of core.page_map) f) (option_map handed (sync_job core die)))) [
       | Some p ↦ program p
       | None ↦ elim (nat_lt (unwrap_or (get core.synced die) 0) (unwrap_or (get core.asked die) 0)) as
           (λ b. P (option_map handed (if b then Some (Sync core.flushes) else None))) [
@@ -274,7 +274,7 @@ module _ (old new : Core) (die seat : ℕ) (outcome : Outcome) (free : IsFree ol
   other_job_so none =
       let left : Core = without_stale_booking die old in
       other_cases left die (λ job. Follows (begins die seat left job)) (λ job is. absurd (none-some job is))
-      (λ p job is kind ends. let made = plain_job left (program_of p).flight tt refl refl ends in (Drops die none made.0, made.1))
+      (λ p job is kind ends. let made = plain_job left (program_of left.page_map p).flight tt refl refl ends in (Drops die none made.0, made.1))
       (λ flushes job is kind ends. let made = plain_job left (Sync flushes) tt refl refl ends in (Drops die none made.0, made.1))
 
   taken_so : Follows (taken old die seat)

@@ -7,8 +7,7 @@ use Rattle.fa_machine.specs.Cells.{Sealed, Wrong}
 use Rattle.fa_machine.specs.Cells.{moved_payload}
 use Rattle.fa_machine.specs.Taking.{Handed}
 use Rattle.fa_machine.specs.World.{Accepted, ErasesBlock, Gave, GaveCell, JobCall, ProgramsSlot, ReadsSlot, Refused, Syncs, WritesHeader}
-use Rattle.fa_machine.specs.World.{first_call}
-use Rattle.fa_machine.specs.World.{outcome_of, second_call}
+use Rattle.fa_machine.specs.World.{call_behind, first_call, outcome_of, second_call}
 use Rattle.fa_machine.specs.declared.jobs.Flight.{Flight}
 use Rattle.fa_machine.specs.declared.jobs.Flight.TheVariants.{Erase, Header, Move, Program, Read, Sync}
 use Rattle.fa_types.specs.declared.geometry.Geometry.{Geometry}
@@ -19,6 +18,7 @@ use Rattle.std.proofs.Common.{◌+◌, ◌-◌, ◌<◌, ◌%◌, ◌^◌, ◌�
 use Rattle.std.proofs.lemmas.Bool.{cases_eq}
 use Rattle.std.proofs.Math.Nat.{mod-add-mod, mod-eq_of_lt, mod-lt}
 use Rattle.std.proofs.lemmas.Option.{none-some, same_Some}
+use Rattle.std.specs.Prelude.{if◌then◌else◌, ◌==◌}
 
 -- the count after this many more
 abbrev pub more : ℕ → ℕ → ℕ
@@ -51,14 +51,18 @@ one_more_other n same =
           omega (arith, same, stays)
     ]
 
--- how many calls a job had refused that ended so, and how many syncs were accepted
+-- how many calls a job had refused that ended so
 abbrev pub faults_by : Outcome → ℕ
 faults_by (Fault call) = 1
 faults_by outcome = 0
 
-abbrev pub syncs_by : Outcome → ℕ
-syncs_by DidSync = 1
-syncs_by outcome = 0
+-- how many of its syncs were accepted: a flush's, the one before an erase, which may itself be refused, and the one behind a lasting program
+abbrev pub syncs_by : Bool → Outcome → ℕ
+syncs_by lasting DidSync = 1
+syncs_by lasting DidErase = 1
+syncs_by lasting DidProgram = if lasting then 1 else 0
+syncs_by lasting (Fault call) = if call == 3 then 1 else 0
+syncs_by lasting outcome = 0
 
 -- the same of one call
 abbrev refusals : Gave → ℕ
@@ -109,38 +113,71 @@ module _ (geometry : Geometry) (array : List ℕ) (die : ℕ) where
   syncs_called Syncs made gave answer n is given = ap (λ c. syncs_after c answer n) is ∙ syncs_given gave answer n given
 
 -- how a job that made one call ends by what that gave
-one_ends : (die : ℕ) (flight : Flight) (payload : List ℕ) (gave : Gave) (outcome : Outcome)
-    → outcome_of die flight payload (gave ∷ []) ≡ Some outcome
-    → (faults_by outcome ≡ refusals gave) × (syncs_by outcome ≡ syncings gave (first_call die flight payload))
-one_ends die flight payload Refused outcome ends =
-    let is = sym (same_Some _ outcome ends) in (ap faults_by is, ap syncs_by is)
-one_ends die (Header epoch live) payload (GaveCell cell) outcome ends = absurd (none-some outcome ends)
-one_ends die (Move page version from to) payload (GaveCell cell) outcome ends =
+one_ends : (die : ℕ) (flight : Flight) (payload : List ℕ) (lasting : Bool) (gave : Gave) (outcome : Outcome)
+    → outcome_of die (record { flight = flight; payload = payload; lasting = lasting }) (gave ∷ []) ≡ Some outcome
+    → (faults_by outcome ≡ refusals gave) × (syncs_by lasting outcome ≡ syncings gave (first_call die flight payload))
+one_ends die (Header epoch live) payload lasting Refused outcome ends =
+    let is = sym (same_Some (Fault 5) outcome ends) in (ap faults_by is, ap (syncs_by lasting) is)
+one_ends die (Move page version from to) payload lasting Refused outcome ends =
+    let is = sym (same_Some (Fault 1) outcome ends) in (ap faults_by is, ap (syncs_by lasting) is)
+one_ends die (Erase block) payload lasting Refused outcome ends =
+    let is = sym (same_Some (Fault 6) outcome ends) in (ap faults_by is, ap (syncs_by lasting) is)
+one_ends die (Read batch page version slot) payload lasting Refused outcome ends =
+    let is = sym (same_Some (Fault 1) outcome ends) in (ap faults_by is, ap (syncs_by lasting) is)
+one_ends die (Program page version slot) payload lasting Refused outcome ends =
+    let is = sym (same_Some (Fault 2) outcome ends) in (ap faults_by is, ap (syncs_by lasting) is)
+one_ends die (Sync flushes) payload lasting Refused outcome ends =
+    let is = sym (same_Some (Fault 6) outcome ends) in (ap faults_by is, ap (syncs_by lasting) is)
+one_ends die (Header epoch live) payload lasting (GaveCell cell) outcome ends = absurd (none-some outcome ends)
+one_ends die (Move page version from to) payload lasting (GaveCell cell) outcome ends =
     by_some (is_some (moved_payload page.0 version die from.0 cell)) ends
   where
-    by_some : (b : Bool) → cond b None (Some Wrong) ≡ Some outcome → (faults_by outcome ≡ 0) × (syncs_by outcome ≡ 0)
+    by_some : (b : Bool) → cond b None (Some Wrong) ≡ Some outcome → (faults_by outcome ≡ 0) × (syncs_by lasting outcome ≡ 0)
     by_some true e = absurd (none-some outcome e)
-    by_some false e = let is = sym (same_Some Wrong outcome e) in (ap faults_by is, ap syncs_by is)
-one_ends die (Erase block) payload (GaveCell cell) outcome ends = absurd (none-some outcome ends)
-one_ends die (Read batch page version slot) payload (GaveCell cell) outcome ends =
-    let is = sym (same_Some (DidRead cell) outcome ends) in (ap faults_by is, ap syncs_by is)
-one_ends die (Program page version slot) payload (GaveCell cell) outcome ends = absurd (none-some outcome ends)
-one_ends die (Sync flushes) payload (GaveCell cell) outcome ends = absurd (none-some outcome ends)
-one_ends die (Header epoch live) payload Accepted outcome ends =
-    let is = sym (same_Some DidWriteHeader outcome ends) in (ap faults_by is, ap syncs_by is)
-one_ends die (Move page version from to) payload Accepted outcome ends = absurd (none-some outcome ends)
-one_ends die (Erase block) payload Accepted outcome ends =
-    let is = sym (same_Some DidErase outcome ends) in (ap faults_by is, ap syncs_by is)
-one_ends die (Read batch page version slot) payload Accepted outcome ends = absurd (none-some outcome ends)
-one_ends die (Program page version slot) payload Accepted outcome ends =
-    let is = sym (same_Some DidProgram outcome ends) in (ap faults_by is, ap syncs_by is)
-one_ends die (Sync flushes) payload Accepted outcome ends =
-    let is = sym (same_Some DidSync outcome ends) in (ap faults_by is, ap syncs_by is)
+    by_some false e = let is = sym (same_Some Wrong outcome e) in (ap faults_by is, ap (syncs_by lasting) is)
+one_ends die (Erase block) payload lasting (GaveCell cell) outcome ends = absurd (none-some outcome ends)
+one_ends die (Read batch page version slot) payload lasting (GaveCell cell) outcome ends =
+    let is = sym (same_Some (DidRead cell) outcome ends) in (ap faults_by is, ap (syncs_by lasting) is)
+one_ends die (Program page version slot) payload lasting (GaveCell cell) outcome ends = absurd (none-some outcome ends)
+one_ends die (Sync flushes) payload lasting (GaveCell cell) outcome ends = absurd (none-some outcome ends)
+one_ends die (Header epoch live) payload lasting Accepted outcome ends =
+    let is = sym (same_Some DidWriteHeader outcome ends) in (ap faults_by is, ap (syncs_by lasting) is)
+one_ends die (Move page version from to) payload lasting Accepted outcome ends = absurd (none-some outcome ends)
+one_ends die (Erase block) payload lasting Accepted outcome ends = absurd (none-some outcome ends)
+one_ends die (Read batch page version slot) payload lasting Accepted outcome ends = absurd (none-some outcome ends)
+one_ends die (Program page version slot) payload true Accepted outcome ends = absurd (none-some outcome ends)
+one_ends die (Program page version slot) payload false Accepted outcome ends =
+    let is = sym (same_Some DidProgram outcome ends) in (ap faults_by is, ap (syncs_by false) is)
+one_ends die (Sync flushes) payload lasting Accepted outcome ends =
+    let is = sym (same_Some DidSync outcome ends) in (ap faults_by is, ap (syncs_by lasting) is)
 
-none_ends : (die : ℕ) (flight : Flight) (payload : List ℕ) (outcome : Outcome) → outcome_of die flight payload [] ≡ Some outcome → ⊥
-none_ends die flight payload outcome ends = none-some outcome ends
+-- how a job ends by the call behind an accepted first one
+behind_ends : (die : ℕ) (flight : Flight) (payload : List ℕ) (lasting : Bool) (call : JobCall) (gave : Gave) (outcome : Outcome)
+    → call_behind flight lasting ≡ Some call
+    → outcome_of die (record { flight = flight; payload = payload; lasting = lasting }) (Accepted ∷ gave ∷ []) ≡ Some outcome
+    → (faults_by outcome ≡ refusals gave)
+    × (syncs_by lasting outcome ≡ syncings Accepted (first_call die flight payload) + syncings gave call)
+behind_ends die (Erase block) payload lasting call Accepted outcome behind ends =
+    let is = sym (same_Some DidErase outcome ends) in
+    (ap faults_by is, ap (syncs_by lasting) is ∙ ap (λ c. 1 + syncings Accepted c) (same_Some (ErasesBlock block.0) call behind))
+behind_ends die (Erase block) payload lasting call Refused outcome behind ends =
+    let is = sym (same_Some (Fault 3) outcome ends) in
+    (ap faults_by is, ap (syncs_by lasting) is ∙ ap (λ c. 1 + syncings Refused c) (same_Some (ErasesBlock block.0) call behind))
+behind_ends die (Erase block) payload lasting call (GaveCell cell) outcome behind ends = absurd (none-some outcome ends)
+behind_ends die (Program page version slot) payload true call Accepted outcome behind ends =
+    let is = sym (same_Some DidProgram outcome ends) in
+    (ap faults_by is, ap (syncs_by true) is ∙ ap (λ c. 0 + syncings Accepted c) (same_Some Syncs call behind))
+behind_ends die (Program page version slot) payload true call Refused outcome behind ends =
+    let is = sym (same_Some (Fault 6) outcome ends) in
+    (ap faults_by is, ap (syncs_by true) is ∙ ap (λ c. 0 + syncings Refused c) (same_Some Syncs call behind))
+behind_ends die (Program page version slot) payload true call (GaveCell cell) outcome behind ends = absurd (none-some outcome ends)
+behind_ends die (Program page version slot) payload false call gave outcome behind ends = absurd (none-some call behind)
+behind_ends die (Header epoch live) payload lasting call gave outcome behind ends = absurd (none-some call behind)
+behind_ends die (Move page version from to) payload lasting call gave outcome behind ends = absurd (none-some call behind)
+behind_ends die (Read batch page version slot) payload lasting call gave outcome behind ends = absurd (none-some call behind)
+behind_ends die (Sync flushes) payload lasting call gave outcome behind ends = absurd (none-some call behind)
 
--- the second call of a job is no sync
+-- the second call of a move is no sync
 second_syncs_not : (die : ℕ) (flight : Flight) (cell : Cell) (call : JobCall) (gave : Gave) → second_call die flight cell ≡ Some call
     → syncings gave call ≡ 0
 second_syncs_not die (Header epoch live) cell call gave is = absurd (none-some call is)
@@ -176,11 +213,11 @@ module _ {I : Type 0} (view : I → ImageState) (honest : I → Bool) (made : I 
 
   -- a job ends with a fault where one of its calls was refused, and no other call was
   calls_count : (job : Handed) (outcome : Outcome) (gave : List Gave) (before after : I)
-      → MakesCalls made geometry array die job [] gave before after → outcome_of die job.flight job.payload gave ≡ Some outcome
-      → Counts view (faults_by outcome) (syncs_by outcome) before after
-  calls_count job outcome [] before after same ends = absurd (none_ends die job.flight job.payload outcome ends)
+      → MakesCalls made geometry array die job [] gave before after → outcome_of die job gave ≡ Some outcome
+      → Counts view (faults_by outcome) (syncs_by job.lasting outcome) before after
+  calls_count job outcome [] before after same ends = absurd (none-some outcome ends)
   calls_count job outcome (gave ∷ []) before after calls ends =
-      let by = one_ends die job.flight job.payload gave outcome ends in
+      let by = one_ends die job.flight job.payload job.lasting gave outcome ends in
       let one = one_counts calls.0 gave before calls.2 calls.3 in
       let call : first_call die job.flight job.payload ≡ calls.0 = same_Some _ calls.0 calls.1 in
       record {
@@ -201,15 +238,29 @@ module _ {I : Type 0} (view : I → ImageState) (honest : I → Bool) (made : I 
             ∙ ap (λ k. more k (view before).syncs) (sym by.1);
       }
     where
-      two_end : (gave : Gave) → outcome_of die job.flight job.payload (GaveCell cell ∷ gave ∷ []) ≡ Some outcome
-          → (faults_by outcome ≡ refusals gave) × (syncs_by outcome ≡ 0)
+      two_end : (gave : Gave) → outcome_of die job (GaveCell cell ∷ gave ∷ []) ≡ Some outcome
+          → (faults_by outcome ≡ refusals gave) × (syncs_by job.lasting outcome ≡ 0)
       two_end (GaveCell other) e = absurd (none-some outcome e)
-      two_end Accepted e = let is = sym (same_Some DidMove outcome e) in (ap faults_by is, ap syncs_by is)
-      two_end Refused e = let is = sym (same_Some (Fault 2) outcome e) in (ap faults_by is, ap syncs_by is)
+      two_end Accepted e = let is = sym (same_Some DidMove outcome e) in (ap faults_by is, ap (syncs_by job.lasting) is)
+      two_end Refused e = let is = sym (same_Some (Fault 2) outcome e) in (ap faults_by is, ap (syncs_by job.lasting) is)
   calls_count job outcome (GaveCell cell ∷ gave ∷ next ∷ rest) before after calls ends = absurd (none-some _ calls.4.4.1)
-  calls_count job outcome (Accepted ∷ next ∷ rest) before after calls ends = absurd (none-some _ calls.4.1)
+  calls_count job outcome (Accepted ∷ gave ∷ []) before after calls ends =
+      let first = one_counts calls.0 Accepted before calls.2 calls.3 in
+      let rest = calls.4 in
+      let second = one_counts rest.0 gave calls.2 rest.2 rest.3 in
+      let by = behind_ends die job.flight job.payload job.lasting rest.0 gave outcome rest.1 ends in
+      let call : first_call die job.flight job.payload ≡ calls.0 = same_Some _ calls.0 calls.1 in
+      record {
+        faults_are = ap (λ i. (view i).faults) (sym rest.4) ∙ second.faults_are ∙ ap (more (refusals gave)) first.faults_are
+            ∙ ap (λ k. more k (view before).faults) (sym by.0);
+        syncs_are = ap (λ i. (view i).syncs) (sym rest.4) ∙ second.syncs_are ∙ ap (more (syncings gave rest.0)) first.syncs_are
+            ∙ sym (more_both (syncings Accepted calls.0) (syncings gave rest.0) (view before).syncs)
+            ∙ ap (λ c. more (syncings Accepted c + syncings gave rest.0) (view before).syncs) (sym call)
+            ∙ ap (λ k. more k (view before).syncs) (sym by.1);
+      }
+  calls_count job outcome (Accepted ∷ gave ∷ next ∷ rest) before after calls ends = absurd (none-some _ calls.4.4.1)
   calls_count job outcome (Refused ∷ next ∷ rest) before after calls ends = absurd (none-some _ calls.4.1)
 
   pub ran_counts : (job : Handed) (outcome : Outcome) (before after : I) → Ran made geometry array die job outcome before after
-      → Counts view (faults_by outcome) (syncs_by outcome) before after
+      → Counts view (faults_by outcome) (syncs_by job.lasting outcome) before after
   ran_counts job outcome before after ran = calls_count job outcome ran.gave before after ran.calls ran.ends

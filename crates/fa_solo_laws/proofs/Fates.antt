@@ -114,10 +114,10 @@ module _ (laws : DieLaws) (old new : Core) (die : ℕ) where
 
   -- What a die has synced changes only as a sync of it ends, to what the sync was taken for.
   pub synced_by : (d : ℕ) (outcome : Outcome) (flush : ℕ) → KeepsSynced old (Done d outcome) new → get new.synced die ≡ Some flush
-      → (get old.synced die ≡ Some flush) ⊎ ((die ≡ d) × (syncs_by outcome ≡ 1) × (get old.jobs die ≡ Some (Sync flush)))
+      → (get old.synced die ≡ Some flush) ⊎ ((die ≡ d) × ((lasting : Bool) → syncs_by lasting outcome ≡ 1) × (get old.jobs die ≡ Some (Sync flush)))
   synced_by d DidSync flush kept is =
       elim (get-insert_cases old.synced d kept.0 die flush (sym (ap (λ (s : FinMap nat_cmp ℕ). get s die) kept.2) ∙ is)) [
-        | inl here ↦ inr (here.0, refl, ap (get old.jobs) here.0 ∙ kept.1 ∙ ap (λ n. Some (Sync n)) here.1)
+        | inl here ↦ inr (here.0, (λ lasting. refl), ap (get old.jobs) here.0 ∙ kept.1 ∙ ap (λ n. Some (Sync n)) here.1)
         | inr was ↦ inl was.0
       ]
   synced_by d outcome flush kept is =
@@ -333,7 +333,7 @@ module _ {I : Type 0} (view : I → ImageState) (honest : I → Bool) (made : I 
     ends_own : die ≡ d → Fate view dies die middle new
     ends_own same = record {
       faults = faults_by job.outcome;
-      syncs = syncs_by job.outcome;
+      syncs = syncs_by job.job.lasting job.outcome;
       image = λ before is.
           let here = ap (image_on dies old.images) (sym same) ∙ is in
           let was : job.before ≡ before =
@@ -341,7 +341,7 @@ module _ {I : Type 0} (view : I → ImageState) (honest : I → Bool) (made : I 
             job.after,
             ap (image_on dies new.images) same ∙ ap (λ (l : List I). image_on dies l d) job.images
                 ∙ its_image dies old.images d job.index job.before job.after job.place job.image,
-            subst (λ i. Counts view (faults_by job.outcome) (syncs_by job.outcome) i job.after) was
+            subst (λ i. Counts view (faults_by job.outcome) (syncs_by job.job.lasting job.outcome) i job.after) was
                 (ran_counts view honest made meets old.core.page_map.geometry array d job.job job.outcome job.before job.after job.ran),
           );
       lives = λ is. elim (cases_Bool (is_live new.core.page_map die)) [
@@ -358,7 +358,7 @@ module _ {I : Type 0} (view : I → ImageState) (honest : I → Bool) (made : I 
       synced = λ m is. elim
           (synced_by laws job.taken new.core die d job.outcome m (laws.synced job.taken new.core (Done d job.outcome) job.ends) is) [
             | inl was ↦ inl was
-            | inr one ↦ let n = one.1 in inr (omega (arith, n))
+            | inr one ↦ let n = one.1 job.job.lasting in inr (omega (arith, n))
           ];
       flushes = flushes_rise job.taken new.core (Done d job.outcome) (laws.flushes job.taken new.core (Done d job.outcome) job.ends);
     }

@@ -44,6 +44,7 @@ pub mod Syncing
 pub mod Sums
 pub mod Beginning
 pub mod Holding
+pub mod Between
 mod Admitting
 mod Changing
 mod ClosedRounds

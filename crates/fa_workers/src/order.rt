@@ -132,13 +132,12 @@ impl<A: Allocator> Order<A> {
     }
 }
 
-/// The call by which an image refuses a job.
+/// The first call of a job, which an image refuses that is not there.
 fn fault_of(flight: Flight) -> ImageFault {
     match flight {
         Flight::Header { .. } => ImageFault::WriteHeader,
         Flight::Move { .. } | Flight::Read { .. } => ImageFault::ReadSlot,
-        Flight::Erase { .. } => ImageFault::EraseBlock,
         Flight::Program { .. } => ImageFault::Program,
-        Flight::Sync { .. } => ImageFault::Sync,
+        Flight::Erase { .. } | Flight::Sync { .. } => ImageFault::Sync,
     }
 }

@@ -65,6 +65,9 @@ fn show_job<A: Allocator + Clone>(job: &Option<Job<A>>, output: &mut Output) {
         Some(job) => {
             show_flight(job.flight, output);
             show_payload(&job.payload, output);
+            if job.lasting {
+                output.word("lasting");
+            }
         }
         None => output.word("no job"),
     }

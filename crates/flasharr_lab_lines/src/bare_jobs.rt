@@ -176,6 +176,7 @@ fn program<I: Image>(
             slot: Slot(slot),
         },
         payload: Some(payload),
+        lasting: false,
     };
     Some(run_job(
         DIE,
@@ -227,6 +228,7 @@ fn read<I: Image>(image: &mut I, slot: u32, buffers: &mut Buffers) -> Option<Out
             slot: Slot(slot),
         },
         payload: None,
+        lasting: false,
     };
     Some(run_job(
         DIE,

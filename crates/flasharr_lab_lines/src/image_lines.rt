@@ -1,7 +1,7 @@
 //! Lines that are about images, whether an array is there or not.
 use fa_image::Image;
 use fa_map_calls::Map;
-use fa_mount::{MountedArray, mount};
+use fa_mount::{MountedArray, mount, recover};
 use fa_mount_headers::MountRefused;
 use fa_types::Copies;
 use flasharr_lab_array::{show_map, show_mounted};
@@ -21,6 +21,10 @@ pub(crate) fn touch_images<I: DieImage>(
             let copies = number_at(order.numbers.as_slice(), 0);
             try_mount(images.as_mut_slice(), tools, copies, unclean);
         }
+        Deed::Recover => {
+            let copies = number_at(order.numbers.as_slice(), 0);
+            try_recover(images.as_mut_slice(), tools, copies);
+        }
         _ => touch(order, deed, tools.alloc, images, &mut tools.output),
     }
 }
@@ -38,6 +42,16 @@ fn try_copies<I: Image>(images: &mut [I], tools: &mut Tools<'_>, copies: Copies,
     let made = mount(tools.heap(), images, copies, unclean);
     tools.meter.stop(start);
     show_tried(made, &mut tools.output);
+}
+
+/// Recovers the images with this number of copies beside an array, tells what was recovered, and drops it.
+fn try_recover<I: Image>(images: &mut [I], tools: &mut Tools<'_>, number: u64) {
+    if let Some(copies) = copies_of(number, images, &mut tools.output) {
+        let start = tools.meter.start();
+        let made = recover(tools.heap(), images, copies);
+        tools.meter.stop(start);
+        show_tried(made, &mut tools.output);
+    }
 }
 
 /// Tells what was mounted, or why nothing was, and drops it.

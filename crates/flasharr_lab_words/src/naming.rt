@@ -17,7 +17,7 @@ pub(crate) static TEXTS: [(&str, bool, Wish); 7] = [
 ];
 
 /// The names of all other lines, each with how many numbers stand in it.
-static NAMES: [(&str, usize, Wish); 100] = [
+static NAMES: [(&str, usize, Wish); 101] = [
     (
         "images dies spares blocks slots bytes pages",
         6,
@@ -105,6 +105,7 @@ static NAMES: [(&str, usize, Wish); 100] = [
         1,
         Wish::Touch(Deed::Try { unclean: true }),
     ),
+    ("try recover", 1, Wish::Touch(Deed::Recover)),
     ("scan", 1, Wish::Begin(Begin::Scan { unclean: false })),
     (
         "scan unclean",

@@ -155,6 +155,8 @@ pub enum Deed {
     Faults,
     /// The images are mounted, and what was mounted is dropped.
     Try { unclean: bool },
+    /// The images are recovered, and what was recovered is dropped.
+    Recover,
 }
 
 /// What is done with the image beside those of the array.

@@ -4,7 +4,7 @@ ghost use Rattle.fa_core.specs.Array.{IsWhole};
 
 use crate::arrays::{DieImage, Start, close_array, mounted};
 use crate::host::Machine;
-use crate::site::{DieTask, Done, Meanwhile, Session, Site, Task};
+use crate::site::{DieTask, Done, Manner, Meanwhile, Session, Site, Task};
 use crate::users::User;
 use fa_core::Array;
 use fa_image::Image;
@@ -50,7 +50,12 @@ pub(crate) fn run<R: Machine, G: Gate + Sync, U: User + Send>(
         mut images,
         unclean,
         wrong,
+        window_rounds,
     } = start;
+    let manner = Manner {
+        meanwhile,
+        window_rounds,
+    };
     let mounted = mounted(rt.alloc(), images.as_mut_slice(), unclean)?;
     arm(images.as_mut_slice(), wrong);
     run_over::<Brand, R, PageMap, DieImage, G, U>(
@@ -59,7 +64,7 @@ pub(crate) fn run<R: Machine, G: Gate + Sync, U: User + Send>(
         mounted,
         images,
         gate,
-        meanwhile,
+        manner,
         users,
     )
 }
@@ -85,7 +90,7 @@ fn run_over<
     mounted: MountedArray<M>,
     images: Vec<I>,
     gate: &G,
-    meanwhile: Meanwhile,
+    manner: Manner,
     users: Vec<U>,
 ) -> Option<Left<U, I>>
     requires name { blank.name ≡ L.name }
@@ -102,7 +107,7 @@ fn run_over<
         page_bytes,
         images,
         gate,
-        meanwhile,
+        manner,
         users,
     );
     close_shared(shared, dies, worked)
@@ -182,14 +187,14 @@ fn work_for<
     page_bytes: u32,
     images: Vec<I>,
     gate: &G,
-    meanwhile: Meanwhile,
+    manner: Manner,
     users: Vec<U>,
 ) -> Option<Worked<U, I>>
     requires { L.parts ≡ 257 }
 {
     let count = images.len();
     let image_table = image_table_of(rt, dies, images, page_bytes)?;
-    let tasks = tasks_of(rt, shared, dies, page_bytes, meanwhile, users)?;
+    let tasks = tasks_of(rt, shared, dies, page_bytes, manner, users)?;
     let back = back_of(rt, shared, &image_table, gate, tasks)?;
     let images = lifted(rt, image_table, count, dies.len())?;
     worked_of(rt, shared, back, images)
@@ -286,13 +291,20 @@ fn tasks_of<L: Ledger, R: Machine, M: Map + Drop, U: User>(
     shared: &Shared<L, M>,
     dies: &[Standing],
     page_bytes: u32,
-    meanwhile: Meanwhile,
+    manner: Manner,
     users: Vec<U>,
 ) -> Option<Tasks<L, U>> {
     let mut tasks = Vec::new(rt.alloc());
-    add_workers(rt, shared, dies, page_bytes, &mut tasks)?;
+    add_workers(
+        rt,
+        shared,
+        dies,
+        page_bytes,
+        manner.window_rounds,
+        &mut tasks,
+    )?;
     let workers = tasks.len();
-    add_users(rt, shared, users, meanwhile, &mut tasks)?;
+    add_users(rt, shared, users, manner.meanwhile, &mut tasks)?;
     Some(Tasks { tasks, workers })
 }
 
@@ -302,6 +314,7 @@ fn add_workers<L: Ledger, R: Machine, M: Map + Drop, U: User>(
     shared: &Shared<L, M>,
     dies: &[Standing],
     page_bytes: u32,
+    window_rounds: u64,
     tasks: &mut Vec<Task<L, U>>,
 ) -> Option<()> {
     for number in 0..dies.len() {
@@ -313,7 +326,8 @@ fn add_workers<L: Ledger, R: Machine, M: Map + Drop, U: User>(
             tasks.push(Task::Die(task)).ok()?;
         }
     }
-    tasks.push(Task::Collect(shared.seat(rt)?)).ok()?;
+    let collector = shared.seat(rt)?;
+    tasks.push(Task::Collect(collector, window_rounds)).ok()?;
     tasks.push(Task::Rebuild(shared.seat(rt)?)).ok()
 }
 

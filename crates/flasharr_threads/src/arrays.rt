@@ -6,6 +6,7 @@ ghost use Rattle.fa_image.specs.Memory.{mem_image_view};
 ghost use Rattle.fa_image.specs.Wrong.{wrong_view};
 ghost use Rattle.fa_map.specs.PageView.{page_view};
 
+use crate::site::WINDOW_ROUNDS;
 use fa_image::{Image, MemImage, WrongImage};
 use fa_map::PageMap;
 use fa_map_calls::Map;
@@ -84,6 +85,8 @@ pub(crate) struct Start {
     pub(crate) unclean: bool,
     /// The image of this place gives wrong bytes once, at the first read behind mounting.
     pub(crate) wrong: Option<usize>,
+    /// How many rounds a collector's window has. With none there is no window.
+    pub(crate) window_rounds: u64,
 }
 
 impl Start {
@@ -93,6 +96,7 @@ impl Start {
             images,
             unclean: false,
             wrong: None,
+            window_rounds: WINDOW_ROUNDS,
         }
     }
 }

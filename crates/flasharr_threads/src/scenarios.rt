@@ -21,6 +21,7 @@ pub(crate) fn play<R: Machine>(rt: &R, name: &str) -> Option<Came> {
         "slow_image_holds_up_its_die_alone" => Some(slow_image_holds_up_its_die_alone(rt)),
         "flush_without_sync" => Some(flush_without_sync(rt)),
         "workers_collect_and_rebuild" => Some(workers_collect_and_rebuild(rt)),
+        "writes_end_without_windows" => Some(writes_end_without_windows(rt)),
         "vanished_client_leaves_nothing" => Some(vanished_client_leaves_nothing(rt)),
         "wrong_bytes_take_the_die_out" => Some(wrong_bytes_take_the_die_out(rt)),
         _ => None,
@@ -28,13 +29,14 @@ pub(crate) fn play<R: Machine>(rt: &R, name: &str) -> Option<Came> {
 }
 
 /// The names of all scenarios, in their order.
-pub(crate) const NAMES: [&str; 8] = [
+pub(crate) const NAMES: [&str; 9] = [
     "two_sessions_read_back",
     "two_dies_read_in_one_round",
     "admit_page_by_page",
     "slow_image_holds_up_its_die_alone",
     "flush_without_sync",
     "workers_collect_and_rebuild",
+    "writes_end_without_windows",
     "vanished_client_leaves_nothing",
     "wrong_bytes_take_the_die_out",
 ];
@@ -191,9 +193,8 @@ fn workers_collect_and_rebuild<R: Machine>(rt: &R) -> Came {
     let _missing = images.remove(1);
     let gate = Holding::new(rt, HeldCalls::Reads, 0);
     let start = Start {
-        images,
         unclean: true,
-        wrong: None,
+        ..Start::of(images)
     };
     let mut images = close_by_steps(
         rt,
@@ -216,6 +217,20 @@ fn collect<R: Machine>(rt: &R) -> Came {
     let gate = Holding::new(rt, HeldCalls::Reads, 0);
     let steps = [Step::WriteOften(6, 40), Step::Read(0, 8)];
     close_by_steps(rt, Start::of(images), &gate, Meanwhile::Help, &steps, 8)?;
+    Ok(())
+}
+
+/// Two dies run full by writes of one page, and no window is to be had: the next writes go to other dies, and do not wait.
+fn writes_end_without_windows<R: Machine>(rt: &R) -> Came {
+    for meanwhile in BOTH {
+        let start = Start {
+            window_rounds: 0,
+            ..Start::of(written(rt, SMALL)?)
+        };
+        let gate = Holding::new(rt, HeldCalls::Reads, 0);
+        let steps = [Step::WriteOften(6, 14), Step::Read(0, 8)];
+        close_by_steps(rt, start, &gate, meanwhile, &steps, 8)?;
+    }
     Ok(())
 }
 
@@ -260,9 +275,8 @@ fn visitors<'a, R: Machine>(
 fn wrong_bytes_take_the_die_out<R: Machine>(rt: &R) -> Came {
     let images = written(rt, Shape::of(4))?;
     let start = Start {
-        images,
-        unclean: false,
         wrong: Some(1),
+        ..Start::of(images)
     };
     let gate = Holding::new(rt, HeldCalls::Reads, 0);
     let left = by_steps(rt, start, &gate, Meanwhile::Help, &[Step::Read(0, 8)], 8)?;

@@ -18,7 +18,7 @@ use std::sync::Wait;
 use std::sync::ledger::Ledger;
 
 /// How many rounds a collector's window has.
-const WINDOW_ROUNDS: u64 = 8;
+pub(crate) const WINDOW_ROUNDS: u64 = 8;
 
 /// What sessions do while their requests wait for dies.
 #[derive(Clone, Copy)]
@@ -29,13 +29,21 @@ pub(crate) enum Meanwhile {
     Sleep,
 }
 
+/// How an array is worked for and used.
+#[derive(Clone, Copy)]
+pub(crate) struct Manner {
+    pub(crate) meanwhile: Meanwhile,
+    /// How many rounds a collector's window has. With none there is no window.
+    pub(crate) window_rounds: u64,
+}
+
 /// What a thread is to do at a shared array.
 #[derive(Drop)]
 pub(crate) enum Task<L: Ledger, U: Drop> {
     /// Work for a die.
     Die(DieTask<L>),
-    /// Collect.
-    Collect(Seat<L>),
+    /// Collect, by windows of so many rounds.
+    Collect(Seat<L>, u64),
     /// Rebuild.
     Rebuild(Seat<L>),
     /// Have a user do what it does.
@@ -84,7 +92,9 @@ impl<'a, R: ThreadHost, L: Ledger, M: Map + Drop, I: Image + Drop, G: Gate, U: U
     fn work(&self, rt: &R, task: Task<L, U>) -> Done<L, U> {
         match task {
             Task::Die(task) => left(work_die(rt, self.shared, self.image_table, self.gate, task)),
-            Task::Collect(seat) => left(collect(rt, self.shared, seat)),
+            Task::Collect(seat, window_rounds) => {
+                left(collect(rt, self.shared, seat, window_rounds))
+            }
             Task::Rebuild(seat) => left(rebuild(rt, self.shared, seat)),
             Task::Use(session) => {
                 use_store(rt, self.shared, self.image_table, self.gate, session)
@@ -207,8 +217,9 @@ fn collect<L: Ledger, R: ThreadHost, M: Map + Drop>(
     rt: &R,
     shared: &Shared<L, M>,
     mut seat: Seat<L>,
+    window_rounds: u64,
 ) -> Seat<L> {
-    collector_worker(rt, rt.alloc(), shared, &mut seat, WINDOW_ROUNDS);
+    collector_worker(rt, rt.alloc(), shared, &mut seat, window_rounds);
     seat
 }
 

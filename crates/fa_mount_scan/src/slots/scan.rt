@@ -83,7 +83,7 @@ pub(crate) fn scan_slots_side_by_side<
 }
 
 /// Mounts what came of reading each die.
-fn mount_outcomes<M: Map + Drop, A: Allocator + Copy>(
+pub(crate) fn mount_outcomes<M: Map + Drop, A: Allocator + Copy>(
     alloc: A,
     judged: Judged<A>,
     outcomes: Vec<Option<DieRead<A>>, A>,

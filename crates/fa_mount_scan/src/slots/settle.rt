@@ -73,7 +73,7 @@ fn settled_by<A: Allocator>(standing: Standing, outcome: &Option<DieRead<A>>) ->
 }
 
 /// Whether all slots are erased.
-fn is_blank(slots: &[SlotContent]) -> bool
+pub(crate) fn is_blank(slots: &[SlotContent]) -> bool
     ensures { result ≡ list_all is_erased slots.now }
 {
     slots
@@ -111,7 +111,7 @@ fn first_refused<A: Allocator>(outcomes: &[Option<DieRead<A>>]) -> Option<usize>
 }
 
 /// The refusal for a die whose image refused a read.
-fn fault_at(standings: &[Standing], die: usize) -> MountRefused
+pub(crate) fn fault_at(standings: &[Standing], die: usize) -> MountRefused
     requires die { die < length standings.now }
     requires few { length standings.now ≤ 64 }
     ensures { result ≡ refusal_at standings.now die }

@@ -15,7 +15,7 @@ returns-in-Ok-clause-programmed g c array = record {
     given = tt;
     link = c.in-Ok.ensures.done;
   };
-  ends = λ cell flight bytes carried. refl;
+  ends = λ cell job bytes. refl;
 }
 
 pub returns-in-Err-clause-programmed : goal.returns-in-Err-clause-programmed
@@ -28,6 +28,6 @@ returns-in-Err-clause-programmed g c array = record {
     given = tt;
     link = c.in-Err.ensures.refused;
   };
-  ends = λ cell flight bytes carried. ap (λ n. Some (Fault n)) (sym (refused_by (Programming c.args.to.0 c.reseal.new.slot) c.in-Err.fault
+  ends = λ cell job bytes. ap (λ n. Some (Fault n)) (sym (refused_by (Programming c.args.to.0 c.reseal.new.slot) c.in-Err.fault
       (g.I.Image.view c.args.image.now).geometry (g.met.I.Image.meets _ _ _ _ c.in-Err.ensures.refused).answers));
 }

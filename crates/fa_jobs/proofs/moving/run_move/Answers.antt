@@ -15,7 +15,7 @@ program_moved-requires-clause-kind g c =
     (sym (c.if-is_copy.ensures (payload_of c.read_slot-read.new.into)))
 
 pub returns-then-is_copy-clause-ran : goal.returns-then-is_copy-clause-ran
-returns-then-is_copy-clause-ran g c array payload bytes =
+returns-then-is_copy-clause-ran g c array payload bytes lasting =
     let read = payload_of c.read_slot-read.new.into in
     let cell = cell_of c.open_begun-opened.result.0 read in
     let is = sym (c.if-is_copy.ensures read) in
@@ -33,10 +33,10 @@ returns-then-is_copy-clause-ran g c array payload bytes =
     })
     (ap (option_map (λ payload. ProgramsSlot c.args.to.0 (Sealed c.args.page.0 c.args.version c.args.die.0 c.args.to.0 payload)))
     (moved_some c.args.page.0 c.args.version c.args.die.0 c.args.from.0 c.open_begun-opened.result.0 read is))
-    moved.call (moved.ends cell (Move c.args.page c.args.version c.args.from c.args.to) bytes payload)
+    moved.call (moved.ends cell (record { flight = Move c.args.page c.args.version c.args.from c.args.to; payload = payload; lasting = lasting }) bytes)
 
 pub returns-else-is_copy-clause-ran : goal.returns-else-is_copy-clause-ran
-returns-else-is_copy-clause-ran g c array payload bytes =
+returns-else-is_copy-clause-ran g c array payload bytes lasting =
     let read = payload_of c.read_slot-read.new.into in
     ran_once _ _ (ReadsSlot c.args.from.0) (GaveCell (cell_of c.open_begun-opened.result.0 read)) _ _ refl
     (record {
@@ -49,7 +49,7 @@ returns-else-is_copy-clause-ran g c array payload bytes =
     (ap (λ is. cond is None (Some Wrong)) (sym (c.if-is_copy.ensures read)))
 
 pub returns-in-Err-clause-ran : goal.returns-in-Err-clause-ran
-returns-in-Err-clause-ran g c array payload bytes =
+returns-in-Err-clause-ran g c array payload bytes lasting =
     ran_once _ _ (ReadsSlot c.args.from.0) Refused _ _ refl
     (record {
       image_call = ReadingSlot c.args.from.0;

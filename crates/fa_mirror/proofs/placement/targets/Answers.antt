@@ -1,7 +1,6 @@
 use Rattle.fa_machine.specs.Placement.{has_room, targets}
 use Rattle.fa_mirror.proofs.Chosen.{all_apart, each_takes}
-use Rattle.fa_mirror.proofs.Looks.{chosen_all, chosen_fails, chosen_few, chosen_full, chosen_more, chosen_none, looks_in_all}
-use Rattle.fa_mirror.proofs.Looks.{targets_looked}
+use Rattle.fa_mirror.proofs.Looks.{all_looked, chosen_all, chosen_fails, chosen_few, chosen_full, chosen_more, chosen_none, looks_in_all}
 use Rattle.fa_mirror.proofs.placement.targets.Goals as goal
 use Rattle.fa_mirror.proofs.placement.targets.Goals.{in-Some+else-has_room, in-Some+then-has_room, in_default}
 use Rattle.fa_mirror.specs.Order.{looks, numbers_of}
@@ -59,8 +58,8 @@ returns-after-loop-look g c =
     let end = c.looks-look-end.ensures in
     let past : length all ≤ c.loop-look.look = omega (arith, long, before, end) in
     let is : numbers_of placing ≡ targets copies m page =
-    targets_looked copies m page order.copies order.homes order.dies c.order_of-order.ensures.first c.order_of-order.ensures.dies
-    asked (numbers_of placing) c.copies_asked-asked.ensures
+    all_looked copies m page order.copies order.homes order.dies c.order_of-order.ensures.first c.order_of-order.ensures.dies
+    (has_room m) asked (numbers_of placing) c.copies_asked-asked.ensures
     (chosen_all all (has_room m) asked c.loop-look.look (numbers_of placing) c.loop-look.invariant past) in
     record {
       dies = is;
@@ -80,8 +79,8 @@ returns-then-len-asked g c =
     let full : length (numbers_of placing) ≡ asked =
     length-map placing (λ (die : Die). die.0) ∙ sym c.len.ensures.number ∙ c.if-len-asked.true in
     let is : numbers_of placing ≡ targets copies m page =
-    targets_looked copies m page order.copies order.homes order.dies c.order_of-order.ensures.first c.order_of-order.ensures.dies
-    asked (numbers_of placing) c.copies_asked-asked.ensures
+    all_looked copies m page order.copies order.homes order.dies c.order_of-order.ensures.first c.order_of-order.ensures.dies
+    (has_room m) asked (numbers_of placing) c.copies_asked-asked.ensures
     (chosen_full all (has_room m) asked c.loop-look.look (numbers_of placing) c.loop-look.invariant full) in
     record {
       dies = is;

@@ -8,6 +8,7 @@ use Rattle.std.specs.Borrow.{Bor}
 use Rattle.fa_types.specs.declared.numbers.Die.{Die}
 use Rattle.fa_settings.specs.CommandLine.{Wanted, Formats, Checks, Dumps, Serves, Plans, Talks, TalksOver, Verifies, IsWanted, found_instead, wanted_in}
 use Rattle.fa_settings.specs.declared.command_line.Subcommand.TheVariants.{Format, Check, Dump, Serve, TalkArray}
+use Rattle.fa_settings.specs.declared.terms.Terms.{Terms}
 use Rattle.fa_prog_inspect.specs.Array.{TellsLook}
 use Rattle.fa_prog_format.specs.Formatting.{TellsFormat}
 use Rattle.fa_prog_inspect.specs.declared.look.Asked.TheVariants.{Check as CheckAsked, Dump as DumpAsked}
@@ -41,55 +42,55 @@ ran_format A settings die (Some Talks) s status is reads tells = absurd is
 ran_format A settings die (Some (TalksOver path u)) s status is reads tells = absurd is
 ran_format A settings die (Some Verifies) s status is reads tells = absurd is
 
-ran_check : (A : Type 0) (settings : Bor (List ℕ)) (unclean json : Bool) (wanted : Option Wanted) (s : Streams) (status : ℕ) → IsWanted (Some (Check settings unclean json)) wanted
-    → Reads s [] → TellsLook A CheckAsked unclean json s.held_before s.held_after status → RunsCommand A wanted s status
-ran_check A settings unclean json (Some (Checks path u j)) s status is reads tells =
-    (reads, subst (λ b. TellsLook A CheckAsked b j s.held_before s.held_after status) is.1 (subst (λ b. TellsLook A CheckAsked unclean b s.held_before s.held_after status) is.2 tells))
-ran_check A settings unclean json None s status is reads tells = absurd is
-ran_check A settings unclean json (Some (Formats path text)) s status is reads tells = absurd is
-ran_check A settings unclean json (Some (Dumps path u j)) s status is reads tells = absurd is
-ran_check A settings unclean json (Some (Serves path u v)) s status is reads tells = absurd is
-ran_check A settings unclean json (Some Plans) s status is reads tells = absurd is
-ran_check A settings unclean json (Some Talks) s status is reads tells = absurd is
-ran_check A settings unclean json (Some (TalksOver path u)) s status is reads tells = absurd is
-ran_check A settings unclean json (Some Verifies) s status is reads tells = absurd is
+ran_check : (A : Type 0) (settings : Bor (List ℕ)) (terms : Terms) (json : Bool) (wanted : Option Wanted) (s : Streams) (status : ℕ) → IsWanted (Some (Check settings terms json)) wanted
+    → Reads s [] → TellsLook A CheckAsked terms json s.held_before s.held_after status → RunsCommand A wanted s status
+ran_check A settings terms json (Some (Checks path u j)) s status is reads tells =
+    (reads, subst (λ b. TellsLook A CheckAsked b j s.held_before s.held_after status) is.1 (subst (λ b. TellsLook A CheckAsked terms b s.held_before s.held_after status) is.2 tells))
+ran_check A settings terms json None s status is reads tells = absurd is
+ran_check A settings terms json (Some (Formats path text)) s status is reads tells = absurd is
+ran_check A settings terms json (Some (Dumps path u j)) s status is reads tells = absurd is
+ran_check A settings terms json (Some (Serves path u v)) s status is reads tells = absurd is
+ran_check A settings terms json (Some Plans) s status is reads tells = absurd is
+ran_check A settings terms json (Some Talks) s status is reads tells = absurd is
+ran_check A settings terms json (Some (TalksOver path u)) s status is reads tells = absurd is
+ran_check A settings terms json (Some Verifies) s status is reads tells = absurd is
 
-ran_dump : (A : Type 0) (settings : Bor (List ℕ)) (unclean json : Bool) (wanted : Option Wanted) (s : Streams) (status : ℕ) → IsWanted (Some (Dump settings unclean json)) wanted
-    → Reads s [] → TellsLook A DumpAsked unclean json s.held_before s.held_after status → RunsCommand A wanted s status
-ran_dump A settings unclean json (Some (Dumps path u j)) s status is reads tells =
-    (reads, subst (λ b. TellsLook A DumpAsked b j s.held_before s.held_after status) is.1 (subst (λ b. TellsLook A DumpAsked unclean b s.held_before s.held_after status) is.2 tells))
-ran_dump A settings unclean json None s status is reads tells = absurd is
-ran_dump A settings unclean json (Some (Formats path text)) s status is reads tells = absurd is
-ran_dump A settings unclean json (Some (Checks path u j)) s status is reads tells = absurd is
-ran_dump A settings unclean json (Some (Serves path u v)) s status is reads tells = absurd is
-ran_dump A settings unclean json (Some Plans) s status is reads tells = absurd is
-ran_dump A settings unclean json (Some Talks) s status is reads tells = absurd is
-ran_dump A settings unclean json (Some (TalksOver path u)) s status is reads tells = absurd is
-ran_dump A settings unclean json (Some Verifies) s status is reads tells = absurd is
+ran_dump : (A : Type 0) (settings : Bor (List ℕ)) (terms : Terms) (json : Bool) (wanted : Option Wanted) (s : Streams) (status : ℕ) → IsWanted (Some (Dump settings terms json)) wanted
+    → Reads s [] → TellsLook A DumpAsked terms json s.held_before s.held_after status → RunsCommand A wanted s status
+ran_dump A settings terms json (Some (Dumps path u j)) s status is reads tells =
+    (reads, subst (λ b. TellsLook A DumpAsked b j s.held_before s.held_after status) is.1 (subst (λ b. TellsLook A DumpAsked terms b s.held_before s.held_after status) is.2 tells))
+ran_dump A settings terms json None s status is reads tells = absurd is
+ran_dump A settings terms json (Some (Formats path text)) s status is reads tells = absurd is
+ran_dump A settings terms json (Some (Checks path u j)) s status is reads tells = absurd is
+ran_dump A settings terms json (Some (Serves path u v)) s status is reads tells = absurd is
+ran_dump A settings terms json (Some Plans) s status is reads tells = absurd is
+ran_dump A settings terms json (Some Talks) s status is reads tells = absurd is
+ran_dump A settings terms json (Some (TalksOver path u)) s status is reads tells = absurd is
+ran_dump A settings terms json (Some Verifies) s status is reads tells = absurd is
 
-ran_serve : (A : Type 0) (settings : Bor (List ℕ)) (unclean verbose : Bool) (wanted : Option Wanted) (s : Streams) (status : ℕ) → IsWanted (Some (Serve settings unclean verbose)) wanted
+ran_serve : (A : Type 0) (settings : Bor (List ℕ)) (terms : Terms) (verbose : Bool) (wanted : Option Wanted) (s : Streams) (status : ℕ) → IsWanted (Some (Serve settings terms verbose)) wanted
     → TellsServe A s.held_before s.held_after status → RunsCommand A wanted s status
-ran_serve A settings unclean verbose (Some (Serves path u v)) s status is tells = tells
-ran_serve A settings unclean verbose None s status is tells = absurd is
-ran_serve A settings unclean verbose (Some (Formats path text)) s status is tells = absurd is
-ran_serve A settings unclean verbose (Some (Checks path u j)) s status is tells = absurd is
-ran_serve A settings unclean verbose (Some (Dumps path u j)) s status is tells = absurd is
-ran_serve A settings unclean verbose (Some Plans) s status is tells = absurd is
-ran_serve A settings unclean verbose (Some Talks) s status is tells = absurd is
-ran_serve A settings unclean verbose (Some (TalksOver path u)) s status is tells = absurd is
-ran_serve A settings unclean verbose (Some Verifies) s status is tells = absurd is
+ran_serve A settings terms verbose (Some (Serves path u v)) s status is tells = tells
+ran_serve A settings terms verbose None s status is tells = absurd is
+ran_serve A settings terms verbose (Some (Formats path text)) s status is tells = absurd is
+ran_serve A settings terms verbose (Some (Checks path u j)) s status is tells = absurd is
+ran_serve A settings terms verbose (Some (Dumps path u j)) s status is tells = absurd is
+ran_serve A settings terms verbose (Some Plans) s status is tells = absurd is
+ran_serve A settings terms verbose (Some Talks) s status is tells = absurd is
+ran_serve A settings terms verbose (Some (TalksOver path u)) s status is tells = absurd is
+ran_serve A settings terms verbose (Some Verifies) s status is tells = absurd is
 
-ran_talk_array : (A : Type 0) (settings : Bor (List ℕ)) (unclean : Bool) (wanted : Option Wanted) (s : Streams) (status : ℕ)
-    → IsWanted (Some (TalkArray settings unclean)) wanted → RunsTalkArray A unclean s status → RunsCommand A wanted s status
-ran_talk_array A settings unclean (Some (TalksOver path u)) s status is runs = subst (λ b. RunsTalkArray A b s status) is.1 runs
-ran_talk_array A settings unclean None s status is runs = absurd is
-ran_talk_array A settings unclean (Some (Formats path text)) s status is runs = absurd is
-ran_talk_array A settings unclean (Some (Checks path u j)) s status is runs = absurd is
-ran_talk_array A settings unclean (Some (Dumps path u j)) s status is runs = absurd is
-ran_talk_array A settings unclean (Some (Serves path u v)) s status is runs = absurd is
-ran_talk_array A settings unclean (Some Plans) s status is runs = absurd is
-ran_talk_array A settings unclean (Some Talks) s status is runs = absurd is
-ran_talk_array A settings unclean (Some Verifies) s status is runs = absurd is
+ran_talk_array : (A : Type 0) (settings : Bor (List ℕ)) (terms : Terms) (wanted : Option Wanted) (s : Streams) (status : ℕ)
+    → IsWanted (Some (TalkArray settings terms)) wanted → RunsTalkArray A terms s status → RunsCommand A wanted s status
+ran_talk_array A settings terms (Some (TalksOver path u)) s status is runs = subst (λ b. RunsTalkArray A b s status) is.1 runs
+ran_talk_array A settings terms None s status is runs = absurd is
+ran_talk_array A settings terms (Some (Formats path text)) s status is runs = absurd is
+ran_talk_array A settings terms (Some (Checks path u j)) s status is runs = absurd is
+ran_talk_array A settings terms (Some (Dumps path u j)) s status is runs = absurd is
+ran_talk_array A settings terms (Some (Serves path u v)) s status is runs = absurd is
+ran_talk_array A settings terms (Some Plans) s status is runs = absurd is
+ran_talk_array A settings terms (Some Talks) s status is runs = absurd is
+ran_talk_array A settings terms (Some Verifies) s status is runs = absurd is
 
 pub returns-in-Ok-Some-Format : goal.returns-in-Ok-Some-Format
 returns-in-Ok-Some-Format g c =
@@ -105,7 +106,7 @@ returns-in-Ok-Some-Check g c =
     let k = c.in-Ok-Some-Check in
     inl (
       k.ensures.no_other,
-      ran_check _ k.settings k.unclean k.json (wanted_in (map string_bytes c.args.arguments.now)) _ c.run_look.result
+      ran_check _ k.settings k.terms k.json (wanted_in (map string_bytes c.args.arguments.now)) _ c.run_look.result
           (subst (λ o. IsWanted o (wanted_in (map string_bytes c.args.arguments.now))) (k.field-0-is ∙ ap Some k.field-0-0-is) k.ensures.command) (Consumes-nil _) c.run_look.ensures,
     )
 
@@ -114,7 +115,7 @@ returns-in-Ok-Some-Dump g c =
     let k = c.in-Ok-Some-Dump in
     inl (
       k.ensures.no_other,
-      ran_dump _ k.settings k.unclean k.json (wanted_in (map string_bytes c.args.arguments.now)) _
+      ran_dump _ k.settings k.terms k.json (wanted_in (map string_bytes c.args.arguments.now)) _
           c.run_look-in-Ok-Some-Dump.result
           (subst (λ o. IsWanted o (wanted_in (map string_bytes c.args.arguments.now))) (k.field-0-is ∙ ap Some k.field-0-0-is) k.ensures.command) (Consumes-nil _) c.run_look-in-Ok-Some-Dump.ensures,
     )
@@ -124,7 +125,7 @@ returns-in-Ok-Some-Serve g c =
     let k = c.in-Ok-Some-Serve in
     inl (
       k.ensures.no_other,
-      ran_serve _ k.settings k.unclean k.verbose (wanted_in (map string_bytes c.args.arguments.now)) _ c.run_serve.result
+      ran_serve _ k.settings k.terms k.verbose (wanted_in (map string_bytes c.args.arguments.now)) _ c.run_serve.result
           (subst (λ o. IsWanted o (wanted_in (map string_bytes c.args.arguments.now))) (k.field-0-is ∙ ap Some k.field-0-0-is) k.ensures.command) c.run_serve.ensures,
     )
 
@@ -133,6 +134,6 @@ returns-in-Ok-Some-TalkArray g c =
     let k = c.in-Ok-Some-TalkArray in
     inl (
       k.ensures.no_other,
-      ran_talk_array _ k.settings k.unclean (wanted_in (map string_bytes c.args.arguments.now)) _ c.run_talk_array.result
+      ran_talk_array _ k.settings k.terms (wanted_in (map string_bytes c.args.arguments.now)) _ c.run_talk_array.result
           (subst (λ o. IsWanted o (wanted_in (map string_bytes c.args.arguments.now))) (k.field-0-is ∙ ap Some k.field-0-0-is) k.ensures.command) c.run_talk_array.ensures,
     )

@@ -1,10 +1,8 @@
-use Rattle.std.proofs.Common.{◌≡◌, ◌≤◌, [], length, map, false}
+use Rattle.std.proofs.Common.{◌≡◌, ◌≤◌, length, map, true, false}
 use Rattle.std.specs.List.{AllByRecursion}
-use Rattle.fa_prog_host.specs.Opened.{AreRising}
+use Rattle.fa_prog_host.specs.Opened.{AreRising, WasSynced}
+use Rattle.fa_settings.specs.Terms.{leaves_aside}
 use Rattle.fa_prog_host.proofs.images.open_images.Given as goal
-
-abbrev pub ghost-open : goal.ghost-open
-ghost-open g a = record { bytes = []; lefts = [] }
 
 abbrev pub invariant-loop-place : goal.invariant-loop-place
 invariant-loop-place g l = record {
@@ -12,6 +10,7 @@ invariant-loop-place g l = record {
   order : l.place ≤ l.count;
   each : length l.places.items ≡ length l.images.items;
   rising : AreRising 0 l.place l.places.items;
-  all : l.unclean ≡ false → length l.places.items ≡ l.place;
+  all : leaves_aside l.opening.terms ≡ false → length l.places.items ≡ l.place;
   shape : AllByRecursion (λ image. image.geometry ≡ l.settings.geometry) (map (λ watched. watched.image) l.images.items);
+  synced : l.opening.syncs ≡ true → AllByRecursion (WasSynced l.opening.terms) (map (λ watched. watched.image) l.images.items);
 }

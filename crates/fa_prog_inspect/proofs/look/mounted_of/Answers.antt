@@ -5,13 +5,13 @@ use Rattle.fa_prog_inspect.proofs.look.mounted_of.Goals as goal
 
 pub returns-in-Ok-clause-mounted : goal.returns-in-Ok-clause-mounted
 returns-in-Ok-clause-mounted g c =
-    mounts_within (λ watched. watched.image) file_view FileMade c.args.settings.now c.args.look.unclean c.args.images.now
+    mounts_within (λ watched. watched.image) file_view FileMade c.args.settings.now c.args.look.terms c.args.images.now
     c.mount-result.new.images c.in-Ok.array.founds.items c.in-Ok.array.mounted c.in-Ok.ensures
 
 pub returns-in-Err-clause-refused : goal.returns-in-Err-clause-refused
 returns-in-Err-clause-refused g c = (
   c.in-Err.refused,
   refl,
-  refuses_within (λ watched. watched.image) file_view FileMade c.args.settings.now c.args.look.unclean c.args.images.now
+  refuses_within (λ watched. watched.image) file_view FileMade c.args.settings.now c.args.look.terms c.args.images.now
       c.mount-result.new.images c.in-Err.refused c.in-Err.ensures,
 )

@@ -1,4 +1,5 @@
 use Rattle.std.proofs.Common.{◌∙◌, ◌+◌, None, ap, refl, sym}
+use Rattle.fa_core_dispatch.specs.Handed.{handed_of}
 use Rattle.fa_solo_job.proofs.Chains.{does_event}
 use Rattle.fa_machine.specs.Step.{Take}
 use Rattle.fa_shared_lock.specs.Locked.{LockedState}
@@ -12,7 +13,7 @@ pub run_noted-requires-clause-flight : goal.run_noted-requires-clause-flight
 run_noted-requires-clause-flight g c = took_job _ _ _ _ _ c.in-Some.ensures.event
 
 pub run_noted-requires-clause-fits : goal.run_noted-requires-clause-fits
-run_noted-requires-clause-fits g c = fits_by _ _ _ _ _ _ (sym (c.the_geometry_is_kept.ensures _ _ _ c.in-Some.ensures.event))
+run_noted-requires-clause-fits g c = fits_by _ _ _ _ _ (handed_of c.in-Some.job) (sym (c.the_geometry_is_kept.ensures _ _ _ c.in-Some.ensures.event))
     (sym (ap (λ (l : LockedState). l.number) c.take.ensures.rest.rest)) c.in-Some.ensures.fits
 
 pub run_noted-requires-clause-placed : goal.run_noted-requires-clause-placed

@@ -1,5 +1,5 @@
 use Rattle.fa_solo_laws.proofs.Chained.{chain_idle}
-use Rattle.fa_solo_laws.proofs.Holding.{beginning_idle, call_idle}
+use Rattle.fa_solo_laws.proofs.Between.{beginning_idle, call_idle}
 use Rattle.fa_solo_laws.proofs.idle.nothing_is_open_between_calls.Goals as goal
 
 pub returns : goal.returns

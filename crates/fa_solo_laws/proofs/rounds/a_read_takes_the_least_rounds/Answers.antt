@@ -15,7 +15,7 @@ use Rattle.fa_image.specs.Image.{ImageAnswer, ImageCall}
 use Rattle.fa_shared_steps.specs.declared.request.Task.{Task}
 use Rattle.fa_solo.specs.Calls.{MakesWhole}
 use Rattle.fa_solo_job.specs.declared.inner.Inner.{Inner}
-use Rattle.fa_solo_laws.proofs.Holding.{call_idle}
+use Rattle.fa_solo_laws.proofs.Between.{call_idle}
 use Rattle.fa_solo_laws.proofs.WholeReads.{whole_behind, whole_unlooked}
 use Rattle.fa_solo_laws.specs.Standing.{vain_looks}
 use Rattle.fa_types.specs.Store.{Gave, Refused}

@@ -1,0 +1,3 @@
+pub mod Mounted
+pub mod Live
+pub mod Again

@@ -1,0 +1,2 @@
+pub mod Recovered
+pub mod Slots
