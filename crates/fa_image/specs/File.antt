@@ -3,10 +3,10 @@ use Rattle.std.specs.Prelude.{ℕ, ◌+◌, ◌-◌, ◌*◌, true, List, ◌++�
 use Rattle.std.specs.List.{concat}
 use Rattle.fa_types.specs.Store.{bytes_at}
 use Rattle.fa_types.specs.declared.geometry.Geometry.{Geometry}
-use Rattle.fa_image_history.specs.Contents.{Contents, after_read, after_write, after_failure}
+use Rattle.fa_image_history.specs.Contents.{Contents, after_read, after_write, after_failure, after_sync}
 use Rattle.fa_image.specs.Cut.{cut}
 use Rattle.fa_image.specs.Image.{ImageState, slot_bytes, slot_count}
-use Rattle.fa_image.specs.Image.{ImageCall, ReadingSlot, Programming, Erasing, ReadingHeader, WritingHeader}
+use Rattle.fa_image.specs.Image.{ImageCall, ReadingSlot, Programming, Erasing, ReadingHeader, WritingHeader, Syncing}
 use Rattle.fa_image.specs.Image.{ImageAnswer, Gave, Done, Refused}
 
 -- the bytes of a file: 4,096, of which the first 112 are the header, and then the slots
@@ -42,9 +42,9 @@ abbrev pub filled_up : ℕ → List ℕ → List ℕ
 filled_up n bytes = bytes ++ replicate (n - length bytes) 0
 
 -- What a file holds when it is opened. One that is too short counts as one with zeros behind its end: no read
--- is given them, and a write behind the end puts them there.
+-- is given them, and a write behind the end puts them there. What was written before may not be on its medium.
 abbrev pub held_at : Geometry → Start → Contents
-held_at g start = record { bytes = filled_up (file_bytes g) start.bytes; lefts = start.lefts; honest = true }
+held_at g start = record { bytes = filled_up (file_bytes g) start.bytes; lefts = start.lefts; honest = true; unsynced = true }
 
 -- what is seen of an image in a file that was opened
 abbrev pub opened : Geometry → Start → ImageState
@@ -60,7 +60,7 @@ of_zeros g = record {
   faults = 0;
 }
 
--- The file after a call of its image with its answer: each is one read or one write, and a sync changes nothing.
+-- The file after a call of its image with its answer: each is one read, one write or one sync, and that of the header is a write and a sync.
 abbrev pub after_call : Geometry → ImageCall → ImageAnswer → Contents → Contents
 after_call g (ReadingSlot slot) (Gave bytes) file = after_read (slot_offset g slot) bytes file
 after_call g (Programming slot bytes) Done file = after_write (slot_offset g slot) bytes file
@@ -69,6 +69,7 @@ after_call g (Erasing block) Done file =
     after_write (slot_offset g (block * g.slots)) (replicate (g.slots * slot_bytes g) 0xff) file
 after_call g (Erasing block) (Refused fault) file = after_failure (slot_offset g (block * g.slots)) (g.slots * slot_bytes g) file
 after_call g ReadingHeader (Gave bytes) file = after_read 0 bytes file
-after_call g (WritingHeader bytes) Done file = after_write 0 bytes file
+after_call g (WritingHeader bytes) Done file = after_sync (after_write 0 bytes file)
 after_call g (WritingHeader bytes) (Refused fault) file = after_failure 0 112 file
+after_call g Syncing Done file = after_sync file
 after_call g call answer file = file

@@ -218,7 +218,9 @@ module _ (g : Geometry) (file : Contents) (syncs faults : ℕ) (sized : file_byt
   stays (WritingHeader bytes) (Gave given) = refl
   stays (WritingHeader bytes) Done = refl
   stays (WritingHeader bytes) (Refused fault) = refl
-  stays Syncing answer = refl
+  stays Syncing (Gave given) = refl
+  stays Syncing Done = refl
+  stays Syncing (Refused fault) = refl
 
   pub met : (call : ImageCall) (answer : ImageAnswer) → IsCallOf g call → IsAnswerTo g call answer
       → ImageMeets (seen syncs faults file.bytes) file.honest call answer

@@ -7,7 +7,9 @@ use crate::fault::{ImageFault, refuse};
 use crate::image::Image;
 use crate::shape::{file_bytes, slot_bytes, slot_offset};
 use fa_ghost::History;
-use fa_image_history::{FileContents, note_failed, note_read, note_written};
+use fa_image_history::{
+    FileContents, note_failed, note_kept, note_read, note_synced, note_written,
+};
 use fa_types::{Geometry, HEADER_BYTES, Slot};
 use std::alloc::{AllocError, Global};
 use std::fs::{File, OpenOptions};
@@ -208,7 +210,7 @@ impl Image for FileImage {
             note_failed(&mut self.held, 0, HEADER_BYTES);
             return refuse(ImageFault::WriteHeader, &mut self.faults);
         }
-        note_written(&mut self.held, 0, bytes);
+        note_kept(&mut self.held, 0, bytes);
         Ok(())
     }
 
@@ -216,6 +218,7 @@ impl Image for FileImage {
         if self.file.sync_data().is_err() {
             return refuse(ImageFault::Sync, &mut self.faults);
         }
+        note_synced(&mut self.held);
         self.syncs = self.syncs.wrapping_add(1);
         Ok(())
     }

@@ -3,4 +3,4 @@
 
 mod deed;
 
-pub use deed::{FileContents, note_failed, note_read, note_written};
+pub use deed::{FileContents, note_failed, note_kept, note_read, note_synced, note_written};
