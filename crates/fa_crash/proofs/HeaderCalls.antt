@@ -329,6 +329,9 @@ module _ (first w : World) (u : Unsynced) (k : IsKept w u) (f : HeadersFit first
     kept = λ t around d alive ours. f.kept t (around_was t around) d (live_was d alive) ours;
     unused = λ t around d spare. f.unused t (around_was t around) d (sym (ap (λ (c : Core). contains_key c.spares d) s.core_same) ∙ spare);
     spares = λ d spare. f.spares d (sym (ap (λ (c : Core). contains_key c.spares d) s.core_same) ∙ spare);
+    there = λ d alive. f.there d (live_was d alive);
+    unused_yet = λ d spare. f.unused_yet d (sym (ap (λ (c : Core). contains_key c.spares d) s.core_same) ∙ spare);
+    ours = λ t around d named. f.ours t (around_was t around) d named;
     rising = λ t l at_t at_l less d alive named. f.rising t l (around_was t at_t) (around_was l at_l) less d (live_was d alive) named;
     between = λ h l t at_h at_l at_t less more d a b. f.between h l t (around_was h at_h) (around_was l at_l) (around_was t at_t) less more d a b;
     until = λ l t at_l at_t less d ours named. f.until l t (around_was l at_l) (around_was t at_t) less d ours named;

@@ -9,6 +9,7 @@ use Rattle.fa_crash.proofs.Laws.{Laws}
 use Rattle.fa_crash.proofs.Masks.{mask_names}
 use Rattle.fa_crash.proofs.Taken.{IsTaken, taken_gave}
 use Rattle.fa_crash.proofs.Trusted.{IsMarked, Trusted}
+use Rattle.fa_crash.specs.Flushed.{is_of_array}
 use Rattle.fa_crash.specs.Headers.{names}
 use Rattle.fa_crash.specs.Unsynced.{Unsynced}
 use Rattle.fa_laws.proofs.Endings.{HasOutcome}
@@ -29,7 +30,7 @@ use Rattle.std.proofs.lemmas.Option.{none-some}
 use Rattle.std.proofs.Common.{filter}
 use Rattle.std.specs.FinMap.{contains_key, get, insert, remove}
 use Rattle.std.specs.List.{fold}
-use Rattle.std.specs.Prelude.{is_some, option_map}
+use Rattle.std.specs.Prelude.{is_some, option_map, ◌||◌}
 
 abbrev did_write : Option Outcome → Bool
 did_write (Some DidWriteHeader) = true
@@ -56,6 +57,10 @@ mask_in a b c d e = cc
 
 header_not : (flight : Flight) (a b : ℕ) → flight ≡ Header a b → is_header flight ≡ false → ⊥
 header_not flight a b e plain = false≢true (sym plain ∙ ap is_header e)
+
+or_right : (a b : Bool) → b ≡ true → (a || b) ≡ true
+or_right true b e = refl
+or_right false b e = e
 
 none_given : (xs : List Gave) (x : Gave) (ys : List Gave) → xs ≡ [] → xs ≡ x ∷ ys → ⊥
 none_given xs x ys e f = cc
@@ -227,6 +232,24 @@ module _ (laws : Laws) (first w : World) (u : Unsynced) (k : IsKept w u) (f : He
         | inr n ↦ new_names t n die ∙ k.sound.dies.apart die (spare_was die spare)
       ]
 
+  -- a header that is new names dies that are live
+  named_live : (t : HeaderTells) → IsNew t → (die : ℕ) → names t.live die ≡ true → is_live old.page_map die ≡ true
+  named_live t n die named = sym (new_names t n die) ∙ named
+
+  there_then : (die : ℕ) → is_live new.page_map die ≡ true → is_of_array first die ≡ true
+  there_then die alive = at (was_live die alive)
+    where
+      at : WasLive die → is_of_array first die ≡ true
+      at (Lived was) = f.there die was
+      at (Spare spare) = or_right (is_live first.core.page_map die) (contains_key first.core.spares die) (f.unused_yet die spare)
+
+  ours_then : (t : HeaderTells) → IsAround after u t → (die : ℕ) → names t.live die ≡ true → is_of_array first die ≡ true
+  ours_then t around die named =
+      elim (around_was t around) [
+        | inl before ↦ f.ours t before die named
+        | inr n ↦ f.there die (named_live t n die named)
+      ]
+
   rising_then : (t l : HeaderTells) → IsAround after u t → IsAround after u l → t.epoch ≤ l.epoch → (die : ℕ)
       → is_live new.page_map die ≡ true → names t.live die ≡ true
       → names l.live die ≡ true
@@ -262,10 +285,6 @@ module _ (laws : Laws) (first w : World) (u : Unsynced) (k : IsKept w u) (f : He
         | inl before ↦ old_mask l t n before less
         | inr m ↦ m.names_live ∙ sym n.names_live
       ]
-
-  -- a header that is new names dies that are live
-  named_live : (t : HeaderTells) → IsNew t → (die : ℕ) → names t.live die ≡ true → is_live old.page_map die ≡ true
-  named_live t n die named = sym (new_names t n die) ∙ named
 
   between_then : (a l t : HeaderTells) → IsAround after u a → IsAround after u l → IsAround after u t → a.epoch ≤ l.epoch
       → l.epoch ≤ t.epoch → (die : ℕ)
@@ -387,6 +406,9 @@ module _ (laws : Laws) (first w : World) (u : Unsynced) (k : IsKept w u) (f : He
     kept = kept_then;
     unused = unused_then;
     spares = λ die spare. f.spares die (spare_was die spare);
+    there = there_then;
+    unused_yet = λ die spare. f.unused_yet die (spare_was die spare);
+    ours = ours_then;
     rising = rising_then;
     between = between_then;
     until = until_then;

@@ -9,7 +9,8 @@ use Rattle.fa_crash.proofs.Outlasting.{no_cell}
 use Rattle.fa_crash.proofs.Runs.{beginning_kept, happens_kept, run_whole_keeps}
 use Rattle.fa_crash.proofs.Trusted.{Trusted}
 use Rattle.fa_crash.specs.Cut.{IsCut}
-use Rattle.fa_crash.specs.Headers.{AreFirstHeaders, AreMountedAgain, AreToldAlike, names, tells}
+use Rattle.fa_crash.specs.Flushed.{is_of_array}
+use Rattle.fa_crash.specs.Headers.{AreFirstHeaders, AreMountedAgain, AreToldAlike, IsNewest, NameOurs, names, tells}
 use Rattle.fa_crash.specs.Unsynced.{Unsynced, nothing_unsynced, unsynced_behind}
 use Rattle.fa_crash.specs.Whole.{IsWhole, RunWhole}
 use Rattle.fa_laws.proofs.Staying.{copy_from_holds}
@@ -24,7 +25,7 @@ use Rattle.std.proofs.Common.{List, None, Option, Some, ap, arith, false, inl, i
 use Rattle.std.proofs.lemmas.Bool.{cases_Bool, false≢true}
 use Rattle.std.proofs.lemmas.Option.{none-some, same_Some}
 use Rattle.std.specs.FinMap.{contains_key}
-use Rattle.std.specs.Prelude.{unwrap_or}
+use Rattle.std.specs.Prelude.{unwrap_or, ◌||◌}
 
 pub record HeadersKept (first w : World) (u : Unsynced) : Type 0 where
   pub kept : IsKept w u
@@ -64,6 +65,9 @@ module _ (laws : Laws) (begins_sound : (w : World) → IsBeginning w → IsSound
     kept = λ h around die alive ours. absurd (none_around h around);
     unused = λ h around die spare. absurd (none_around h around);
     spares = λ die spare. k.sound.dies.apart die spare;
+    there = λ die alive. ap (λ b. b || contains_key first.core.spares die) alive;
+    unused_yet = λ die spare. spare;
+    ours = λ h around die named. absurd (none_around h around);
     rising = λ h l at_h at_l less die alive named. absurd (none_around h at_h);
     between = λ h l t at_h at_l at_t less more die a z. absurd (none_around h at_h);
     until = λ l t at_l at_t less die ours named. absurd (none_around l at_l);
@@ -224,3 +228,27 @@ module _ (laws : Laws) (begins_sound : (w : World) → IsBeginning w → IsSound
             ap (λ (t : HeaderTells). t.live) (tells_none die e)
             ∙ before die other (ap (λ (t : HeaderTells). t.epoch) (sym (tells_none die e)) ∙ same ∙ ap (λ (t : HeaderTells). t.epoch) (tells_none other g))
             ∙ ap (λ (t : HeaderTells). t.live) (sym (tells_none other g))
+
+    -- the newest headers that a cut leaves name dies of the array
+    pub newest_ours : NameOurs first told → (top die : ℕ) → IsNewest (tells told heads) top → names (tells told heads top).live die ≡ true
+        → is_of_array first die ≡ true
+    newest_ours before top die newest named = at (heads top) refl
+      where
+        old_newest : heads top ≡ None → (other : ℕ) → (o : Option HeaderTells) → heads other ≡ o → (told other).epoch ≤ (told top).epoch
+        old_newest e other (Some l) g = absurd (told_older top other l e g (newest other))
+        old_newest e other None g = subst (λ (p : HeaderTells × HeaderTells). p.0.epoch ≤ p.1.epoch)
+            {x = (tells told heads other, tells told heads top)} {y = (told other, told top)} (λ i. (tells_none other g i, tells_none top e i)) (newest other)
+
+        at : (x : Option HeaderTells) → heads top ≡ x → is_of_array first die ≡ true
+        at (Some h) e = all.headers.ours h (inl (top, head_left top (Some h) e)) die
+            (ap (λ (h : HeaderTells). names h.live die) (sym (tells_some top h e)) ∙ named)
+        at None e = before top die (λ other. old_newest e other (heads other) refl)
+            (ap (λ (h : HeaderTells). names h.live die) (sym (tells_none top e)) ∙ named)
+
+    -- and so it is of the next life, where the dies that they name are of its array
+    pub newest_again : AreToldAlike told → (next : World) (m : AreMountedAgain first next told heads)
+        → ((die : ℕ) → names (tells told heads m.top).live die ≡ true → is_of_array next die ≡ true) → NameOurs next (tells told heads)
+    newest_again before next m there top die newest named =
+        let low = newest m.top in
+        let high = m.greatest top in
+        there die (ap (λ live. names live die) (told_alike before m.top top (omega (arith, low, high))) ∙ named)

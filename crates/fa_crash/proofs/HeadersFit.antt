@@ -1,6 +1,7 @@
 -- What holds of the headers that dies have, and of those that a crash may bring back.
 use Rattle.fa_crash.proofs.Epochs.{is_header}
 use Rattle.fa_crash.proofs.Trusted.{Trusted}
+use Rattle.fa_crash.specs.Flushed.{is_of_array}
 use Rattle.fa_crash.specs.Headers.{names}
 use Rattle.fa_crash.specs.Unsynced.{Unsynced}
 use Rattle.fa_machine.specs.Among.{Among}
@@ -49,6 +50,10 @@ pub record HeadersFit (first w : World) (u : Unsynced) : Type 0 where
       → names h.live die ≡ true
   pub unused : (h : HeaderTells) → IsAround w u h → (die : ℕ) → contains_key w.core.spares die ≡ true → names h.live die ≡ false
   pub spares : (die : ℕ) → contains_key w.core.spares die ≡ true → is_live first.core.page_map die ≡ false
+  -- live dies and spares are dies of the array, and a header names no others
+  pub there : (die : ℕ) → is_live w.core.page_map die ≡ true → is_of_array first die ≡ true
+  pub unused_yet : (die : ℕ) → contains_key w.core.spares die ≡ true → contains_key first.core.spares die ≡ true
+  pub ours : (h : HeaderTells) → IsAround w u h → (die : ℕ) → names h.live die ≡ true → is_of_array first die ≡ true
   -- a live die that a header names is named by each later one
   pub rising : (h l : HeaderTells) → IsAround w u h → IsAround w u l → h.epoch ≤ l.epoch → (die : ℕ) → is_live w.core.page_map die ≡ true
       → names h.live die ≡ true → names l.live die ≡ true

@@ -1,6 +1,7 @@
 -- What the headers of dies tell behind a crash: an epoch, and which dies were live in it.
 use Rattle.std.specs.Prelude.{◌≡◌, ℕ, ◌<◌, ◌≤◌, Bool, true, ◌==◌, Option, None, unwrap_or}
 use Rattle.std.specs.Int.{bit_at}
+use Rattle.fa_crash.specs.Flushed.{is_of_array}
 use Rattle.fa_machine.specs.State.{is_live}
 use Rattle.fa_machine.specs.World.{HeaderTells, World}
 
@@ -30,6 +31,14 @@ pub record AreMountedAgain (first next : World) (told : ℕ → HeaderTells) (he
   pub greatest : (die : ℕ) → (tells told heads die).epoch ≤ (tells told heads top).epoch
   pub ours : (die : ℕ) → is_live next.core.page_map die ≡ true → names (tells told heads top).live die ≡ true
   pub unheard : (die : ℕ) → is_live next.core.page_map die ≡ true → heads die ≡ None → is_live first.core.page_map die ≡ true
+
+-- no header has a greater epoch than that of this die
+abbrev pub IsNewest : (ℕ → HeaderTells) → ℕ → Type 0
+IsNewest told top = (other : ℕ) → (told other).epoch ≤ (told top).epoch
+
+-- the newest headers name no dies but those of the array as it was mounted
+abbrev pub NameOurs : World → (ℕ → HeaderTells) → Type 0
+NameOurs first told = (top die : ℕ) → IsNewest told top → names (told top).live die ≡ true → is_of_array first die ≡ true
 
 -- what headers told of one epoch as the array was mounted, they told alike
 abbrev pub AreToldAlike : (ℕ → HeaderTells) → Type 0

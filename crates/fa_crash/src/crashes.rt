@@ -9,8 +9,8 @@ ghost use Rattle.fa_machine.specs.Run.{Happening};
 ghost use Rattle.fa_machine.specs.State.{is_live};
 ghost use Rattle.fa_machine.specs.World.{HeaderTells, World};
 ghost use Rattle.fa_crash.specs.Cut.{IsCut};
-ghost use Rattle.fa_crash.specs.Flushed.{AreOfLast, IsPromised};
-ghost use Rattle.fa_crash.specs.Headers.{AreFirstHeaders, AreMountedAgain, AreToldAlike, names, tells};
+ghost use Rattle.fa_crash.specs.Flushed.{AreOfLast, IsPromised, is_of_array};
+ghost use Rattle.fa_crash.specs.Headers.{AreFirstHeaders, AreMountedAgain, AreToldAlike, IsNewest, NameOurs, names, tells};
 ghost use Rattle.fa_crash.specs.Outlasts.{AreReserved, IsLeftOn};
 ghost use Rattle.fa_crash.specs.Unsynced.{Unsynced, nothing_unsynced, number_of};
 ghost use Rattle.fa_crash.specs.Whole.{RunWhole};
@@ -130,6 +130,30 @@ pub fn what_a_cut_leaves_are_first_headers_again()
     ensures alike { (first w : World) (told : ℕ → HeaderTells) (happenings : List Happening) (u : Unsynced) (cells : ℕ → ℕ → Cell)
         (heads : ℕ → Option HeaderTells) → IsBeginning first → AreFirstHeaders first told → AreToldAlike told
         → RunWhole first (nothing_unsynced first) happenings w u → IsCut w u cells heads → AreToldAlike (tells told heads) }
+{
+    a_beginning_is_sound();
+    a_step_keeps_sound();
+    live_dies_are_kept();
+    spares_are_kept();
+    numbers_are_kept();
+    a_commit_raises_the_number();
+    the_geometry_is_kept();
+    only_an_erase_erases();
+    a_copy_stays_with_its_die();
+}
+
+/// Behind each cut, the newest of the headers name no dies but those of the array. So it is again in the next life, where each die that they
+/// name is live or a spare.
+pub fn the_newest_headers_name_dies_of_the_array()
+    ensures ours { (first w : World) (told : ℕ → HeaderTells) (happenings : List Happening) (u : Unsynced) (cells : ℕ → ℕ → Cell)
+        (heads : ℕ → Option HeaderTells) (top die : ℕ) → IsBeginning first → AreFirstHeaders first told → NameOurs first told
+        → RunWhole first (nothing_unsynced first) happenings w u → IsCut w u cells heads → IsNewest (tells told heads) top
+        → names (tells told heads top).live die ≡ true → is_of_array first die ≡ true }
+    ensures again { (first w next : World) (told : ℕ → HeaderTells) (happenings : List Happening) (u : Unsynced) (cells : ℕ → ℕ → Cell)
+        (heads : ℕ → Option HeaderTells) → IsBeginning first → AreFirstHeaders first told → AreToldAlike told
+        → RunWhole first (nothing_unsynced first) happenings w u → IsCut w u cells heads → (again : AreMountedAgain first next told heads)
+        → ((die : ℕ) → names (tells told heads again.top).live die ≡ true → is_of_array next die ≡ true)
+        → NameOurs next (tells told heads) }
 {
     a_beginning_is_sound();
     a_step_keeps_sound();

@@ -63,7 +63,7 @@ mask_seen seen x among = at (find (λ x. x.header.epoch == greatest_epoch seen) 
         absurd (true≢false (sym (eq-eqb g.0.header.epoch (greatest_epoch seen) g.2)
         ∙ none_passes (λ (x : Seen). x.header.epoch == greatest_epoch seen) seen e g.0 g.1))
 
-some_passes : {X : Type 0} (p : X → Bool) (xs : List X) → list_any p xs ≡ true → (x : X) × Among x xs × (p x ≡ true)
+pub some_passes : {X : Type 0} (p : X → Bool) (xs : List X) → list_any p xs ≡ true → (x : X) × Among x xs × (p x ≡ true)
 some_passes p [] e = absurd (false≢true e)
 some_passes p (x ∷ xs) e =
     elim (or_cases (p x) (list_any p xs) e) [
