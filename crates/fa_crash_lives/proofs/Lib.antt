@@ -1,0 +1,5 @@
+pub mod Stands
+pub mod Refused
+pub mod Fresh
+pub mod Geometry
+pub mod Left
