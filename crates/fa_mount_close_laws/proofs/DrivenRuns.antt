@@ -66,7 +66,7 @@ module _ {I : Type 0} (view : I → ImageState) (honest : I → Bool) (made : I 
     pub given : (die : ℕ) → IsGiven (s.works die)
     pub images : AreImages view w s.images
 
-  image_kept : (w v : World) (die : ℕ) (image : I) → v.core.page_map.geometry ≡ w.core.page_map.geometry
+  pub image_kept : (w v : World) (die : ℕ) (image : I) → v.core.page_map.geometry ≡ w.core.page_map.geometry
       → ((slot : ℕ) → (v.images die).seen slot ≡ (w.images die).seen slot) → IsImageOf view w die image → IsImageOf view v die image
   image_kept w v die image shape seen is = record {
     shape = is.shape ∙ sym shape;
@@ -74,7 +74,7 @@ module _ {I : Type 0} (view : I → ImageState) (honest : I → Bool) (made : I 
         (is.cells slot (subst (λ (g : Geometry). slot < g.blocks * g.slots) shape within));
   }
 
-  event_follows : GeometryLaw → (w : World) (s middle : Driven I) (act : Act) → Follows w s → HasEvent s act middle
+  pub event_follows : GeometryLaw → (w : World) (s middle : Driven I) (act : Act) → Follows w s → HasEvent s act middle
       → (v : World) × HappensEvent w act v × Follows v middle
   event_follows law w s middle act f e =
       let v : World = record (followed act w) { core = middle.core; moment = suc w.moment } in
@@ -123,10 +123,10 @@ module _ {I : Type 0} (view : I → ImageState) (honest : I → Bool) (made : I 
   given_so w s die work f is = subst IsGiven is (f.given die)
 
   -- a world to which one call leads
-  abbrev Called : World → ℕ → Driven I → Type 0
+  abbrev pub Called : World → ℕ → Driven I → Type 0
   Called w die middle = (gave : Gave) × (v : World) × Happens w (Calling die gave) v × Follows v middle
 
-  call_follows : (w : World) (s middle : Driven I) (die : ℕ) → Follows w s → (makes : MakesNext made array s die middle)
+  pub call_follows : (w : World) (s middle : Driven I) (die : ℕ) → Follows w s → (makes : MakesNext made array s die middle)
       → IsTrue (honest makes.after) → Called w die middle
   call_follows w s middle die f makes fair =
       let core = sym f.core in
@@ -157,7 +157,7 @@ module _ {I : Type 0} (view : I → ImageState) (honest : I → Bool) (made : I 
     | inr apart ↦ ap (λ (i : DieImage). i.seen slot) (value_other die next w.images d apart)
   ]
 
-  refused_follows : (w : World) (s middle : Driven I) (die : ℕ) → Follows w s → RefusesNext s die middle → Called w die middle
+  pub refused_follows : (w : World) (s middle : Driven I) (die : ℕ) → Follows w s → RefusesNext s die middle → Called w die middle
   refused_follows w s middle die f refuses =
       let work = refuses.work in
       let works = f.works die ∙ refuses.has.works in

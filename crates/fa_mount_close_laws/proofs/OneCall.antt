@@ -242,10 +242,10 @@ module _ (m : MapState) (array : List ℕ) (die : ℕ) (state after : ImageState
   call_leads (WritesHeader epoch live) Refused image_call (RefusedBy fault) made given meets may =
       let bytes = header_bytes 2 (header_of m.geometry array die epoch live) in
       let met = same_call (WritingHeader bytes) image_call (RefusedBy fault) made meets in
-      let next : DieImage = record image { header = None } in
+      let next : DieImage = record image { header = image.header } in
       record {
         next = next;
-        calls = (None, refl);
+        calls = (image.header, refl);
         cells = same_cells _ met.leads.2 refl refl next (λ s. refl);
         given = tt;
       }
