@@ -34,25 +34,28 @@ record Unmade (is_of : ℕ → ℕ → Bool) (call : JobCall) (image : DieImage)
   pub next : DieImage
   pub calls : Calls is_of call Refused image next
   pub seen : (slot : ℕ) → next.seen slot ≡ image.seen slot
+  pub header : next.header ≡ image.header
 
 either_way : (b : Bool) (x y : Cell) → (b ≡ true → x ≡ y) → (if b then x else y) ≡ y
 either_way true x y same = same refl
 either_way false x y same = refl
 
 unmade : (is_of : ℕ → ℕ → Bool) (call : JobCall) (image : DieImage) → Unmade is_of call image
-unmade is_of (ReadsSlot slot) image = record { next = image; calls = refl; seen = λ s. refl }
+unmade is_of (ReadsSlot slot) image = record { next = image; calls = refl; seen = λ s. refl; header = refl }
 unmade is_of (ProgramsSlot slot cell) image = record {
   next = with_cell slot (image.seen slot) image;
   calls = (image.seen slot, refl);
   seen = λ s. either_way (s == slot) (image.seen slot) (image.seen s) (λ e. ap image.seen (sym (eqb-true s slot e)));
+  header = refl;
 }
 unmade is_of (ErasesBlock block) image = record {
   next = record image { seen = λ slot. if is_of block slot then image.seen slot else image.seen slot };
   calls = (image.seen, refl);
   seen = λ s. either_way (is_of block s) (image.seen s) (image.seen s) (λ e. refl);
+  header = refl;
 }
-unmade is_of (WritesHeader epoch live) image = record { next = record image { header = image.header }; calls = (image.header, refl); seen = λ s. refl }
-unmade is_of Syncs image = record { next = image; calls = refl; seen = λ s. refl }
+unmade is_of (WritesHeader epoch live) image = record { next = record image { header = image.header }; calls = (image.header, refl); seen = λ s. refl; header = refl }
+unmade is_of Syncs image = record { next = image; calls = refl; seen = λ s. refl; header = refl }
 
 module _ {I : Type 0} (view : I → ImageState) (honest : I → Bool) (made : I → ImageCall → ImageAnswer → I → Type 0)
     (whole : (image : I) → IsImage (view image))
@@ -123,11 +126,19 @@ module _ {I : Type 0} (view : I → ImageState) (honest : I → Bool) (made : I 
   given_so w s die work f is = subst IsGiven is (f.given die)
 
   -- a world to which one call leads
-  abbrev pub Called : World → ℕ → Driven I → Type 0
-  Called w die middle = (gave : Gave) × (v : World) × Happens w (Calling die gave) v × Follows v middle
+  abbrev pub Called : World → ℕ → Gave → Driven I → Type 0
+  Called w die gave middle = (v : World) × Happens w (Calling die gave) v × Follows v middle
+
+  -- a refused call leaves the header
+  abbrev pub LeavesHeader : World → ℕ → Gave → World → Type 0
+  LeavesHeader w die gave v = gave ≡ Refused → (v.images die).header ≡ (w.images die).header
+
+  -- a call that was not made leaves all slots
+  abbrev pub LeavesSlots : World → ℕ → World → Type 0
+  LeavesSlots w die v = (slot : ℕ) → (v.images die).seen slot ≡ (w.images die).seen slot
 
   pub call_follows : (w : World) (s middle : Driven I) (die : ℕ) → Follows w s → (makes : MakesNext made array s die middle)
-      → IsTrue (honest makes.after) → Called w die middle
+      → IsTrue (honest makes.after) → (one : Called w die makes.gave middle) × LeavesHeader w die makes.gave one.0
   call_follows w s middle die f makes fair =
       let core = sym f.core in
       let work = makes.work in
@@ -146,7 +157,7 @@ module _ {I : Type 0} (view : I → ImageState) (honest : I → Bool) (made : I 
         works = works_then w one.last s die next f only one.works;
         given = changed_given die (Some next) s.works (all_and work.gave makes.gave some one.given) f.given;
         images = images_then w one.last s die makes.after f only one.image;
-      } in (makes.gave, one.last, one.happens, subst (Follows one.last) (sym makes.follows) there)
+      } in ((one.last, one.happens, subst (Follows one.last) (sym makes.follows) there), one.header)
 
   seen_still : (w : World) (die : ℕ) (next : DieImage) → ((slot : ℕ) → next.seen slot ≡ (w.images die).seen slot) → (d slot : ℕ)
       → (with_value die next w.images d).seen slot ≡ (w.images d).seen slot
@@ -157,7 +168,8 @@ module _ {I : Type 0} (view : I → ImageState) (honest : I → Bool) (made : I 
     | inr apart ↦ ap (λ (i : DieImage). i.seen slot) (value_other die next w.images d apart)
   ]
 
-  pub refused_follows : (w : World) (s middle : Driven I) (die : ℕ) → Follows w s → RefusesNext s die middle → Called w die middle
+  pub refused_follows : (w : World) (s middle : Driven I) (die : ℕ) → Follows w s → RefusesNext s die middle
+      → (one : Called w die Refused middle) × LeavesHeader w die Refused one.0 × LeavesSlots w die one.0
   refused_follows w s middle die f refuses =
       let work = refuses.work in
       let works = f.works die ∙ refuses.has.works in
@@ -182,7 +194,11 @@ module _ {I : Type 0} (view : I → ImageState) (honest : I → Bool) (made : I 
         works = works_then w v s die after f only is_work;
         given = changed_given die (Some after) s.works (all_and work.gave Refused (given_so w s die work f refuses.has.works) tt) f.given;
         images = λ d image at. image_kept w v d image refl (seen_still w die left.next left.seen d) (f.images d image at);
-      } in (Refused, v, happens, subst (Follows v) (sym refuses.follows) there)
+      } in (
+        (v, happens, subst (Follows v) (sym refuses.follows) there),
+        λ refused. ap (λ (i : DieImage). i.header) (value_here die left.next w.images) ∙ left.header,
+        λ slot. ap (λ (i : DieImage). i.seen slot) (value_here die left.next w.images) ∙ left.seen slot,
+      )
 
   -- images that are honest at the end were so before
   honest_one : (s middle : Driven I) (drive : Drive) → Makes made array s drive middle → AreHonest honest middle.images → AreHonest honest s.images
@@ -209,9 +225,9 @@ module _ {I : Type 0} (view : I → ImageState) (honest : I → Bool) (made : I 
   Leads w drives last = (happenings : List Happening) × (v : World) × Run w happenings v × Follows v last
       × (events_of happenings ≡ acts_of drives)
 
-  behind : (w : World) (middle last : Driven I) (die : ℕ) (drives : List Drive) → (one : Called w die middle)
-      → Leads one.1 drives last → Leads w drives last
-  behind w middle last die drives one later = (Calling die one.0 ∷ later.0, later.1, (one.1, one.2, later.2), later.3, later.4)
+  behind : (w : World) (middle last : Driven I) (die : ℕ) (gave : Gave) (drives : List Drive) → (one : Called w die gave middle)
+      → Leads one.0 drives last → Leads w drives last
+  behind w middle last die gave drives one later = (Calling die gave ∷ later.0, later.1, (one.0, one.1, later.2), later.3, later.4)
 
   pub driven : GeometryLaw → (drives : List Drive) (s last : Driven I) (w : World) → Follows w s → Drives made array s drives last
       → AreHonest honest last.images → Leads w drives last
@@ -224,11 +240,11 @@ module _ {I : Type 0} (view : I → ImageState) (honest : I → Bool) (made : I 
       let makes = goes.1 in
       let honest_after = honest_before goes.0 last drives goes.2 fair die makes.after
       (ap (λ (x : Driven I). x.images die) makes.follows ∙ value_here die (Some makes.after) s.images) in
-      let one = call_follows w s goes.0 die f makes honest_after in
-      behind w goes.0 last die drives one (driven law drives goes.0 last one.1 one.3 goes.2 fair)
+      let one = (call_follows w s goes.0 die f makes honest_after).0 in
+      behind w goes.0 last die makes.gave drives one (driven law drives goes.0 last one.0 one.2 goes.2 fair)
   driven law (RefusesCall die ∷ drives) s last w f goes fair =
-      let one = refused_follows w s goes.0 die f goes.1 in
-      behind w goes.0 last die drives one (driven law drives goes.0 last one.1 one.3 goes.2 fair)
+      let one = (refused_follows w s goes.0 die f goes.1).0 in
+      behind w goes.0 last die Refused drives one (driven law drives goes.0 last one.0 one.2 goes.2 fair)
 
   pub drives_run : GeometryLaw → (first : World) (images : ℕ → Option I) (drives : List Drive) (last : Driven I) → IsBeginning first
       → AreImages view first images → Drives made array (beginning first.core images) drives last → AreHonest honest last.images

@@ -135,6 +135,7 @@ module _ {I : Type 0} (view : I → ImageState) (honest : I → Bool) (made : I 
     pub image : IsImageOf view last die after
     pub works : last.works die ≡ Some (record { job = job; gave = so_far ++ gave ∷ [] })
     pub given : IsSomeCell gave
+    pub header : gave ≡ Refused → (last.images die).header ≡ (w.images die).header
 
   pub one_runs : (w : World) (so_far : List Gave) (call : JobCall) (gave : Gave) (before after : I)
       → w.works die ≡ Some (record { job = job; gave = so_far }) → IsJobFor w.core.page_map.geometry array die job
@@ -168,6 +169,7 @@ module _ {I : Type 0} (view : I → ImageState) (honest : I → Bool) (made : I 
         };
         works = value_here die so w.works ∙ ap (option_map {T = Work} (λ k. record k { gave = k.gave ++ gave ∷ [] })) works;
         given = leads.given;
+        header = λ refused. ap (λ (i : DieImage). i.header) (value_here die leads.next w.images) ∙ leads.header refused;
       }
 
   -- a world in which these calls were made

@@ -87,6 +87,14 @@ pub record Leads (m : MapState) (call : JobCall) (gave : Gave) (image : DieImage
   pub calls : Calls (is_in_block m) call gave image next
   pub cells : AreCells after next
   pub given : IsSomeCell gave
+  -- a refused call leaves the header
+  pub header : gave ≡ Refused → next.header ≡ image.header
+
+accepted_not : Accepted ≡ Refused → ⊥
+accepted_not e = cc
+
+gave_not : (cell : Cell) → GaveCell cell ≡ Refused → ⊥
+gave_not cell e = cc
 
 module _ (m : MapState) (array : List ℕ) (die : ℕ) (state after : ImageState) (was is : Bool) (whole : IsImage state)
     (shape : state.geometry ≡ m.geometry) (image : DieImage) (cells : AreCells state image) (fair : IsTrue is) where
@@ -165,6 +173,7 @@ module _ (m : MapState) (array : List ℕ) (die : ℕ) (state after : ImageState
         calls = (one_cell (slot_at slot state) cell (image.seen slot) there (cells slot met.allowed), refl);
         cells = same_cells _ met.leads refl refl image (λ s. refl);
         given = (slot_at slot state, there);
+        header = λ e. absurd (gave_not cell e);
       }
   call_leads (ReadsSlot slot) Refused image_call (RefusedBy fault) made given meets may =
       let met = same_call (ReadingSlot slot) image_call (RefusedBy fault) made meets in
@@ -173,6 +182,7 @@ module _ (m : MapState) (array : List ℕ) (die : ℕ) (state after : ImageState
         calls = refl;
         cells = same_cells _ met.leads refl refl image (λ s. refl);
         given = tt;
+        header = λ e. refl;
       }
   call_leads (ReadsSlot slot) Accepted image_call Done made given meets may =
       let met = same_call (ReadingSlot slot) image_call Done made meets in
@@ -187,6 +197,7 @@ module _ (m : MapState) (array : List ℕ) (die : ℕ) (state after : ImageState
         cells = subst (λ (a : ImageState). AreCells a (with_cell slot cell image)) (sym met.leads)
             (programmed slot (bytes ∷ []) refl met.allowed.0 cell (may.0, may.1, inl refl));
         given = tt;
+        header = λ e. absurd (accepted_not e);
       }
   call_leads (ProgramsSlot slot (Sealed page version d s payload)) Refused image_call (RefusedBy fault) made given meets may =
       let bytes = slot_2 (tag_of page version d s) payload in
@@ -199,6 +210,7 @@ module _ (m : MapState) (array : List ℕ) (die : ℕ) (state after : ImageState
         cells = subst (λ (a : ImageState). AreCells a (with_cell slot cell.0 image)) (sym left.2)
             (programmed slot left.0 left.1.0 met.allowed.0 cell.0 cell.1);
         given = tt;
+        header = λ e. refl;
       }
   call_leads (ErasesBlock block) Accepted image_call Done made given meets may =
       let met = same_call (Erasing block) image_call Done made meets in
@@ -213,6 +225,7 @@ module _ (m : MapState) (array : List ℕ) (die : ℕ) (state after : ImageState
             (λ i low. subst IsErased (sym (get_or-replicate slots i bytes [] low))
             (All-replicate (λ byte. byte ≡ 0xff) (slot_bytes state.geometry) 0xff refl)));
         given = tt;
+        header = λ e. absurd (accepted_not e);
       }
   call_leads (ErasesBlock block) Refused image_call (RefusedBy fault) made given meets may =
       let met = same_call (Erasing block) image_call (RefusedBy fault) made meets in
@@ -228,6 +241,7 @@ module _ (m : MapState) (array : List ℕ) (die : ℕ) (state after : ImageState
             (λ i low. subst (λ n. IsCellOf (slice_index_or left.0 i []) (any_cell (slice_index_or left.0 n [])).0)
             {x = i} {y = first + i - first} (omega arith) (any_cell (slice_index_or left.0 i [])).1));
         given = tt;
+        header = λ e. refl;
       }
   call_leads (WritesHeader epoch live) Accepted image_call Done made given meets may =
       let bytes = header_bytes 2 (header_of m.geometry array die epoch live) in
@@ -238,6 +252,7 @@ module _ (m : MapState) (array : List ℕ) (die : ℕ) (state after : ImageState
         calls = refl;
         cells = same_cells _ met.leads refl refl next (λ s. refl);
         given = tt;
+        header = λ e. absurd (accepted_not e);
       }
   call_leads (WritesHeader epoch live) Refused image_call (RefusedBy fault) made given meets may =
       let bytes = header_bytes 2 (header_of m.geometry array die epoch live) in
@@ -248,6 +263,7 @@ module _ (m : MapState) (array : List ℕ) (die : ℕ) (state after : ImageState
         calls = (image.header, refl);
         cells = same_cells _ met.leads.2 refl refl next (λ s. refl);
         given = tt;
+        header = λ e. refl;
       }
   call_leads Syncs Accepted image_call Done made given meets may =
       let met = same_call Syncing image_call Done made meets in
@@ -256,6 +272,7 @@ module _ (m : MapState) (array : List ℕ) (die : ℕ) (state after : ImageState
         calls = refl;
         cells = same_cells _ met.leads refl refl image (λ s. refl);
         given = tt;
+        header = λ e. absurd (accepted_not e);
       }
   call_leads Syncs Refused image_call (RefusedBy fault) made given meets may =
       let met = same_call Syncing image_call (RefusedBy fault) made meets in
@@ -264,6 +281,7 @@ module _ (m : MapState) (array : List ℕ) (die : ℕ) (state after : ImageState
         calls = refl;
         cells = same_cells _ met.leads refl refl image (λ s. refl);
         given = tt;
+        header = λ e. refl;
       }
   call_leads (ProgramsSlot slot (Sealed page version d s payload)) (GaveCell cell) image_call (GaveBytes bytes) made given meets may =
       let met = same_call (Programming slot (slot_2 (tag_of page version d s) payload)) image_call (GaveBytes bytes) made meets in absurd met.answers
