@@ -100,7 +100,7 @@ module _ (geometry : Geometry) (array : List ℕ) (die : ℕ) where
   behind_writable (Program page version slot) false call e = absurd (none-some call e)
   behind_writable (Sync flushes) lasting call e = absurd (none-some call e)
 
-  writable : (job : Handed) (gave : List Gave) (call : JobCall) → IsJobFor geometry array die job → AllByRecursion IsSomeCell gave
+  pub writable : (job : Handed) (gave : List Gave) (call : JobCall) → IsJobFor geometry array die job → AllByRecursion IsSomeCell gave
       → next_call die job gave ≡ Some call → IsWritable call
   writable job [] call fits some e =
       subst IsWritable (same_Some (first_call die job.flight job.payload) call e) (first_writable job.flight job.payload fits)
