@@ -252,3 +252,14 @@ module _ (laws : Laws) (begins_sound : (w : World) → IsBeginning w → IsSound
         let low = newest m.top in
         let high = m.greatest top in
         there die (ap (λ live. names live die) (told_alike before m.top top (omega (arith, low, high))) ∙ named)
+
+    -- a die that is live is one of the array
+    pub live_ours : (die : ℕ) → is_live w.core.page_map die ≡ true → is_of_array first die ≡ true
+    live_ours die alive = all.headers.there die alive
+
+    -- a die that holds a page is live
+    pub holder_live : (page die : ℕ) → holds_page w.core.page_map page die ≡ true → is_live w.core.page_map die ≡ true
+    holder_live page die holds =
+        let c = copy_from_holds w.core page die holds in
+        trusted_live w.core all.kept.sound die page
+        (inl (record { slot = c.slot; tag = c.tag_page; version = c.tag_version; held = c.held; page_is = c.page_is }))

@@ -143,7 +143,8 @@ pub fn what_a_cut_leaves_are_first_headers_again()
 }
 
 /// Behind each cut, the newest of the headers name no dies but those of the array. So it is again in the next life, where each die that they
-/// name is live or a spare.
+/// name is live or a spare. No others are live in any world of the run,
+/// and a die that holds a page is live.
 pub fn the_newest_headers_name_dies_of_the_array()
     ensures ours { (first w : World) (told : ℕ → HeaderTells) (happenings : List Happening) (u : Unsynced) (cells : ℕ → ℕ → Cell)
         (heads : ℕ → Option HeaderTells) (top die : ℕ) → IsBeginning first → AreFirstHeaders first told → NameOurs first told
@@ -154,6 +155,12 @@ pub fn the_newest_headers_name_dies_of_the_array()
         → RunWhole first (nothing_unsynced first) happenings w u → IsCut w u cells heads → (again : AreMountedAgain first next told heads)
         → ((die : ℕ) → names (tells told heads again.top).live die ≡ true → is_of_array next die ≡ true)
         → NameOurs next (tells told heads) }
+    ensures live { (first w : World) (told : ℕ → HeaderTells) (happenings : List Happening) (u : Unsynced) (die : ℕ) → IsBeginning first
+        → AreFirstHeaders first told → RunWhole first (nothing_unsynced first) happenings w u → is_live w.core.page_map die ≡ true
+        → is_of_array first die ≡ true }
+    ensures holders { (first w : World) (told : ℕ → HeaderTells) (happenings : List Happening) (u : Unsynced) (page die : ℕ)
+        → IsBeginning first → AreFirstHeaders first told → RunWhole first (nothing_unsynced first) happenings w u
+        → holds_page w.core.page_map page die ≡ true → is_live w.core.page_map die ≡ true }
 {
     a_beginning_is_sound();
     a_step_keeps_sound();

@@ -160,22 +160,31 @@ module _ {I : Type 0} (view : I → ImageState) (honest : I → Bool) (made : I 
       let two = event_follows view honest made whole meets array law one.world at begun (FlushBegin (Ok flush)) one.follows then.1 in
       let three = driven_whole during begun asked two.0 one.unsynced two.2 apart.1 fair_asked in
       let four = event_follows view honest made whole meets array law three.world asked answered (FlushState flush Synced) three.follows apart.2.1 in
-      let five = driven_whole later answered last four.0 three.unsynced four.2 apart.2.2 fair in
-      (five.world, five.unsynced, five.follows.core, five.follows.images, λ page some. record {
-        beginning = begins;
-        cells = cells;
-        written = some;
-        kept = inl (record {
-          before = one.happenings;
-          at = one.world;
-          at_unsynced = one.unsynced;
-          led = one.run;
-          numbered = ap (λ (c : Core). number_of c page) one.follows.core;
-          flush = flush;
-          during = three.happenings;
-          behind = five.happenings;
-          leads = (two.0, two.1, tt, runs_both two.0 one.unsynced three.happenings three.world three.unsynced
-              (Event (FlushState flush Synced) ∷ five.happenings) five.world five.unsynced three.run (four.0, four.1, tt, five.run));
-        });
-      })
-
+      let five = driven_whole later answered last four.0 three.unsynced four.2 apart.2.2 fair in (
+        five.world,
+        five.unsynced,
+        five.follows.core,
+        five.follows.images,
+        λ page some. record {
+          beginning = begins;
+          cells = cells;
+          written = some;
+          kept = inl (record {
+            before = one.happenings;
+            at = one.world;
+            at_unsynced = one.unsynced;
+            led = one.run;
+            numbered = ap (λ (c : Core). number_of c page) one.follows.core;
+            flush = flush;
+            during = three.happenings;
+            behind = five.happenings;
+            leads = (
+              two.0,
+              two.1,
+              tt,
+              runs_both two.0 one.unsynced three.happenings three.world three.unsynced
+                  (Event (FlushState flush Synced) ∷ five.happenings) five.world five.unsynced three.run (four.0, four.1, tt, five.run),
+            );
+          });
+        },
+      )

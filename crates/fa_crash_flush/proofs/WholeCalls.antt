@@ -71,8 +71,8 @@ module _ {I : Type 0} (view : I → ImageState) (honest : I → Bool) (made : I 
       let at = eqb-true (slot / m.geometry.slots) block named in
       let inside = inside_block m.geometry block slot low at in
       elim (writes.erases before after block slot fault made_so
-          (subst (λ (g : Geometry). slot / g.slots ≡ block) (sym shape) at)
-          (subst (λ (g : Geometry). slot < g.blocks * g.slots) (sym shape) inside)) [
+      (subst (λ (g : Geometry). slot / g.slots ≡ block) (sym shape) at)
+      (subst (λ (g : Geometry). slot < g.blocks * g.slots) (sym shape) inside)) [
         | inl old ↦ inl (same_cell slot inside old)
         | inr (inl empty) ↦ inr (inl (now_cell slot inside Empty empty))
         | inr (inr broken) ↦ inr (inr (now_cell slot inside Broken broken))

@@ -1,10 +1,10 @@
--- What is recovered of the images that a cut left: of each live die what the cut left there, and each die that the newest headers name.
+-- What is recovered of images that are there: of each live die what stands there, and each die that the newest headers name.
 use Rattle.fa_crash.specs.Flushed.{is_of_array, slots_of}
-use Rattle.fa_crash.specs.Headers.{AreMountedAgain, IsNewest, names, tells}
+use Rattle.fa_crash.specs.Headers.{IsNewest, NameOurs, names}
 use Rattle.fa_crash_headers.proofs.Masked.{mask_seen}
 use Rattle.fa_crash_lives.proofs.Refused.{HasFirst, all_read, all_unused, has_first, mask_there}
 use Rattle.fa_crash_lives.proofs.Stands.{AsLive, AsSpare, StandsInMask, live_seen, read_live, spare_settled, stands_in_mask}
-use Rattle.fa_crash_lives.specs.Behind.{AreImagesLeft}
+use Rattle.fa_crash_lives.specs.Behind.{AreThere}
 use Rattle.fa_crash_mount.specs.Left.{AreLeft}
 use Rattle.fa_image.specs.Image.{ImageAnswer, ImageCall, ImageState}
 use Rattle.fa_machine.specs.Among.{Among}
@@ -32,10 +32,9 @@ use Rattle.std.specs.Prelude.{◌||◌}
 
 module _ {I : Type 0} (A : Type 0) (view : I → ImageState) (made : I → ImageCall → ImageAnswer → I → Type 0) (copies : ℕ) (before after : List I)
     (array : List ℕ) (dies : List Standing) (core : Core) (recovers : RecoversArray A view made copies before after array dies core)
-    (many : length dies ≡ core.page_map.geometry.dies) (first w : World) (told : ℕ → HeaderTells) (cells : ℕ → ℕ → Cell)
-    (heads : ℕ → Option HeaderTells) (bytes : SlotBytes) (b : IsBeginning first)
-    (l : AreImagesLeft first told cells heads (seen_from 0 recovers.mounts.mounts.headers.founds) bytes)
-    (newest_ours : (top die : ℕ) → IsNewest (tells told heads) top → names (tells told heads top).live die ≡ true → is_of_array first die ≡ true) where
+    (many : length dies ≡ core.page_map.geometry.dies) (first w : World) (t : ℕ → HeaderTells) (cells : ℕ → ℕ → Cell) (bytes : SlotBytes)
+    (b : IsBeginning first) (l : AreThere first t cells (seen_from 0 recovers.mounts.mounts.headers.founds) bytes)
+    (newest_ours : NameOurs first t) where
   abbrev seen : List Seen
   seen = seen_from 0 recovers.mounts.mounts.headers.founds
 
@@ -54,7 +53,7 @@ module _ {I : Type 0} (A : Type 0) (view : I → ImageState) (made : I → Image
   all : length dies ≡ m.geometry.dies
   all = many ∙ ap (λ (x : MapState). x.geometry.dies) map_is
 
-  head : HasFirst seen mounts.judged.geometry
+  pub head : HasFirst seen mounts.judged.geometry
   head = has_first seen mounts.judged.geometry mounts.headers.judges.geometry
 
   pub shape : m.geometry ≡ first.core.page_map.geometry
@@ -70,16 +69,16 @@ module _ {I : Type 0} (A : Type 0) (view : I → ImageState) (made : I → Image
   abbrev pub top : ℕ
   top = newest.0.header.die.0
 
-  pub top_epoch : (tells told heads top).epoch ≡ greatest_epoch seen
-  top_epoch = sym (l.headers newest.0 newest.1).epoch ∙ newest.2
+  pub top_epoch : (t top).epoch ≡ greatest_epoch seen
+  top_epoch = sym (l.epochs newest.0 newest.1) ∙ newest.2
 
-  pub top_mask : mask ≡ (tells told heads top).live
-  top_mask = newest.3 ∙ (l.headers newest.0 newest.1).mask
+  pub top_mask : mask ≡ (t top).live
+  top_mask = newest.3 ∙ l.masks newest.0 newest.1
 
-  pub is_newest : IsNewest (tells told heads) top
+  pub is_newest : IsNewest t top
   is_newest other = let low = l.newest other in let e = top_epoch in omega (arith, low, e)
 
-  pub inside_named : (die : ℕ) → is_in mask die ≡ true → names (tells told heads top).live die ≡ true
+  pub inside_named : (die : ℕ) → is_in mask die ≡ true → names (t top).live die ≡ true
   inside_named die inside = ap (λ live. names live die) (sym top_mask) ∙ inside
 
   pub ours : (die : ℕ) → is_in mask die ≡ true → is_of_array first die ≡ true
@@ -112,7 +111,7 @@ module _ {I : Type 0} (A : Type 0) (view : I → ImageState) (made : I → Image
     left = λ die slot alive inside.
         let d = live_die die alive in
         subst (λ (n : ℕ). IsCellOf (bytes n slot) (cells n slot)) d.die_is
-        (l.slots d.x slot d.among (subst (λ (n : ℕ). is_of_array first n ≡ true) (sym d.die_is) d.there)
+        (l.slots d.x slot d.among (ap (is_in mask) d.die_is ∙ d.inside)
         (subst (λ (g : Geometry). slot < g.blocks * g.slots) shape inside));
   }
 
@@ -156,7 +155,7 @@ module _ {I : Type 0} (A : Type 0) (view : I → ImageState) (made : I → Image
   spare_there die spare =
       ap (λ (c : Core). contains_key c.spares die) recovers.mounts.begins.is ∙ recovers.mounts.begins.are_spares die ∙ spare
 
-  epoch_low : (die : ℕ) → (tells told heads die).epoch < core.epoch
+  pub epoch_low : (die : ℕ) → (t die).epoch < core.epoch
   epoch_low die =
       let low = l.newest die in
       let is = mounts.identity.1 in
@@ -164,31 +163,13 @@ module _ {I : Type 0} (A : Type 0) (view : I → ImageState) (made : I → Image
       let up = ap (λ (c : Core). c.epoch) recovers.mounts.begins.is in
       omega (arith, low, is, judged, up)
 
-  -- what the next life mounted of the headers
-  pub mounted_again : (next : World) → next.core ≡ core → ((die : ℕ) → (next.images die).header ≡ None) → AreMountedAgain first next told heads
-  mounted_again next same none = record {
-    unwritten = none;
-    older = λ die. subst (λ (c : Core). (tells told heads die).epoch < c.epoch) (sym same) (epoch_low die);
-    top = top;
-    greatest = is_newest;
-    ours = λ die alive. inside_named die (live_die die (live_now die alive)).inside;
-    unheard = λ die alive none. unheard die (live_die die (live_now die alive)) none;
-  }
-    where
-      live_now : (die : ℕ) → is_live next.core.page_map die ≡ true → is_live m die ≡ true
-      live_now die alive = sym (ap (λ (c : Core). is_live c.page_map die) same ∙ ap (λ (x : MapState). is_live x die) map_is) ∙ alive
+  pub live_now : (next : World) → next.core ≡ core → (die : ℕ) → is_live next.core.page_map die ≡ true → is_live m die ≡ true
+  live_now next same die alive = sym (ap (λ (c : Core). is_live c.page_map die) same ∙ ap (λ (x : MapState). is_live x die) map_is) ∙ alive
 
-      unheard : (die : ℕ) → LiveDie die → heads die ≡ None → is_live first.core.page_map die ≡ true
-      unheard die d none = elim (or_cases (is_live first.core.page_map die) (contains_key first.core.spares die) d.there) [
-        | inl alive ↦ alive
-        | inr spare ↦ absurd (true≢false (sym (l.marked d.x d.among (ap heads d.die_is ∙ none) (ap (contains_key first.core.spares) d.die_is ∙ spare))
-            ∙ d.plain))
-      ]
-
-  pub there_again : (next : World) → next.core ≡ core → (die : ℕ) → names (tells told heads top).live die ≡ true → is_of_array next die ≡ true
-  there_again next same die named =
+  pub there_again : (next : World) → next.core ≡ core → (die : ℕ) → is_in mask die ≡ true → is_of_array next die ≡ true
+  there_again next same die inside =
       ap (λ (c : Core). is_live c.page_map die || contains_key c.spares die) same
-      ∙ elim (mask_live die (ap (λ live. names live die) top_mask ∙ named)) [
+      ∙ elim (mask_live die inside) [
         | inl alive ↦ ap (λ a. a || contains_key core.spares die) (ap (λ (x : MapState). is_live x die) map_is ∙ alive)
         | inr spare ↦ right (is_live core.page_map die) (contains_key core.spares die) (spare_there die spare)
       ]

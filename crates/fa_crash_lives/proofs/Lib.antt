@@ -3,3 +3,5 @@ pub mod Refused
 pub mod Fresh
 pub mod Geometry
 pub mod Left
+pub mod Unheard
+pub mod Closed

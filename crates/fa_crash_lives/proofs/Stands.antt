@@ -81,6 +81,26 @@ stands_in_mask mask seen die x among same inside = at (find (λ (x : Seen). x.he
               ∙ (λ i. if plain i then Spare y.index else if here i then Live y.index else Out y.index))
         ]
 
+-- and as live where no image of it has the mark
+pub plain_stands : (mask : ℕ) (seen : List Seen) (x : Seen) → Among x seen → is_in mask x.header.die.0 ≡ true
+    → ((y : Seen) → Among y seen → y.header.die.0 ≡ x.header.die.0 → y.header.spare ≡ false)
+    → (index : ℕ) × (standing_of mask seen x.header.die.0 ≡ Live index)
+plain_stands mask seen x among inside plain = at (find (λ (y : Seen). y.header.die.0 == x.header.die.0) seen) refl
+  where
+    at : (o : Option Seen) → find (λ (y : Seen). y.header.die.0 == x.header.die.0) seen ≡ o
+        → (index : ℕ) × (standing_of mask seen x.header.die.0 ≡ Live index)
+    at None f =
+        let out = none_passes (λ (y : Seen). y.header.die.0 == x.header.die.0) seen f x among in
+        absurd (true≢false (sym (eq-eqb x.header.die.0 x.header.die.0 refl) ∙ out))
+    at (Some y) f =
+        let found = found_passes (λ (y : Seen). y.header.die.0 == x.header.die.0) seen y f in
+        let same = eqb-true y.header.die.0 x.header.die.0 found.0 in
+        let no_mark = plain y found.1 same in
+        let here : is_in mask y.header.die.0 ≡ true = ap (is_in mask) same ∙ inside in (
+          y.index,
+          ap (standing_in mask) f ∙ (λ i. if no_mark i then Spare y.index else if here i then Live y.index else Out y.index),
+        )
+
 -- a die of which slots are mounted was live, and was read
 record IsLiveAt (standing : Standing) (outcome : Outcome) : Type 0 where
   index : ℕ

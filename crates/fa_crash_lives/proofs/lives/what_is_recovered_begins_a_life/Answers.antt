@@ -1,85 +1,50 @@
-use Rattle.fa_crash.specs.Headers.{IsNewest, names, tells}
 use Rattle.fa_crash.specs.Flushed.{is_of_array}
-use Rattle.fa_crash_lives.proofs.Fresh.{begins_still, mounted_still, unwritten}
-use Rattle.fa_crash_lives.proofs.Geometry.{geometry_kept}
-use Rattle.fa_crash_lives.proofs.Left.{are_left, live_again, map_is, mounted_again, there_again}
+use Rattle.fa_crash.specs.Headers.{AreMountedAgain, NameOurs, names, tells}
+use Rattle.fa_crash_lives.proofs.Left.{inside_named, is_newest, ours, top, top_mask}
+use Rattle.fa_crash_lives.proofs.Unheard.{unheard}
 use Rattle.fa_crash_lives.proofs.lives.what_is_recovered_begins_a_life.Goals as goal
-use Rattle.fa_crash_mount.specs.Left.{AreHoldersLive, AreLeft, HasOutlasted, IsMountedLeft}
-use Rattle.fa_machine.specs.Among.{Among}
-use Rattle.fa_machine.specs.Copies.{holds_page}
-use Rattle.fa_machine.specs.State.{Core, MapState, is_live}
-use Rattle.fa_machine.specs.World.{World}
+use Rattle.fa_crash_lives.specs.Behind.{is_named}
 use Rattle.fa_mount_headers.specs.Rules.{seen_from}
 use Rattle.fa_mount_headers.specs.declared.seen.Seen.{Seen}
-use Rattle.fa_mount_scan.specs.MountedWorld.{CopiesAgree, SlotBytes, bytes_of, is_spare_of}
-use Rattle.std.proofs.Common.{Bool, List, [], ap, map, refl, subst, sym, true, ℕ, ◌∙◌, ◌≡◌}
+use Rattle.fa_mount_scan.specs.MountedWorld.{SlotBytes, bytes_of}
+use Rattle.std.proofs.Common.{List, [], ap, map, refl, true, ℕ, ◌∙◌, ◌≡◌}
 
 pub returns : goal.returns
 returns g c first w told u cells heads copies before after array dies core life cut recovers many honest left holders =
     let bytes : SlotBytes = bytes_of (map g.I.Image.view after) dies in
-    let is_spare : ℕ → Bool = is_spare_of dies in
     let seen : List Seen = seen_from 0 recovers.mounts.mounts.headers.founds in
-    let m : MapState = recovers.mounts.m in
-    let same = geometry_kept c.the_geometry_is_kept.ensures first life.happenings w u life.run in
-    let newest_ours : (top die : ℕ) → IsNewest (tells told heads) top → names (tells told heads top).live die ≡ true → is_of_array first die ≡ true =
+    let named_ours : NameOurs first (tells told heads) =
     λ top die newest named. c.the_newest_headers_name_dies_of_the_array.ensures.ours first w told life.happenings u cells heads top die life.beginning
     life.headers life.ours life.run cut newest named in
-    let its : core.page_map ≡ m =
-    map_is g.row.A.Denot g.I.Image.view g.I.Image.made copies before after array dies core recovers many first w told cells heads bytes life.beginning left newest_ours in
-    let map_left : AreLeft first w cells bytes m =
-    are_left g.row.A.Denot g.I.Image.view g.I.Image.made copies before after array dies core recovers many first w told cells heads bytes life.beginning left newest_ours same in
-    let live_then : (page : ℕ) (x : Seen) → Among x seen → holds_page w.core.page_map page x.header.die.0 ≡ true → is_live m x.header.die.0 ≡ true =
-    λ page x among holds.
-    let mask = c.the_mask_has_the_holders.ensures.mask first w told life.happenings u cells heads seen x page life.beginning life.headers life.run cut
+    let b = c.what_is_there_begins_again.ensures first w (tells told heads) life.happenings u cells heads copies before after array dies core life.beginning
+    life.cells life.run cut recovers many honest left.there named_ours
+    (λ page x among holds.
+    let named = c.the_mask_has_the_holders.ensures.mask first w told life.happenings u cells heads seen x page life.beginning life.headers life.run cut
     left.headers among holds in
     let live = c.the_mask_has_the_holders.ensures.live first w told life.happenings u cells heads seen x page life.beginning life.headers life.run cut
     left.headers among holds in
-    live_again g.row.A.Denot g.I.Image.view g.I.Image.made copies before after array dies core recovers many first w told cells heads bytes life.beginning left
-    newest_ours x.header.die.0 live.0 mask live.1 in
-    let holders_live : AreHoldersLive first w m =
-    λ page version e. let h = holders page version e in (h.0.header.die.0, h.2, live_then page h.0 h.1 h.2) in
-    let map_mounted : IsMountedLeft first w cells bytes is_spare m = record {
-      holds = c.what_is_mounted_stands_there.ensures copies true before after array recovers.mounts.epoch recovers.mounts.clean dies m recovers.mounts.mounts
-          (many ∙ ap (λ (x : MapState). x.geometry.dies) its) honest;
-      are_left = map_left;
+    (named, live.0, live.1))
+    holders in
+    let again : AreMountedAgain first b.next told heads = record {
+      unwritten = b.unwritten;
+      older = b.older;
+      top = top g.row.A.Denot g.I.Image.view g.I.Image.made copies before after array dies core recovers many first w (tells told heads) cells bytes life.beginning left.there named_ours;
+      greatest = is_newest g.row.A.Denot g.I.Image.view g.I.Image.made copies before after array dies core recovers many first w (tells told heads) cells bytes life.beginning left.there named_ours;
+      ours = λ die alive. inside_named g.row.A.Denot g.I.Image.view g.I.Image.made copies before after array dies core recovers many first w (tells told heads) cells bytes life.beginning left.there named_ours die (b.live die alive).named;
+      unheard = λ die alive none. unheard first told cells heads seen bytes left die (b.live die alive) (ours g.row.A.Denot g.I.Image.view g.I.Image.made copies before after array dies core recovers many first w (tells told heads) cells bytes life.beginning left.there named_ours die (b.live die alive).named) none;
     } in
-    let agree : CopiesAgree bytes m =
-    c.what_is_mounted_is_such_a_beginning_again.ensures.agree first w life.happenings u cells heads bytes is_spare m life.beginning life.cells life.run cut map_mounted
-    holders_live in
-    let found = c.what_is_mounted_is_a_beginning.ensures copies true before after array dies core recovers.mounts many honest
-    (subst (CopiesAgree bytes) (sym its) agree) in
-    let next : World = unwritten found.0 in
-    let its_map : next.core.page_map ≡ m = ap (λ (x : Core). x.page_map) found.1 ∙ its in
-    let mounted = mounted_still bytes is_spare found.0 found.2 in
-    let begins = begins_still found.0 found.3 in
-    let next_left : AreLeft first w cells bytes next.core.page_map = subst (AreLeft first w cells bytes) (sym its_map) map_left in
-    let next_live : AreHoldersLive first w next.core.page_map = subst (AreHoldersLive first w) (sym its_map) holders_live in
-    let heads_again = mounted_again g.row.A.Denot g.I.Image.view g.I.Image.made copies before after array dies core recovers many first w told cells heads bytes
-    life.beginning left newest_ours next found.1 (λ die. refl) in
     record {
-      next = next;
-      state = found.1;
-      mounted = mounted;
+      begins = b;
       life = record {
-        beginning = begins;
-        cells = c.what_is_mounted_is_such_a_beginning_again.ensures.last first w next life.happenings u cells heads bytes is_spare life.beginning life.cells
-            life.run cut mounted next_left next_live;
-        headers = c.what_a_cut_leaves_are_first_headers_again.ensures.first first w next told life.happenings u cells heads life.beginning life.headers life.run
-            cut heads_again;
-        alike = c.what_a_cut_leaves_are_first_headers_again.ensures.alike first w told life.happenings u cells heads life.beginning life.headers life.alike life.run
-            cut;
-        ours = c.the_newest_headers_name_dies_of_the_array.ensures.again first w next told life.happenings u cells heads life.beginning life.headers life.alike
-            life.run cut heads_again
-            (there_again g.row.A.Denot g.I.Image.view g.I.Image.made copies before after array dies core recovers many first w told cells heads bytes life.beginning
-            left newest_ours next found.1);
+        beginning = b.beginning;
+        cells = b.cells;
+        headers = c.what_a_cut_leaves_are_first_headers_again.ensures.first first w b.next told life.happenings u cells heads life.beginning life.headers
+            life.run cut again;
+        alike = c.what_a_cut_leaves_are_first_headers_again.ensures.alike first w told life.happenings u cells heads life.beginning life.headers life.alike
+            life.run cut;
+        ours = c.the_newest_headers_name_dies_of_the_array.ensures.again first w b.next told life.happenings u cells heads life.beginning life.headers
+            life.alike life.run cut again (λ die named. b.there die (ap (λ live. names live die) (top_mask g.row.A.Denot g.I.Image.view g.I.Image.made copies before after array dies core recovers many first w (tells told heads) cells bytes life.beginning left.there named_ours) ∙ named));
         happenings = [];
         run = (refl, refl);
       };
-      outlasts = λ page number x promised among holds.
-          subst (λ (x : MapState). HasOutlasted w bytes x page number) (sym its)
-          (c.a_promised_page_outlasts_a_crash.ensures first w u page number x.header.die.0 cells heads bytes is_spare m promised cut map_mounted holds
-          (live_then page x among holds));
-      again = λ page number x last v promised among holds later.
-          c.a_promised_page_is_promised_again.ensures first w next last u v page number x.header.die.0 cells heads bytes is_spare later.happenings promised cut
-          mounted begins next_left next_live holds (ap (λ (y : MapState). is_live y x.header.die.0) its_map ∙ live_then page x among holds) later.run;
     }
