@@ -2,7 +2,7 @@
 use Rattle.fa_crash.proofs.Flushing.{IsHeldSince, IsSyncedSince, SinceFlush, WhileWaiting, happens_since, happens_waiting}
 use Rattle.fa_crash.proofs.Kept.{Backed, IsKept}
 use Rattle.fa_crash.proofs.Laws.{Laws}
-use Rattle.fa_crash.proofs.Runs.{beginning_kept, run_kept, run_whole_keeps}
+use Rattle.fa_crash.proofs.Runs.{beginning_kept, run_kept, run_whole_keeps, split_run}
 use Rattle.fa_crash.proofs.Syncing.{SyncLaws, reached_counted}
 use Rattle.fa_crash.proofs.Trusted.{HeldOn, Trusted}
 use Rattle.fa_crash.specs.Flushed.{IsFlushed, IsMounted}
@@ -31,14 +31,6 @@ use Rattle.std.specs.Prelude.{Ok, option_map, slice_index_or, unwrap_or, ◌++�
 
 abbrev pub FlushLaw : Type 0
 FlushLaw = (core : Core) (flush : Flush) → flush_state core flush ≡ Synced → list_all (has_synced core flush) (dies_of core.page_map) ≡ true
-
--- a run in two parts
-split_run : (first : World) (u : Unsynced) (xs ys : List Happening) (last : World) (v : Unsynced) → RunWhole first u (xs ++ ys) last v
-    → (middle : World) × (m : Unsynced) × RunWhole first u xs middle m × RunWhole middle m ys last v
-split_run first u [] ys last v run = (first, u, (refl, refl), run)
-split_run first u (x ∷ xs) ys last v run =
-    let rest = split_run run.0 (unsynced_behind first x u) xs ys last v run.3 in
-    (rest.0, rest.1, (run.0, run.1, run.2, rest.2), rest.3)
 
 all_of : {X : Type 0} (p : X → Bool) (xs : List X) → list_all p xs ≡ true → (x : X) → Among x xs → p x ≡ true
 all_of p [] e x i = absurd i

@@ -6,7 +6,7 @@ use Rattle.fa_crash.proofs.Honest.{IsHad, LastLaw}
 use Rattle.fa_crash.proofs.HonestRuns.{run_honest}
 use Rattle.fa_crash.proofs.Kept.{IsKept}
 use Rattle.fa_crash.proofs.Laws.{Laws}
-use Rattle.fa_crash.proofs.Runs.{beginning_kept, happens_kept, run_whole_keeps}
+use Rattle.fa_crash.proofs.Runs.{beginning_kept, happens_kept, join_runs, run_whole_keeps}
 use Rattle.fa_crash.proofs.Shape.{shape_of}
 use Rattle.fa_crash.proofs.Standing.{number_none}
 use Rattle.fa_crash.proofs.Syncing.{SyncLaws}
@@ -54,15 +54,6 @@ happens_grown laws first page w u (ImageCall die gave) after g happens whole =
       rises = subst (λ (c : Core). number_of first.core page ≤ number_of c page) (sym s.core_same) g.rises;
     }
 
--- one run behind another
-joins : (first : World) (u : Unsynced) (xs ys : List Happening) (middle : World) (m : Unsynced) (last : World) (v : Unsynced)
-    → RunWhole first u xs middle m
-    → RunWhole middle m ys last v → RunWhole first u (xs ++ ys) last v
-joins first u [] ys middle m last v before after =
-    subst (λ (t : World × Unsynced). RunWhole t.0 t.1 ys last v) {x = (middle, m)} {y = (first, u)} (λ i. (before.0 i, before.1 i)) after
-joins first u (x ∷ xs) ys middle m last v before after =
-    (before.0, before.1, before.2, joins before.0 (unsynced_behind first x u) xs ys middle m last v before.3 after)
-
 -- the whole run in which a page was promised
 pub promised_run : (first : World) (page number : ℕ) (w : World) (u : Unsynced) → IsPromised first page number w u
     → (happenings : List Happening) × RunWhole first (nothing_unsynced first) happenings w u
@@ -72,7 +63,7 @@ promised_run first page number w u p = at p.kept
         → (happenings : List Happening) × RunWhole first (nothing_unsynced first) happenings w u
     at (inl f) =
         let rest : List Happening = Event (FlushBegin (Ok f.flush)) ∷ f.during ++ Event (FlushState f.flush Synced) ∷ f.behind in
-        (f.before ++ rest, joins first (nothing_unsynced first) f.before rest f.at f.at_unsynced w u f.led f.leads)
+        (f.before ++ rest, join_runs first (nothing_unsynced first) f.before rest f.at f.at_unsynced w u f.led f.leads)
     at (inr f) = (f.happenings, f.run)
 
 module _ (laws : Laws) (sync_laws : SyncLaws) (flush_law : FlushLaw) (begins_sound : (w : World) → IsBeginning w → IsSound w.core) where
@@ -96,7 +87,7 @@ module _ (laws : Laws) (sync_laws : SyncLaws) (flush_law : FlushLaw) (begins_sou
   from_kept : (first : World) (page number : ℕ) (some : 1 ≤ number) (w : World) (u : Unsynced) → IsBeginning first
       → IsFlushed first page number w u ⊎ IsMounted first page number w u → FromFirst first page number some w u
   from_kept first page number some w u b (inl f) =
-      let run = joins first (nothing_unsynced first) f.before (Event (FlushBegin (Ok f.flush)) ∷ f.during ++ Event (FlushState f.flush Synced) ∷ f.behind)
+      let run = join_runs first (nothing_unsynced first) f.before (Event (FlushBegin (Ok f.flush)) ∷ f.during ++ Event (FlushState f.flush Synced) ∷ f.behind)
       f.at f.at_unsynced w u f.led f.leads in
       let low = (run_grown first page b f.before f.at f.at_unsynced f.led).rises in
       let e = f.numbered in

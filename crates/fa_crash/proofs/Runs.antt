@@ -46,6 +46,22 @@ run_whole_keeps P step first u [] last v p run =
 run_whole_keeps P step first u (happening ∷ happenings) last v p run =
     run_whole_keeps P step run.0 (unsynced_behind first happening u) happenings last v (step first u happening run.0 p run.1 run.2) run.3
 
+-- a run in two parts
+pub split_run : (first : World) (u : Unsynced) (xs ys : List Happening) (last : World) (v : Unsynced) → RunWhole first u (xs ++ ys) last v
+    → (middle : World) × (m : Unsynced) × RunWhole first u xs middle m × RunWhole middle m ys last v
+split_run first u [] ys last v run = (first, u, (refl, refl), run)
+split_run first u (x ∷ xs) ys last v run =
+    let rest = split_run run.0 (unsynced_behind first x u) xs ys last v run.3 in
+    (rest.0, rest.1, (run.0, run.1, run.2, rest.2), rest.3)
+
+-- one run behind another
+pub join_runs : (first : World) (u : Unsynced) (xs ys : List Happening) (middle : World) (m : Unsynced) (last : World) (v : Unsynced)
+    → RunWhole first u xs middle m → RunWhole middle m ys last v → RunWhole first u (xs ++ ys) last v
+join_runs first u [] ys middle m last v before after =
+    subst (λ (t : World × Unsynced). RunWhole t.0 t.1 ys last v) {x = (middle, m)} {y = (first, u)} (λ i. (before.0 i, before.1 i)) after
+join_runs first u (x ∷ xs) ys middle m last v before after =
+    (before.0, before.1, before.2, join_runs before.0 (unsynced_behind first x u) xs ys middle m last v before.3 after)
+
 module _ (begins_sound : (w : World) → IsBeginning w → IsSound w.core) (first : World) (b : IsBeginning first) where
   erased_stands : (die slot : ℕ) → is_there first.core die ≡ true → slot < slots_total first.core
       → get first.core.page_map.used (die, slot) ≡ None

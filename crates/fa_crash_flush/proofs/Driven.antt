@@ -1,4 +1,5 @@
 -- What drives an array over images that write whole is a whole run.
+use Rattle.fa_crash.proofs.Runs.{join_runs}
 use Rattle.fa_crash.specs.Flushed.{AreOfLast, IsPromised}
 use Rattle.fa_crash.specs.Unsynced.{Unsynced, call_of, nothing_unsynced, number_of, unsynced_behind}
 use Rattle.fa_crash.specs.Whole.{IsWhole, IsWholeCall, RunWhole}
@@ -25,14 +26,6 @@ use Rattle.fa_types.specs.declared.geometry.Geometry.{Geometry}
 use Rattle.std.proofs.Common.{Bool, IsTrue, List, Ok, Option, Some, [], ap, inl, refl, subst, sym, ℕ, ◌*◌, ◌++◌, ◌<◌, ◌∙◌, ◌∷◌, ◌≡◌, ◌≤◌}
 use Rattle.std.specs.List.{AllByRecursion}
 use Rattle.std.specs.Prelude.{option_and_then}
-
--- one whole run behind another
-runs_both : (w : World) (u : Unsynced) (xs : List Happening) (v : World) (t : Unsynced) (ys : List Happening) (last : World) (z : Unsynced)
-    → RunWhole w u xs v t → RunWhole v t ys last z → RunWhole w u (xs ++ ys) last z
-runs_both w u [] v t ys last z one two =
-    subst (λ (p : World × Unsynced). RunWhole p.0 p.1 ys last z) {x = (v, t)} {y = (w, u)} (λ i. (one.0 i, one.1 i)) two
-runs_both w u (happening ∷ xs) v t ys last z one two =
-    (one.0, one.1, one.2, runs_both one.0 (unsynced_behind w happening u) xs v t ys last z one.3 two)
 
 module _ {I : Type 0} (view : I → ImageState) (honest : I → Bool) (made : I → ImageCall → ImageAnswer → I → Type 0)
     (whole : (image : I) → IsImage (view image))
@@ -182,8 +175,8 @@ module _ {I : Type 0} (view : I → ImageState) (honest : I → Bool) (made : I 
               two.0,
               two.1,
               tt,
-              runs_both two.0 one.unsynced three.happenings three.world three.unsynced
-                  (Event (FlushState flush Synced) ∷ five.happenings) five.world five.unsynced three.run (four.0, four.1, tt, five.run),
+              join_runs two.0 one.unsynced three.happenings (Event (FlushState flush Synced) ∷ five.happenings) three.world
+                  three.unsynced five.world five.unsynced three.run (four.0, four.1, tt, five.run),
             );
           });
         },

@@ -12,7 +12,8 @@ ghost use Rattle.fa_shared_steps.specs.declared.request.Task.{Task};
 ghost use Rattle.fa_shared_steps.specs.declared.stage.Stage.TheVariants.{Ended};
 ghost use Rattle.fa_solo_laws.specs.Asked.{Asked, Moment, Turn, happenings_of};
 
-use fa_laws::steps::{numbers_are_kept, the_last_number_never_falls};
+use fa_laws::steps::{a_commit_raises_the_number, numbers_are_kept};
+use fa_sound::sound::{a_beginning_is_sound, a_step_keeps_sound};
 
 /// What becomes of a request among all that other threads do is a run. Where it has a flush, and ends without a fault, each page that was
 /// written is promised, from there on, with a number no smaller than it had at any moment of the request before its flush: so each page that a
@@ -30,6 +31,8 @@ pub fn a_flush_promises_each_page<A>()
     ensures alone { (t : Task) (seat : ℕ) (bytes : List ℕ) (before after : Moment A) (turns : List Turn)
         → Asked t seat bytes before turns after → AskedAmong t seat bytes before turns after }
 {
+    a_beginning_is_sound();
+    a_step_keeps_sound();
     numbers_are_kept();
-    the_last_number_never_falls();
+    a_commit_raises_the_number();
 }

@@ -15,8 +15,12 @@ ghost use Rattle.fa_solo_laws.specs.Driving.{image_on};
 ghost use Rattle.fa_solo_laws.specs.Standing.{IsWorldOf};
 ghost use Rattle.fa_types.specs.Store.{Done};
 
-use crate::requests::a_flush_promises_each_page;
 use fa_image::Image;
+use fa_laws::steps::{
+    a_commit_raises_the_number, live_dies_are_kept, numbers_are_kept, spares_are_kept,
+    the_geometry_is_kept, the_last_number_never_falls,
+};
+use fa_sound::sound::{a_beginning_is_sound, a_step_keeps_sound};
 
 /// A flush of the store of one thread that is accepted, or any other call with a flush, promises each page with the number that it has as the
 /// call ends, and so with what was written before it and what it wrote itself. Over any world that the array and its images are of as the call
@@ -31,5 +35,12 @@ pub fn a_flush_of_the_store_promises_each_page<L, M, I: Image, A>()
         × ((v : Unsynced) (page : ℕ) → RunWhole w u happenings last v → 1 ≤ number_of last.core page
         → IsPromised first page (number_of last.core page) last v) }
 {
-    a_flush_promises_each_page::<A>();
+    a_beginning_is_sound();
+    a_step_keeps_sound();
+    live_dies_are_kept();
+    spares_are_kept();
+    numbers_are_kept();
+    a_commit_raises_the_number();
+    the_geometry_is_kept();
+    the_last_number_never_falls();
 }
