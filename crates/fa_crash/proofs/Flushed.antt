@@ -6,7 +6,7 @@ use Rattle.fa_crash.proofs.Runs.{beginning_kept, run_kept, run_whole_keeps, spli
 use Rattle.fa_crash.proofs.Syncing.{SyncLaws, reached_counted}
 use Rattle.fa_crash.proofs.Trusted.{HeldOn, Trusted}
 use Rattle.fa_crash.specs.Flushed.{IsFlushed, IsMounted}
-use Rattle.fa_crash.specs.Unsynced.{Unsynced, nothing_unsynced, number_of, unsynced_behind}
+use Rattle.fa_crash.specs.Unsynced.{Unsynced, nothing_unsynced, number_of}
 use Rattle.fa_crash.specs.Whole.{RunWhole}
 use Rattle.fa_laws.proofs.Answering.{reached_holds}
 use Rattle.fa_machine.proofs.Lists.{among-range}

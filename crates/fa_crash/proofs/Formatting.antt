@@ -4,7 +4,7 @@ use Rattle.fa_machine.proofs.Maps.{get-insert_cases, get-insert_other, get-inser
 use Rattle.fa_machine.specs.Cells.{Empty, Sealed}
 use Rattle.fa_machine.specs.Maps.{Numbers}
 use Rattle.fa_machine.specs.declared.places.Version.{Version}
-use Rattle.std.proofs.Common.{Bool, List, ap, arith, inl, inr, refl, suc, sym, true, zero, ℕ, ◌<◌, ◌∙◌, ◌≡◌}
+use Rattle.std.proofs.Common.{Bool, List, ap, arith, inl, inr, suc, sym, true, zero, ℕ, ◌<◌, ◌∙◌, ◌≡◌}
 use Rattle.std.proofs.lemmas.Bool.{cases_lt, false≢true}
 use Rattle.std.proofs.lemmas.Nat.Bits.{bit_at_above}
 use Rattle.std.proofs.lemmas.Option.{none-some}

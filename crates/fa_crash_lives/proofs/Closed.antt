@@ -4,14 +4,13 @@ use Rattle.fa_crash.specs.Headers.{AreFirstHeaders, IsNewest, NameOurs, names}
 use Rattle.fa_crash_headers.proofs.Masked.{mask_seen}
 use Rattle.fa_crash_lives.proofs.Stands.{plain_stands}
 use Rattle.fa_crash_lives.specs.Behind.{AreImagesClosed, HoldersStand, IsLiveSeen, is_named}
-use Rattle.fa_machine.specs.Among.{Among}
 use Rattle.fa_machine.specs.Copies.{holds_page}
 use Rattle.fa_machine.specs.State.{is_live}
 use Rattle.fa_machine.specs.World.{HeaderTells, World}
 use Rattle.fa_mount_headers.specs.Rules.{greatest_epoch, is_in, mask_in}
 use Rattle.fa_mount_headers.specs.declared.seen.Seen.{Seen}
 use Rattle.fa_mount_scan.specs.MountedWorld.{SlotBytes}
-use Rattle.std.proofs.Common.{Bool, List, None, ap, arith, inl, inr, subst, sym, true, ℕ, ◌<◌, ◌∙◌, ◌≡◌, ◌≤◌}
+use Rattle.std.proofs.Common.{List, None, ap, arith, inl, inr, sym, true, ℕ, ◌<◌, ◌∙◌, ◌≡◌, ◌≤◌}
 use Rattle.std.proofs.lemmas.Bool.{cases_Bool}
 
 module _ (first w : World) (told : ℕ → HeaderTells) (seen : List Seen) (bytes : SlotBytes) (c : AreImagesClosed first w told seen bytes) where

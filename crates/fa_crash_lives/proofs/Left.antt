@@ -1,5 +1,5 @@
 -- What is recovered of images that are there: of each live die what stands there, and each die that the newest headers name.
-use Rattle.fa_crash.specs.Flushed.{is_of_array, slots_of}
+use Rattle.fa_crash.specs.Flushed.{is_of_array}
 use Rattle.fa_crash.specs.Headers.{IsNewest, NameOurs, names}
 use Rattle.fa_crash_headers.proofs.Masked.{mask_seen}
 use Rattle.fa_crash_lives.proofs.Refused.{HasFirst, all_read, all_unused, has_first, mask_there}
@@ -16,18 +16,17 @@ use Rattle.fa_mount.specs.RecoversArray.{RecoversArray}
 use Rattle.fa_mount_headers.specs.Judged.{standing_of}
 use Rattle.fa_mount_headers.specs.Rules.{greatest_epoch, is_in, mask_in, seen_from}
 use Rattle.fa_mount_headers.specs.declared.judging.Standing.{Standing}
-use Rattle.fa_mount_headers.specs.declared.judging.Standing.TheVariants.{Live, Spare}
+use Rattle.fa_mount_headers.specs.declared.judging.Standing.TheVariants.{Live}
 use Rattle.fa_mount_headers.specs.declared.seen.Seen.{Seen}
 use Rattle.fa_mount_scan.specs.ContentCells.{IsCellOf}
 use Rattle.fa_mount_scan.specs.MountedWorld.{SlotBytes, is_spare_of}
 use Rattle.fa_mount_scan.specs.Mounting.{Mounts}
 use Rattle.fa_mount_scan.specs.Recovering.{is_unread_die, is_used_spare, slots_refusal}
 use Rattle.fa_types.specs.declared.geometry.Geometry.{Geometry}
-use Rattle.std.proofs.Common.{Bool, List, None, Option, Some, ap, arith, false, inl, inr, length, map, refl, subst, sym, true, ℕ, ◌*◌, ◌<◌, ◌∙◌, ◌≡◌, ◌≤◌, ◌⊎◌}
-use Rattle.std.proofs.lemmas.Bool.{cases_Bool, false≢true, or_cases, true≢false}
+use Rattle.std.proofs.Common.{Bool, List, None, ap, arith, false, inl, inr, length, refl, subst, sym, true, ℕ, ◌*◌, ◌<◌, ◌∙◌, ◌≡◌, ◌⊎◌}
+use Rattle.std.proofs.lemmas.Bool.{or_cases}
 use Rattle.std.proofs.lemmas.List.FromFn.{length-map-range_with_len}
 use Rattle.std.specs.FinMap.{contains_key}
-use Rattle.std.specs.List.{range_with_len}
 use Rattle.std.specs.Prelude.{◌||◌}
 
 module _ {I : Type 0} (A : Type 0) (view : I → ImageState) (made : I → ImageCall → ImageAnswer → I → Type 0) (copies : ℕ) (before after : List I)

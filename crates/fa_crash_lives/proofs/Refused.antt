@@ -7,13 +7,12 @@ use Rattle.fa_mount_headers.specs.Judged.{first_seen}
 use Rattle.fa_mount_headers.specs.Recovering.{is_missed_die, missed, missed_die, missed_of, whole_refusal}
 use Rattle.fa_mount_headers.specs.Rules.{first_of, greatest_epoch, is_in, mask_in, refused_die, seen_refusal}
 use Rattle.fa_mount_headers.specs.declared.fault.MountFault.TheVariants.{Unclean}
-use Rattle.fa_mount_headers.specs.declared.fault.MountRefused.{MountRefused}
 use Rattle.fa_mount_headers.specs.declared.judging.Standing.{Standing}
 use Rattle.fa_mount_headers.specs.declared.seen.Seen.{Seen}
 use Rattle.fa_mount_scan.specs.Recovering.{is_gone, is_unread_die, is_used_spare, slots_refusal, too_few, used_spare_at}
 use Rattle.fa_mount_scan.specs.Scanned.{Outcome, fault_at}
 use Rattle.fa_types.specs.declared.geometry.Geometry.{Geometry}
-use Rattle.std.proofs.Common.{Bool, List, None, Option, Some, [], ap, arith, eqb-true, false, inl, inr, length, not, refl, subst, sym, true, ℕ, ◌<◌, ◌∙◌, ◌∷◌, ◌≡◌}
+use Rattle.std.proofs.Common.{List, None, Option, Some, [], ap, arith, eqb-true, false, inl, inr, length, not, refl, sym, true, ℕ, ◌<◌, ◌∙◌, ◌∷◌, ◌≡◌}
 use Rattle.std.proofs.lemmas.Bool.{cases_Bool, true≢false}
 use Rattle.std.proofs.lemmas.Option.{none-some, same_Some}
 use Rattle.std.specs.List.{list_any, range_with_len}

@@ -2,9 +2,8 @@
 -- live or a spare.
 use Rattle.fa_crash_mount.proofs.Live.{mounted_live}
 use Rattle.fa_image.specs.Image.{ImageAnswer, ImageCall, ImageState}
-use Rattle.fa_machine.proofs.Lists.{among-range, found_passes, none_passes}
+use Rattle.fa_machine.proofs.Lists.{found_passes, none_passes}
 use Rattle.fa_machine.specs.Among.{Among}
-use Rattle.fa_machine.specs.Maps.{below}
 use Rattle.fa_machine.specs.State.{MapState, is_live}
 use Rattle.fa_mount_headers.specs.Judged.{standing_in, standing_of}
 use Rattle.fa_mount_headers.specs.Rules.{greatest_epoch, is_in, mask_in, seen_from}
@@ -18,14 +17,14 @@ use Rattle.fa_mount_scan.specs.MountedWorld.{is_spare_of}
 use Rattle.fa_mount_scan.specs.Mounting.{Mounts}
 use Rattle.fa_mount_scan.specs.Recovering.{is_unread_die, is_unused, is_used_spare, outcome_at, standing_at}
 use Rattle.fa_mount_scan.specs.Reported.{is_spare as stands_as_spare}
-use Rattle.fa_mount_scan.specs.Scanned.{Outcome, is_erased, is_refused, mounted_of, settled}
+use Rattle.fa_mount_scan.specs.Scanned.{Outcome, is_refused, mounted_of, settled}
 use Rattle.fa_mount_scan.specs.declared.slots.content.SlotContent.{SlotContent}
 use Rattle.fa_types.specs.declared.geometry.Geometry.{Geometry}
-use Rattle.std.proofs.Common.{Bool, List, None, Option, Some, ap, arith, eq-eqb, eqb-true, false, get_or, inl, inr, length, map, not, refl, slice_get, subst, sym, true, ℕ, ◌<◌, ◌∙◌, ◌≡◌, ◌⊎◌}
+use Rattle.std.proofs.Common.{Bool, List, None, Option, Some, ap, arith, eq-eqb, eqb-true, false, inl, inr, length, map, not, refl, slice_get, subst, sym, true, ℕ, ◌<◌, ◌∙◌, ◌≡◌}
 use Rattle.std.proofs.lemmas.Bool.{cases_Bool, false≢true, true≢false}
 use Rattle.std.proofs.lemmas.List.FromFn.{get_or-map-range_with_len, length-map-range_with_len}
 use Rattle.std.proofs.lemmas.Option.{get_or_from_slice_get, none-some, slice_get-get_or}
-use Rattle.std.specs.List.{list_all, range_with_len}
+use Rattle.std.specs.List.{range_with_len}
 use Rattle.std.specs.Option.{option_map_or}
 use Rattle.std.specs.Prelude.{Err, Ok, find, if◌then◌else◌, is_some, ◌&&◌, ◌==◌}
 

@@ -1,5 +1,5 @@
 -- The images that are recovered behind a crash or a close, and the life that begins with what is recovered of them.
-use Rattle.std.specs.Prelude.{◌≡◌, ℕ, ◌*◌, ◌<◌, ◌≤◌, Bool, true, false, List, None, Option, Some}
+use Rattle.std.specs.Prelude.{◌≡◌, ℕ, ◌<◌, ◌≤◌, Bool, true, false, List, None, Option, Some}
 use Rattle.std.specs.FinMap.{contains_key, get}
 use Rattle.fa_crash.specs.Flushed.{AreOfLast, IsPromised, is_of_array, slots_of}
 use Rattle.fa_crash.specs.Headers.{AreToldAlike, names, tells}

@@ -1,13 +1,11 @@
-use Rattle.fa_crash.specs.Flushed.{is_of_array}
 use Rattle.fa_crash.specs.Headers.{AreMountedAgain, NameOurs, names, tells}
 use Rattle.fa_crash_lives.proofs.Left.{inside_named, is_newest, ours, top, top_mask}
 use Rattle.fa_crash_lives.proofs.Unheard.{unheard}
 use Rattle.fa_crash_lives.proofs.lives.what_is_recovered_begins_a_life.Goals as goal
-use Rattle.fa_crash_lives.specs.Behind.{is_named}
 use Rattle.fa_mount_headers.specs.Rules.{seen_from}
 use Rattle.fa_mount_headers.specs.declared.seen.Seen.{Seen}
 use Rattle.fa_mount_scan.specs.MountedWorld.{SlotBytes, bytes_of}
-use Rattle.std.proofs.Common.{List, [], ap, map, refl, true, ℕ, ◌∙◌, ◌≡◌}
+use Rattle.std.proofs.Common.{List, [], ap, map, refl, ◌∙◌}
 
 pub returns : goal.returns
 returns g c first w told u cells heads copies before after array dies core life cut recovers many honest left holders =
