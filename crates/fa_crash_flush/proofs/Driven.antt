@@ -11,19 +11,18 @@ use Rattle.fa_core_dispatch.specs.Fits.{IsJobFor}
 use Rattle.fa_laws.proofs.Within.{GeometryLaw}
 use Rattle.fa_machine.specs.Beginning.{IsBeginning}
 use Rattle.fa_machine.specs.Collecting.{is_in_block}
-use Rattle.fa_machine.specs.Run.{Event, Happening, Happens, HappensEvent, ImageCall as Calling}
+use Rattle.fa_machine.specs.Run.{Event, Happening, ImageCall as Calling}
 use Rattle.fa_machine.specs.State.{Core}
 use Rattle.fa_machine.specs.Step.{Act, FlushBegin, FlushState}
 use Rattle.fa_machine.specs.declared.answers.Flush.{Flush}
 use Rattle.fa_machine.specs.declared.answers.FlushState.TheVariants.{Synced}
 use Rattle.fa_machine.specs.World.{Gave, JobCall, Refused, Work, World, next_call}
-use Rattle.fa_mount_close_laws.proofs.DrivenRuns.{Called, Follows, call_follows, event_follows, honest_before, refused_follows}
+use Rattle.fa_mount_close_laws.proofs.DrivenRuns.{Follows, call_follows, event_follows, honest_before, refused_follows}
 use Rattle.fa_mount_close_laws.proofs.JobCalls.{value_here, writable}
 use Rattle.fa_mount_close_laws.proofs.OneCall.{IsSomeCell}
 use Rattle.fa_mount_close_laws.proofs.Following.{IsGiven}
 use Rattle.fa_mount_close_laws.specs.Drives.{AreHonest, AreImages, Drive, Driven, Drives, MakesCall, MakesEvent, MakesNext, RefusesCall, RefusesNext, acts_of, beginning, events_of}
-use Rattle.fa_types.specs.declared.geometry.Geometry.{Geometry}
-use Rattle.std.proofs.Common.{Bool, IsTrue, List, Ok, Option, Some, [], ap, inl, refl, subst, sym, ℕ, ◌*◌, ◌++◌, ◌<◌, ◌∙◌, ◌∷◌, ◌≡◌, ◌≤◌}
+use Rattle.std.proofs.Common.{Bool, List, Ok, Option, Some, [], ap, inl, refl, subst, sym, ℕ, ◌*◌, ◌++◌, ◌<◌, ◌∙◌, ◌∷◌, ◌≡◌, ◌≤◌}
 use Rattle.std.specs.List.{AllByRecursion}
 use Rattle.std.specs.Prelude.{option_and_then}
 

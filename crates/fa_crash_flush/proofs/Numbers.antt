@@ -12,10 +12,9 @@ use Rattle.fa_machine.specs.World.{World}
 use Rattle.fa_machine.specs.declared.places.Version.{Version}
 use Rattle.fa_solo_laws.specs.Unwritten.{WritesNothing}
 use Rattle.fa_sound.specs.Sound.{IsSound}
-use Rattle.std.proofs.Common.{List, Option, [], ap, arith, inl, inr, refl, subst, sym, ℕ, ◌∙◌, ◌∷◌, ◌≡◌, ◌≤◌}
+use Rattle.std.proofs.Common.{List, Option, [], ap, arith, inl, inr, subst, sym, ℕ, ◌∙◌, ◌∷◌, ◌≡◌, ◌≤◌}
 use Rattle.std.specs.List.{AllByRecursion}
 use Rattle.std.specs.Option.{option_map_or}
-use Rattle.std.specs.Prelude.{◌++◌}
 
 -- the laws of single events that numbers rest on
 pub record NumberLaws : Type 0 where

@@ -1,6 +1,5 @@
 -- A call of an image that writes whole is one in the world as well.
-use Rattle.fa_crash.specs.Unsynced.{call_of}
-use Rattle.fa_crash.specs.Whole.{IsLeft, IsWhole, IsWholeCall}
+use Rattle.fa_crash.specs.Whole.{IsLeft, IsWholeCall}
 use Rattle.fa_crash_flush.specs.Images.{WriteWhole}
 use Rattle.fa_image.specs.Image.{Done, Erasing, Gave as GaveBytes, ImageAnswer, ImageCall, ImageMeets, ImageState, Programming, Refused as RefusedBy, slot_at}
 use Rattle.fa_image.specs.Untouched.{block_fits}
@@ -8,17 +7,16 @@ use Rattle.fa_image.specs.declared.fault.ImageFault.{ImageFault}
 use Rattle.fa_jobs.specs.Made.{IsGivenBy, IsMadeBy}
 use Rattle.fa_machine.specs.Cells.{Broken, Cell, Empty, Sealed}
 use Rattle.fa_machine.specs.Collecting.{is_in_block}
-use Rattle.fa_machine.specs.State.{Core, MapState}
-use Rattle.fa_machine.specs.World.{Accepted, DieImage, ErasesBlock, Gave, GaveCell, JobCall, ProgramsSlot, ReadsSlot, Refused, Syncs, World, WritesHeader}
+use Rattle.fa_machine.specs.State.{MapState}
+use Rattle.fa_machine.specs.World.{Accepted, DieImage, ErasesBlock, Gave, GaveCell, JobCall, ProgramsSlot, ReadsSlot, Refused, Syncs, WritesHeader}
 use Rattle.fa_machine.specs.declared.places.Version.{Version}
 use Rattle.fa_mount_close_laws.proofs.OneCall.{IsWritable}
 use Rattle.fa_mount_laws.proofs.Cells.{one_cell}
 use Rattle.fa_mount_scan.specs.ContentCells.{IsCellOf, tag_of}
-use Rattle.fa_tag.specs.SlotGrammar.{IsErased, slot_2}
+use Rattle.fa_tag.specs.SlotGrammar.{slot_2}
 use Rattle.fa_types.specs.declared.geometry.Geometry.{Geometry}
-use Rattle.std.proofs.Common.{Bool, List, Option, Some, ap, arith, eqb-true, inl, inr, refl, subst, sym, true, ℕ, ◌*◌, ◌+◌, ◌/◌, ◌<◌, ◌∙◌, ◌≡◌, ◌≤◌, ◌⊎◌}
+use Rattle.std.proofs.Common.{Bool, List, Some, ap, arith, eqb-true, inl, inr, refl, subst, sym, true, ℕ, ◌*◌, ◌+◌, ◌/◌, ◌<◌, ◌≡◌}
 use Rattle.std.proofs.Math.Nat.{lt-div-mul-add}
-use Rattle.std.specs.Prelude.{◌==◌}
 
 -- a slot of a block lies on the die
 inside_block : (g : Geometry) (block slot : ℕ) → block < g.blocks → slot / g.slots ≡ block → slot < g.blocks * g.slots
