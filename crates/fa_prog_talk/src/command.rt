@@ -143,7 +143,7 @@ fn talk_over<R: Host, W: Write, A: Allocator + Copy>(
     output: &mut W,
 ) -> u8
     requires served { MayBeServed settings.now }
-    requires opened { AreOpened settings.now.geometry (length settings.now.images.items) taken.entry.terms true places.now images.items }
+    requires opened { AreOpened settings.now.geometry (length settings.now.images.items) taken.terms true places.now images.items }
     ensures { TellsClient Brand (PageTables Heap) settings.now taken.entry.terms bytes.now (W.contents output.old) (W.contents output.new) result }
 {
     a_conversation_is_right::<Brand, PageMap, FileImage>();
