@@ -3,6 +3,7 @@ ghost use Rattle.std.specs.Prelude.{◌≡◌, ◌<◌, false};
 ghost use Rattle.fa_shared_lock.specs.Rest.{LeavesRest};
 ghost use Rattle.fa_workers.specs.Windows.{GivesWindow, GivesWindows};
 
+use fa_core::Array;
 use fa_map_calls::Map;
 use fa_shared::Shared;
 use fa_shared_die_events::window;
@@ -14,7 +15,7 @@ use std::sync::ledger::Ledger;
 use std::time::Clock;
 
 /// Gives each live die that wants one a window of so many rounds, 1 to 64, until the array is to end. It sleeps
-/// behind each look at the dies until one wants a window. A die that has a window, or may have none now, is asked again then.
+/// behind each look at the dies until one wants a window; and where one was refused, until something has changed.
 pub fn collector_worker<R: Wait + Clock, L: Ledger, M: Map + Drop, A: Allocator + Copy>(
     rt: &R,
     alloc: A,
@@ -28,8 +29,20 @@ pub fn collector_worker<R: Wait + Clock, L: Ledger, M: Map + Drop, A: Allocator 
             break;
         }
         give_windows(alloc, &mut guard, seat, window_rounds);
-        guard = shared.sleep(rt, seat, Awaits::Window, guard);
+        let awaits = next_look(guard.array());
+        guard = shared.sleep(rt, seat, awaits, guard);
     }
+}
+
+/// What the collector waits for behind a look: that a die wants a window, or any change, where one that wants it was refused.
+fn next_look<M: Map, A: Allocator + Clone>(array: &Array<M, A>) -> Awaits {
+    for number in 0..array.geometry().dies {
+        let die = Die(number as u8);
+        if array.wants_window(die) && !array.has_window(die) {
+            return Awaits::Change;
+        }
+    }
+    Awaits::Window
 }
 
 /// A Window for each die that wants one. Whether one was accepted.
