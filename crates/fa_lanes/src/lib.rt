@@ -2,6 +2,7 @@
 //! those of `sha2`, which they are proved to be. No call takes memory.
 #![tactic(auto)]
 
+mod alone;
 mod begun;
 mod hash;
 mod messages;
@@ -9,5 +10,5 @@ mod rounds;
 mod tail;
 mod words;
 
-pub use begun::{Begun, begin, finish};
+pub use begun::{Begun, begin};
 pub use messages::{LANES, digest_all, digests};
