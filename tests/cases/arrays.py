@@ -3,10 +3,10 @@ import fcntl
 import hashlib
 import os
 import shutil
-import subprocess
 
 import advice
 from cases import Case, Run, document
+from children import CHILDREN
 from images import header_bytes, image_bytes, settings_text, slot_bytes
 
 ARRAY = bytes.fromhex("00112233445566778899aabbccddeeff")
@@ -227,8 +227,10 @@ def started(path):
     """A step that makes a file a program and starts it. It ends by itself."""
     def start(folder):
         there = os.path.join(folder, path)
-        shutil.copy("/bin/sleep", there)
-        HELD[folder] = subprocess.Popen(["sleep", "30"], executable=there)
+        # A process that another case begins meanwhile would have the file open to write, until its own program is in its place.
+        with CHILDREN.lock:
+            shutil.copy("/bin/sleep", there)
+        HELD[folder] = CHILDREN.start(["sleep", "30"], executable=there)
     return start
 
 
