@@ -63,7 +63,10 @@ pub fn admit<M: Map, A: Allocator + Copy>(
         return Err(AdmitRefused::Spent);
     }
     match plan_written(alloc, planner, state, pages) {
-        Ok(planned) => admit_planned(alloc, state, pages, planned),
+        Ok(planned) => {
+            planner.note(planned.rounds, &state.bookings);
+            admit_planned(alloc, state, pages, planned)
+        }
         Err(_) => Err(AdmitRefused::NoMemory),
     }
 }

@@ -26,7 +26,7 @@ use fa_settings::{Settings, Terms};
 use fa_shared::{Fault, Shared};
 use std::alloc::{AllocError, Allocator, Global};
 use std::fs::File;
-use std::io::{Read, Write};
+use std::io::{self, Read, Write};
 use std::marker::Brand;
 use std::net::TcpListener;
 use std::sync::ledger::{Blank, Ledger};
@@ -40,6 +40,8 @@ pub struct Serve<'a> {
     pub terms: Terms,
     /// Clients that come and go are told on standard error.
     pub verbose: bool,
+    /// The address at which others may ask how the array is.
+    pub status: Option<&'a str>,
 }
 
 /// The command `serve`: serves the array of the settings in the file of this path until the input has the line `stop`, ends or fails.
@@ -73,7 +75,7 @@ fn listen<R: ServerHost, N: Read, W: Write, A: Allocator>(
     ensures { TellsOn (W.contents output.old) (W.contents output.new) result }
 {
     match TcpListener::bind(rt, settings.listen) {
-        Ok(listener) => open(rt, &listener, settings, serve, input, output),
+        Ok(listener) => listen_for_looks(rt, &listener, settings, serve, input, output),
         Err(refused) => {
             let address = settings.listen;
             tell(
@@ -87,10 +89,67 @@ fn listen<R: ServerHost, N: Read, W: Write, A: Allocator>(
     }
 }
 
+/// Serves the array of these settings, and answers those who ask how it is, where that is wanted.
+fn listen_for_looks<R: ServerHost, N: Read, W: Write, A: Allocator>(
+    rt: &R,
+    listener: &TcpListener,
+    settings: &Settings<A>,
+    serve: Serve<'_>,
+    input: &mut N,
+    output: &mut W,
+) -> u8
+    ensures { TellsOn (W.contents output.old) (W.contents output.new) result }
+{
+    match bind_looks(rt, serve.status) {
+        Ok(looks) => {
+            let listeners = Listeners {
+                clients: listener,
+                looks: looks.as_ref(),
+            };
+            open(rt, listeners, settings, serve, input, output)
+        }
+        Err(_) => print(output, REFUSED, b"listen: failed\n"),
+    }
+}
+
+/// Where others may ask how the array is, if that is wanted. It is told on standard error, and so is the error, which is the system's.
+fn bind_looks<R: ServerHost>(rt: &R, status: Option<&str>) -> io::Result<Option<TcpListener>> {
+    let Some(address) = status else {
+        return Ok(None);
+    };
+    match TcpListener::bind(rt, address) {
+        Ok(listener) => {
+            match listener.local_addr() {
+                Ok(address) => tell(rt, format_args!("status at http://{address}/")),
+                Err(_) => tell(rt, format_args!("status at http://{address}/")),
+            }
+            Ok(Some(listener))
+        }
+        Err(refused) => {
+            tell(
+                rt,
+                format_args!(
+                    "{address}: {refused}: choose another address for --status, or end who has this one"
+                ),
+            );
+            Err(refused)
+        }
+    }
+}
+
+/// Where a server listens.
+#[derive(Clone, Copy)]
+pub struct Listeners<'a> {
+    /// For clients.
+    pub clients: &'a TcpListener,
+    /// For those who ask how the array is.
+    pub looks: Option<&'a TcpListener>,
+}
+
 /// Serves the array of these settings over the images that they name.
 fn open<R: ServerHost, N: Read, W: Write, A: Allocator>(
     rt: &R,
-    listener: &TcpListener,
+    listeners: Listeners<'_>,
     settings: &Settings<A>,
     serve: Serve<'_>,
     input: &mut N,
@@ -109,7 +168,7 @@ fn open<R: ServerHost, N: Read, W: Write, A: Allocator>(
             match open_lost(rt, serve.settings) {
                 Ok(lost) => {
                     let held = Held { images, lost };
-                    serve_on(rt, listener, held, places, settings, serve, input, output)
+                    serve_on(rt, listeners, held, places, settings, serve, input, output)
                 }
                 Err(refused) => {
                     tell_not_kept(rt, serve.settings, &refused);
@@ -132,10 +191,10 @@ pub struct Held<I: Drop> {
     pub lost: File,
 }
 
-/// Serves the array of these images to those who connect to the listener. The images are at these places of the settings' paths.
+/// Serves the array of these images to those who connect to the listeners. The images are at these places of the settings' paths.
 pub fn serve_on<R: ServerHost, I: Image + Send + Drop, N: Read, W: Write, A: Allocator>(
     rt: &R,
-    listener: &TcpListener,
+    listeners: Listeners<'_>,
     held: Held<I>,
     places: &[usize],
     settings: &Settings<A>,
@@ -146,7 +205,8 @@ pub fn serve_on<R: ServerHost, I: Image + Send + Drop, N: Read, W: Write, A: All
     ensures { TellsOn (W.contents output.old) (W.contents output.new) result }
 {
     let plan = ServePlan {
-        listener,
+        listener: listeners.clients,
+        looks: listeners.looks,
         settings,
         path: serve.settings,
         places,

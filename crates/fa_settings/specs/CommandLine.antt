@@ -13,7 +13,7 @@ use Rattle.clap.specs.declared.builder.value_parser.ValueParser.TheVariants.{Sig
 use Rattle.fa_types.specs.declared.numbers.Die.{Die}
 use Rattle.fa_settings.specs.Terms.{terms_by}
 use Rattle.fa_settings.specs.declared.command_line.Subcommand.{Subcommand}
-use Rattle.fa_settings.specs.declared.command_line.Subcommand.TheVariants.{Format, Check, Dump, Serve, Plan, Talk, TalkArray, Verify}
+use Rattle.fa_settings.specs.declared.command_line.Subcommand.TheVariants.{Format, Check, Dump, Serve, Status, Plan, Talk, TalkArray, Verify}
 use Rattle.fa_settings.specs.declared.terms.Terms.{Terms}
 use Rattle.fa_settings.specs.declared.terms.Terms.TheVariants.{Closed}
 
@@ -38,6 +38,14 @@ die_argument = record (new_rule (codes "die")) {
 abbrev pub array_argument : Rule
 array_argument = record (new_rule (codes "array")) { long = Some (codes "array"); action = Some Set; value_names = 1 }
 
+-- the address at which others may ask how an array is, which may be left out
+abbrev pub status_argument : Rule
+status_argument = record (new_rule (codes "status")) { long = Some (codes "status"); action = Some Set; value_names = 1 }
+
+-- the address of a server that is asked, which has to be given
+abbrev pub address_argument : Rule
+address_argument = record (new_rule (codes "address")) { action = Some Set; value_names = 1; required = true }
+
 -- a command with its arguments
 abbrev pub with_arguments : List ℕ → List Rule → Shape
 with_arguments name rules = record (new_shape name) { rules = rules }
@@ -55,6 +63,14 @@ program = record (new_shape (codes "flasharr")) {
 abbrev pub array_arguments : List ℕ → List Rule
 array_arguments name = settings_argument ∷ flag (codes "unclean") ∷ flag (codes "recover") ∷ flag name ∷ []
 
+-- the arguments of `serve` and of `status`
+abbrev pub serve_arguments : List Rule
+serve_arguments =
+    settings_argument ∷ flag (codes "unclean") ∷ flag (codes "recover") ∷ flag (codes "verbose") ∷ status_argument ∷ []
+
+abbrev pub status_arguments : List Rule
+status_arguments = address_argument ∷ flag (codes "watch") ∷ []
+
 -- the arguments of `talk`
 abbrev pub talk_arguments : List Rule
 talk_arguments = array_argument ∷ flag (codes "unclean") ∷ flag (codes "recover") ∷ []
@@ -62,11 +78,11 @@ talk_arguments = array_argument ∷ flag (codes "unclean") ∷ flag (codes "reco
 -- the program with its commands, each of which has --help besides
 abbrev pub command_line : App
 command_line =
-    with_subcommand (with_subcommand (with_subcommand (with_subcommand (with_subcommand (with_subcommand (with_subcommand
+    with_subcommand (with_subcommand (with_subcommand (with_subcommand (with_subcommand (with_subcommand (with_subcommand (with_subcommand
     (record { top = program; subs = [] })
     (with_arguments (codes "format") (settings_argument ∷ die_argument ∷ [])))
     (with_arguments (codes "check") (array_arguments (codes "json")))) (with_arguments (codes "dump") (array_arguments (codes "json"))))
-    (with_arguments (codes "serve") (array_arguments (codes "verbose"))))
+    (with_arguments (codes "serve") serve_arguments)) (with_arguments (codes "status") status_arguments))
     (new_shape (codes "plan"))) (with_arguments (codes "talk") talk_arguments)) (new_shape (codes "verify"))
 
 -- What the arguments are where they are no command: a request for help or for the version, or a mistake, as the
@@ -79,7 +95,8 @@ pub data Wanted : Type 0 where
   Formats : (settings : List ℕ) (die : Option (List ℕ)) → Wanted
   Checks : (settings : List ℕ) (terms : Terms) (json : Bool) → Wanted
   Dumps : (settings : List ℕ) (terms : Terms) (json : Bool) → Wanted
-  Serves : (settings : List ℕ) (terms : Terms) (verbose : Bool) → Wanted
+  Serves : (settings : List ℕ) (terms : Terms) (verbose : Bool) (status : Option (List ℕ)) → Wanted
+  Asks : (address : List ℕ) (watch : Bool) → Wanted
   Plans : Wanted
   Talks : Wanted
   TalksOver : (settings : List ℕ) (terms : Terms) → Wanted
@@ -108,7 +125,11 @@ abbrev pub dumps : List Row → Option Wanted
 dumps rows = with_terms (first_of (codes "settings") rows) (terms_in rows) (λ path terms. Dumps path terms (is_given (codes "json") rows))
 
 abbrev pub serves : List Row → Option Wanted
-serves rows = with_terms (first_of (codes "settings") rows) (terms_in rows) (λ path terms. Serves path terms (is_given (codes "verbose") rows))
+serves rows = with_terms (first_of (codes "settings") rows) (terms_in rows)
+    (λ path terms. Serves path terms (is_given (codes "verbose") rows) (first_of (codes "status") rows))
+
+abbrev pub asks : List Row → Option Wanted
+asks rows = option_map (λ address. Asks address (is_given (codes "watch") rows)) (first_of (codes "address") rows)
 
 -- `talk` asks for an array where the path of its settings is given, and else for a store in memory. Nothing is asked for where there is no
 -- array and yet terms are named for one.
@@ -124,7 +145,8 @@ abbrev pub wanted_by : List ℕ → List Row → Option Wanted
 wanted_by name rows =
     if bytes_eq name (codes "format") then formats rows else if bytes_eq name (codes "check") then checks rows
     else if bytes_eq name (codes "dump") then dumps rows else if bytes_eq name (codes "serve") then serves rows
-    else if bytes_eq name (codes "plan") then Some Plans else if bytes_eq name (codes "talk") then talks rows
+    else if bytes_eq name (codes "status") then asks rows else if bytes_eq name (codes "plan") then Some Plans
+    else if bytes_eq name (codes "talk") then talks rows
     else if bytes_eq name (codes "verify") then Some Verifies else None
 
 -- what the arguments ask for
@@ -144,7 +166,9 @@ IsWanted None None = Unit {0}
 IsWanted (Some (Format settings die)) (Some (Formats path text)) = (settings.now ≡ path) × IsDie text die
 IsWanted (Some (Check settings terms json)) (Some (Checks path t j)) = (settings.now ≡ path) × (terms ≡ t) × (json ≡ j)
 IsWanted (Some (Dump settings terms json)) (Some (Dumps path t j)) = (settings.now ≡ path) × (terms ≡ t) × (json ≡ j)
-IsWanted (Some (Serve settings terms verbose)) (Some (Serves path t v)) = (settings.now ≡ path) × (terms ≡ t) × (verbose ≡ v)
+IsWanted (Some (Serve settings terms verbose status)) (Some (Serves path t v s)) =
+    (settings.now ≡ path) × (terms ≡ t) × (verbose ≡ v) × (option_map (λ address. address.now) status ≡ s)
+IsWanted (Some (Status address watch)) (Some (Asks a w)) = (address.now ≡ a) × (watch ≡ w)
 IsWanted (Some Plan) (Some Plans) = Unit {0}
 IsWanted (Some Talk) (Some Talks) = Unit {0}
 IsWanted (Some (TalkArray settings terms)) (Some (TalksOver path t)) = (settings.now ≡ path) × (terms ≡ t)

@@ -5,9 +5,10 @@ ghost use Rattle.clap.specs.Simple.{app_of, new_app, with_subcommand};
 ghost use Rattle.clap.specs.declared.builder.command.Command.TheViews.{out-Command as fields_of};
 ghost use Rattle.clap.specs.Walk.{rows_of, rule_of, first_of, one_of};
 ghost use Rattle.clap.specs.Matches.{found_of};
-ghost use Rattle.fa_settings.specs.CommandLine.{command_line as line, found_instead, wanted_in, wanted_by, formats, checks, dumps, serves, talks, IsWanted, IsDie};
-ghost use Rattle.fa_settings.specs.CommandLine.{is_given as flag_given, terms_in, with_arguments, array_arguments, talk_arguments};
+ghost use Rattle.fa_settings.specs.CommandLine.{command_line as line, found_instead, wanted_in, wanted_by, formats, checks, dumps, serves, asks, talks, IsWanted, IsDie};
+ghost use Rattle.fa_settings.specs.CommandLine.{is_given as flag_given, terms_in, with_arguments, array_arguments, serve_arguments, status_arguments, talk_arguments};
 ghost use Rattle.fa_settings.specs.CommandLine.{program as program_shape, settings_argument as settings_rule, die_argument as die_rule, array_argument as array_rule, flag as flag_rule};
+ghost use Rattle.fa_settings.specs.CommandLine.{status_argument as status_rule, address_argument as address_rule};
 
 use crate::help::{self, Help};
 use crate::terms::Terms;
@@ -51,6 +52,15 @@ pub enum Subcommand<'a> {
         terms: Terms,
         /// Clients that come and go are told on standard error.
         verbose: bool,
+        /// The address at which others may ask how the array is.
+        status: Option<&'a str>,
+    },
+    /// Asks a server how its array is.
+    Status {
+        /// The address at which it answers.
+        address: &'a str,
+        /// It is asked again and again.
+        watch: bool,
     },
     /// Plans a batch.
     Plan,
@@ -106,17 +116,13 @@ fn command_line<'a>(global: Global) -> Result<Command<'a>, AllocError>
     let Ok(dump) = with_array(global, check, "dump", help::DUMP, "json", help::ABOUT_JSON) else {
         return Err(AllocError);
     };
-    let Ok(serve) = with_array(
-        global,
-        dump,
-        "serve",
-        help::SERVE,
-        "verbose",
-        help::ABOUT_VERBOSE,
-    ) else {
+    let Ok(serve) = with_serve(global, dump) else {
         return Err(AllocError);
     };
-    let Ok(plan) = serve.subcommand(plain_line(global, "plan", help::PLAN)) else {
+    let Ok(status) = with_status(global, serve) else {
+        return Err(AllocError);
+    };
+    let Ok(plan) = status.subcommand(plain_line(global, "plan", help::PLAN)) else {
         return Err(AllocError);
     };
     let Ok(talk) = with_talk(global, plan) else {
@@ -193,6 +199,45 @@ fn with_array<'a>(
     program.subcommand(array)
 }
 
+/// The program with the command that serves an array besides.
+fn with_serve<'a>(global: Global, program: Command<'a>) -> Result<Command<'a>, AllocError>
+    ensures { IfOk result (λ c. app_of c
+        ≡ with_subcommand (app_of program.entry) (with_arguments (codes "serve") serve_arguments)) }
+{
+    let serve = plain_line(global, "serve", help::SERVE);
+    let Ok(serve) = serve.arg(settings_argument(global)) else {
+        return Err(AllocError);
+    };
+    let Ok(serve) = serve.arg(flag(global, "unclean", help::ABOUT_UNCLEAN)) else {
+        return Err(AllocError);
+    };
+    let Ok(serve) = serve.arg(flag(global, "recover", help::ABOUT_RECOVER)) else {
+        return Err(AllocError);
+    };
+    let Ok(serve) = serve.arg(flag(global, "verbose", help::ABOUT_VERBOSE)) else {
+        return Err(AllocError);
+    };
+    let Ok(serve) = serve.arg(status_argument(global)) else {
+        return Err(AllocError);
+    };
+    program.subcommand(serve)
+}
+
+/// The program with the command that asks a server besides.
+fn with_status<'a>(global: Global, program: Command<'a>) -> Result<Command<'a>, AllocError>
+    ensures { IfOk result (λ c. app_of c
+        ≡ with_subcommand (app_of program.entry) (with_arguments (codes "status") status_arguments)) }
+{
+    let status = plain_line(global, "status", help::STATUS);
+    let Ok(status) = status.arg(address_argument(global)) else {
+        return Err(AllocError);
+    };
+    let Ok(status) = status.arg(flag(global, "watch", help::ABOUT_WATCH)) else {
+        return Err(AllocError);
+    };
+    program.subcommand(status)
+}
+
 /// The program with the command that serves one client besides.
 fn with_talk<'a>(global: Global, program: Command<'a>) -> Result<Command<'a>, AllocError>
     ensures { IfOk result (λ c. app_of c
@@ -221,6 +266,30 @@ fn array_argument<'a>(global: Global) -> Arg<'a>
         .action(ArgAction::Set)
         .value_name("SETTINGS")
         .help(help::ABOUT_ARRAY)
+}
+
+/// The address at which others may ask how an array is.
+fn status_argument<'a>(global: Global) -> Arg<'a>
+    ensures rule { rule_of result ≡ status_rule }
+    ensures local { result.global ≡ false }
+{
+    Arg::new(global, "status")
+        .long("status")
+        .action(ArgAction::Set)
+        .value_name("ADDRESS")
+        .help(help::ABOUT_STATUS)
+}
+
+/// The address of a server that is asked.
+fn address_argument<'a>(global: Global) -> Arg<'a>
+    ensures rule { rule_of result ≡ address_rule }
+    ensures local { result.global ≡ false }
+{
+    Arg::new(global, "address")
+        .action(ArgAction::Set)
+        .required(true)
+        .value_name("ADDRESS")
+        .help(help::ABOUT_ADDRESS)
 }
 
 /// The path of the settings.
@@ -268,6 +337,7 @@ fn wanted<'a>(name: &str, found: &ArgMatches<'a>) -> Option<Subcommand<'a>>
         "check" => wanted_check(found),
         "dump" => wanted_dump(found),
         "serve" => wanted_serve(found),
+        "status" => wanted_status(found),
         "plan" => Some(Subcommand::Plan),
         "talk" => wanted_talk(found),
         "verify" => Some(Subcommand::Verify),
@@ -325,8 +395,22 @@ fn wanted_serve<'a>(found: &ArgMatches<'a>) -> Option<Subcommand<'a>>
             settings,
             terms,
             verbose: is_given(found, "verbose"),
+            status: text_of(found, "status"),
         }),
         _ => None,
+    }
+}
+
+/// What `status` is asked to do.
+fn wanted_status<'a>(found: &ArgMatches<'a>) -> Option<Subcommand<'a>>
+    ensures { IsWanted result (asks (rows_of (found_of found.now))) }
+{
+    match text_of(found, "address") {
+        Some(address) => Some(Subcommand::Status {
+            address,
+            watch: is_given(found, "watch"),
+        }),
+        None => None,
     }
 }
 

@@ -2,7 +2,7 @@
 ghost use Rattle.std.specs.Prelude.{◌≡◌, ℕ, List, [], ◌∷◌, Some, None, true, false, codes};
 ghost use Rattle.clap.specs.declared.error.kind.ErrorKind.TheVariants.{DisplayHelp, DisplayVersion, MissingRequiredArgument};
 ghost use Rattle.clap.specs.declared.error.kind.ErrorKind.TheVariants.{MissingSubcommand, UnknownArgument, ValueValidation};
-ghost use Rattle.fa_settings.specs.CommandLine.{found_instead, wanted_in, Formats, Checks, Dumps, Serves, Plans, Talks, TalksOver, Verifies};
+ghost use Rattle.fa_settings.specs.CommandLine.{found_instead, wanted_in, Formats, Checks, Dumps, Serves, Asks, Plans, Talks, TalksOver, Verifies};
 ghost use Rattle.fa_settings.specs.declared.terms.Terms.TheVariants.{Closed, Whole, Unclean};
 ghost use Rattle.std.specs.declared.alloc.Global.{Global};
 ghost use Rattle.fa_settings.specs.Settings.{IsSettingsText, IsFault};
@@ -34,13 +34,19 @@ pub fn words_of_the_command_line()
     ensures dump_json { let words = codes "dump" ∷ codes "--json" ∷ codes "a.toml" ∷ [] in
         (found_instead words ≡ []) × (wanted_in words ≡ Some (Dumps (codes "a.toml") Closed true)) }
     ensures serve { let words = codes "serve" ∷ codes "a.toml" ∷ [] in
-        (found_instead words ≡ []) × (wanted_in words ≡ Some (Serves (codes "a.toml") Closed false)) }
+        (found_instead words ≡ []) × (wanted_in words ≡ Some (Serves (codes "a.toml") Closed false None)) }
     ensures serve_verbose { let words = codes "serve" ∷ codes "--verbose" ∷ codes "a.toml" ∷ [] in
-        (found_instead words ≡ []) × (wanted_in words ≡ Some (Serves (codes "a.toml") Closed true)) }
+        (found_instead words ≡ []) × (wanted_in words ≡ Some (Serves (codes "a.toml") Closed true None)) }
     ensures serve_both { let words = codes "serve" ∷ codes "a.toml" ∷ codes "--unclean" ∷ codes "--verbose" ∷ [] in
-        (found_instead words ≡ []) × (wanted_in words ≡ Some (Serves (codes "a.toml") Unclean true)) }
+        (found_instead words ≡ []) × (wanted_in words ≡ Some (Serves (codes "a.toml") Unclean true None)) }
     ensures serve_recover { let words = codes "serve" ∷ codes "--recover" ∷ codes "a.toml" ∷ [] in
-        (found_instead words ≡ []) × (wanted_in words ≡ Some (Serves (codes "a.toml") Whole false)) }
+        (found_instead words ≡ []) × (wanted_in words ≡ Some (Serves (codes "a.toml") Whole false None)) }
+    ensures serve_status { let words = codes "serve" ∷ codes "a.toml" ∷ codes "--status" ∷ codes "[::1]:9100" ∷ [] in
+        (found_instead words ≡ []) × (wanted_in words ≡ Some (Serves (codes "a.toml") Closed false (Some (codes "[::1]:9100")))) }
+    ensures status { let words = codes "status" ∷ codes "127.0.0.1:9100" ∷ [] in
+        (found_instead words ≡ []) × (wanted_in words ≡ Some (Asks (codes "127.0.0.1:9100") false)) }
+    ensures status_watch { let words = codes "status" ∷ codes "--watch" ∷ codes "127.0.0.1:9100" ∷ [] in
+        (found_instead words ≡ []) × (wanted_in words ≡ Some (Asks (codes "127.0.0.1:9100") true)) }
     ensures terms_of_two_kinds { let words = codes "serve" ∷ codes "a.toml" ∷ codes "--recover" ∷ codes "--unclean" ∷ [] in
         (found_instead words ≡ []) × (wanted_in words ≡ None) }
     ensures no_settings { found_instead (codes "check" ∷ []) ≡ MissingRequiredArgument ∷ [] }
@@ -61,6 +67,7 @@ pub fn words_of_the_command_line()
         × (found_instead (codes "-h" ∷ []) ≡ DisplayHelp ∷ []) }
     ensures help_of_check { found_instead (codes "check" ∷ codes "--help" ∷ []) ≡ DisplayHelp ∷ [] }
     ensures help_of_serve { found_instead (codes "serve" ∷ codes "--help" ∷ []) ≡ DisplayHelp ∷ [] }
+    ensures help_of_status { found_instead (codes "status" ∷ codes "--help" ∷ []) ≡ DisplayHelp ∷ [] }
     ensures help_of_plan { found_instead (codes "plan" ∷ codes "--help" ∷ []) ≡ DisplayHelp ∷ [] }
     ensures help_of_talk { found_instead (codes "talk" ∷ codes "--help" ∷ []) ≡ DisplayHelp ∷ [] }
     ensures help_of_verify { found_instead (codes "verify" ∷ codes "--help" ∷ []) ≡ DisplayHelp ∷ [] }
