@@ -18,6 +18,7 @@ use fa_core_read::PlanCounts;
 use fa_machine::{BatchId, Block, ClaimId, HistoryEntry, JobKind, Version};
 use fa_map_calls::Map;
 use fa_mirror::Placing;
+use fa_plan_log::LogCounts;
 use fa_types::{Die, Geometry, Page, Round, Seq, Slot};
 use std::alloc::Allocator;
 
@@ -140,6 +141,11 @@ impl<M: Map, A: Allocator + Clone> Array<M, A> {
     /// What the plans of admitted batches came to, since mounting.
     pub fn plan_counts(&self) -> PlanCounts {
         self.planner.counts()
+    }
+
+    /// How many plans were kept for who checks them, and how many were dropped. None where nobody does.
+    pub fn plan_log_counts(&self) -> Option<LogCounts> {
+        self.planner.log_counts()
     }
 
     /// Whether the die is a spare that was not brought in yet.

@@ -64,8 +64,12 @@ pub fn admit<M: Map, A: Allocator + Copy>(
     }
     match plan_written(alloc, planner, state, pages) {
         Ok(planned) => {
-            planner.note(planned.rounds, &state.bookings);
-            admit_planned(alloc, state, pages, planned)
+            let noted = planner.noted(alloc, &planned, &state.bookings);
+            let answer = admit_planned(alloc, state, pages, planned);
+            if answer.is_ok() {
+                planner.keep_noted(noted);
+            }
+            answer
         }
         Err(_) => Err(AdmitRefused::NoMemory),
     }

@@ -31,18 +31,26 @@ impl PlanCounts {
         naive_rounds: 0,
     };
 
-    /// One more batch of these pages, whose plan takes so many rounds. None of it is booked yet.
-    pub(crate) fn note<R: Rounds, A: Allocator>(
-        &mut self,
+    /// One batch of these pages, whose plan takes so many rounds. None of it is booked yet.
+    pub(crate) fn of<R: Rounds, A: Allocator>(
         entries: &Batch<A>,
         rounds: u64,
         calendar: &R,
-    ) {
-        self.batches = self.batches.saturating_add(1);
-        self.pages = self.pages.saturating_add(entries.len() as u64);
-        self.rounds = self.rounds.saturating_add(rounds);
-        let naive = naive_rounds(entries, calendar);
-        self.naive_rounds = self.naive_rounds.saturating_add(naive);
+    ) -> PlanCounts {
+        PlanCounts {
+            batches: 1,
+            pages: entries.len() as u64,
+            rounds,
+            naive_rounds: naive_rounds(entries, calendar),
+        }
+    }
+
+    /// What other plans came to is added.
+    pub(crate) fn add(&mut self, other: PlanCounts) {
+        self.batches = self.batches.saturating_add(other.batches);
+        self.pages = self.pages.saturating_add(other.pages);
+        self.rounds = self.rounds.saturating_add(other.rounds);
+        self.naive_rounds = self.naive_rounds.saturating_add(other.naive_rounds);
     }
 }
 

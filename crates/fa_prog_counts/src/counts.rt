@@ -1,5 +1,6 @@
 //! All that is counted while an array is served.
 use crate::dies::DieCounts;
+use crate::plans::PlanFileCounts;
 use crate::sessions::{SessionCounts, Totals};
 use fa_jobs::{Gate, ImageCallKind};
 use fa_types::Die;
@@ -12,6 +13,8 @@ pub struct Counts {
     sessions: Vec<SessionCounts>,
     /// By the numbers of the dies.
     dies: Vec<DieCounts>,
+    /// Of the plans that are written for who checks them.
+    plans: PlanFileCounts,
 }
 
 impl Counts {
@@ -28,6 +31,7 @@ impl Counts {
         Ok(Counts {
             sessions: by_session,
             dies: by_die,
+            plans: PlanFileCounts::new(),
         })
     }
 
@@ -39,6 +43,11 @@ impl Counts {
     /// What is counted of a die's image.
     pub fn die(&self, die: Die) -> Option<&DieCounts> {
         self.dies.get(usize::from(die.0))
+    }
+
+    /// What is counted of the plans that are written for who checks them.
+    pub fn plans(&self) -> &PlanFileCounts {
+        &self.plans
     }
 
     /// What all sessions have counted.

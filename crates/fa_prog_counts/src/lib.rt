@@ -6,6 +6,7 @@ mod commands;
 mod counts;
 mod dies;
 mod latency;
+mod plans;
 mod sessions;
 mod store;
 
@@ -13,5 +14,6 @@ pub use commands::{COMMANDS, Command};
 pub use counts::Counts;
 pub use dies::{CALLS, DieCounts};
 pub use latency::{BUCKETS, bound_of, bucket_of};
+pub use plans::PlanFileCounts;
 pub use sessions::{ERRORS, RequestTotals, SessionCounts, Totals};
 pub use store::CountingStore;

@@ -17,6 +17,8 @@ pub(crate) struct ServePlan<'a, A: Allocator> {
     pub(crate) places: &'a [usize],
     /// Clients that come and go are told on standard error.
     pub(crate) verbose: bool,
+    /// The plan of each n-th batch is kept for who writes it.
+    pub(crate) plans_every: Option<u64>,
 }
 
 /// What the threads of a server are told of its settings.

@@ -22,6 +22,7 @@ use fa_prog_host::{
 };
 use fa_prog_inspect::explain;
 use fa_prog_lost::{keep_lost_at_end, open_lost, remove_if_empty, tell_not_kept};
+use fa_prog_plans::{PlanFile, open_plans};
 use fa_settings::{Settings, Terms};
 use fa_shared::{Fault, Shared};
 use std::alloc::{AllocError, Allocator, Global};
@@ -42,6 +43,17 @@ pub struct Serve<'a> {
     pub verbose: bool,
     /// The address at which others may ask how the array is.
     pub status: Option<&'a str>,
+    /// The file that plans are written into.
+    pub plans: Option<Plans<'a>>,
+}
+
+/// Which plans are written into a file.
+#[derive(Clone, Copy)]
+pub struct Plans<'a> {
+    /// The path of the file.
+    pub path: &'a str,
+    /// That of each n-th batch.
+    pub every: u64,
 }
 
 /// The command `serve`: serves the array of the settings in the file of this path until the input has the line `stop`, ends or fails.
@@ -165,20 +177,35 @@ fn open<R: ServerHost, N: Read, W: Write, A: Allocator>(
     match open_images(rt, settings, serve.settings, opening) {
         Ok(OpenImages { images, places }) => {
             let places = places.as_slice();
-            match open_lost(rt, serve.settings) {
-                Ok(lost) => {
-                    let held = Held { images, lost };
+            match open_beside(rt, serve) {
+                Some((lost, plans)) => {
+                    let held = Held {
+                        images,
+                        lost,
+                        plans,
+                    };
                     serve_on(rt, listeners, held, places, settings, serve, input, output)
                 }
-                Err(refused) => {
-                    tell_not_kept(rt, serve.settings, &refused);
-                    refuse_mount(MountFault::ImageFault, output)
-                }
+                None => refuse_mount(MountFault::ImageFault, output),
             }
         }
         Err(NotOpened::Image) => refuse_mount(MountFault::ImageFault, output),
         Err(NotOpened::PagesLost) => refuse_mount(MountFault::Unclean, output),
         Err(NotOpened::NoMemory) => refuse_for_memory(output),
+    }
+}
+
+/// Opens the file of lost pages and the file of plans, where there is to be one. None where either is refused, which is told.
+fn open_beside<R: ServerHost>(rt: &R, serve: Serve<'_>) -> Option<(File, Option<PlanFile>)> {
+    match open_lost(rt, serve.settings) {
+        Ok(lost) => match serve.plans {
+            None => Some((lost, None)),
+            Some(plans) => Some((lost, Some(open_plans(rt, plans.path)?))),
+        },
+        Err(refused) => {
+            tell_not_kept(rt, serve.settings, &refused);
+            None
+        }
     }
 }
 
@@ -189,6 +216,8 @@ pub struct Held<I: Drop> {
     pub images: Vec<I>,
     /// The file of lost pages.
     pub lost: File,
+    /// The file of plans, where they are written.
+    pub plans: Option<PlanFile>,
 }
 
 /// Serves the array of these images to those who connect to the listeners. The images are at these places of the settings' paths.
@@ -211,6 +240,10 @@ pub fn serve_on<R: ServerHost, I: Image + Send + Drop, N: Read, W: Write, A: All
         path: serve.settings,
         places,
         verbose: serve.verbose,
+        plans_every: match serve.plans {
+            Some(plans) => Some(plans.every),
+            None => None,
+        },
     };
     let mut held = held;
     match mount(rt, settings, serve.terms, held.images.as_mut_slice()) {
@@ -257,22 +290,28 @@ fn serve_mounted<
     ensures { TellsOn (W.contents output.old) (W.contents output.new) result }
 {
     let MountedArray { array, dies } = mounted;
-    match share::<L, M>(rt.alloc(), blank, array) {
+    match share::<L, M>(rt.alloc(), blank, array, plan.plans_every) {
         Some(shared) => serve_over(rt, shared, dies, held, plan, input, output),
         None => refuse_for_memory(output),
     }
 }
 
-/// An array to be shared over a ledger of 257 parts that nothing else names. None where memory is refused.
+/// An array to be shared over a ledger of 257 parts that nothing else names. The plan of each n-th batch is kept for who writes it, where that is
+/// wanted. None where memory is refused.
 fn share<L: Ledger, M: Map + Drop>(
     alloc: Global,
     blank: Blank,
     array: Array<M>,
+    plans_every: Option<u64>,
 ) -> Option<Shared<L, M>>
     requires name { blank.name ≡ L.name }
     requires parts { (blank.parts ≡ L.parts) × (blank.parts ≡ 257) }
     requires whole { IsWhole M.view array }
 {
+    let mut array = array;
+    if let Some(every) = plans_every {
+        array.log_plans(alloc, every);
+    }
     Shared::<L, M>::new(alloc, blank, array).ok()
 }
 

@@ -8,6 +8,7 @@ use fa_image::Image;
 use fa_map_calls::Map;
 use fa_prog_clients::{Networked, accept_clients};
 use fa_prog_looks::{LooksHost, serve_looks};
+use fa_prog_plans::write_plans;
 use fa_prog_watch::watch;
 use fa_shared::Shared;
 use fa_shared_lock::Seat;
@@ -58,6 +59,10 @@ impl<'a, 'b, R: LooksHost, L: Ledger, M: Map + Drop, I: Image + Drop> Workplace<
                     listening.copies,
                     seen,
                 );
+                None
+            }
+            Task::WritePlans(file) => {
+                write_plans(rt, self.shared, listening.counts.plans(), file);
                 None
             }
             Task::Serve(session) => Some(serve_array(

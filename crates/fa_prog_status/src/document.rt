@@ -77,6 +77,16 @@ struct PlansRow {
     pages: u64,
     rounds: u64,
     naive_rounds: u64,
+    file: PlanFileRow,
+}
+
+/// What became of the plans that were to be written into a file.
+#[derive(Drop, Serialize)]
+struct PlanFileRow {
+    written: u64,
+    dropped: u64,
+    unfit: u64,
+    failed: u64,
 }
 
 /// The requests of a command.
@@ -170,6 +180,12 @@ fn document_of<'a>(
             pages: status.plans.pages,
             rounds: status.plans.rounds,
             naive_rounds: status.plans.naive_rounds,
+            file: PlanFileRow {
+                written: status.plan_file.written,
+                dropped: status.plan_file.dropped,
+                unfit: status.plan_file.unfit,
+                failed: status.plan_file.failed,
+            },
         },
         clients: status.clients,
         clients_total: status.totals.clients,

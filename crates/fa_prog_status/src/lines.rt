@@ -93,6 +93,17 @@ fn push_plans(out: &mut String, status: &Status<'_>) -> Result<(), AllocError> {
             ("rounds", plans.rounds),
             ("naive", plans.naive_rounds),
         ],
+    )?;
+    let file = status.plan_file;
+    push_pairs(
+        out,
+        "plan file",
+        &[
+            ("written", file.written),
+            ("dropped", file.dropped),
+            ("unfit", file.unfit),
+            ("failed", file.failed),
+        ],
     )
 }
 

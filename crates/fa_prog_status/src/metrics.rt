@@ -207,7 +207,24 @@ fn push_plans(out: &mut String, status: &Status<'_>) -> Result<(), AllocError> {
         "counter",
         "The rounds that they would have taken, had each page been read from its first holder.",
         plans.naive_rounds,
-    )
+    )?;
+    push_plan_file(out, status)
+}
+
+/// Adds what became of the plans that were to be written into a file.
+fn push_plan_file(out: &mut String, status: &Status<'_>) -> Result<(), AllocError> {
+    let name = "flasharr_plan_file_total";
+    let file = status.plan_file;
+    push_head(
+        out,
+        name,
+        "counter",
+        "Plans that were to be written into a file, by what became of them.",
+    )?;
+    push_by_word(out, name, "end", "written", file.written)?;
+    push_by_word(out, name, "end", "dropped", file.dropped)?;
+    push_by_word(out, name, "end", "unfit", file.unfit)?;
+    push_by_word(out, name, "end", "failed", file.failed)
 }
 
 /// Adds the clients, and the errors that they were answered.

@@ -5,8 +5,9 @@ ghost use Rattle.fa_prog_status.specs.Telling.{state_name};
 use crate::census::{Census, SlotCounts};
 use fa_core_read::PlanCounts;
 use fa_map_calls::Map;
+use fa_plan_log::LogCounts;
 use fa_prog_clients::{AcceptQueue, Networked};
-use fa_prog_counts::{Counts, Totals};
+use fa_prog_counts::{Counts, PlanFileCounts, Totals};
 use fa_shared::{Fault, Shared};
 use fa_types::Die;
 use std::alloc::AllocError;
@@ -71,6 +72,19 @@ pub struct DieStatus<'a> {
     pub slow: Option<u64>,
 }
 
+/// What became of the plans that were to be written into a file.
+#[derive(Clone, Copy)]
+pub struct PlanFileStatus {
+    /// They stand in the file.
+    pub written: u64,
+    /// The queue had no room for them, or there was no memory.
+    pub dropped: u64,
+    /// They do not fit the limits of the file.
+    pub unfit: u64,
+    /// The file could not be written.
+    pub failed: u64,
+}
+
 /// How an array is.
 #[derive(Drop)]
 pub struct Status<'a> {
@@ -82,6 +96,8 @@ pub struct Status<'a> {
     pub round: u64,
     /// What the plans of its batches came to.
     pub plans: PlanCounts,
+    /// What became of those that were to be written into a file.
+    pub plan_file: PlanFileStatus,
     /// What was counted while it was served.
     pub totals: Totals,
     /// How many clients are served.
@@ -110,10 +126,15 @@ pub fn status_of<'a, R: Networked, L: Ledger, M: Map + Drop>(
 ) -> Result<Status<'a>, AllocError> {
     let faults = subject.shared.faults(rt, rt.alloc())?;
     let mut dies = Vec::with_capacity(rt.alloc(), subject.paths.len())?;
-    let (epoch, round, plans) = {
+    let (epoch, round, plans, kept) = {
         let held = subject.shared.lock(rt);
         let array = held.array();
-        (array.epoch(), array.now().0, array.plan_counts())
+        (
+            array.epoch(),
+            array.now().0,
+            array.plan_counts(),
+            array.plan_log_counts(),
+        )
     };
     for number in 0..subject.paths.len() {
         dies.push(die_status(rt, subject, census, number))?;
@@ -123,10 +144,24 @@ pub fn status_of<'a, R: Networked, L: Ledger, M: Map + Drop>(
         epoch,
         round,
         plans,
+        plan_file: plan_file_status(subject.counts.plans(), kept),
         totals: subject.counts.totals(),
         clients: subject.accept_queue.clients(),
         faults,
     })
+}
+
+/// What became of the plans that were to be written, of which so many were kept and dropped.
+fn plan_file_status(counts: &PlanFileCounts, kept: Option<LogCounts>) -> PlanFileStatus {
+    PlanFileStatus {
+        written: counts.written(),
+        dropped: match kept {
+            Some(kept) => kept.dropped,
+            None => 0,
+        },
+        unfit: counts.unfit(),
+        failed: counts.failed(),
+    }
 }
 
 /// How the die of a number is.

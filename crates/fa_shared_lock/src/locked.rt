@@ -10,6 +10,7 @@ use crate::seat::Seat;
 use crate::sleepers::{Awaits, SeatSet, Sleepers};
 use fa_core::{Answer, Array, Call, Planned};
 use fa_map_calls::Map;
+use fa_plan_log::PlanNote;
 use fa_types::Page;
 use std::alloc::{Allocator, Global};
 use std::marker::Model;
@@ -169,6 +170,13 @@ impl<L: Ledger, M: Map + Drop, A: Allocator + Copy> Locked<L, M, A> {
         ensures { self.new ≡ self.old }
     {
         self.array.give_back_plan(planned);
+    }
+
+    /// The plan that waits longest for who checks it. It is no event.
+    pub fn take_plan(&mut self) -> Option<PlanNote<A>>
+        ensures { self.new ≡ self.old }
+    {
+        self.array.take_plan()
     }
 
     /// Something has changed that others may wait for.
