@@ -4,8 +4,10 @@ ghost use Rattle.sha2.specs.Sha256.{padding as padding_of, sha256};
 ghost use Rattle.fa_lanes.specs.Beginning.{IsBegun, begun_at};
 ghost use Rattle.fa_lanes.specs.Hashing.{HasWords, IsPadding};
 ghost use Rattle.fa_lanes.specs.Lanes.{lane, message};
+ghost use Rattle.fa_lanes.specs.Wide.{wide_lane};
 
 use crate::alone::compress;
+use crate::four::{state_of_four, take_blocks_of_four};
 use crate::hash::{BLOCK_BYTES, digest_of, length_of, state_of, take_blocks};
 use crate::tail::Padding;
 use std::simd::prelude::*;
@@ -52,6 +54,36 @@ pub fn begin(payloads: &[&[u8]]) -> [Begun; 8]
         begun_in(&state, 6, bytes),
         begun_in(&state, 7, bytes),
     ]
+}
+
+/// Hashes four payloads of one length, which is a whole number of blocks of 64 bytes.
+pub fn begin_four(payloads: &[&[u8]]) -> [Begun; 4]
+    requires four { length payloads.now ≡ 4 }
+    requires whole { (n : ℕ) × (n % 64 ≡ 0) × All (λ payload. length payload.now ≡ n) payloads.now }
+    ensures size { length result ≡ 4 }
+    ensures begun { (l : ℕ) → l < 4 → IsBegun (begun_at result l) (message payloads.now l) }
+{
+    let bytes = length_of(payloads[0]);
+    let state = take_blocks_of_four(payloads, bytes / BLOCK_BYTES);
+    let bytes = bytes as u64;
+    [
+        begun_in_wide(&state, 0, bytes),
+        begun_in_wide(&state, 1, bytes),
+        begun_in_wide(&state, 2, bytes),
+        begun_in_wide(&state, 3, bytes),
+    ]
+}
+
+/// The message in one wide lane.
+fn begun_in_wide(state: &[u64x4; 8], l: usize, bytes: u64) -> Begun
+    requires { l < 4 }
+    ensures hash { result.hash ≡ wide_lane state.now l }
+    ensures bytes { result.bytes ≡ bytes }
+{
+    Begun {
+        hash: state_of_four(state, l),
+        bytes,
+    }
 }
 
 /// The message in one lane.

@@ -4,11 +4,15 @@
 
 mod alone;
 mod begun;
+mod four;
 mod hash;
 mod messages;
 mod rounds;
 mod tail;
+mod wide_rounds;
+mod wide_words;
 mod words;
 
-pub use begun::{Begun, begin};
+pub use begun::{Begun, begin, begin_four};
+pub use four::{WIDE_LANES, digests_of_four, fronts_of_four};
 pub use messages::{LANES, digest_all, digests};
