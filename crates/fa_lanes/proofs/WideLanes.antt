@@ -145,7 +145,7 @@ each_wide_lane P a b c d (suc (suc (suc (suc n)))) lt = absurd (omega arith)
 -- eight vectors that are so
 pub eight_twice : (a b c d e f g h : List ℕ) → IsTwice a → IsTwice b → IsTwice c → IsTwice d → IsTwice e → IsTwice f → IsTwice g → IsTwice h
     → AreTwice (a ∷ b ∷ c ∷ d ∷ e ∷ f ∷ g ∷ h ∷ [])
-eight_twice a b c d e f g h p q r s t u x y = All-from_recursion IsTwice (a ∷ b ∷ c ∷ d ∷ e ∷ f ∷ g ∷ h ∷ []) (p, q, r, s, t, u, x, y, tt)
+eight_twice a b c d e f g h p q r s t u x y = All-from_recursion IsTwice (a ∷ b ∷ c ∷ d ∷ e ∷ f ∷ g ∷ h ∷ []) (p, (q, (r, (s, (t, (u, (x, (y, tt))))))))
 
 -- a word that is put into each lane
 pub splat_low : (n l : ℕ) → n < 2 ^ 32 → l < 4 → low (replicate 4 n) l ≡ n

@@ -12,3 +12,7 @@ returns-clause-lanes c = λ b h l lt twice window held.
     let s2 = c.first_step-v-2.ensures.lanes b h l lt t1 window s1 in
     let s3 = c.first_step-v-3.ensures.lanes b h l lt t2 window (s2 ∙ ap after (omega arith)) in
     c.first_step.ensures.lanes b h l lt t3 window (s3 ∙ ap after (omega arith)) ∙ ap after (omega arith)
+
+pub returns-clause-twice : goal.returns-clause-twice
+returns-clause-twice c = λ twice.
+    c.first_step.ensures.twice (c.first_step-v-3.ensures.twice (c.first_step-v-2.ensures.twice (c.first_step-v.ensures.twice twice)))

@@ -15,3 +15,11 @@ returns-clause-lanes c = λ b h l lt words twice held.
     let s3 = c.four_steps-v-3.ensures.lanes b h l lt w2 t2 s2 in
     let s4 = c.four_steps.ensures.lanes b h l lt w3 t3 s3 in
     IsRoundsAt_at b h _ _ _ _ (omega arith) s4
+
+pub returns-clause-words : goal.returns-clause-words
+returns-clause-words c = λ words.
+    c.four_steps.ensures.words (c.four_steps-v-3.ensures.words (c.four_steps-v-2.ensures.words (c.four_steps-v.ensures.words words)))
+
+pub returns-clause-twice : goal.returns-clause-twice
+returns-clause-twice c = λ twice.
+    c.four_steps.ensures.twice (c.four_steps-v-3.ensures.twice (c.four_steps-v-2.ensures.twice (c.four_steps-v.ensures.twice twice)))

@@ -16,12 +16,5 @@ eights-preserved c =
           (both_opened _ _ _ _ c.eights.invariant.1 c.open_eight.ensures),
     )
 
-pub rest-preserved : goal.rest-preserved
-rest-preserved c = (
-  length-set c.rest.opened c.rest.i c.open.result ∙ c.rest.invariant.0,
-  one_more_opened c.args.slots.now c.rest.opened c.rest.i c.open.result (omega arith) (omega arith) c.rest.invariant.1 c.open.ensures.opened,
-)
-
 pub returns : goal.returns
-returns c =
-    rw (← take_all c.rest.i c.args.slots.now (omega arith), ← take_all c.rest.i c.rest.opened (omega arith)) c.rest.invariant.1
+returns c = ?
