@@ -1,8 +1,10 @@
-use Rattle.std.proofs.Common.{rules, ◌∙◌, ◌*◌, ◌-◌, ◌≡◌, arith, drop, length, length-drop, ◌+◌}
-use Rattle.std.proofs.lemmas.List.{length-set, length-take-le, take_all}
+use Rattle.std.proofs.Common.{rules, ℕ, List, ◌∙◌, ◌*◌, ◌-◌, ◌/◌, ◌≡◌, arith, drop, take, length, length-drop, ◌+◌, subst, sym}
+use Rattle.std.proofs.lemmas.List.{length-take-le}
 use Rattle.std.proofs.lemmas.Slice.{overwrites}
+use Rattle.fa_tag.specs.declared.tag.Opened.{Opened}
+use Rattle.fa_tag.specs.OpenedTogether.{AreOpened}
 use Rattle.fa_tag.proofs.ByEights.{eight_more, eight_put}
-use Rattle.fa_tag.proofs.OpenedParts.{both_opened, one_more_opened, same_size}
+use Rattle.fa_tag.proofs.OpenedParts.{both_opened, parts_opened, same_size}
 use Rattle.fa_tag.proofs.eights.open_all.Goals as goal
 
 pub eights-preserved : goal.eights-preserved
@@ -17,4 +19,11 @@ eights-preserved c =
     )
 
 pub returns : goal.returns
-returns c = ?
+returns c =
+    let slots = c.args.slots.now in
+    let whole : ℕ = 8 * (length slots / 8) in
+    let all : 8 * c.eights.i ≡ whole = omega arith in
+    let front : AreOpened (take whole slots) (take whole c.eights.opened) =
+    subst (λ (n : ℕ). AreOpened (take n slots) (take n c.eights.opened)) all c.eights.invariant.1 in
+    parts_opened slots whole _ c.open_rest.new.opened
+    (subst (λ (l : List Opened). AreOpened (take whole slots) l) (sym c.split_at_mut-rest.ensures.front) front) c.open_rest.ensures
