@@ -1,5 +1,5 @@
 -- What an operation on wide lanes does to the words in their low halves.
-use Rattle.std.proofs.Common.{◌≡◌, ℕ, zero, suc, ◌+◌, ◌-◌, ◌*◌, ◌/◌, ◌%◌, ◌^◌, ◌<◌, ◌≤◌, List, [], ◌∷◌, length, replicate, slice_index, slice_index_or, slice_set, bit_and, bit_or, bit_xor, arith, ap, refl, sym, ◌∙◌, mod-lt, pow_pos, pow-add, shr-shr}
+use Rattle.std.proofs.Common.{◌≡◌, ℕ, zero, suc, ◌+◌, ◌-◌, ◌*◌, ◌/◌, ◌%◌, ◌^◌, ◌<◌, ◌≤◌, List, [], ◌∷◌, length, replicate, slice_index, slice_index_or, slice_set, bit_and, bit_or, arith, ap, sym, ◌∙◌, mod-lt, pow_pos, pow-add, shr-shr}
 use Rattle.std.specs.Int.{w32, rotate_right}
 use Rattle.std.proofs.lemmas.List.{ext_get_or, length-map, map-set}
 use Rattle.std.proofs.lemmas.List.Elements.{All-from_recursion}
@@ -19,7 +19,7 @@ in_low f g a b size_a size_b same = record {
 }
 
 -- with one number for all lanes
-pub with_one_at : (f : ℕ → ℕ → ℕ) (a : List ℕ) (n l : ℕ) → length a ≡ 4 → l < 4 → slice_index (zip2 f a (replicate 4 n)) l ≡ f (slice_index a l) n
+with_one_at : (f : ℕ → ℕ → ℕ) (a : List ℕ) (n l : ℕ) → length a ≡ 4 → l < 4 → slice_index (zip2 f a (replicate 4 n)) l ≡ f (slice_index a l) n
 with_one_at f a n l size lt =
     get_or-zip2 f a (replicate 4 n) l 0 0 0 (omega (arith, size, lt)) lt ∙ ap (f (slice_index a l)) (get_or-replicate 4 l n 0 lt)
 
@@ -101,7 +101,7 @@ shifted_word q by fits =
 -- what a shift leaves of words that are there twice
 module _ (f : ℕ → ℕ → ℕ) (a : List ℕ) (n : ℕ) (twice : IsTwice a) (g : ℕ → ℕ)
     (same : (q : ℕ) → q < 2 ^ 32 → f (q * 2 ^ 32 + q) n % 2 ^ 32 ≡ g q) where
-  pub of_twice : HasLow (zip2 f a (replicate 4 n)) (λ l. g (low a l))
+  of_twice : HasLow (zip2 f a (replicate 4 n)) (λ l. g (low a l))
   of_twice = record {
     size = length-with_one f a n twice.size;
     each = λ l lt.
@@ -114,10 +114,6 @@ rotated_twice a by twice some few = of_twice (λ x k. x / 2 ^ k) a by twice (λ 
 
 pub shifted_twice : (a : List ℕ) (by : ℕ) → IsTwice a → HasLow (zip2 (λ x k. x / 2 ^ k) a (replicate 4 (32 + by))) (λ l. low a l / 2 ^ by)
 shifted_twice a by twice = of_twice (λ x k. x / 2 ^ k) a (32 + by) twice (λ q. q / 2 ^ by) (λ q fits. shifted_word q by fits)
-
--- the same by other names
-pub low_as : (a : List ℕ) (f g : ℕ → ℕ) → HasLow a f → ((l : ℕ) → l < 4 → f l ≡ g l) → HasLow a g
-low_as a f g has same = record { size = has.size; each = λ l lt. has.each l lt ∙ same l lt }
 
 -- one lane of the vector at a place
 pub wide_lane_at : (vectors : List (List ℕ)) (i l : ℕ) → slice_index (wide_lane vectors l) i ≡ low (slice_index_or vectors i []) l

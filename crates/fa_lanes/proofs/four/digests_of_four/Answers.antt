@@ -1,10 +1,10 @@
-use Rattle.std.proofs.Common.{◌≡◌, ℕ, List, [], ◌∷◌, ◌+◌, ◌*◌, ◌/◌, ◌%◌, ◌<◌, ◌≤◌, ◌++◌, length, map, take, drop, slice_index_or, ap, arith, refl, subst, sym, ◌∙◌}
+use Rattle.std.proofs.Common.{◌≡◌, ℕ, List, [], ◌∷◌, ◌*◌, ◌/◌, ◌<◌, ◌++◌, length, map, take, drop, slice_index_or, ap, arith, sym, ◌∙◌}
 use Rattle.std.proofs.lemmas.List.{ext_get_or, get_or-map, length-map, length-take-le, take_rest, take-append-drop}
 use Rattle.std.proofs.lemmas.List.Elements.{All-get_or, All-from_get_or}
 use Rattle.std.specs.Borrow.{Bor}
 use Rattle.std.specs.List.{All}
 use Rattle.sha2.specs.Sha256.{sha256}
-use Rattle.fa_lanes.specs.Beginning.{IsBegun, begun_at}
+use Rattle.fa_lanes.specs.Beginning.{IsBegun}
 use Rattle.fa_lanes.specs.Lanes.{message}
 use Rattle.fa_lanes.specs.declared.begun.Begun.{Begun}
 use Rattle.fa_lanes.proofs.WideLanes.{each_wide_lane}
