@@ -76,12 +76,14 @@ impl<L: Ledger, M: Map + Drop, A: Allocator + Copy> Shared<L, M, A> {
     }
 
     /// Frees the lock until what is awaited has come, or for no reason, and then takes it again. Rounds that may pass have passed before,
-    /// and those for whom it is time are woken. Nobody sleeps longer than a second, and a request no longer than a tenth of one.
+    /// and those for whom it is time are woken. One who helps may be woken to make jobs of dies. Nobody sleeps longer than a second, and a
+    /// request no longer than a tenth of one.
     pub fn sleep<'a, R: Wait + Clock>(
         &'a self,
         rt: &R,
         seat: &mut Seat<L>,
         awaits: Awaits,
+        helps: bool,
         guard: MutexGuard<'a, Locked<L, M, A>>,
     ) -> MutexGuard<'a, Locked<L, M, A>>
         ensures commits { commits_with seat.new ≡ commits_with seat.old }
@@ -90,7 +92,7 @@ impl<L: Ledger, M: Map + Drop, A: Allocator + Copy> Shared<L, M, A> {
         let number = seat.number();
         let mut guard = guard;
         guard.settle(seat);
-        guard.lie_down(number, awaits);
+        guard.lie_down(number, awaits, helps);
         let due = guard.due();
         self.wake(due);
         let Some(bell) = self.bells.get(number as usize) else {
