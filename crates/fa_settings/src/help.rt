@@ -45,6 +45,17 @@ pub const ABOUT_VERBOSE: &str = "Tells of clients that come and go, on standard 
 /// What help says of `--status`.
 pub const ABOUT_STATUS: &str = "Where others may ask by HTTP how the array is, as 127.0.0.1:9100";
 
+/// What help says of `--plans`.
+pub const ABOUT_PLANS: &str =
+    "A file to which the plan of each batch is appended, which verify --log checks";
+
+/// What help says of `--plans-every`.
+pub const ABOUT_PLANS_EVERY: &str =
+    "Appends the plan of one batch in N, 1 to 1000000, and not of each";
+
+/// What help says of `--log`.
+pub const ABOUT_LOG: &str = "A file of plans, each of which is checked";
+
 /// What help says of the address of `status`.
 pub const ABOUT_ADDRESS: &str = "The address that the server was given with --status";
 
@@ -80,7 +91,8 @@ pub const DUMP: Help = Help {
 /// The help of `serve`.
 pub const SERVE: Help = Help {
     about: "Serves an array over NBD, until the line `stop` comes on standard input",
-    usage: "flasharr serve SETTINGS [--unclean | --recover] [--verbose] [--status ADDRESS]",
+    usage: "flasharr serve SETTINGS [--unclean | --recover] [--verbose] [--status ADDRESS]
+                      [--plans FILE [--plans-every N]]",
     more: "Printed is first `listening ADDRESS`, where clients can connect. The server also stops where the input ends
 or fails. At the end follow the last 64 faults that took dies out, a line `fault die D cause C round R` for
 each, where C is 1 slot not read, 2 slot not programmed, 3 block not erased, 4 header not read, 5 header not
@@ -88,7 +100,10 @@ written, 6 image not synced, 7 slot with wrong bytes; and then `closed clean`, o
 status 1, where K is 1 busy, 2 a page is lost, 3 no die live.
 
 With --status a page that shows how the array is can be had by HTTP at ADDRESS, as 127.0.0.1:9100. /metrics there is for
-Prometheus, and /status.json for programs. Nobody is asked for a password: choose an address of a network that is trusted.",
+Prometheus, and /status.json for programs. Nobody is asked for a password: choose an address of a network that is trusted.
+
+With --plans the text of each batch of reads and of its certificate is appended to FILE, which `verify --log` checks; with
+--plans-every of one batch in N.",
 };
 
 /// The help of `status`.
@@ -122,6 +137,11 @@ behind it. Printed are then also the faults that took dies out, and how the arra
 /// The help of `verify`.
 pub const VERIFY: Help = Help {
     about: "Checks a batch text and a certificate text, given one behind the other on standard input",
-    usage: "flasharr verify < TEXTS",
-    more: "Printed is `least R`, or `refused K WORDS` with status 1 for the first rule that is broken.",
+    usage: "flasharr verify < TEXTS
+       flasharr verify --log FILE",
+    more: "Printed is `least R`, or `refused K WORDS` with status 1 for the first rule that is broken.
+
+With --log each plan of a file of plans is checked. Printed is `plans N least L refused K rounds R`: the plans, how many
+are accepted as least and how many are refused, and the sum of the rounds of the accepted ones; with status 1 where K is
+not 0. Which ones are refused is told on standard error.",
 };
