@@ -150,6 +150,7 @@ pub fn run<
                     terms,
                     verbose,
                     status,
+                    plans,
                 },
             ),
         ) => {
@@ -161,6 +162,7 @@ pub fn run<
                     terms,
                     verbose,
                     status,
+                    plans,
                 },
                 input,
                 output,

@@ -5,7 +5,7 @@ use fa_plan_log::{PlanEntry, PlanNote};
 use fa_prog_clients::Networked;
 use fa_prog_counts::PlanFileCounts;
 use fa_shared::Shared;
-use fa_texts::{entry_fits, print_entry};
+use fa_texts::{has_batch_text, print_entry};
 use std::alloc::{AllocError, Global};
 use std::sync::ledger::Ledger;
 use std::thread;
@@ -13,6 +13,9 @@ use std::time::Duration;
 
 /// How many plans are taken in one hold of the array's lock.
 const PLANS_A_HOLD: usize = 32;
+
+/// The most rounds of a plan that has a text.
+const MAX_ROUNDS: u64 = 1_000_000;
 
 /// How long it is between two looks for plans, where there was none, in milliseconds.
 const LOOK_MILLISECONDS: u64 = 20;
@@ -92,14 +95,14 @@ fn text_of(global: Global, counts: &PlanFileCounts, taken: Vec<PlanNote>) -> (St
 fn push_entry(global: Global, text: &mut String, note: PlanNote) -> Result<bool, AllocError> {
     match note.checked(global)? {
         Some(entry) if fits(&entry) => {
-            print_entry(
+            let printed = print_entry(
                 global,
-                text,
                 &entry.batch,
                 entry.runs.as_slice(),
                 &entry.plan,
                 &entry.shortage,
             )?;
+            text.push_str(&printed)?;
             Ok(true)
         }
         _ => Ok(false),
@@ -108,5 +111,5 @@ fn push_entry(global: Global, text: &mut String, note: PlanNote) -> Result<bool,
 
 /// Whether an entry fits the limits of texts.
 fn fits(entry: &PlanEntry) -> bool {
-    entry_fits(&entry.batch, entry.runs.as_slice(), &entry.plan)
+    entry.plan.rounds <= MAX_ROUNDS && has_batch_text(&entry.batch, entry.runs.as_slice())
 }

@@ -23,7 +23,7 @@ use fa_prog_host::{
 use fa_prog_inspect::explain;
 use fa_prog_lost::{keep_lost_at_end, open_lost, remove_if_empty, tell_not_kept};
 use fa_prog_plans::{PlanFile, open_plans};
-use fa_settings::{Settings, Terms};
+use fa_settings::{PlansFile, Settings, Terms};
 use fa_shared::{Fault, Shared};
 use std::alloc::{AllocError, Allocator, Global};
 use std::fs::File;
@@ -44,16 +44,7 @@ pub struct Serve<'a> {
     /// The address at which others may ask how the array is.
     pub status: Option<&'a str>,
     /// The file that plans are written into.
-    pub plans: Option<Plans<'a>>,
-}
-
-/// Which plans are written into a file.
-#[derive(Clone, Copy)]
-pub struct Plans<'a> {
-    /// The path of the file.
-    pub path: &'a str,
-    /// That of each n-th batch.
-    pub every: u64,
+    pub plans: Option<PlansFile<'a>>,
 }
 
 /// The command `serve`: serves the array of the settings in the file of this path until the input has the line `stop`, ends or fails.
@@ -241,7 +232,7 @@ pub fn serve_on<R: ServerHost, I: Image + Send + Drop, N: Read, W: Write, A: All
         places,
         verbose: serve.verbose,
         plans_every: match serve.plans {
-            Some(plans) => Some(plans.every),
+            Some(plans) => Some(u64::from(plans.every.unwrap_or(1))),
             None => None,
         },
     };
