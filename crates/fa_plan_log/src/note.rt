@@ -96,11 +96,7 @@ fn round_from(now: u64, round: Round) -> Round
 }
 
 /// These places, with this round told as 1. The error is out of memory.
-fn places_from<A: Allocator>(
-    alloc: A,
-    now: u64,
-    places: &[Place],
-) -> Result<Places<A>, AllocError>
+fn places_from<A: Allocator>(alloc: A, now: u64, places: &[Place]) -> Result<Places<A>, AllocError>
     ensures { IfOk result (λ told. told ≡ map (place_from now) places.now) }
 {
     let mut told = Listing::new(alloc);

@@ -94,7 +94,9 @@ impl PlanFile {
                 if !self.is_told {
                     tell(
                         rt,
-                        format_args!("the file of plans cannot be written: {refused}: make room on its disk"),
+                        format_args!(
+                            "the file of plans cannot be written: {refused}: make room on its disk"
+                        ),
                     );
                 }
                 self.is_told = true;

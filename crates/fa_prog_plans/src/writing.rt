@@ -43,12 +43,7 @@ pub fn write_plans<R: Networked, L: Ledger, M: Map + Drop>(
 }
 
 /// Writes these plans.
-fn write<R: Networked>(
-    rt: &R,
-    counts: &PlanFileCounts,
-    file: &mut PlanFile,
-    taken: Vec<PlanNote>,
-) {
+fn write<R: Networked>(rt: &R, counts: &PlanFileCounts, file: &mut PlanFile, taken: Vec<PlanNote>) {
     let (text, written) = text_of(rt.alloc(), counts, taken);
     if file.add(rt, text.as_bytes()) {
         counts.note_written(written);

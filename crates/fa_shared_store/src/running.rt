@@ -259,9 +259,7 @@ pub(crate) fn pass_time<
             return guard;
         }
         let helps = hands.helps();
-        return context
-            .shared
-            .sleep(context.rt, seat, awaits, helps, guard);
+        return context.shared.sleep(context.rt, seat, awaits, helps, guard);
     }
     context.shared.release(seat, guard);
     hands.work();

@@ -438,9 +438,7 @@ fn open_four_slots<A: Allocator>(made: &[MadeJob<A>]) -> [Opened; MAX_JOBS]
         &mut opened,
     );
     let [first, second, third, fourth] = opened;
-    [
-        first, second, third, fourth, first, first, first, first,
-    ]
+    [first, second, third, fourth, first, first, first, first]
 }
 
 /// What stands for a slot in the memory of this place, or in the first one, where there are fewer: slots of one length alone are hashed side by
