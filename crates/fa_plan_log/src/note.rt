@@ -1,6 +1,6 @@
 //! A plan as it is noted while nothing may change.
-ghost use Rattle.std.specs.Prelude.{◌≡◌, map, length, IfOk};
-ghost use Rattle.fa_plan_log.specs.Notes.{batch_of, place_from, places_of, rounds_of, shortage_of, told_from};
+ghost use Rattle.std.specs.Prelude.{◌≡◌, map, length, IfOk, IfSome};
+ghost use Rattle.fa_plan_log.specs.Notes.{IsAccepted, batch_of, place_from, places_of, rounds_of, shortage_of, told_from};
 
 use crate::closings::closings;
 use crate::entry::PlanEntry;
@@ -53,7 +53,11 @@ impl<A: Allocator + Copy> PlanNote<A> {
     }
 
     /// The plan with what shows that it is least, as [`check`] accepts it. None where it does not. The error is out of memory.
-    pub fn checked(self, alloc: A) -> Result<Option<PlanEntry<A>>, AllocError> {
+    pub fn checked(self, alloc: A) -> Result<Option<PlanEntry<A>>, AllocError>
+        ensures accepted { IfOk result (λ found. IfSome found IsAccepted) }
+        ensures same { IfOk result (λ found. IfSome found (λ entry. (entry.batch ≡ batch_of self)
+            × (entry.plan.places ≡ places_of self) × (entry.plan.rounds ≡ rounds_of self) × (entry.shortage ≡ shortage_of self))) }
+    {
         let PlanNote {
             batch,
             runs,
