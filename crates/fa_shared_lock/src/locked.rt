@@ -7,7 +7,7 @@ ghost use Rattle.fa_shared_lock.specs.Only.{has_passed as rule_passed};
 ghost use Rattle.fa_shared_lock.specs.Seats.{commits_together};
 
 use crate::seat::Seat;
-use crate::sleepers::{Awaits, SeatSet, Sleepers, has_come};
+use crate::sleepers::{Awaits, SeatSet, Sleepers};
 use fa_core::{Answer, Array, Call, Planned};
 use fa_map_calls::Map;
 use fa_plan_log::PlanNote;
@@ -198,11 +198,6 @@ impl<L: Ledger, M: Map + Drop, A: Allocator + Copy> Locked<L, M, A> {
         ensures { self.new ≡ self.old }
     {
         self.sleepers.get_up(seat);
-    }
-
-    /// Whether it is time for somebody who awaits this. What is told is a matter of speed alone, and in no clause.
-    pub fn has_come(&self, awaits: Awaits) -> bool {
-        has_come(&self.array, awaits)
     }
 
     /// Those for whom it is time to wake up. They are counted as awake.

@@ -178,13 +178,6 @@ impl<A: Allocator> Sleepers<A> {
     }
 }
 
-/// Whether it is time for somebody who waits so, where nothing has changed besides.
-pub(crate) fn has_come<M: Map, A: Allocator + Clone>(array: &Array<M, A>, awaits: Awaits) -> bool
-    requires { IsWhole M.view array.now }
-{
-    is_due(array, false, awaits)
-}
-
 /// Whether it is time for somebody who waits so.
 fn is_due<M: Map, A: Allocator + Clone>(array: &Array<M, A>, changed: bool, awaits: Awaits) -> bool
     requires { IsWhole M.view array.now }

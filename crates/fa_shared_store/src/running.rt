@@ -15,19 +15,10 @@ use fa_shared_request::{Lent, Op, Turn};
 use fa_shared_steps::Request;
 use fa_types::{BlockFault, Geometry};
 use std::alloc::Allocator;
-use std::hint::spin_loop;
 use std::mem::replace;
 use std::sync::ledger::Ledger;
 use std::sync::{MutexGuard, Wait};
-use std::time::{Clock, Duration, Instant};
-
-/// How often somebody looks again before sleeping, and for how long it does nothing between two looks, in microseconds.
-const LOOKS: u32 = 3;
-
-const SPIN_MICROSECONDS: u64 = 5;
-
-/// How often the clock is read meanwhile at most.
-const MAX_SPINS: u32 = 1000;
+use std::time::Clock;
 
 /// How many bytes the store of an array has, and how many a page of it.
 pub(crate) fn store_bytes(geometry: Geometry) -> (u64, u32)
@@ -244,20 +235,7 @@ pub(crate) fn pass_time<
     ensures number { number_of seat.new ≡ number_of seat.old }
 {
     let mut guard = guard;
-    let mut took = hands.take(&mut guard, seat);
-    for _ in 0..LOOKS {
-        if took || !hands.helps() || guard.has_come(awaits) {
-            break;
-        }
-        context.shared.release(seat, guard);
-        spin(context.rt);
-        guard = context.shared.lock(context.rt);
-        took = hands.take(&mut guard, seat);
-    }
-    if !took {
-        if guard.has_come(awaits) {
-            return guard;
-        }
+    if !hands.take(&mut guard, seat) {
         let helps = hands.helps();
         return context.shared.sleep(context.rt, seat, awaits, helps, guard);
     }
@@ -266,19 +244,6 @@ pub(crate) fn pass_time<
     let mut guard = context.shared.lock(context.rt);
     hands.end(&mut guard, seat);
     guard
-}
-
-/// Lets a few microseconds pass, in which others make and end jobs.
-fn spin<R: Clock>(rt: &R) {
-    let Ok(start) = Instant::now(rt) else {
-        return;
-    };
-    for _ in 0..MAX_SPINS {
-        match start.elapsed(rt) {
-            Ok(passed) if passed < Duration::from_micros(SPIN_MICROSECONDS) => spin_loop(),
-            _ => return,
-        }
-    }
 }
 
 /// Gives back what a batch of the request handed out, and makes its turns while each leads to the next.
