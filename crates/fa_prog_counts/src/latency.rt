@@ -1,5 +1,5 @@
 //! The buckets of how long requests took.
-ghost use Rattle.std.specs.Prelude.{◌≡◌, ◌≤◌, ◌<◌, ◌^◌, ◌+◌};
+ghost use Rattle.std.specs.Prelude.{◌≡◌, ℕ, ◌≤◌, ◌<◌, ◌^◌, ◌+◌};
 
 /// How many buckets there are: those of 2^10 to 2^34 nanoseconds, and one for what took longer.
 pub const BUCKETS: usize = 26;
