@@ -1,6 +1,6 @@
 //! The file that plans are added to.
 use crate::tail::{End, end_of};
-use fa_prog_host::{Host, tell};
+use fa_prog_host::{Host, complain_of_call, tell};
 use std::alloc::Global;
 use std::fs::{File, OpenFile, OpenOptions};
 use std::io::{self, Eprint, Read, Seek, SeekFrom, Write};
@@ -30,10 +30,7 @@ pub fn open_plans<R: Host>(rt: &R, path: &str) -> Option<PlanFile> {
             None
         }
         Err(refused) => {
-            tell(
-                rt,
-                format_args!("{path}: {refused}: choose another file for --plans"),
-            );
+            complain_of_call(rt, path, &refused, "choose another file for --plans");
             None
         }
     }
