@@ -124,7 +124,7 @@ SHOWN = [
     ("help_of_status", ("status", "--help"), HELP_OF_STATUS),
     ("help_of_plan", ("plan", "--help"), HELP_OF_PLAN), ("help_of_talk", ("talk", "--help"), HELP_OF_TALK),
     ("help_of_verify", ("verify", "-h"), HELP_OF_VERIFY),
-    ("version", ("--version",), "flasharr 0.1.0\n"), ("short_version", ("-V",), "flasharr 0.1.0\n"),
+    ("version", ("--version",), "flasharr 1.0.0\n"), ("short_version", ("-V",), "flasharr 1.0.0\n"),
 ]
 
 # Arguments that are a mistake, and what the first line of the output names.

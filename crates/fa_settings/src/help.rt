@@ -12,7 +12,7 @@ pub struct Help {
 }
 
 /// The version of the program.
-pub const VERSION: &str = "0.1.0";
+pub const VERSION: &str = "1.0.0";
 
 /// What help says of the program.
 pub const ABOUT: &str = "A block server over mirrored flash dies, proved before it is built";
