@@ -5,7 +5,7 @@ use fa_plan_log::{PlanEntry, PlanNote};
 use fa_prog_clients::Networked;
 use fa_prog_counts::PlanFileCounts;
 use fa_shared::Shared;
-use fa_texts::{has_batch_text, print_entry};
+use fa_texts::{has_batch_text, print_logged_plan};
 use std::alloc::{AllocError, Global};
 use std::sync::ledger::Ledger;
 use std::thread;
@@ -90,7 +90,7 @@ fn text_of(global: Global, counts: &PlanFileCounts, taken: Vec<PlanNote>) -> (St
 fn push_entry(global: Global, text: &mut String, note: PlanNote) -> Result<bool, AllocError> {
     match note.checked(global)? {
         Some(entry) if fits(&entry) => {
-            let printed = print_entry(
+            let printed = print_logged_plan(
                 global,
                 &entry.batch,
                 entry.runs.as_slice(),
