@@ -18,7 +18,7 @@ use fa_prog_inspect::{Asked, Look, run_look};
 use fa_prog_looks::{Ask, run_status};
 use fa_prog_serve::{Serve, ServerHost, run_serve};
 use fa_prog_talk::run_talk_array;
-use fa_prog_text::{run_plan, run_talk, run_verify};
+use fa_prog_text::{run_plan, run_talk, run_verify, run_verify_log};
 use fa_settings::{Subcommand, command};
 use std::alloc::{AllocError, Allocator, Global};
 use std::env::Args;
@@ -86,7 +86,9 @@ pub fn start<
 /// `plan` reads a batch text, and prints the text of a plan of the least number of rounds with the pages
 /// that show that no plan has fewer.
 ///
-/// `verify` reads a batch text and a certificate text, and prints `least R` or the first refusal.
+/// `verify` reads a batch text and a certificate text, and prints `least R` or the first refusal. With `--log` it checks each
+/// plan of a file, reads nothing of the input, and prints how many plans are least and how many are refused; which ones those
+/// are it tells on standard error.
 ///
 /// `--help` prints what the program or the command before it does, and `--version` the program's version, with
 /// status 0. Other arguments print what is wrong with them, with status 2. All of it goes to the output.
@@ -177,6 +179,7 @@ pub fn run<
             run_talk_array(rt, alloc, settings, terms, input, output)
         }
         Ok(Some(Subcommand::Verify)) => run_verify(alloc, input, output),
+        Ok(Some(Subcommand::VerifyLog { file })) => run_verify_log(rt, alloc, file, output),
         Ok(None) => show_usage(output),
         Err(error) => show_text(rt.alloc(), &error, output),
     }
