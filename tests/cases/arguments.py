@@ -26,6 +26,7 @@ Status: 0 where the work was done, 1 where it was refused or memory, input or ou
 HELP_OF_SERVE = """Serves an array over NBD, until the line `stop` comes on standard input
 
 Usage: flasharr serve SETTINGS [--unclean | --recover] [--verbose] [--status ADDRESS]
+                      [--plans FILE [--plans-every N]]
 
 Arguments:
   <SETTINGS>  The settings of the array, a TOML file
@@ -35,6 +36,8 @@ Options:
       --recover           Takes an array that was not closed, if the images that were in use are all there
       --verbose           Tells of clients that come and go, on standard error
       --status <ADDRESS>  Where others may ask by HTTP how the array is, as 127.0.0.1:9100
+      --plans <FILE>      A file to which the plan of each batch is appended, which verify --log checks
+      --plans-every <N>   Appends the plan of one batch in N, 1 to 1000000, and not of each
   -h, --help              Print help
 
 Printed is first `listening ADDRESS`, where clients can connect. The server also stops where the input ends
@@ -45,6 +48,9 @@ status 1, where K is 1 busy, 2 a page is lost, 3 no die live.
 
 With --status a page that shows how the array is can be had by HTTP at ADDRESS, as 127.0.0.1:9100. /metrics there is for
 Prometheus, and /status.json for programs. Nobody is asked for a password: choose an address of a network that is trusted.
+
+With --plans the text of each batch of reads and of its certificate is appended to FILE, which `verify --log` checks; with
+--plans-every of one batch in N.
 """
 
 HELP_OF_STATUS = """Asks a server that runs with --status how its array is
@@ -94,15 +100,21 @@ behind it. Printed are then also the faults that took dies out, and how the arra
 HELP_OF_VERIFY = """Checks a batch text and a certificate text, given one behind the other on standard input
 
 Usage: flasharr verify < TEXTS
+       flasharr verify --log FILE
 
 Options:
-  -h, --help  Print help
+      --log <FILE>  A file of plans, each of which is checked
+  -h, --help        Print help
 
 Printed is `least R`, or `refused K WORDS` with status 1 for the first rule that is broken.
+
+With --log each plan of a file of plans is checked. Printed is `plans N least L refused K rounds R`: the plans, how many
+are accepted as least and how many are refused, and the sum of the rounds of the accepted ones; with status 1 where K is
+not 0. Which ones are refused is told on standard error.
 """
 
 NO_COMMAND = """error: 'flasharr' requires a subcommand but one was not provided
-  [subcommands: format, check, dump, serve, plan, talk, verify]
+  [subcommands: format, check, dump, serve, status, plan, talk, verify]
 
 Usage: flasharr <COMMAND>
 
@@ -137,6 +149,11 @@ MISTAKES = [
     ("recover_format", ("format", "array.toml", "--recover"), "--recover"),
     ("no_address", ("status",), ""), ("status_without_an_address", ("serve", "array.toml", "--status"), "--status"),
     ("json_twice", ("dump", "array.toml", "--json", "--json"), "--json"), ("array_without_a_path", ("talk", "--array"), "--array"),
+    ("log_without_a_path", ("verify", "--log"), "--log"), ("log_twice", ("verify", "--log", "a", "--log", "a"), "--log"),
+    ("word_behind_verify", ("verify", "a.plans"), "a.plans"), ("plans_without_a_path", ("serve", "a.toml", "--plans"), "--plans"),
+    ("plans_every_0", ("serve", "a.toml", "--plans", "a", "--plans-every", "0"), "0"),
+    ("plans_every_1000001", ("serve", "a.toml", "--plans", "a", "--plans-every", "1000001"), "1000001"),
+    ("plans_every_that_is_no_number", ("serve", "a.toml", "--plans", "a", "--plans-every", "x"), "'x'"),
     ("array_twice", ("talk", "--array", "a.toml", "--array", "a.toml"), "--array"),
 ]
 
@@ -165,6 +182,8 @@ def cases():
     # An array is taken on these terms or on those.
     for words in (("check", "a.toml"), ("dump", "a.toml"), ("serve", "a.toml"), ("talk", "--array", "a.toml")):
         yield Case(f"mistake/{words[0]}_on_two_terms", [Run((*words, "--unclean", "--recover"), USAGE, 2, "zz")])
+    # Plans are counted for a file alone.
+    yield Case("mistake/plans_every_without_plans", [Run(("serve", "a.toml", "--plans-every", "9"), USAGE, 2, "zz")])
     # The arguments are judged before the settings are read, and a command that reads no input leaves it alone.
     yield Case("mistake/before_the_settings", [Run(("check", "none.toml", "--cleanly"), mistake("--cleanly"), 2)])
     # An input that cannot be read, here a folder, and an output that takes nothing.
