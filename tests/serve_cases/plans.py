@@ -3,7 +3,9 @@ import json
 import os
 import random
 import re
+import subprocess
 
+from children import CHILDREN
 from nbd_client import EIO, READ
 from serve_cases import case
 from serve_cases.looks import ANYWHERE, document, looks_at
@@ -12,7 +14,8 @@ from servers import Geometry, ensure, equal, wait_until
 LOG = "plans.log"
 TELLS = re.compile(r"plans (\d+) least (\d+) refused (\d+) rounds (\d+)\n")
 TIGHT = Geometry(dies=5, spares=1, blocks=12, slots=8, pages=96)
-# How many pages are read at once, and how many at most by one READ whose plan stands in the file.
+READER = os.path.join(os.path.dirname(os.path.dirname(os.path.abspath(__file__))), "plans_second_reader")
+# How many pages are read at once.
 PAGES = 16
 
 
@@ -24,6 +27,11 @@ def verified(array, name=LOG):
     plans, least, refused, _ = map(int, found.groups())
     equal((least, refused), (plans, 0), "the plans that are least, and those that are refused")
     return plans
+
+
+def second_reader(array, name=LOG):
+    """The status and the output of the reader that shares no code with the program."""
+    return CHILDREN.run([READER, array.path(name)], 60, text=True, cwd=array.folder, stderr=subprocess.DEVNULL)
 
 
 def written(client, geometry):
@@ -74,7 +82,6 @@ def each_nth_batch(make):
 @case
 def among_windows_moves_and_a_lost_die(make):
     """Pages are written anew all the while, so that the collectors have windows; the second reader agrees with `verify`."""
-    from plan_log import counted
     array = make(TIGHT)
     size = PAGES * TIGHT.page_bytes
     with array.serve("--plans", LOG, *ANYWHERE) as server:
@@ -99,8 +106,13 @@ def among_windows_moves_and_a_lost_die(make):
     with open(array.path(LOG), encoding="ascii") as it:
         text = it.read()
     ensure("\nclosed " in text, "no round was closed for any plan")
-    found = counted(text)
-    equal((found.plans, found.least, found.refused), (plans, plans, 0), "what the second reader counts")
+    equal(second_reader(array), array.run_words("verify", "--log", LOG), "what the second reader and verify end with and print")
+    changed = text.replace("\nrounds ", "\nrounds 1", 1)
+    array.put("changed.log", changed)
+    status, told = array.run_words("verify", "--log", "changed.log")
+    found = TELLS.fullmatch(told)
+    ensure(found and (status, int(found.group(3))) == (1, 1), f"with a digit more verify ends with {status} and prints {told!r}")
+    equal(second_reader(array, "changed.log"), (status, told), "what both tell of that file")
 
 
 @case
@@ -150,4 +162,4 @@ def a_server_that_is_killed(make):
             read_some(client, array.geometry, 200)
         server.kill()
     verified(array)
-    json.loads(array.run("check", "--json", "--recover")[1])
+    equal(array.run("check", "--recover")[0], 0, "the status of check")
