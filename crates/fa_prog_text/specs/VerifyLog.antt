@@ -18,8 +18,8 @@ AddsUp (Tally tally) = tally.plans ≡ tally.least + tally.refused
 unfoldable pub checked_text : Checked → List ℕ
 checked_text (Line number) = judged_text (JudgedLine number)
 checked_text (Tally tally) =
-    codes "plans " ++ decimal tally.plans ++ codes " least " ++ decimal tally.least ++ codes " refused " ++ decimal tally.refused
-    ++ codes " rounds " ++ decimal tally.rounds ++ 10 ∷ []
+    codes "plans " ++ (decimal tally.plans ++ (codes " least " ++ (decimal tally.least ++ (codes " refused " ++ (decimal tally.refused
+    ++ (codes " rounds " ++ (decimal tally.rounds ++ 10 ∷ [])))))))
 
 -- the status of the run that prints it
 abbrev pub checked_status : Checked → ℕ

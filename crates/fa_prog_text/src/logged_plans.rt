@@ -22,8 +22,8 @@ pub(crate) struct LoggedPlans<R: Read + Drop, A: Allocator> {
     reader: BufReader<R, A>,
     // The lines of the one that was read last, each with its line feed.
     text: Vec<u8, A>,
-    // The number of the line behind them, the first of the file being 1.
-    line: u64,
+    // How many lines were read so far.
+    lines: u64,
 }
 
 impl<R: Read + Drop, A: Allocator + Copy> LoggedPlans<R, A> {
@@ -32,7 +32,7 @@ impl<R: Read + Drop, A: Allocator + Copy> LoggedPlans<R, A> {
         Ok(LoggedPlans {
             reader: BufReader::new(alloc, reader)?,
             text: Vec::new(alloc),
-            line: 1,
+            lines: 0,
         })
     }
 }
@@ -43,9 +43,9 @@ impl<R: Read + Drop, A: Allocator> LoggedPlans<R, A> {
         &self.text
     }
 
-    /// The number of the line behind them, the first of the file being 1.
-    pub(crate) fn line(&self) -> u64 {
-        self.line
+    /// How many lines were read so far, those of all plans before included.
+    pub(crate) fn lines(&self) -> u64 {
+        self.lines
     }
 
     /// Reads the lines up to the second `end`, or as many as there are. A line that the file ends within is left out.
@@ -57,13 +57,13 @@ impl<R: Read + Drop, A: Allocator> LoggedPlans<R, A> {
             let count = self.reader.read_until(b'\n', &mut self.text)?;
             if count == 0 || self.text.last() != Some(&b'\n') {
                 self.text.truncate(start);
-                return Ok(if start + count == 0 {
+                return Ok(if start == 0 && count == 0 {
                     Ended::Nothing
                 } else {
                     Ended::Short
                 });
             }
-            self.line = self.line.saturating_add(1);
+            self.lines = self.lines.saturating_add(1);
             if &self.text[start..] == b"end\n".as_slice() {
                 ends += 1;
             }

@@ -79,26 +79,25 @@ fn check_plans<E: Eprint, R: Read + Drop, A: Allocator + Copy>(
         rounds: 0,
     };
     for number in 1..u64::MAX {
-        let begin = plans.line();
+        let before = plans.lines();
         let ended = plans.read_next()?;
         if ended == Ended::Nothing {
             break;
         }
         let judged = judge(alloc, plans.text())?;
         match (ended, &judged) {
-            (Ended::Short, Judged::Line(line)) if begin.saturating_add(*line - 1) == plans.line() =>
-                {
-                    tell_unended(rt, path, begin);
-                    break;
-                }
-            (_, Judged::Line(line)) => return Ok(Checked::Line(begin.saturating_add(*line - 1))),
+            (Ended::Short, Judged::Line(line)) if before.saturating_add(*line) > plans.lines() => {
+                tell_unended(rt, path, before.saturating_add(1));
+                break;
+            }
+            (_, Judged::Line(line)) => return Ok(Checked::Line(before.saturating_add(*line))),
             (_, Judged::Verdict(Verdict::Least(rounds))) => {
                 tally.plans += 1;
                 tally.least += 1;
                 tally.rounds = tally.rounds.saturating_add(*rounds);
             }
             (_, _) => {
-                tell_refused(rt, alloc, path, (number, begin), &judged)?;
+                tell_refused(rt, alloc, path, (number, before.saturating_add(1)), &judged)?;
                 tally.plans += 1;
                 tally.refused += 1;
             }
@@ -150,14 +149,20 @@ fn checked_line<A: Allocator + Copy>(alloc: A, checked: Checked) -> Result<Strin
 {
     match checked {
         Checked::Line(line) => told(alloc, &Judged::Line(line)),
-        Checked::Tally(tally) => {
-            let plans = tally.plans;
-            let least = tally.least;
-            let refused = tally.refused;
-            let rounds = tally.rounds;
-            format!(in alloc; "plans {plans} least {least} refused {refused} rounds {rounds}\n")
-        }
+        Checked::Tally(tally) => tally_line(alloc, tally),
     }
+}
+
+/// The line that is printed of what was counted.
+#[tactic(auto, unfolding(crate::specs::VerifyLog::checked_text))]
+fn tally_line<A: Allocator + Copy>(alloc: A, tally: Tally) -> Result<String<A>, AllocError>
+    ensures { IfOk result (λ line. string_bytes line ≡ checked_text (Checked.Tally tally)) }
+{
+    let plans = tally.plans;
+    let least = tally.least;
+    let refused = tally.refused;
+    let rounds = tally.rounds;
+    format!(in alloc; "plans {plans} least {least} refused {refused} rounds {rounds}\n")
 }
 
 /// The status with which a run ends that prints this.
