@@ -22,16 +22,36 @@ pub(crate) enum End {
 
 /// How a file ends that has these bytes at its end, which are all of its bytes where that is said.
 pub(crate) fn end_of(bytes: &[u8], is_all: bool) -> End {
-    match last_entry(bytes, is_all) {
-        Some(begin) => match bytes.get(begin..) {
+    let (lines, line) = bytes.split_at(last_line(bytes));
+    match end_of_lines(lines, is_all) {
+        End::Whole if line.is_empty() => End::Whole,
+        End::Whole if FIRST_LINE.starts_with(line) => End::Torn(lines.len()),
+        End::Whole | End::Other => End::Other,
+        End::Torn(begin) => End::Torn(begin),
+    }
+}
+
+/// The same where the last line is ended.
+fn end_of_lines(lines: &[u8], is_all: bool) -> End {
+    match last_entry(lines, is_all) {
+        Some(begin) => match lines.get(begin..) {
             Some(entry) if !is_whole(entry) => End::Torn(begin),
             _ => End::Whole,
         },
-        None if !is_all => End::Other,
-        None if bytes.is_empty() => End::Whole,
-        None if FIRST_LINE.starts_with(bytes) => End::Torn(0),
+        None if is_all && lines.is_empty() => End::Whole,
         None => End::Other,
     }
+}
+
+/// The index at which a last line begins that is not ended, or the number of the bytes.
+fn last_line(bytes: &[u8]) -> usize {
+    let mut begin = 0;
+    'bytes: for index in 0..bytes.len() {
+        if bytes[index] == b'\n' {
+            begin = index + 1;
+        }
+    }
+    begin
 }
 
 /// The index at which the last entry begins.
