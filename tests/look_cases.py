@@ -79,8 +79,8 @@ def page_in_a_browser(make):
                 "--timeout=15000", f"--screenshot={picture}", where)
             equal(size_of(picture)[0], width, f"the width of {picture}")
             text = ran("chromium-headless-shell", "--no-sandbox", "--disable-gpu", f"--window-size={width},1400", "--timeout=15000",
-                       "--dump-dom", where)
-            ensure("die 4" in text and "gives no answer" not in text, f"the page at {moment} shows no dies")
+                       "--virtual-time-budget=3000", "--dump-dom", where)
+            ensure("die 4" in text and ">the server gives no answer<" not in text, f"the page at {moment} shows no dies")
 
     with array.serve(*ANYWHERE) as server:
         address = looks_at(server)
