@@ -22,7 +22,9 @@ pub(crate) enum End {
 
 /// How a file ends that has these bytes at its end, which are all of its bytes where that is said.
 pub(crate) fn end_of(bytes: &[u8], is_all: bool) -> End {
-    let (lines, line) = bytes.split_at(last_line(bytes));
+    let begin = last_line(bytes);
+    let lines = bytes.get(..begin).unwrap_or(&[]);
+    let line = bytes.get(begin..).unwrap_or(&[]);
     match end_of_lines(lines, is_all) {
         End::Whole if line.is_empty() => End::Whole,
         End::Whole if FIRST_LINE.starts_with(line) => End::Torn(lines.len()),

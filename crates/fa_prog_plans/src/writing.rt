@@ -68,40 +68,41 @@ fn take<R: Networked, L: Ledger, M: Map + Drop>(rt: &R, shared: &Shared<L, M>) -
     taken
 }
 
-/// The entries of these plans, as far as each is accepted and fits, and how many they are. The others are counted.
+/// The logged plans of these, as far as each is accepted and fits, and how many they are. The others are counted.
 fn text_of(global: Global, counts: &PlanFileCounts, taken: Vec<PlanNote>) -> (String, u64) {
     let mut text = String::new(global);
     let mut written = 0u64;
     for note in taken {
-        let before = text.len();
-        match push_entry(global, &mut text, note) {
+        match add_to(global, &mut text, note) {
             Ok(true) => written = written.saturating_add(1),
             Ok(false) => counts.note_unfit(),
-            Err(_) => {
-                text.truncate(before);
-                counts.note_failed(1);
-            }
+            Err(_) => counts.note_failed(1),
         }
     }
     (text, written)
 }
 
-/// Adds the entry of a plan. Whether it is one that the check accepts and that fits the limits of texts. The error is out of memory.
-fn push_entry(global: Global, text: &mut String, note: PlanNote) -> Result<bool, AllocError> {
+/// Adds the logged plan of a plan. Whether it is one that the check accepts and that fits the limits of texts. The error is out of memory, and then
+/// nothing is added.
+fn add_to(global: Global, text: &mut String, note: PlanNote) -> Result<bool, AllocError> {
     match note.checked(global)? {
         Some(entry) if fits(&entry) => {
-            let printed = print_logged_plan(
-                global,
-                &entry.batch,
-                entry.runs.as_slice(),
-                &entry.plan,
-                &entry.shortage,
-            )?;
-            text.push_str(&printed)?;
+            text.push_str(&text_of_entry(global, &entry)?)?;
             Ok(true)
         }
         _ => Ok(false),
     }
+}
+
+/// The logged plan of an entry. The error is out of memory.
+fn text_of_entry(global: Global, entry: &PlanEntry) -> Result<String, AllocError> {
+    print_logged_plan(
+        global,
+        &entry.batch,
+        entry.runs.as_slice(),
+        &entry.plan,
+        &entry.shortage,
+    )
 }
 
 /// Whether an entry fits the limits of texts.
