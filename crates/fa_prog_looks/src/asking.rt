@@ -39,7 +39,7 @@ pub struct Ask<'a> {
 /// The command `status`: prints how the array is of the server at this address, once, or each second until the server gives no answer. Where
 /// it gives none, a line is printed for it, with status 1, and the reason is told on standard error.
 pub fn run_status<R: Networked, W: Write>(rt: &R, ask: Ask<'_>, output: &mut W) -> u8
-    ensures { TellsStatus ask.watch (W.contents output.old) (W.contents output.new) result }
+    ensures { TellsStatus ask.entry.watch (W.contents output.old) (W.contents output.new) result }
 {
     if ask.watch {
         watch(rt, ask.address, output)

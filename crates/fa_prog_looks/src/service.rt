@@ -13,8 +13,6 @@ pub(crate) struct Answering<'a, T> {
 }
 
 impl<T: Texts> Service for Answering<'_, T> {
-    ghost use Rattle.std.specs.Prelude.{Unit};
-
     ghost answers = { λ old request response new. Unit {0} };
 
     fn call(
