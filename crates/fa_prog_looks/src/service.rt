@@ -26,10 +26,7 @@ impl<T: Texts> Service for Answering<'_, T> {
             wants_lines(request.headers()),
         );
         response.status = status_of(answer);
-        response.add_header(
-            header::CONTENT_TYPE,
-            HeaderValue::from_static(type_of(answer)),
-        )?;
+        response.add_header(header::CONTENT_TYPE, type_of(answer))?;
         response.add_header(header::CACHE_CONTROL, HeaderValue::from_static("no-store"))?;
         response.add_header(header::CONNECTION, HeaderValue::from_static("close"))?;
         if answer == Answer::NoMethod {
@@ -58,11 +55,13 @@ fn status_of(answer: Answer) -> StatusCode {
 }
 
 /// The type of an answer.
-fn type_of(answer: Answer) -> &'static str {
+fn type_of(answer: Answer) -> HeaderValue {
     match answer {
-        Answer::Page => "text/html; charset=utf-8",
-        Answer::Metrics => "text/plain; version=0.0.4; charset=utf-8",
-        Answer::Document => "application/json",
-        Answer::Lines | Answer::NoPath | Answer::NoMethod => "text/plain; charset=utf-8",
+        Answer::Page => HeaderValue::from_static("text/html; charset=utf-8"),
+        Answer::Metrics => HeaderValue::from_static("text/plain; version=0.0.4; charset=utf-8"),
+        Answer::Document => HeaderValue::from_static("application/json"),
+        Answer::Lines | Answer::NoPath | Answer::NoMethod => {
+            HeaderValue::from_static("text/plain; charset=utf-8")
+        }
     }
 }
