@@ -131,7 +131,7 @@ def a_file_that_was_there(make):
         with open(array.path(LOG), "wb") as out:
             out.write(whole[:-cut])
         with array.serve("--plans", LOG) as server:
-            ensure(server.is_told("the last plan was torn"), f"that a plan is torn is not told: {server.errors}")
+            ensure(wait_until(lambda: server.is_told("the last plan was torn"), 5), f"that a plan is torn is not told: {server.errors}")
             with server.client() as client:
                 read_some(client, array.geometry, 3)
             server.stop()
