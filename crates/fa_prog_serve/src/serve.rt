@@ -299,11 +299,20 @@ fn share<L: Ledger, M: Map + Drop>(
     requires parts { (blank.parts ≡ L.parts) × (blank.parts ≡ 257) }
     requires whole { IsWhole M.view array }
 {
+    Shared::<L, M>::new(alloc, blank, keeping(alloc, array, plans_every)).ok()
+}
+
+/// The array, which keeps the plan of each n-th batch for who writes it, where that is wanted.
+fn keeping<M: Map + Drop>(alloc: Global, array: Array<M>, plans_every: Option<u64>) -> Array<M>
+    requires { IsWhole M.view array }
+    ensures { IsWhole M.view result }
+{
+    let Some(every) = plans_every else {
+        return array;
+    };
     let mut array = array;
-    if let Some(every) = plans_every {
-        array.log_plans(alloc, every);
-    }
-    Shared::<L, M>::new(alloc, blank, array).ok()
+    array.log_plans(alloc, every);
+    array
 }
 
 /// Serves a shared array, and closes it.

@@ -8,6 +8,7 @@ use fa_prog_lost::TellingStore;
 use fa_shared::Shared;
 use fa_shared_lock::{Hands, Seat};
 use fa_shared_store::ArrayBlocks;
+use fa_types::Blocks;
 use fa_workers::{Helper, HelperMemory, ImageTable};
 use std::alloc::{AllocError, Global};
 use std::sync::ledger::Ledger;
@@ -74,8 +75,20 @@ fn serve_with<R: Networked, L: Ledger, M: Map + Drop, H: Hands<L, M, Global> + D
 ) -> Seat<L> {
     let blocks = ArrayBlocks::new(rt, rt.alloc(), shared, seat, hands);
     let telling = TellingStore::new(rt, shared, &listening.losses, blocks);
+    let telling = serve_counted(rt, listening, service, connection, telling);
+    telling.into_blocks().into_seat()
+}
+
+/// The same over any store, which is handed back. What its clients ask for is counted.
+fn serve_counted<R: Networked, B: Blocks + Drop>(
+    rt: &R,
+    listening: &Listening<'_>,
+    service: Service<'_>,
+    connection: ConnectionMemory,
+    blocks: B,
+) -> B {
     let counts = listening.counts.session(service.number);
-    let mut store = CountingStore::new(rt, counts, telling);
+    let mut store = CountingStore::new(rt, counts, blocks);
     serve_clients(
         rt,
         &listening.accept_queue,
@@ -84,5 +97,5 @@ fn serve_with<R: Networked, L: Ledger, M: Map + Drop, H: Hands<L, M, Global> + D
         connection,
         &mut store,
     );
-    store.into_blocks().into_blocks().into_seat()
+    store.into_blocks()
 }
