@@ -99,9 +99,9 @@ fn program_moved<I: Image, G: Gate>(
         slot: to,
     };
     reseal(digest, tag, scratch);
-    gate.before(die, ImageCallKind::Move);
+    gate.before(die, ImageCallKind::Program);
     let programmed = image.program(to, scratch);
-    gate.after(die, ImageCallKind::Move);
+    gate.after(die, ImageCallKind::Program);
     match programmed {
         Ok(()) => Outcome::Moved,
         Err(fault) => Outcome::Fault(fault),

@@ -1,4 +1,3 @@
 pub mod Beginning
 pub mod Hashing
 pub mod Lanes
-pub mod Wide

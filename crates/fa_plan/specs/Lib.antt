@@ -1,4 +1,3 @@
-pub mod Alone
 pub mod Bound
 pub mod Giving
 pub mod Layout

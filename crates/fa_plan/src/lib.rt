@@ -2,7 +2,6 @@
 //! rounds, with the pages that show it.
 #![tactic(auto)]
 
-mod alone;
 mod bound;
 mod giving;
 mod layout;

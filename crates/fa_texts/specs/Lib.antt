@@ -1,5 +1,4 @@
 pub mod BatchText
 pub mod CertificateText
-pub mod LoggedPlan
 pub mod Numbers
 pub mod Text
