@@ -80,16 +80,22 @@ class Geometry:
 class Array:
     """The settings and images of an array in a folder, and the program that works on them."""
 
-    def __init__(self, program, folder, geometry=Geometry(), *, sessions=16, copies=2, port=0, export="disk", formatted=True):
+    def __init__(self, program, folder, geometry=Geometry(), *, sessions=16, copies=2, port=0, export="disk", formatted=True,
+                 settings=True):
         self.program, self.folder, self.geometry, self.copies = program, folder, geometry, copies
         self.servers = []
+        if settings:
+            self.put_settings(sessions, port, export)
+        if formatted:
+            self.wanted(f"formatted {geometry.dies} images\n", "format")
+
+    def put_settings(self, sessions, port, export):
+        geometry, copies = self.geometry, self.copies
         names = ", ".join(f'"d{die}.img"' for die in range(geometry.dies))
         self.put(SETTINGS, f'array = "{ARRAY.hex()}"\nimages = [{names}]\ndies = {geometry.dies}\nspares = {geometry.spares}\n'
                  f'blocks = {geometry.blocks}\nslots = {geometry.slots}\npage_bytes = {geometry.page_bytes}\n'
                  f'pages = {geometry.pages}\ncopies = {copies}\nwindow_rounds = 8\nlisten = "127.0.0.1:{port}"\n'
                  f'export = "{export}"\nsessions = {sessions}\n')
-        if formatted:
-            self.wanted(f"formatted {geometry.dies} images\n", "format")
 
     def path(self, name):
         return os.path.join(self.folder, name)

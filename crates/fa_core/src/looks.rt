@@ -1,6 +1,6 @@
 //! What may be asked of the array. Nothing of this is an event.
 ghost use Rattle.std.specs.Prelude.{◌≡◌, ◌<◌, ℕ, None, false, is_some, option_map};
-ghost use Rattle.std.specs.FinMap.{get};
+ghost use Rattle.std.specs.FinMap.{contains_key, get};
 ghost use Rattle.fa_machine.specs.Collecting.{victim as rule_victim};
 ghost use Rattle.fa_machine.specs.Conditions.{batch_open as rule_batch, claim_open as rule_claim, copy_open as rule_copy};
 ghost use Rattle.fa_machine.specs.Conditions.{history_full as rule_full, is_reserved as rule_reserved};
@@ -14,9 +14,11 @@ ghost use Rattle.fa_core_tables.specs.Counted.{capped};
 ghost use Rattle.fa_mirror.specs.Order.{first_dies as rule_first, numbers_of};
 
 use crate::array::Array;
+use fa_core_read::PlanCounts;
 use fa_machine::{BatchId, Block, ClaimId, HistoryEntry, JobKind, Version};
 use fa_map_calls::Map;
 use fa_mirror::Placing;
+use fa_plan_log::LogCounts;
 use fa_types::{Die, Geometry, Page, Round, Seq, Slot};
 use std::alloc::Allocator;
 
@@ -120,6 +122,44 @@ impl<M: Map, A: Allocator + Clone> Array<M, A> {
         ensures { numbers_of result ≡ rule_first (state_of M.view self.now).copies (state_of M.view self.now).page_map page.0 }
     {
         fa_mirror::first_dies(&self.state.page_map, self.state.copies, page)
+    }
+
+    /// The page map, for whoever only looks.
+    pub fn page_map(&self) -> &M
+        ensures { M.view result.now ≡ (state_of M.view self.now).page_map }
+    {
+        &self.state.page_map
+    }
+
+    /// How many copies a page is to have.
+    pub fn copies(&self) -> u32
+        ensures { result ≡ (state_of M.view self.now).copies }
+    {
+        self.state.copies.number
+    }
+
+    /// What the plans of admitted batches came to, since mounting.
+    pub fn plan_counts(&self) -> PlanCounts {
+        self.planner.counts()
+    }
+
+    /// How many plans were kept for who checks them, and how many were dropped. None where nobody does.
+    pub fn plan_log_counts(&self) -> Option<LogCounts> {
+        self.planner.log_counts()
+    }
+
+    /// Whether the die is a spare that was not brought in yet.
+    pub fn is_spare(&self, die: Die) -> bool
+        ensures { result ≡ contains_key (state_of M.view self.now).spares die.0 }
+    {
+        self.state.spares.contains(usize::from(die.0))
+    }
+
+    /// Whether the die is live, and its header is not one of this epoch.
+    pub fn is_behind(&self, die: Die) -> bool
+        ensures { result ≡ contains_key (state_of M.view self.now).behind die.0 }
+    {
+        self.state.behind.contains(usize::from(die.0))
     }
 
     /// The entries of the history since the last fold, the oldest first.

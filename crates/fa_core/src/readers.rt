@@ -17,6 +17,7 @@ use fa_laws::invariants::{an_event_counts, an_event_keeps};
 use fa_machine::{AdmitRefused, BatchId, ReadState};
 use fa_map_calls::Map;
 use fa_plan::Planned;
+use fa_plan_log::PlanNote;
 use fa_types::Page;
 use std::alloc::{AllocError, Allocator};
 
@@ -65,6 +66,26 @@ impl<M: Map, A: Allocator + Copy> Array<M, A> {
         ensures whole { IsWhole M.view self.new }
     {
         self.planner.keep(planned);
+    }
+
+    /// From here on the plan of each n-th batch of at least two pages waits for who checks it. It is no event.
+    pub fn log_plans(&mut self, alloc: A, every: u64)
+        requires whole { IsWhole M.view self.old }
+        ensures state { state_of M.view self.new ≡ state_of M.view self.old }
+        ensures number { number_of self.new ≡ number_of self.old }
+        ensures whole { IsWhole M.view self.new }
+    {
+        self.planner.log_plans(alloc, every);
+    }
+
+    /// The plan that waits longest for who checks it. It is no event.
+    pub fn take_plan(&mut self) -> Option<PlanNote<A>>
+        requires whole { IsWhole M.view self.old }
+        ensures state { state_of M.view self.new ≡ state_of M.view self.old }
+        ensures number { number_of self.new ≡ number_of self.old }
+        ensures whole { IsWhole M.view self.new }
+    {
+        self.planner.take_plan()
     }
 
     /// The closed rounds of all dies from the current one on. Those that are booked for the batch and were not started are left out. The

@@ -63,7 +63,14 @@ pub fn admit<M: Map, A: Allocator + Copy>(
         return Err(AdmitRefused::Spent);
     }
     match plan_written(alloc, planner, state, pages) {
-        Ok(planned) => admit_planned(alloc, state, pages, planned),
+        Ok(planned) => {
+            let noted = planner.noted(alloc, &planned, &state.bookings);
+            let answer = admit_planned(alloc, state, pages, planned);
+            if answer.is_ok() {
+                planner.keep_noted(noted);
+            }
+            answer
+        }
         Err(_) => Err(AdmitRefused::NoMemory),
     }
 }

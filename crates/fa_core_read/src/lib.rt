@@ -4,6 +4,7 @@
 
 mod admitting;
 mod booking;
+mod counting;
 mod ending;
 pub mod laws;
 mod planner;
@@ -12,6 +13,7 @@ mod replanning;
 mod standing;
 
 pub use admitting::{Admitted, admit};
+pub use counting::PlanCounts;
 pub use ending::end_batch;
 pub use planner::Planner;
 pub use replanning::{closed_without, replan};

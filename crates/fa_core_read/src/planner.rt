@@ -1,6 +1,9 @@
 //! What batches are planned with.
+use crate::counting::PlanCounts;
 use fa_batch::Batch;
 use fa_plan::{Planned, Workspace};
+use fa_plan_log::{LogCounts, PlanLog, PlanNote};
+use fa_types::Rounds;
 use std::alloc::{Allocator, Global};
 
 /// Memory that plans of batches are made in, kept from one to the next. What is in it is in no clause.
@@ -9,6 +12,32 @@ pub struct Planner<A: Allocator = Global> {
     // The pages that were planned last, each with its holders.
     pub(crate) entries: Batch<A>,
     pub(crate) workspace: Workspace<A>,
+    // What was planned so far.
+    counts: PlanCounts,
+    // The plans that wait for who checks them, where somebody does.
+    log: Option<PlanLog<A>>,
+}
+
+/// What is kept of a plan where its batch is admitted.
+#[derive(Drop)]
+pub(crate) struct Noted<A: Allocator> {
+    counts: PlanCounts,
+    note: Option<PlanNote<A>>,
+}
+
+impl<A: Allocator> Planner<A> {
+    /// What the plans of admitted batches came to.
+    pub fn counts(&self) -> PlanCounts {
+        self.counts
+    }
+
+    /// How many plans were kept for who checks them, and how many were dropped. None where nobody does.
+    pub fn log_counts(&self) -> Option<LogCounts> {
+        match &self.log {
+            Some(log) => Some(log.counts()),
+            None => None,
+        }
+    }
 }
 
 impl<A: Allocator + Copy> Planner<A> {
@@ -17,6 +46,45 @@ impl<A: Allocator + Copy> Planner<A> {
         Planner {
             entries: Batch::new(alloc),
             workspace: Workspace::new(alloc),
+            counts: PlanCounts::NONE,
+            log: None,
+        }
+    }
+
+    /// From here on the plan of each n-th batch of at least two pages waits for who checks it.
+    pub fn log_plans(&mut self, alloc: A, every: u64) {
+        self.log = Some(PlanLog::new(alloc, every));
+    }
+
+    /// The plan that waits longest for who checks it.
+    pub fn take_plan(&mut self) -> Option<PlanNote<A>> {
+        match &mut self.log {
+            Some(log) => log.take(),
+            None => None,
+        }
+    }
+
+    /// What is to be kept of the plan of the pages that were planned last. None of it is booked yet.
+    pub(crate) fn noted<R: Rounds>(
+        &mut self,
+        alloc: A,
+        planned: &Planned<A>,
+        calendar: &R,
+    ) -> Noted<A> {
+        let counts = PlanCounts::of(&self.entries, planned.rounds, calendar);
+        let note = match &mut self.log {
+            Some(log) => log.note(alloc, &self.entries, calendar, planned),
+            None => None,
+        };
+        Noted { counts, note }
+    }
+
+    /// The batch of this plan was admitted.
+    pub(crate) fn keep_noted(&mut self, noted: Noted<A>) {
+        let Noted { counts, note } = noted;
+        self.counts.add(counts);
+        if let (Some(log), Some(note)) = (&mut self.log, note) {
+            log.keep(note);
         }
     }
 

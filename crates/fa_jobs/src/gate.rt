@@ -6,8 +6,10 @@ use fa_types::Die;
 pub enum ImageCallKind {
     /// A slot is read.
     ReadSlot,
-    /// A slot is written.
+    /// A slot is written with what a write said, or with a copy of another die's.
     Program,
+    /// A slot is written with what stood in another slot of the die.
+    Move,
     /// A block is erased.
     EraseBlock,
     /// The header is written.

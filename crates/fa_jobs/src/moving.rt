@@ -99,9 +99,9 @@ fn program_moved<I: Image, G: Gate>(
         slot: to,
     };
     reseal(digest, tag, scratch);
-    gate.before(die, ImageCallKind::Program);
+    gate.before(die, ImageCallKind::Move);
     let programmed = image.program(to, scratch);
-    gate.after(die, ImageCallKind::Program);
+    gate.after(die, ImageCallKind::Move);
     match programmed {
         Ok(()) => Outcome::Moved,
         Err(fault) => Outcome::Fault(fault),

@@ -53,12 +53,6 @@ digest_of_lane m tail state bytes count from n place within size held left diges
     ∙ ap (λ (k : ℕ). finished (hash_after initial_hash_256 m count) (drop (count * 64) m ++ padding k)) size
     ∙ sym (digest_from m count (omega arith))
 
--- a hash value has eight words
-pub length-hash_after : (p : List ℕ) (n : ℕ) → length (hash_after initial_hash_256 p n) ≡ 8
-unfolding hash_after compress
-length-hash_after p zero = refl
-length-hash_after p (suc n) = refl
-
 -- the digest of a payload of whole blocks with a tail behind it
 pub digest_of_begun : (payload tail state bytes : List ℕ) (n : ℕ) → length payload % 64 ≡ 0 → n ≡ length payload + length tail
     → state ≡ hash_after initial_hash_256 payload (length payload / 64) → bytes ≡ finished state (tail ++ padding n) → bytes ≡ sha256 (payload ++ tail)

@@ -3,3 +3,5 @@ pub mod InLanes
 pub mod Loading
 pub mod Majority
 pub mod Tails
+pub mod WideLanes
+pub mod WideLoading

@@ -1,3 +1,4 @@
 pub mod Beginning
 pub mod Hashing
 pub mod Lanes
+pub mod Wide

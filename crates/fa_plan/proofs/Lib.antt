@@ -2,5 +2,6 @@ pub mod Bounds
 pub mod Handing
 pub mod Laid
 pub mod Making
+pub mod OnePage
 pub mod Reached
 pub mod Seats

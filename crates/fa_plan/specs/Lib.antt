@@ -1,3 +1,4 @@
+pub mod Alone
 pub mod Bound
 pub mod Giving
 pub mod Layout

@@ -2,6 +2,7 @@
 //! rounds, with the pages that show it.
 #![tactic(auto)]
 
+mod alone;
 mod bound;
 mod giving;
 mod layout;

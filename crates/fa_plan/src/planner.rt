@@ -10,6 +10,7 @@ ghost use Rattle.fa_plan.specs.Bound.{IsSimpleBound};
 ghost use Rattle.fa_plan.specs.Layout.{AreRising};
 ghost use Rattle.fa_plan.specs.Progress.{AreSeats, IsProgress, steps_left};
 
+use crate::alone::plan_alone;
 use crate::giving::give;
 use crate::layout::{Seat, lay_out};
 use crate::shortage::rounds_for;
@@ -54,8 +55,8 @@ pub(crate) struct Progress<A: Allocator> {
 
 /// Plans a batch in the least number of rounds, by augmenting paths. It begins with the number of rounds
 /// that the batch as a whole needs. Where no die can be found for a page, the pages that the search
-/// reached are kept as the shortage, and the next number of rounds is the first that they leave. Memory comes from the workspace where it
-/// has some. The error is out of memory.
+/// reached are kept as the shortage, and the next number of rounds is the first that they leave. One page alone takes no search. Memory
+/// comes from the workspace where it has some. The error is out of memory.
 pub fn plan_in<R: Rounds, A: Allocator + Copy>(
     alloc: A,
     workspace: &mut Workspace<A>,
@@ -75,6 +76,9 @@ pub fn plan_in<R: Rounds, A: Allocator + Copy>(
     ensures whole { IfOk result (λ planned. planned.searches ≡ length batch.now → planned.shortage ≡ pages_of batch.now) }
     ensures looks { IfOk result (λ planned. planned.looks ≤ planned.searches * length batch.now) }
 {
+    if batch.len() == 1 {
+        return plan_alone(alloc, workspace, batch, calendar);
+    }
     let mut progress = begin(alloc, workspace, batch, calendar)?;
     'pages: while progress.given.len() < batch.len() {
         step(alloc, batch, calendar, &mut progress)?;

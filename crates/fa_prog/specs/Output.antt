@@ -12,8 +12,8 @@ use Rattle.fa_prog_host.specs.Printing.{Prints, TellsNoMemory}
 abbrev pub ShowsUsage : Option (List ℕ) → Option (List ℕ) → ℕ → Type 0
 ShowsUsage old new status =
     (status ≡ 2)
-    × (Appends old new (codes "usage: flasharr format | check | dump | serve | plan | talk [--array SETTINGS [--unclean | --recover]] | verify" ++ 10 ∷ [])
-    ⊎ IsCut old new (codes "usage: flasharr format | check | dump | serve | plan | talk [--array SETTINGS [--unclean | --recover]] | verify" ++ 10 ∷ []))
+    × (Appends old new (codes "usage: flasharr format | check | dump | serve | status | plan | talk [--array SETTINGS [--unclean | --recover]] | verify" ++ 10 ∷ [])
+    ⊎ IsCut old new (codes "usage: flasharr format | check | dump | serve | status | plan | talk [--array SETTINGS [--unclean | --recover]] | verify" ++ 10 ∷ []))
 
 -- A text for a person was printed, or a prefix of it, and the status is 2.
 abbrev pub ShowsMistake : Option (List ℕ) → Option (List ℕ) → ℕ → Type 0

@@ -15,9 +15,10 @@ use fa_io::send_all;
 use fa_prog_format::run_format;
 use fa_prog_host::printing::{DONE, FAULTY, print, refuse_for_memory};
 use fa_prog_inspect::{Asked, Look, run_look};
+use fa_prog_looks::{Ask, run_status};
 use fa_prog_serve::{Serve, ServerHost, run_serve};
 use fa_prog_talk::run_talk_array;
-use fa_prog_text::{run_plan, run_talk, run_verify};
+use fa_prog_text::{run_plan, run_talk, run_verify, run_verify_log};
 use fa_settings::{Subcommand, command};
 use std::alloc::{AllocError, Allocator, Global};
 use std::env::Args;
@@ -26,7 +27,7 @@ use std::net::{Net, TcpListener, TcpStream};
 
 /// What is printed where the arguments cannot be had.
 const USAGE: &[u8] =
-    b"usage: flasharr format | check | dump | serve | plan | talk [--array SETTINGS [--unclean | --recover]] | verify\n";
+    b"usage: flasharr format | check | dump | serve | status | plan | talk [--array SETTINGS [--unclean | --recover]] | verify\n";
 
 /// Runs the program with all of its arguments, of which the first is its name, as [`run`] does with
 /// those behind it. Where the arguments cannot be had, it prints that memory was refused, with status
@@ -72,7 +73,9 @@ pub fn start<
 /// `serve` mounts the array of the settings and serves it over NBD at their address, in many threads, until the
 /// input has the line `stop`, ends or fails, and then closes it; with `--unclean` or `--recover` also one that was not
 /// closed. It prints where it listens, and at the end the faults that took dies out and how the array was closed. With
-/// `--verbose` it tells on standard error of clients that come and go.
+/// `--verbose` it tells on standard error of clients that come and go, and with `--status` it answers by HTTP at another address how the array is.
+///
+/// `status` asks a server at that address, and prints the answer in lines, once or with `--watch` each second.
 ///
 /// `talk` reads lines of hexadecimal digits as the bytes of one NBD client, serves them over a plain
 /// store of 64 pages of 512 zero bytes under the name `disk`, and prints the server's bytes, in
@@ -83,7 +86,9 @@ pub fn start<
 /// `plan` reads a batch text, and prints the text of a plan of the least number of rounds with the pages
 /// that show that no plan has fewer.
 ///
-/// `verify` reads a batch text and a certificate text, and prints `least R` or the first refusal.
+/// `verify` reads a batch text and a certificate text, and prints `least R` or the first refusal. With `--log` it checks each
+/// plan of a file, reads nothing of the input, and prints how many plans are least and how many are refused; which ones those
+/// are it tells on standard error.
 ///
 /// `--help` prints what the program or the command before it does, and `--version` the program's version, with
 /// status 0. Other arguments print what is wrong with them, with status 2. All of it goes to the output.
@@ -146,6 +151,8 @@ pub fn run<
                     settings,
                     terms,
                     verbose,
+                    status,
+                    plans,
                 },
             ),
         ) => {
@@ -156,10 +163,15 @@ pub fn run<
                     settings,
                     terms,
                     verbose,
+                    status,
+                    plans,
                 },
                 input,
                 output,
             )
+        }
+        Ok(Some(Subcommand::Status { address, watch })) => {
+            run_status(rt, Ask { address, watch }, output)
         }
         Ok(Some(Subcommand::Plan)) => run_plan(alloc, input, output),
         Ok(Some(Subcommand::Talk)) => run_talk(alloc, input, output),
@@ -167,6 +179,7 @@ pub fn run<
             run_talk_array(rt, alloc, settings, terms, input, output)
         }
         Ok(Some(Subcommand::Verify)) => run_verify(alloc, input, output),
+        Ok(Some(Subcommand::VerifyLog { file })) => run_verify_log(rt, alloc, file, output),
         Ok(None) => show_usage(output),
         Err(error) => show_text(rt.alloc(), &error, output),
     }

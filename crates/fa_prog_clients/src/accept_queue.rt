@@ -135,9 +135,14 @@ impl AcceptQueue {
         self.changed.notify_all();
     }
 
+    /// How many clients are served.
+    pub fn clients(&self) -> u64 {
+        self.clients.load(Ordering::SeqCst)
+    }
+
     /// Whether so few clients are served that each may have a core of its own.
     pub(crate) fn has_few_clients(&self) -> bool {
-        self.clients.load(Ordering::SeqCst) <= FEW_CLIENTS
+        self.clients() <= FEW_CLIENTS
     }
 
     /// Lets a client wait for a session, up to the limit. Whether a session took it: one that none took is sent away.

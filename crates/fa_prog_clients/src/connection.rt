@@ -3,7 +3,9 @@ ghost use Rattle.std.specs.Prelude.{◌≤◌, length};
 
 use crate::accept_queue::AcceptQueue;
 use crate::socket::receive;
+use byteorder::{BigEndian, ByteOrder};
 use fa_io::WriteBoth;
+use fa_prog_counts::SessionCounts;
 use std::alloc::{AllocError, Global};
 use std::cell::{Cell, RefCell};
 use std::io::{self, ErrorKind, Read, Write};
@@ -21,6 +23,11 @@ const MAX_LOOKS: u32 = 1000;
 
 /// How many bytes of replies are held at most.
 const HELD_BYTES: usize = 65_536;
+
+/// How many bytes a reply without data has, and the number that begins each reply. NBD protocol text, "Simple reply message".
+const REPLY_BYTES: usize = 16;
+
+const REPLY_MAGIC: u32 = 0x6744_6698;
 
 /// Memory for a connection. It is made before the session's thread is started.
 #[derive(Drop)]
@@ -68,6 +75,7 @@ impl Connection {
         &'a mut self,
         rt: &'a R,
         accept_queue: &'a AcceptQueue,
+        counts: Option<&'a SessionCounts>,
         stream: &'a TcpStream,
     ) -> (RequestReader<'a, R>, ReplyWriter<'a>) {
         let Connection { ahead, held } = self;
@@ -82,7 +90,12 @@ impl Connection {
             held,
             has_heard: false,
         };
-        (reader, ReplyWriter { stream, held })
+        let writer = ReplyWriter {
+            stream,
+            held,
+            counts,
+        };
+        (reader, writer)
     }
 }
 
@@ -261,22 +274,48 @@ fn is_timeout(kind: ErrorKind) -> bool {
     matches!(kind, ErrorKind::WouldBlock | ErrorKind::TimedOut)
 }
 
-/// Holds replies as long as there is room for them, and sends them before what is too long to be held.
+/// Holds replies as long as there is room for them, and sends them before what is too long to be held. Replies with an error are counted.
 #[derive(Drop)]
 pub(crate) struct ReplyWriter<'a> {
     stream: &'a TcpStream,
     held: &'a HeldReplies,
+    counts: Option<&'a SessionCounts>,
+}
+
+impl ReplyWriter<'_> {
+    /// Counts the error of a reply, if it has one.
+    fn count(&self, reply: &[u8]) {
+        if let (Some(counts), Some(number)) = (self.counts, error_of(reply)) {
+            counts.note_error(number);
+        }
+    }
+}
+
+/// The number of the error of a reply without data. None where it has none, or where the bytes are no such reply.
+fn error_of(reply: &[u8]) -> Option<u32> {
+    if reply.len() != REPLY_BYTES || BigEndian::read_u32(&reply[..4]) != REPLY_MAGIC {
+        return None;
+    }
+    match BigEndian::read_u32(&reply[4..8]) {
+        0 => None,
+        number => Some(number),
+    }
 }
 
 impl<'a> Write for ReplyWriter<'a> {
     fn write(&mut self, buf: &[u8]) -> io::Result<usize> {
         self.held.has_last_word.set(true);
         if self.held.push(buf, &[]) {
+            self.count(buf);
             return Ok(buf.len());
         }
         self.held.send(self.stream)?;
         let mut stream = self.stream;
-        stream.write(buf)
+        let count = stream.write(buf)?;
+        if count == buf.len() {
+            self.count(buf);
+        }
+        Ok(count)
     }
 
     fn flush(&mut self) -> io::Result<()> {

@@ -4,6 +4,7 @@ use crate::connection::{Connection, ConnectionMemory};
 use crate::export::Export;
 use crate::host::Networked;
 use crate::socket::prepare;
+use fa_prog_counts::SessionCounts;
 use fa_prog_host::tell;
 use fa_session::{SessionEnd, serve_stream};
 use fa_types::Blocks;
@@ -21,11 +22,13 @@ pub struct Service<'a> {
     pub verbose: bool,
 }
 
-/// Serves a store to one client after another until the accept queue is closed. It blocks its thread.
+/// Serves a store to one client after another until the accept queue is closed, and counts clients and the errors that they are answered.
+/// It blocks its thread.
 pub fn serve_clients<R: Networked, B: Blocks>(
     rt: &R,
     accept_queue: &AcceptQueue,
     service: Service<'_>,
+    counts: Option<&SessionCounts>,
     connection: ConnectionMemory,
     blocks: &mut B,
 ) {
@@ -34,10 +37,14 @@ pub fn serve_clients<R: Networked, B: Blocks>(
         let Some(stream) = accept_queue.next_client(rt, service.number) else {
             break;
         };
+        if let Some(counts) = counts {
+            counts.note_client();
+        }
         if let Some(export) = Export::of(service.name) {
             serve_client(
                 rt,
                 accept_queue,
+                counts,
                 &stream,
                 &mut connection,
                 blocks,
@@ -53,6 +60,7 @@ pub fn serve_clients<R: Networked, B: Blocks>(
 fn serve_client<R: Networked, B: Blocks>(
     rt: &R,
     accept_queue: &AcceptQueue,
+    counts: Option<&SessionCounts>,
     stream: &TcpStream,
     connection: &mut Connection,
     blocks: &mut B,
@@ -62,7 +70,7 @@ fn serve_client<R: Networked, B: Blocks>(
     prepare(stream);
     let address = stream.peer_addr().ok();
     tell_of_client(rt, address, verbose, "a client has come");
-    let (mut reader, mut writer) = connection.sides(rt, accept_queue, stream);
+    let (mut reader, mut writer) = connection.sides(rt, accept_queue, counts, stream);
     let end = serve_stream(rt.alloc(), &mut reader, &mut writer, blocks, export.name);
     let _ = writer.flush();
     tell_of_client(rt, address, verbose, words_of(end));

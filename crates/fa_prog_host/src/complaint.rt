@@ -15,7 +15,7 @@ pub fn complain<R: Eprint, T: Display>(rt: &R, path: &str, what: &T) {
 
 /// Tells why the system refused a call on the file of a path, in its words and without its number, and what to do next.
 /// Where there is no memory for the words they are told with the number.
-pub(crate) fn complain_of_call<R: Host>(rt: &R, path: &str, refused: &io::Error, advice: &str) {
+pub fn complain_of_call<R: Host>(rt: &R, path: &str, refused: &io::Error, advice: &str) {
     match refused.to_string(rt.alloc()) {
         Ok(text) => {
             let words = words_of(&text);

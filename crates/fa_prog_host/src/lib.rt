@@ -9,7 +9,7 @@ pub mod printing;
 mod settings_file;
 mod watched;
 
-pub use complaint::{complain, tell};
+pub use complaint::{complain, complain_of_call, tell};
 pub use host::Host;
 pub use images::{NotOpened, OpenImages, Opening, images_alone, open_images, tell_refused};
 pub use lost::lost_path;

@@ -1,25 +1,23 @@
 //! Which pages of an array are lost, in words.
+ghost use Rattle.std.specs.Prelude.{◌≡◌, ◌&&◌};
+ghost use Rattle.fa_core.specs.Array.{state_of};
+ghost use Rattle.fa_machine.specs.Copies.{is_lost as rule_lost};
+ghost use Rattle.fa_machine.specs.Step.{is_page};
+
 use fa_core::Array;
 use fa_map_calls::Map;
 use fa_prog_host::printing::push_number;
-use fa_types::{Die, Page};
+use fa_types::Page;
 use std::alloc::{AllocError, Global};
 
 /// How many pages are looked at in one hold of the array's lock.
 pub const PAGES_A_HOLD: u64 = 1024;
 
-/// Whether a page was written and stands on no live die.
-pub fn is_lost<M: Map>(array: &Array<M>, page: Page) -> bool {
-    if !array.is_page(page) || array.version(page).is_none() {
-        return false;
-    }
-    for number in 0..array.geometry().dies {
-        let die = Die(number as u8);
-        if array.is_live(die) && array.copy_on(page, die).is_some() {
-            return false;
-        }
-    }
-    true
+/// Whether this is a page that was written and stands on no live die.
+pub fn is_lost<M: Map>(array: &Array<M>, page: Page) -> bool
+    ensures { result ≡ (is_page (state_of M.view array.now) page.0 && rule_lost (state_of M.view array.now).page_map page.0) }
+{
+    array.is_page(page) && fa_core_read_pages::is_lost(array.page_map(), page)
 }
 
 /// The pages that were lost, in ranges: a line for each, with its first page and its last one. The pages of an array are looked at in their

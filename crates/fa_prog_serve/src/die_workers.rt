@@ -1,8 +1,8 @@
 //! Those who work for the dies of the array.
 use fa_image::Image;
-use fa_jobs::Open;
 use fa_map_calls::Map;
 use fa_prog_clients::Networked;
+use fa_prog_counts::Counts;
 use fa_shared::Shared;
 use fa_shared_lock::Seat;
 use fa_types::Die;
@@ -30,11 +30,12 @@ pub(crate) fn die_task<R: Networked, L: Ledger, M: Map + Drop>(
     Ok(DieTask { die, seat, memory })
 }
 
-/// Works for a die until the array is to end, and hands the seat back.
+/// Works for a die until the array is to end, and hands the seat back. The calls of its image are counted.
 pub(crate) fn work_die<R: Networked, L: Ledger, M: Map + Drop, I: Image + Drop>(
     rt: &R,
     shared: &Shared<L, M>,
     image_table: &ImageTable<I>,
+    counts: &Counts,
     task: DieTask<L>,
 ) -> Seat<L> {
     let DieTask {
@@ -50,7 +51,7 @@ pub(crate) fn work_die<R: Networked, L: Ledger, M: Map + Drop, I: Image + Drop>(
         die,
         image_table,
         memory,
-        &Open,
+        counts,
     );
     seat
 }

@@ -17,4 +17,4 @@ mod stop_waiter;
 mod tasks;
 
 pub use host::ServerHost;
-pub use serve::{Held, Serve, run_serve, serve_on};
+pub use serve::{Held, Listeners, Serve, run_serve, serve_on};

@@ -1,28 +1,54 @@
 //! Where the clients of a server come, and what its threads share beside the array.
 use crate::plan::ServePlan;
+use fa_map_calls::Map;
 use fa_mount::place_of;
 use fa_mount_headers::Standing;
 use fa_prog_clients::AcceptQueue;
+use fa_prog_counts::Counts;
 use fa_prog_lost::Losses;
+use fa_prog_status::Subject;
 use fa_settings::Settings;
+use fa_shared::Shared;
 use std::alloc::{AllocError, Allocator, Global};
 use std::net::TcpListener;
+use std::sync::ledger::Ledger;
 
 /// What the threads of a server share beside the array.
 #[derive(Drop)]
 pub(crate) struct Listening<'a> {
     /// Where clients connect.
     pub(crate) listener: &'a TcpListener,
+    /// Where others may ask how the array is.
+    pub(crate) looks: Option<&'a TcpListener>,
     /// Where clients wait for a session.
     pub(crate) accept_queue: AcceptQueue,
+    /// What is counted.
+    pub(crate) counts: Counts,
     /// Which pages were lost.
     pub(crate) losses: Losses<'a>,
-    /// The paths of the dies' images, by the dies' numbers.
+    /// What the dies' images are called, by the dies' numbers.
     pub(crate) paths: Vec<&'a str>,
+    /// The paths of those that there are.
+    image_paths: Vec<Option<&'a str>>,
     /// How many copies each page is to have.
     pub(crate) copies: u32,
     /// How many rounds a collector's window has.
     pub(crate) window_rounds: u64,
+}
+
+impl<'a> Listening<'a> {
+    /// What is looked at of this array, which is served so.
+    pub(crate) fn subject<'b, L: Ledger, M: Map + Drop>(
+        &'b self,
+        shared: &'b Shared<L, M>,
+    ) -> Subject<'b, L, M> {
+        Subject {
+            shared,
+            counts: &self.counts,
+            accept_queue: &self.accept_queue,
+            paths: self.image_paths.as_slice(),
+        }
+    }
 }
 
 /// What the threads share for an array whose dies stand so, with what is known of its lost pages. The error is out of memory.
@@ -33,16 +59,31 @@ pub(crate) fn listening_of<'a, A: Allocator>(
     plan: &ServePlan<'a, A>,
 ) -> Result<Listening<'a>, AllocError> {
     let settings = plan.settings;
-    let paths = paths_of(global, dies, plan.places, settings)?;
-    let accept_queue = AcceptQueue::new(global, settings.sessions as usize)?;
+    let image_paths = paths_of(global, dies, plan.places, settings)?;
+    let paths = names_of(global, image_paths.as_slice())?;
+    let sessions = settings.sessions as usize;
+    let accept_queue = AcceptQueue::new(global, sessions)?;
+    let counts = Counts::new(global, sessions, dies.len())?;
     Ok(Listening {
         listener: plan.listener,
+        looks: plan.looks,
         accept_queue,
+        counts,
         losses,
         paths,
+        image_paths,
         copies: settings.copies.number,
         window_rounds: u64::from(settings.window_rounds),
     })
+}
+
+/// What images of these paths are called. The error is out of memory.
+fn names_of<'a>(global: Global, paths: &[Option<&'a str>]) -> Result<Vec<&'a str>, AllocError> {
+    let mut names = Vec::with_capacity(global, paths.len())?;
+    for path in paths {
+        names.push(path.unwrap_or("an image"))?;
+    }
+    Ok(names)
 }
 
 /// The paths of the dies' images, by the dies' numbers. The error is out of memory.
@@ -51,7 +92,7 @@ fn paths_of<'a, A: Allocator>(
     dies: &[Standing],
     places: &[usize],
     settings: &'a Settings<A>,
-) -> Result<Vec<&'a str>, AllocError> {
+) -> Result<Vec<Option<&'a str>>, AllocError> {
     let mut paths = Vec::with_capacity(global, dies.len())?;
     for standing in dies {
         paths.push(path_of(*standing, places, settings))?;
@@ -59,15 +100,15 @@ fn paths_of<'a, A: Allocator>(
     Ok(paths)
 }
 
-/// The path of the image of a die that stands so.
+/// The path of the image of a die that stands so, if it has one.
 fn path_of<'a, A: Allocator>(
     standing: Standing,
     places: &[usize],
     settings: &'a Settings<A>,
-) -> &'a str {
+) -> Option<&'a str> {
     let place = place_of(standing).and_then(|index| places.get(index));
     match place.and_then(|place| settings.images.get(*place)) {
-        Some(path) => path.as_str(),
-        None => "an image",
+        Some(path) => Some(path.as_str()),
+        None => None,
     }
 }

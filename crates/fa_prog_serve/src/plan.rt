@@ -8,6 +8,8 @@ use std::net::TcpListener;
 pub(crate) struct ServePlan<'a, A: Allocator> {
     /// Where clients connect.
     pub(crate) listener: &'a TcpListener,
+    /// Where others may ask how the array is.
+    pub(crate) looks: Option<&'a TcpListener>,
     pub(crate) settings: &'a Settings<A>,
     /// The path of the settings.
     pub(crate) path: &'a str,
@@ -15,6 +17,8 @@ pub(crate) struct ServePlan<'a, A: Allocator> {
     pub(crate) places: &'a [usize],
     /// Clients that come and go are told on standard error.
     pub(crate) verbose: bool,
+    /// The plan of each n-th batch is kept for who writes it.
+    pub(crate) plans_every: Option<u64>,
 }
 
 /// What the threads of a server are told of its settings.
@@ -30,6 +34,8 @@ pub(crate) struct ThreadPlan<'a> {
     pub(crate) copies: u32,
     /// Clients that come and go are told on standard error.
     pub(crate) verbose: bool,
+    /// Others may ask how the array is.
+    pub(crate) has_looks: bool,
 }
 
 impl<'a, A: Allocator> ServePlan<'a, A> {
@@ -42,6 +48,7 @@ impl<'a, A: Allocator> ServePlan<'a, A> {
             page_bytes: settings.geometry.page_bytes,
             copies: settings.copies.number,
             verbose: self.verbose,
+            has_looks: self.looks.is_some(),
         }
     }
 }

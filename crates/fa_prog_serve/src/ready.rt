@@ -27,8 +27,7 @@ pub(crate) struct Ready<'a, L: Ledger, I: Drop> {
     pub(crate) tasks: Tasks<'a, L>,
 }
 
-/// All that the server of a shared array needs, over images in the order in which they were opened, and the open file of its lost
-/// pages. The error is out of memory, or of seats.
+/// All that the server of a shared array needs, over the files that it has open. The error is out of memory, or of seats.
 pub(crate) fn ready_of<'a, R: Networked, L: Ledger, M: Map + Drop, I: Drop, A: Allocator>(
     rt: &R,
     shared: &Shared<L, M>,
@@ -37,12 +36,16 @@ pub(crate) fn ready_of<'a, R: Networked, L: Ledger, M: Map + Drop, I: Drop, A: A
     plan: &ServePlan<'a, A>,
 ) -> Result<Ready<'a, L, I>, AllocError> {
     let threads = plan.threads();
-    let Held { images, lost } = held;
+    let Held {
+        images,
+        lost,
+        plans,
+    } = held;
     let images = images_at_work(rt.alloc(), dies, images, threads.page_bytes)?;
     let epoch = shared.lock(rt).array().epoch();
     let losses = Losses::new(plan.path, epoch, lost);
     let listening = listening_of(rt.alloc(), dies, losses, plan)?;
-    let tasks = tasks_of(rt, shared, images.dies.as_slice(), threads)?;
+    let tasks = tasks_of(rt, shared, images.dies.as_slice(), threads, plans)?;
     Ok(Ready {
         listening,
         images,

@@ -22,11 +22,12 @@ use fa_prog_host::{
 };
 use fa_prog_inspect::explain;
 use fa_prog_lost::{keep_lost_at_end, open_lost, remove_if_empty, tell_not_kept};
-use fa_settings::{Settings, Terms};
+use fa_prog_plans::{PlanFile, open_plans};
+use fa_settings::{PlansFile, Settings, Terms};
 use fa_shared::{Fault, Shared};
 use std::alloc::{AllocError, Allocator, Global};
 use std::fs::File;
-use std::io::{Read, Write};
+use std::io::{self, Read, Write};
 use std::marker::Brand;
 use std::net::TcpListener;
 use std::sync::ledger::{Blank, Ledger};
@@ -40,6 +41,10 @@ pub struct Serve<'a> {
     pub terms: Terms,
     /// Clients that come and go are told on standard error.
     pub verbose: bool,
+    /// The address at which others may ask how the array is.
+    pub status: Option<&'a str>,
+    /// The file that plans are written into.
+    pub plans: Option<PlansFile<'a>>,
 }
 
 /// The command `serve`: serves the array of the settings in the file of this path until the input has the line `stop`, ends or fails.
@@ -73,7 +78,7 @@ fn listen<R: ServerHost, N: Read, W: Write, A: Allocator>(
     ensures { TellsOn (W.contents output.old) (W.contents output.new) result }
 {
     match TcpListener::bind(rt, settings.listen) {
-        Ok(listener) => open(rt, &listener, settings, serve, input, output),
+        Ok(listener) => listen_for_looks(rt, &listener, settings, serve, input, output),
         Err(refused) => {
             let address = settings.listen;
             tell(
@@ -87,10 +92,67 @@ fn listen<R: ServerHost, N: Read, W: Write, A: Allocator>(
     }
 }
 
+/// Serves the array of these settings, and answers those who ask how it is, where that is wanted.
+fn listen_for_looks<R: ServerHost, N: Read, W: Write, A: Allocator>(
+    rt: &R,
+    listener: &TcpListener,
+    settings: &Settings<A>,
+    serve: Serve<'_>,
+    input: &mut N,
+    output: &mut W,
+) -> u8
+    ensures { TellsOn (W.contents output.old) (W.contents output.new) result }
+{
+    match bind_looks(rt, serve.status) {
+        Ok(looks) => {
+            let listeners = Listeners {
+                clients: listener,
+                looks: looks.as_ref(),
+            };
+            open(rt, listeners, settings, serve, input, output)
+        }
+        Err(_) => print(output, REFUSED, b"listen: failed\n"),
+    }
+}
+
+/// Where others may ask how the array is, if that is wanted. It is told on standard error, and so is the error, which is the system's.
+fn bind_looks<R: ServerHost>(rt: &R, status: Option<&str>) -> io::Result<Option<TcpListener>> {
+    let Some(address) = status else {
+        return Ok(None);
+    };
+    match TcpListener::bind(rt, address) {
+        Ok(listener) => {
+            match listener.local_addr() {
+                Ok(address) => tell(rt, format_args!("status at http://{address}/")),
+                Err(_) => tell(rt, format_args!("status at http://{address}/")),
+            }
+            Ok(Some(listener))
+        }
+        Err(refused) => {
+            tell(
+                rt,
+                format_args!(
+                    "{address}: {refused}: choose another address for --status, or end who has this one"
+                ),
+            );
+            Err(refused)
+        }
+    }
+}
+
+/// Where a server listens.
+#[derive(Clone, Copy)]
+pub struct Listeners<'a> {
+    /// For clients.
+    pub clients: &'a TcpListener,
+    /// For those who ask how the array is.
+    pub looks: Option<&'a TcpListener>,
+}
+
 /// Serves the array of these settings over the images that they name.
 fn open<R: ServerHost, N: Read, W: Write, A: Allocator>(
     rt: &R,
-    listener: &TcpListener,
+    listeners: Listeners<'_>,
     settings: &Settings<A>,
     serve: Serve<'_>,
     input: &mut N,
@@ -106,20 +168,35 @@ fn open<R: ServerHost, N: Read, W: Write, A: Allocator>(
     match open_images(rt, settings, serve.settings, opening) {
         Ok(OpenImages { images, places }) => {
             let places = places.as_slice();
-            match open_lost(rt, serve.settings) {
-                Ok(lost) => {
-                    let held = Held { images, lost };
-                    serve_on(rt, listener, held, places, settings, serve, input, output)
+            match open_beside(rt, serve) {
+                Some((lost, plans)) => {
+                    let held = Held {
+                        images,
+                        lost,
+                        plans,
+                    };
+                    serve_on(rt, listeners, held, places, settings, serve, input, output)
                 }
-                Err(refused) => {
-                    tell_not_kept(rt, serve.settings, &refused);
-                    refuse_mount(MountFault::ImageFault, output)
-                }
+                None => refuse_mount(MountFault::ImageFault, output),
             }
         }
         Err(NotOpened::Image) => refuse_mount(MountFault::ImageFault, output),
         Err(NotOpened::PagesLost) => refuse_mount(MountFault::Unclean, output),
         Err(NotOpened::NoMemory) => refuse_for_memory(output),
+    }
+}
+
+/// Opens the file of lost pages and the file of plans, where there is to be one. None where either is refused, which is told.
+fn open_beside<R: ServerHost>(rt: &R, serve: Serve<'_>) -> Option<(File, Option<PlanFile>)> {
+    match open_lost(rt, serve.settings) {
+        Ok(lost) => match serve.plans {
+            None => Some((lost, None)),
+            Some(plans) => Some((lost, Some(open_plans(rt, plans.path)?))),
+        },
+        Err(refused) => {
+            tell_not_kept(rt, serve.settings, &refused);
+            None
+        }
     }
 }
 
@@ -130,12 +207,14 @@ pub struct Held<I: Drop> {
     pub images: Vec<I>,
     /// The file of lost pages.
     pub lost: File,
+    /// The file of plans, where they are written.
+    pub plans: Option<PlanFile>,
 }
 
-/// Serves the array of these images to those who connect to the listener. The images are at these places of the settings' paths.
+/// Serves the array of these images to those who connect to the listeners. The images are at these places of the settings' paths.
 pub fn serve_on<R: ServerHost, I: Image + Send + Drop, N: Read, W: Write, A: Allocator>(
     rt: &R,
-    listener: &TcpListener,
+    listeners: Listeners<'_>,
     held: Held<I>,
     places: &[usize],
     settings: &Settings<A>,
@@ -146,11 +225,16 @@ pub fn serve_on<R: ServerHost, I: Image + Send + Drop, N: Read, W: Write, A: All
     ensures { TellsOn (W.contents output.old) (W.contents output.new) result }
 {
     let plan = ServePlan {
-        listener,
+        listener: listeners.clients,
+        looks: listeners.looks,
         settings,
         path: serve.settings,
         places,
         verbose: serve.verbose,
+        plans_every: match serve.plans {
+            Some(plans) => Some(u64::from(plans.every.unwrap_or(1))),
+            None => None,
+        },
     };
     let mut held = held;
     match mount(rt, settings, serve.terms, held.images.as_mut_slice()) {
@@ -197,23 +281,38 @@ fn serve_mounted<
     ensures { TellsOn (W.contents output.old) (W.contents output.new) result }
 {
     let MountedArray { array, dies } = mounted;
-    match share::<L, M>(rt.alloc(), blank, array) {
+    match share::<L, M>(rt.alloc(), blank, array, plan.plans_every) {
         Some(shared) => serve_over(rt, shared, dies, held, plan, input, output),
         None => refuse_for_memory(output),
     }
 }
 
-/// An array to be shared over a ledger of 257 parts that nothing else names. None where memory is refused.
+/// An array to be shared over a ledger of 257 parts that nothing else names. The plan of each n-th batch is kept for who writes it, where that is
+/// wanted. None where memory is refused.
 fn share<L: Ledger, M: Map + Drop>(
     alloc: Global,
     blank: Blank,
     array: Array<M>,
+    plans_every: Option<u64>,
 ) -> Option<Shared<L, M>>
     requires name { blank.name ≡ L.name }
     requires parts { (blank.parts ≡ L.parts) × (blank.parts ≡ 257) }
     requires whole { IsWhole M.view array }
 {
-    Shared::<L, M>::new(alloc, blank, array).ok()
+    Shared::<L, M>::new(alloc, blank, keeping(alloc, array, plans_every)).ok()
+}
+
+/// The array, which keeps the plan of each n-th batch for who writes it, where that is wanted.
+fn keeping<M: Map + Drop>(alloc: Global, array: Array<M>, plans_every: Option<u64>) -> Array<M>
+    requires { IsWhole M.view array }
+    ensures { IsWhole M.view result }
+{
+    let Some(every) = plans_every else {
+        return array;
+    };
+    let mut array = array;
+    array.log_plans(alloc, every);
+    array
 }
 
 /// Serves a shared array, and closes it.

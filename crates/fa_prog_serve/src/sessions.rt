@@ -1,13 +1,14 @@
 //! A session of the server over the array: it serves one client after another, and works for the dies while their requests wait.
 use crate::listening::Listening;
 use fa_image::Image;
-use fa_jobs::Open;
 use fa_map_calls::Map;
 use fa_prog_clients::{ConnectionMemory, Networked, Service, serve_clients};
+use fa_prog_counts::CountingStore;
 use fa_prog_lost::TellingStore;
 use fa_shared::Shared;
 use fa_shared_lock::{Hands, Seat};
 use fa_shared_store::ArrayBlocks;
+use fa_types::Blocks;
 use fa_workers::{Helper, HelperMemory, ImageTable};
 use std::alloc::{AllocError, Global};
 use std::sync::ledger::Ledger;
@@ -56,7 +57,8 @@ pub(crate) fn serve_array<R: Networked, L: Ledger, M: Map + Drop, I: Image + Dro
         memory,
         connection,
     } = session;
-    let helper = Helper::new(rt, rt.alloc(), shared, image_table, &Open, memory);
+    let gate = &listening.counts;
+    let helper = Helper::new(rt, rt.alloc(), shared, image_table, gate, memory);
     serve_with(rt, listening, shared, service, connection, seat, helper)
 }
 
@@ -72,7 +74,28 @@ fn serve_with<R: Networked, L: Ledger, M: Map + Drop, H: Hands<L, M, Global> + D
     hands: H,
 ) -> Seat<L> {
     let blocks = ArrayBlocks::new(rt, rt.alloc(), shared, seat, hands);
-    let mut store = TellingStore::new(rt, shared, &listening.losses, blocks);
-    serve_clients(rt, &listening.accept_queue, service, connection, &mut store);
-    store.into_blocks().into_seat()
+    let telling = TellingStore::new(rt, shared, &listening.losses, blocks);
+    let telling = serve_counted(rt, listening, service, connection, telling);
+    telling.into_blocks().into_seat()
+}
+
+/// The same over any store, which is handed back. What its clients ask for is counted.
+fn serve_counted<R: Networked, B: Blocks + Drop>(
+    rt: &R,
+    listening: &Listening<'_>,
+    service: Service<'_>,
+    connection: ConnectionMemory,
+    blocks: B,
+) -> B {
+    let counts = listening.counts.session(service.number);
+    let mut store = CountingStore::new(rt, counts, blocks);
+    serve_clients(
+        rt,
+        &listening.accept_queue,
+        service,
+        counts,
+        connection,
+        &mut store,
+    );
+    store.into_blocks()
 }

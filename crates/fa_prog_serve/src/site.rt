@@ -7,6 +7,8 @@ use fa_core::Array;
 use fa_image::Image;
 use fa_map_calls::Map;
 use fa_prog_clients::{Networked, accept_clients};
+use fa_prog_looks::{LooksHost, serve_looks};
+use fa_prog_plans::write_plans;
 use fa_prog_watch::watch;
 use fa_shared::Shared;
 use fa_shared_lock::Seat;
@@ -30,7 +32,7 @@ pub(crate) struct Site<'a, L: Ledger, M: Map + Drop, I: Image + Drop> {
     pub(crate) listening: &'a Listening<'a>,
 }
 
-impl<'a, 'b, R: Networked, L: Ledger, M: Map + Drop, I: Image + Drop> Workplace<
+impl<'a, 'b, R: LooksHost, L: Ledger, M: Map + Drop, I: Image + Drop> Workplace<
     R,
     Task<'b, L>,
     Option<Seat<L>>,
@@ -38,7 +40,13 @@ impl<'a, 'b, R: Networked, L: Ledger, M: Map + Drop, I: Image + Drop> Workplace<
     fn work(&self, rt: &R, task: Task<'b, L>) -> Option<Seat<L>> {
         let listening = self.listening;
         match task {
-            Task::Die(task) => Some(work_die(rt, self.shared, self.image_table, task)),
+            Task::Die(task) => Some(work_die(
+                rt,
+                self.shared,
+                self.image_table,
+                &listening.counts,
+                task,
+            )),
             Task::Collect(seat) => Some(collect(rt, self.shared, seat, listening.window_rounds)),
             Task::Rebuild(seat) => Some(rebuild(rt, self.shared, seat)),
             Task::Watch(seen) => {
@@ -46,10 +54,15 @@ impl<'a, 'b, R: Networked, L: Ledger, M: Map + Drop, I: Image + Drop> Workplace<
                     rt,
                     self.shared,
                     &listening.losses,
+                    &listening.counts,
                     listening.paths.as_slice(),
                     listening.copies,
                     seen,
                 );
+                None
+            }
+            Task::WritePlans(file) => {
+                write_plans(rt, self.shared, listening.counts.plans(), file);
                 None
             }
             Task::Serve(session) => Some(serve_array(
@@ -59,6 +72,12 @@ impl<'a, 'b, R: Networked, L: Ledger, M: Map + Drop, I: Image + Drop> Workplace<
                 self.image_table,
                 session,
             )),
+            Task::Look(looker) => {
+                if let Some(listener) = listening.looks {
+                    serve_looks(rt, listener, listening.subject(self.shared), looker);
+                }
+                None
+            }
             Task::Accept => {
                 accept_clients(rt, listening.listener, &listening.accept_queue);
                 None

@@ -4,6 +4,8 @@ use crate::plan::ThreadPlan;
 use crate::sessions::Session;
 use fa_map_calls::Map;
 use fa_prog_clients::{Networked, Service};
+use fa_prog_looks::Looker;
+use fa_prog_plans::PlanFile;
 use fa_prog_watch::{Sight, sight_of};
 use fa_shared::Shared;
 use fa_shared_lock::Seat;
@@ -22,8 +24,12 @@ pub(crate) enum Task<'a, L: Ledger> {
     Rebuild(Seat<L>),
     /// Tell what changes of the array, which stood so before anybody worked for it.
     Watch(Sight),
+    /// Write plans into this file.
+    WritePlans(PlanFile),
     /// Serve one client after another.
     Serve(Session<'a, L>),
+    /// Answer those who ask how the array is.
+    Look(Looker),
     /// Accept clients.
     Accept,
 }
@@ -39,20 +45,27 @@ pub(crate) struct Tasks<'a, L: Ledger> {
     pub(crate) seats: Vec<Seat<L>>,
 }
 
-/// A task for each of these dies, for the collector, the rebuilder and the watch, for each session, and for the one who accepts. The error is
-/// out of memory, or of seats.
+/// A task for each of these dies, for the collector, the rebuilder and the watch, for the one who writes plans, if there is one, for each session,
+/// for the one who answers those who look, if there is one, and for the one who accepts. The error is out of memory, or of seats.
 pub(crate) fn tasks_of<'a, R: Networked, L: Ledger, M: Map + Drop>(
     rt: &R,
     shared: &Shared<L, M>,
     dies: &[Die],
     plan: ThreadPlan<'a>,
+    plan_file: Option<PlanFile>,
 ) -> Result<Tasks<'a, L>, AllocError> {
-    let count = dies.len().saturating_add(plan.sessions).saturating_add(4);
+    let count = dies.len().saturating_add(plan.sessions).saturating_add(6);
     let seats = Vec::with_capacity(rt.alloc(), count)?;
     let mut tasks = Vec::with_capacity(rt.alloc(), count)?;
     add_workers(rt, shared, dies, plan, &mut tasks)?;
+    if let Some(file) = plan_file {
+        add(&mut tasks, Task::WritePlans(file))?;
+    }
     let workers = tasks.len();
     add_sessions(rt, shared, plan, &mut tasks)?;
+    if plan.has_looks {
+        add(&mut tasks, Task::Look(Looker::new(rt.alloc())?))?;
+    }
     add(&mut tasks, Task::Accept)?;
     Ok(Tasks {
         tasks,

@@ -18,7 +18,8 @@ use Rattle.fa_texts.specs.BatchText.{IsBatchText, IsRead, StartsWithBatch, close
 use Rattle.fa_texts.specs.CertificateText.{HasPlaceLine, IsCertificateText, IsSomeCertificate, certificate_lines}
 use Rattle.fa_texts.specs.Text.{Begins, GoesWrong, IsFirstWrongLine, IsTextError, words_by_line, words_of}
 use Rattle.fa_io.specs.Lines.{lines_of}
-use Rattle.fa_prog_text.specs.Verify.{AreTexts, AreSomeTexts, IsJudged}
+use Rattle.fa_texts.specs.LoggedPlan.{AreTexts}
+use Rattle.fa_prog_text.specs.Verify.{AreSomeTexts, IsJudged}
 use Rattle.fa_prog_text.specs.declared.verify.Judged.TheVariants.{Verdict}
 
 -- Of two fronts of one list, the first goes on behind the second, or ends within it.

@@ -3,3 +3,4 @@ pub mod Output
 pub mod Plan
 pub mod Talk
 pub mod Verify
+pub mod VerifyLog

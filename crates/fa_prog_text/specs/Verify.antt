@@ -7,8 +7,7 @@ use Rattle.fa_batch.specs.declared.closed.Run.{Run}
 use Rattle.fa_batch.specs.declared.plan.Place.{Place}
 use Rattle.fa_cert.specs.declared.verdict.Verdict.TheVariants.{Least, Refused}
 use Rattle.fa_batch.specs.Batch.{Entry, IsSound, IsFirstWrong}
-use Rattle.fa_texts.specs.BatchText.{IsBatchText}
-use Rattle.fa_texts.specs.CertificateText.{IsCertificateText}
+use Rattle.fa_texts.specs.LoggedPlan.{AreTexts}
 use Rattle.fa_batch.specs.Runs.{any_closes}
 use Rattle.fa_texts.specs.Text.{words_by_line, IsFirstWrongLine}
 use Rattle.fa_cert.specs.Verdict.{IsVerdict, verdict_text}
@@ -19,15 +18,6 @@ use Rattle.fa_prog_text.specs.declared.verify.Judged.{Judged}
 use Rattle.fa_prog_text.specs.declared.verify.Judged.TheVariants.{Line, Unsound, Verdict}
 
 -- lines that are a batch text with a certificate text at once behind it, and nothing more
-pub record AreTexts (lines : List (List (List ℕ))) (entries : List Entry) (runs : List Run) (rounds : ℕ)
-    (places : List Place) (pages : List Page) : Type 0 where
-  pub first : List (List (List ℕ))
-  pub second : List (List (List ℕ))
-  pub parts : lines ≡ first ++ second
-  pub batch : IsBatchText first entries runs
-  pub certificate : IsCertificateText second rounds places pages
-
--- lines that are such texts of any batch and certificate
 abbrev pub AreSomeTexts : List (List (List ℕ)) → Type 0
 AreSomeTexts lines =
     (entries : List Entry) × (runs : List Run) × (rounds : ℕ) × (places : List Place) × (pages : List Page)

@@ -56,7 +56,7 @@ fn tell_verify<W: Write, A: Allocator + Copy>(alloc: A, text: &[u8], output: &mu
 }
 
 /// Judges a batch text with a certificate text behind it. A fault of the texts is what they come to.
-fn judge<A: Allocator + Copy>(alloc: A, text: &[u8]) -> Result<Judged, AllocError>
+pub(crate) fn judge<A: Allocator + Copy>(alloc: A, text: &[u8]) -> Result<Judged, AllocError>
     ensures { IfOk result (IsJudged text.now) }
 {
     match judge_texts(alloc, text) {

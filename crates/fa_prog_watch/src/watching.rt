@@ -1,7 +1,9 @@
 //! What is told of the array while it is served.
+use crate::slow_calls::SlowCalls;
 use fa_core::Array;
 use fa_map_calls::Map;
 use fa_prog_clients::Networked;
+use fa_prog_counts::Counts;
 use fa_prog_host::tell;
 use fa_prog_lost::{Losses, PAGES_A_HOLD, is_lost};
 use fa_shared::{Cause, Fault, Shared};
@@ -31,13 +33,14 @@ pub struct Sight {
     is_full: bool,
 }
 
-/// Tells on standard error which dies went out and came in, when all pages have their copies again, and that the array is running full,
-/// until the array is to end. Pages that were lost as a die went out it has in their file. The sight is how it stood before anybody worked for it, and the paths are those of the dies' images, by the
-/// dies' numbers.
+/// Tells on standard error which dies went out and came in, when all pages have their copies again, that the array is running full, and
+/// that a call of an image lasts long, until the array is to end. Pages that were lost as a die went out it has in their file. The sight is
+/// how it stood before anybody worked for it, and the paths are those of the dies' images, by the dies' numbers.
 pub fn watch<R: Networked, L: Ledger, M: Map + Drop>(
     rt: &R,
     shared: &Shared<L, M>,
     losses: &Losses<'_>,
+    counts: &Counts,
     paths: &[&str],
     copies: u32,
     seen: Sight,
@@ -48,8 +51,10 @@ pub fn watch<R: Networked, L: Ledger, M: Map + Drop>(
     };
     let mut was_thin = seen.is_thin;
     let mut told = 0usize;
+    let mut slow_calls = SlowCalls::NONE;
     for _ in rt.forever() {
         let is_last = shared.stopped(rt);
+        slow_calls.look(rt, counts, paths);
         losses.keep(rt, shared);
         let sight = sight_of(shared.lock(rt).array(), copies);
         told = tell_faults(rt, shared, paths, told);

@@ -5,9 +5,13 @@ ghost use Rattle.clap.specs.Simple.{app_of, new_app, with_subcommand};
 ghost use Rattle.clap.specs.declared.builder.command.Command.TheViews.{out-Command as fields_of};
 ghost use Rattle.clap.specs.Walk.{rows_of, rule_of, first_of, one_of};
 ghost use Rattle.clap.specs.Matches.{found_of};
-ghost use Rattle.fa_settings.specs.CommandLine.{command_line as line, found_instead, wanted_in, wanted_by, formats, checks, dumps, serves, talks, IsWanted, IsDie};
-ghost use Rattle.fa_settings.specs.CommandLine.{is_given as flag_given, terms_in, with_arguments, array_arguments, talk_arguments};
-ghost use Rattle.fa_settings.specs.CommandLine.{program as program_shape, settings_argument as settings_rule, die_argument as die_rule, array_argument as array_rule, flag as flag_rule};
+ghost use Rattle.fa_settings.specs.CommandLine.{command_line as line, found_instead, wanted_in, wanted_by, formats, checks, dumps};
+ghost use Rattle.fa_settings.specs.CommandLine.{serves, asks, talks, verifies, plans_in, misses_plans as plans_missed, ArePlans, IsDie, IsEvery, IsWanted};
+ghost use Rattle.fa_settings.specs.CommandLine.{is_given as flag_given, terms_in, with_arguments, array_arguments, serve_arguments};
+ghost use Rattle.fa_settings.specs.CommandLine.{status_arguments, talk_arguments, verify_arguments};
+ghost use Rattle.fa_settings.specs.CommandLine.{program as program_shape, settings_argument as settings_rule, die_argument as die_rule};
+ghost use Rattle.fa_settings.specs.CommandLine.{flag as flag_rule, option_argument as option_rule, every_argument as every_rule};
+ghost use Rattle.fa_settings.specs.CommandLine.{address_argument as address_rule};
 
 use crate::help::{self, Help};
 use crate::terms::Terms;
@@ -51,6 +55,17 @@ pub enum Subcommand<'a> {
         terms: Terms,
         /// Clients that come and go are told on standard error.
         verbose: bool,
+        /// The address at which others may ask how the array is.
+        status: Option<&'a str>,
+        /// The file to which plans are appended.
+        plans: Option<PlansFile<'a>>,
+    },
+    /// Asks a server how its array is.
+    Status {
+        /// The address at which it answers.
+        address: &'a str,
+        /// It is asked again and again.
+        watch: bool,
     },
     /// Plans a batch.
     Plan,
@@ -65,6 +80,21 @@ pub enum Subcommand<'a> {
     },
     /// Checks a certificate.
     Verify,
+    /// Checks each plan of a file.
+    VerifyLog {
+        /// The path of the file.
+        file: &'a str,
+    },
+}
+
+/// The file to which a server appends plans.
+#[derive(Clone, Copy, Debug, PartialEq, Eq)]
+pub struct PlansFile<'a> {
+    /// The path of the file.
+    pub path: &'a str,
+    /// How many batches there are for one whose plan is appended, 1 to 1,000,000. Each plan is appended where
+    /// no number was given.
+    pub every: Option<u32>,
 }
 
 /// The command that the arguments ask for, those behind the program's name. An `Err` is a request for
@@ -106,23 +136,19 @@ fn command_line<'a>(global: Global) -> Result<Command<'a>, AllocError>
     let Ok(dump) = with_array(global, check, "dump", help::DUMP, "json", help::ABOUT_JSON) else {
         return Err(AllocError);
     };
-    let Ok(serve) = with_array(
-        global,
-        dump,
-        "serve",
-        help::SERVE,
-        "verbose",
-        help::ABOUT_VERBOSE,
-    ) else {
+    let Ok(serve) = with_serve(global, dump) else {
         return Err(AllocError);
     };
-    let Ok(plan) = serve.subcommand(plain_line(global, "plan", help::PLAN)) else {
+    let Ok(status) = with_status(global, serve) else {
+        return Err(AllocError);
+    };
+    let Ok(plan) = status.subcommand(plain_line(global, "plan", help::PLAN)) else {
         return Err(AllocError);
     };
     let Ok(talk) = with_talk(global, plan) else {
         return Err(AllocError);
     };
-    talk.subcommand(plain_line(global, "verify", help::VERIFY))
+    with_verify(global, talk)
 }
 
 /// The program with no commands.
@@ -193,13 +219,58 @@ fn with_array<'a>(
     program.subcommand(array)
 }
 
+/// The program with the command that serves an array besides.
+fn with_serve<'a>(global: Global, program: Command<'a>) -> Result<Command<'a>, AllocError>
+    ensures { IfOk result (λ c. app_of c
+        ≡ with_subcommand (app_of program.entry) (with_arguments (codes "serve") serve_arguments)) }
+{
+    let serve = plain_line(global, "serve", help::SERVE);
+    let Ok(serve) = serve.arg(settings_argument(global)) else {
+        return Err(AllocError);
+    };
+    let Ok(serve) = serve.arg(flag(global, "unclean", help::ABOUT_UNCLEAN)) else {
+        return Err(AllocError);
+    };
+    let Ok(serve) = serve.arg(flag(global, "recover", help::ABOUT_RECOVER)) else {
+        return Err(AllocError);
+    };
+    let Ok(serve) = serve.arg(flag(global, "verbose", help::ABOUT_VERBOSE)) else {
+        return Err(AllocError);
+    };
+    let Ok(serve) = serve.arg(text_option(global, "status", "ADDRESS", help::ABOUT_STATUS)) else {
+        return Err(AllocError);
+    };
+    let Ok(serve) = serve.arg(text_option(global, "plans", "FILE", help::ABOUT_PLANS)) else {
+        return Err(AllocError);
+    };
+    let Ok(serve) = serve.arg(every_argument(global)) else {
+        return Err(AllocError);
+    };
+    program.subcommand(serve)
+}
+
+/// The program with the command that asks a server besides.
+fn with_status<'a>(global: Global, program: Command<'a>) -> Result<Command<'a>, AllocError>
+    ensures { IfOk result (λ c. app_of c
+        ≡ with_subcommand (app_of program.entry) (with_arguments (codes "status") status_arguments)) }
+{
+    let status = plain_line(global, "status", help::STATUS);
+    let Ok(status) = status.arg(address_argument(global)) else {
+        return Err(AllocError);
+    };
+    let Ok(status) = status.arg(flag(global, "watch", help::ABOUT_WATCH)) else {
+        return Err(AllocError);
+    };
+    program.subcommand(status)
+}
+
 /// The program with the command that serves one client besides.
 fn with_talk<'a>(global: Global, program: Command<'a>) -> Result<Command<'a>, AllocError>
     ensures { IfOk result (λ c. app_of c
         ≡ with_subcommand (app_of program.entry) (with_arguments (codes "talk") talk_arguments)) }
 {
     let talk = plain_line(global, "talk", help::TALK);
-    let Ok(talk) = talk.arg(array_argument(global)) else {
+    let Ok(talk) = talk.arg(text_option(global, "array", "SETTINGS", help::ABOUT_ARRAY)) else {
         return Err(AllocError);
     };
     let Ok(talk) = talk.arg(flag(global, "unclean", help::ABOUT_UNCLEAN)) else {
@@ -211,16 +282,53 @@ fn with_talk<'a>(global: Global, program: Command<'a>) -> Result<Command<'a>, Al
     program.subcommand(talk)
 }
 
-/// The path of the settings of the array that a client is served.
-fn array_argument<'a>(global: Global) -> Arg<'a>
-    ensures rule { rule_of result ≡ array_rule }
+/// The program with the command that checks certificates besides.
+fn with_verify<'a>(global: Global, program: Command<'a>) -> Result<Command<'a>, AllocError>
+    ensures { IfOk result (λ c. app_of c
+        ≡ with_subcommand (app_of program.entry) (with_arguments (codes "verify") verify_arguments)) }
+{
+    let verify = plain_line(global, "verify", help::VERIFY);
+    let Ok(verify) = verify.arg(text_option(global, "log", "FILE", help::ABOUT_LOG)) else {
+        return Err(AllocError);
+    };
+    program.subcommand(verify)
+}
+
+/// An option with a text, shown under this name in the help.
+fn text_option<'a>(global: Global, name: &'a str, value: &'a str, about: &'a str) -> Arg<'a>
+    ensures rule { rule_of result ≡ option_rule name.entry.now }
     ensures local { result.global ≡ false }
 {
-    Arg::new(global, "array")
-        .long("array")
+    Arg::new(global, name)
+        .long(name)
         .action(ArgAction::Set)
-        .value_name("SETTINGS")
-        .help(help::ABOUT_ARRAY)
+        .value_name(value)
+        .help(about)
+}
+
+/// How many batches there are for one whose plan is appended.
+fn every_argument<'a>(global: Global) -> Arg<'a>
+    ensures rule { rule_of result ≡ every_rule }
+    ensures local { result.global ≡ false }
+{
+    Arg::new(global, "plans-every")
+        .long("plans-every")
+        .action(ArgAction::Set)
+        .value_parser(clap::value_parser!(u32).range(1..1_000_001))
+        .value_name("N")
+        .help(help::ABOUT_PLANS_EVERY)
+}
+
+/// The address of a server that is asked.
+fn address_argument<'a>(global: Global) -> Arg<'a>
+    ensures rule { rule_of result ≡ address_rule }
+    ensures local { result.global ≡ false }
+{
+    Arg::new(global, "address")
+        .action(ArgAction::Set)
+        .required(true)
+        .value_name("ADDRESS")
+        .help(help::ABOUT_ADDRESS)
 }
 
 /// The path of the settings.
@@ -268,9 +376,10 @@ fn wanted<'a>(name: &str, found: &ArgMatches<'a>) -> Option<Subcommand<'a>>
         "check" => wanted_check(found),
         "dump" => wanted_dump(found),
         "serve" => wanted_serve(found),
+        "status" => wanted_status(found),
         "plan" => Some(Subcommand::Plan),
         "talk" => wanted_talk(found),
-        "verify" => Some(Subcommand::Verify),
+        "verify" => Some(wanted_verify(found)),
         _ => None,
     }
 }
@@ -316,17 +425,35 @@ fn wanted_dump<'a>(found: &ArgMatches<'a>) -> Option<Subcommand<'a>>
     }
 }
 
-/// What `serve` is asked to do.
+/// What `serve` is asked to do. Nothing is where plans are counted and there is no file for them.
 fn wanted_serve<'a>(found: &ArgMatches<'a>) -> Option<Subcommand<'a>>
     ensures { IsWanted result (serves (rows_of (found_of found.now))) }
 {
+    if misses_plans(found) {
+        return None;
+    }
     match (text_of(found, "settings"), terms_of(found)) {
         (Some(settings), Some(terms)) => Some(Subcommand::Serve {
             settings,
             terms,
             verbose: is_given(found, "verbose"),
+            status: text_of(found, "status"),
+            plans: plans_of(found),
         }),
         _ => None,
+    }
+}
+
+/// What `status` is asked to do.
+fn wanted_status<'a>(found: &ArgMatches<'a>) -> Option<Subcommand<'a>>
+    ensures { IsWanted result (asks (rows_of (found_of found.now))) }
+{
+    match text_of(found, "address") {
+        Some(address) => Some(Subcommand::Status {
+            address,
+            watch: is_given(found, "watch"),
+        }),
+        None => None,
     }
 }
 
@@ -338,6 +465,36 @@ fn wanted_talk<'a>(found: &ArgMatches<'a>) -> Option<Subcommand<'a>>
         (Some(settings), Some(terms)) => Some(Subcommand::TalkArray { settings, terms }),
         (None, Some(Terms::Closed)) => Some(Subcommand::Talk),
         _ => None,
+    }
+}
+
+/// What `verify` is asked to do.
+fn wanted_verify<'a>(found: &ArgMatches<'a>) -> Subcommand<'a>
+    ensures { IsWanted (Some result) (Some (verifies (rows_of (found_of found.now)))) }
+{
+    match text_of(found, "log") {
+        Some(file) => Subcommand::VerifyLog { file },
+        None => Subcommand::Verify,
+    }
+}
+
+/// Whether plans are counted, and there is no file for them.
+fn misses_plans(found: &ArgMatches<'_>) -> bool
+    ensures { result ≡ plans_missed (rows_of (found_of found.now)) }
+{
+    text_of(found, "plans-every").is_some() && text_of(found, "plans").is_none()
+}
+
+/// The file for plans that was named.
+fn plans_of<'a>(found: &ArgMatches<'a>) -> Option<PlansFile<'a>>
+    ensures { ArePlans result (plans_in (rows_of (found_of found.now))) }
+{
+    match text_of(found, "plans") {
+        Some(path) => Some(PlansFile {
+            path,
+            every: every_of(found),
+        }),
+        None => None,
     }
 }
 
@@ -378,4 +535,11 @@ fn die_of(found: &ArgMatches<'_>) -> Option<Die>
         Some(number) => Some(Die(number)),
         None => None,
     }
+}
+
+/// For how many batches one plan is appended, where a number was given.
+fn every_of(found: &ArgMatches<'_>) -> Option<u32>
+    ensures { IsEvery (one_of (codes "plans-every") (rows_of (found_of found.now))) result }
+{
+    found.get_one::<u32>("plans-every")
 }

@@ -12,7 +12,7 @@ pub struct Help {
 }
 
 /// The version of the program.
-pub const VERSION: &str = "0.1.0";
+pub const VERSION: &str = "1.0.0";
 
 /// What help says of the program.
 pub const ABOUT: &str = "A block server over mirrored flash dies, proved before it is built";
@@ -41,6 +41,26 @@ pub const ABOUT_JSON: &str = "Prints one JSON document";
 
 /// What help says of `--verbose`.
 pub const ABOUT_VERBOSE: &str = "Tells of clients that come and go, on standard error";
+
+/// What help says of `--status`.
+pub const ABOUT_STATUS: &str = "Where others may ask by HTTP how the array is, as 127.0.0.1:9100";
+
+/// What help says of `--plans`.
+pub const ABOUT_PLANS: &str =
+    "A file to which the plan of each batch is appended, which verify --log checks";
+
+/// What help says of `--plans-every`.
+pub const ABOUT_PLANS_EVERY: &str =
+    "Appends the plan of one batch in N, 1 to 1000000, and not of each";
+
+/// What help says of `--log`.
+pub const ABOUT_LOG: &str = "A file of plans, each of which is checked";
+
+/// What help says of the address of `status`.
+pub const ABOUT_ADDRESS: &str = "The address that the server was given with --status";
+
+/// What help says of `--watch`.
+pub const ABOUT_WATCH: &str = "Asks each second, and shows the newest answer";
 
 /// What help says of `--die`.
 pub const ABOUT_DIE: &str = "The one die whose image is made, as a spare's: 0 to 63";
@@ -71,12 +91,27 @@ pub const DUMP: Help = Help {
 /// The help of `serve`.
 pub const SERVE: Help = Help {
     about: "Serves an array over NBD, until the line `stop` comes on standard input",
-    usage: "flasharr serve SETTINGS [--unclean | --recover] [--verbose]",
+    usage: "flasharr serve SETTINGS [--unclean | --recover] [--verbose] [--status ADDRESS]
+                      [--plans FILE [--plans-every N]]",
     more: "Printed is first `listening ADDRESS`, where clients can connect. The server also stops where the input ends
 or fails. At the end follow the last 64 faults that took dies out, a line `fault die D cause C round R` for
 each, where C is 1 slot not read, 2 slot not programmed, 3 block not erased, 4 header not read, 5 header not
 written, 6 image not synced, 7 slot with wrong bytes; and then `closed clean`, or `closed unclean: K` with
-status 1, where K is 1 busy, 2 a page is lost, 3 no die live.",
+status 1, where K is 1 busy, 2 a page is lost, 3 no die live.
+
+With --status a page that shows how the array is can be had by HTTP at ADDRESS, as 127.0.0.1:9100. /metrics there is for
+Prometheus, and /status.json for programs. Nobody is asked for a password: choose an address of a network that is trusted.
+
+With --plans the text of each batch of reads and of its certificate is appended to FILE, which `verify --log` checks; with
+--plans-every of one batch in N.",
+};
+
+/// The help of `status`.
+pub const STATUS: Help = Help {
+    about: "Asks a server that runs with --status how its array is",
+    usage: "flasharr status ADDRESS [--watch]",
+    more: "Printed is how the dies stand, the pages and copies, the load of the last second, and the last faults. Where the
+server gives no answer `status: no answer` is printed, with status 1.",
 };
 
 /// The help of `plan`.
@@ -102,6 +137,11 @@ behind it. Printed are then also the faults that took dies out, and how the arra
 /// The help of `verify`.
 pub const VERIFY: Help = Help {
     about: "Checks a batch text and a certificate text, given one behind the other on standard input",
-    usage: "flasharr verify < TEXTS",
-    more: "Printed is `least R`, or `refused K WORDS` with status 1 for the first rule that is broken.",
+    usage: "flasharr verify < TEXTS
+       flasharr verify --log FILE",
+    more: "Printed is `least R`, or `refused K WORDS` with status 1 for the first rule that is broken.
+
+With --log each plan of a file of plans is checked. Printed is `plans N least L refused K rounds R`: the plans, how many
+are accepted as least and how many are refused, and the sum of the rounds of the accepted ones; with status 1 where K is
+not 0. Which ones are refused is told on standard error.",
 };

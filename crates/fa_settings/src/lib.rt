@@ -15,7 +15,7 @@ mod table;
 mod terms;
 mod values;
 
-pub use command_line::{Subcommand, command};
+pub use command_line::{PlansFile, Subcommand, command};
 pub use fault::SettingsFault;
 pub use key::Key;
 pub use reader::found_at;

@@ -9,6 +9,7 @@ use fa_core::Array;
 use fa_map_calls::Map;
 use fa_shared_lock::{Awaits, Gathered, Locked, MAX_SEATS, Seat, SeatSet};
 use std::alloc::{AllocError, Allocator, Global};
+use std::hint::spin_loop;
 use std::sync::ledger::{Blank, Ledger};
 use std::sync::{Condvar, CondvarTimeouts, Mutex, MutexGuard, Wait};
 use std::time::{Clock, Duration};
@@ -17,6 +18,10 @@ use std::time::{Clock, Duration};
 const REQUEST_SLEEP: u64 = 100;
 
 const WORKER_SLEEP: u64 = 1000;
+
+/// How often somebody tries to take the lock before sleeping for it. Holds are short: most end within these tries, and a sleep and a wake cost
+/// more than they do.
+const TRIES: u32 = 100;
 
 /// An array that threads share, with the faults that took its dies out. Nobody holds its lock but for one event, or for two that belong
 /// together, and no page, image or socket is touched under it. The faults have a lock of their own.
@@ -49,6 +54,12 @@ impl<L: Ledger, M: Map + Drop, A: Allocator + Copy> Shared<L, M, A> {
 
     /// The array under its lock, which is free again once the guard is dropped.
     pub fn lock<R: Wait>(&self, rt: &R) -> MutexGuard<'_, Locked<L, M, A>> {
+        for _ in 0..TRIES {
+            if let Some(guard) = self.locked.try_lock() {
+                return guard;
+            }
+            spin_loop();
+        }
         self.locked.lock(rt)
     }
 
@@ -65,12 +76,14 @@ impl<L: Ledger, M: Map + Drop, A: Allocator + Copy> Shared<L, M, A> {
     }
 
     /// Frees the lock until what is awaited has come, or for no reason, and then takes it again. Rounds that may pass have passed before,
-    /// and those for whom it is time are woken. Nobody sleeps longer than a second, and a request no longer than a tenth of one.
+    /// and those for whom it is time are woken. One who helps may be woken to make jobs of dies. Nobody sleeps longer than a second, and a
+    /// request no longer than a tenth of one.
     pub fn sleep<'a, R: Wait + Clock>(
         &'a self,
         rt: &R,
         seat: &mut Seat<L>,
         awaits: Awaits,
+        helps: bool,
         guard: MutexGuard<'a, Locked<L, M, A>>,
     ) -> MutexGuard<'a, Locked<L, M, A>>
         ensures commits { commits_with seat.new ≡ commits_with seat.old }
@@ -79,7 +92,7 @@ impl<L: Ledger, M: Map + Drop, A: Allocator + Copy> Shared<L, M, A> {
         let number = seat.number();
         let mut guard = guard;
         guard.settle(seat);
-        guard.lie_down(number, awaits);
+        guard.lie_down(number, awaits, helps);
         let due = guard.due();
         self.wake(due);
         let Some(bell) = self.bells.get(number as usize) else {

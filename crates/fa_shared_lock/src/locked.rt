@@ -10,6 +10,7 @@ use crate::seat::Seat;
 use crate::sleepers::{Awaits, SeatSet, Sleepers};
 use fa_core::{Answer, Array, Call, Planned};
 use fa_map_calls::Map;
+use fa_plan_log::PlanNote;
 use fa_types::Page;
 use std::alloc::{Allocator, Global};
 use std::marker::Model;
@@ -171,6 +172,13 @@ impl<L: Ledger, M: Map + Drop, A: Allocator + Copy> Locked<L, M, A> {
         self.array.give_back_plan(planned);
     }
 
+    /// The plan that waits longest for who checks it. It is no event.
+    pub fn take_plan(&mut self) -> Option<PlanNote<A>>
+        ensures { self.new ≡ self.old }
+    {
+        self.array.take_plan()
+    }
+
     /// Something has changed that others may wait for.
     pub fn note_change(&mut self)
         ensures { self.new ≡ self.old }
@@ -178,11 +186,11 @@ impl<L: Ledger, M: Map + Drop, A: Allocator + Copy> Locked<L, M, A> {
         self.sleepers.note_change();
     }
 
-    /// Whoever has this seat sleeps until then.
-    pub fn lie_down(&mut self, seat: u32, awaits: Awaits)
+    /// Whoever has this seat sleeps until then, and may be woken to make jobs of dies, if that is said.
+    pub fn lie_down(&mut self, seat: u32, awaits: Awaits, helps: bool)
         ensures { self.new ≡ self.old }
     {
-        self.sleepers.lie_down(seat, awaits);
+        self.sleepers.lie_down(seat, awaits, helps);
     }
 
     /// Whoever has this seat sleeps no more.

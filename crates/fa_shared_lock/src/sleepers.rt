@@ -28,6 +28,14 @@ pub enum Awaits {
     Change,
 }
 
+/// Somebody who sleeps.
+#[derive(Clone, Copy)]
+struct Sleeper {
+    awaits: Awaits,
+    // Makes jobs of dies while nothing of that has come.
+    helps: bool,
+}
+
 /// A set of seats.
 #[derive(Clone, Copy, Debug)]
 pub struct SeatSet {
@@ -46,6 +54,18 @@ impl SeatSet {
         if let Some(word) = self.words.get_mut((seat / 64) as usize) {
             *word |= 1 << (seat % 64);
         }
+    }
+
+    /// These seats more.
+    fn insert_all(&mut self, seats: SeatSet) {
+        for index in 0..4usize {
+            self.words[index] |= seats.words[index];
+        }
+    }
+
+    /// Whether no seat is in it.
+    fn is_empty(&self) -> bool {
+        self.words == [0; 4]
     }
 
     /// Whether the seat is in it.
@@ -73,7 +93,7 @@ impl SeatSet {
 #[derive(Drop)]
 pub(crate) struct Sleepers<A: Allocator = Global> {
     // By the numbers of seats, as far as seats were handed out.
-    awaited: Vec<Option<Awaits>, A>,
+    sleepers: Vec<Option<Sleeper>, A>,
     // How many entries may be some.
     seats: u32,
     // Something has changed that others may wait for.
@@ -83,28 +103,28 @@ pub(crate) struct Sleepers<A: Allocator = Global> {
 impl<A: Allocator> Sleepers<A> {
     /// Nobody sleeps. The error is out of memory.
     pub(crate) fn new(alloc: A) -> Result<Sleepers<A>, AllocError> {
-        let mut awaited = Vec::with_capacity(alloc, MAX_SEATS as usize)?;
+        let mut sleepers = Vec::with_capacity(alloc, MAX_SEATS as usize)?;
         for _ in 0..MAX_SEATS {
-            awaited.push(None)?;
+            sleepers.push(None)?;
         }
         Ok(Sleepers {
-            awaited,
+            sleepers,
             seats: 0,
             changed: false,
         })
     }
 
-    /// Whoever has this seat sleeps until then.
-    pub(crate) fn lie_down(&mut self, seat: u32, awaits: Awaits) {
-        if let Some(entry) = self.awaited.get_mut(seat as usize) {
-            *entry = Some(awaits);
+    /// Whoever has this seat sleeps until then, and may be woken to make jobs of dies, if that is said.
+    pub(crate) fn lie_down(&mut self, seat: u32, awaits: Awaits, helps: bool) {
+        if let Some(entry) = self.sleepers.get_mut(seat as usize) {
+            *entry = Some(Sleeper { awaits, helps });
         }
         self.seats = self.seats.max(seat.saturating_add(1));
     }
 
     /// Whoever has this seat sleeps no more.
     pub(crate) fn get_up(&mut self, seat: u32) {
-        if let Some(entry) = self.awaited.get_mut(seat as usize) {
+        if let Some(entry) = self.sleepers.get_mut(seat as usize) {
             *entry = None;
         }
     }
@@ -116,24 +136,45 @@ impl<A: Allocator> Sleepers<A> {
 }
 
 impl<A: Allocator> Sleepers<A> {
-    /// Those for whom it is time, as the array is. They are counted as awake.
+    /// Those for whom it is time, as the array is. They are counted as awake. Where dies whose workers sleep have jobs, one who helps is
+    /// woken in the place of all these workers: it takes the jobs of several dies in one hold.
     pub(crate) fn due<M: Map, B: Allocator + Clone>(&mut self, array: &Array<M, B>) -> SeatSet
         requires { IsWhole M.view array.now }
     {
         let changed = replace(&mut self.changed, false);
         let mut due = SeatSet::new();
+        let mut workers = SeatSet::new();
+        let mut leader = None;
         for seat in 0..self.seats {
-            let Some(entry) = self.awaited.get_mut(seat as usize) else {
-                break;
-            };
-            if let Some(awaits) = *entry {
-                if is_due(array, changed, awaits) {
-                    *entry = None;
-                    due.insert(seat);
+            match self.sleepers.get(seat as usize) {
+                Some(Some(sleeper)) if is_due(array, changed, sleeper.awaits) => {
+                    if matches!(sleeper.awaits, Awaits::Job(_)) {
+                        workers.insert(seat);
+                    } else {
+                        due.insert(seat);
+                    }
                 }
+                Some(Some(sleeper)) if sleeper.helps && leader.is_none() => leader = Some(seat),
+                _ => {}
             }
         }
+        match leader {
+            Some(seat) if !workers.is_empty() => due.insert(seat),
+            _ => due.insert_all(workers),
+        }
+        self.wake(due);
         due
+    }
+
+    /// These are awake.
+    fn wake(&mut self, seats: SeatSet) {
+        let mut seats = seats;
+        for _ in 0..MAX_SEATS {
+            let Some(seat) = seats.pop() else {
+                return;
+            };
+            self.get_up(seat);
+        }
     }
 }
 

@@ -10,4 +10,4 @@ mod stages;
 mod syncing;
 mod writing;
 
-pub use op::{Op, Turn};
+pub use op::{Lent, Op, Turn};

@@ -14,6 +14,12 @@ use std::marker::Model;
 use std::mem::replace;
 use std::sync::ledger::Ledger;
 
+/// Buffers that a batch handed out, with the pages whose bytes they had.
+pub type Lent<A = Global> = Vec<(Page, Vec<u8, A>), A>;
+
+/// How many buffers may wait for a later request before they are given back.
+const MAX_LENT: usize = 16;
+
 /// What a turn of a request came to.
 #[derive(Clone, Copy, Debug, PartialEq, Eq)]
 pub enum Turn {
@@ -36,7 +42,7 @@ pub struct Op<A: Allocator = Global, B: Allocator = Global> {
     stage: Stage<A>,
     answer: Vec<u8, B>,
     // Buffers of the array whose bytes the answer has, to be given back. They are no part of what clauses see.
-    lent: Vec<(Page, Vec<u8, A>), A>,
+    lent: Lent<A>,
 }
 
 impl<A: Allocator, B: Allocator> Model for Op<A, B> {
@@ -130,6 +136,25 @@ impl<A: Allocator + Copy, B: Allocator> Op<A, B> {
         if !self.lent.is_empty() {
             locked.give_back(replace(&mut self.lent, Vec::new(self.alloc)));
         }
+    }
+
+    /// Takes buffers of the array that an earlier request has, to be given back in its first turn. It is no event.
+    pub fn lend(&mut self, lent: Lent<A>)
+        ensures { self.new ≡ self.old }
+    {
+        self.lent = lent;
+    }
+
+    /// The buffers that are to be given back, for a later request to do so.
+    pub fn take_lent(&mut self) -> Lent<A>
+        ensures { self.new ≡ self.old }
+    {
+        replace(&mut self.lent, Vec::new(self.alloc))
+    }
+
+    /// Whether it has more buffers to give back than are to wait for a later request. What is told is in no clause.
+    pub fn lends_many(&self) -> bool {
+        self.lent.len() > MAX_LENT
     }
 
     /// Whether the bytes of a page are to be hashed next. [`Op::next_content`] gives them, and [`Op::prepare_with`] takes what is made of them.

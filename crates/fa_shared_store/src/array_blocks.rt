@@ -6,7 +6,7 @@ use crate::running::{finish, run, run_read, store_bytes};
 use fa_map_calls::Map;
 use fa_shared::Shared;
 use fa_shared_lock::{Hands, Seat};
-use fa_shared_request::Op;
+use fa_shared_request::{Lent, Op};
 use fa_shared_steps::Request;
 use fa_types::{BlockFault, Blocks};
 use std::alloc::Allocator;
@@ -28,6 +28,8 @@ pub struct ArrayBlocks<
     context: Context<'a, R, L, M, A>,
     seat: Seat<L>,
     hands: H,
+    // Buffers of the array that its last read was lent.
+    lent: Lent<A>,
     bytes: u64,
     ghost few_bytes: { bytes ≤ 4294967296 },
 }
@@ -66,6 +68,7 @@ impl<
             },
             seat,
             hands,
+            lent: Vec::new(alloc),
             bytes,
         }
     }
@@ -139,6 +142,7 @@ impl<
             &self.context,
             &mut self.seat,
             &mut self.hands,
+            &mut self.lent,
             offset,
             len,
             alloc,

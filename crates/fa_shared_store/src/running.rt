@@ -11,10 +11,11 @@ use crate::context::Context;
 use crate::parts::run_parts;
 use fa_map_calls::Map;
 use fa_shared_lock::{Awaits, Hands, Locked, Seat};
-use fa_shared_request::{Op, Turn};
+use fa_shared_request::{Lent, Op, Turn};
 use fa_shared_steps::Request;
 use fa_types::{BlockFault, Geometry};
 use std::alloc::Allocator;
+use std::mem::replace;
 use std::sync::ledger::Ledger;
 use std::sync::{MutexGuard, Wait};
 use std::time::Clock;
@@ -84,7 +85,7 @@ pub(crate) fn run<
     Ok(())
 }
 
-/// A read. It is never refused for want of room.
+/// A read. It is never refused for want of room. It gives back what an earlier one was lent, and leaves what it was lent itself.
 pub(crate) fn run_read<
     R: Wait + Clock,
     L: Ledger,
@@ -96,6 +97,7 @@ pub(crate) fn run_read<
     context: &Context<'_, R, L, M, A>,
     seat: &mut Seat<L>,
     hands: &mut H,
+    lent: &mut Lent<A>,
     offset: u64,
     len: u64,
     into: B,
@@ -110,7 +112,10 @@ pub(crate) fn run_read<
         Ok(op) => op,
         Err(_) => return Err(BlockFault::NoMemory),
     };
-    match finish(context, seat, hands, &mut op, &[]) {
+    op.lend(replace(lent, Vec::new(context.alloc)));
+    let end = finish(context, seat, hands, &mut op, &[]);
+    *lent = op.take_lent();
+    match end {
         None => handed_out(op, len),
         Some(fault) => Err(of_read(fault)),
     }
@@ -164,9 +169,27 @@ pub(crate) fn finish<
             return end;
         }
         op.prepare(bytes);
-        make_turns(context, seat, hands, op);
+        go_on(context, seat, hands, op);
     }
     unreachable!()
+}
+
+/// Makes turns of a request that was prepared. One that has ended makes none, unless it has many buffers to give back: a few wait for the next
+/// read, so that a read of a page or two takes the lock no time more for them.
+fn go_on<
+    R: Wait + Clock,
+    L: Ledger,
+    M: Map + Drop,
+    A: Allocator + Copy,
+    B: Allocator,
+    H: Hands<L, M, A>,
+>(context: &Context<'_, R, L, M, A>, seat: &mut Seat<L>, hands: &mut H, op: &mut Op<A, B>)
+    ensures { GoesOn seat.old op.old seat.new op.new }
+{
+    if op.ended().is_some() && !op.lends_many() {
+        return;
+    }
+    make_turns(context, seat, hands, op);
 }
 
 /// Makes turns until the request has something to prepare, or has ended. The lock is free while it waits, and behind. What it waits for is
@@ -213,7 +236,8 @@ pub(crate) fn pass_time<
 {
     let mut guard = guard;
     if !hands.take(&mut guard, seat) {
-        return context.shared.sleep(context.rt, seat, awaits, guard);
+        let helps = hands.helps();
+        return context.shared.sleep(context.rt, seat, awaits, helps, guard);
     }
     context.shared.release(seat, guard);
     hands.work();

@@ -1,6 +1,6 @@
 -- Slots that are opened one part after the other.
-use Rattle.std.proofs.Common.{◌≡◌, ap, refl, suc, ℕ, ◌+◌, ◌<◌, List, [], ◌∷◌, ◌++◌, take, length, slice_index_or, slice_set, subst, sym}
-use Rattle.std.proofs.lemmas.List.{take_more, take_more_set}
+use Rattle.std.proofs.Common.{◌≡◌, ap, refl, suc, ℕ, ◌+◌, ◌-◌, ◌<◌, List, [], ◌∷◌, ◌++◌, take, drop, length, slice_index_or, slice_set, subst, sym}
+use Rattle.std.proofs.lemmas.List.{take-append-drop, take_more, take_more_set, take_rest}
 use Rattle.std.specs.Borrow.{Bor}
 use Rattle.fa_lanes.specs.Lanes.{message}
 use Rattle.fa_tag.specs.declared.tag.Opened.{Opened}
@@ -14,6 +14,14 @@ both_opened [] more [] others first second = second
 both_opened [] more (o ∷ opened) others first second = elim first [ ]
 both_opened (s ∷ slots) more [] others first second = elim first [ ]
 both_opened (s ∷ slots) more (o ∷ opened) others first second = (first.0, both_opened slots more opened others first.1 second)
+
+-- all of them, where the first n are and those behind them
+pub parts_opened : (slots : List (Bor (List ℕ))) (n : ℕ) (front back : List Opened) → AreOpened (take n slots) front
+    → AreOpened (take (length slots - n) (drop n slots)) back → AreOpened slots (front ++ back)
+parts_opened slots n front back first second =
+    subst (λ (l : List (Bor (List ℕ))). AreOpened l (front ++ back)) (take-append-drop n slots)
+    (both_opened (take n slots) (drop n slots) front back first
+    (subst (λ (l : List (Bor (List ℕ))). AreOpened l back) (take_rest slots n) second))
 
 -- as many answers as slots
 pub same_size : (slots : List (Bor (List ℕ))) (opened : List Opened) → AreOpened slots opened → length opened ≡ length slots

@@ -1,16 +1,16 @@
-//! Slots that are opened together, eight at a time.
+//! Slots that are opened together, eight or four at a time.
 ghost use Rattle.std.specs.Prelude.{◌≡◌, ◌≤◌, ◌-◌, ◌<◌, ◌↔◌, All, ℕ, IsTrue, length, take};
 ghost use Rattle.fa_lanes.specs.Lanes.{message};
 ghost use Rattle.fa_tag.specs.OpenedTogether.{AreOpened};
 ghost use Rattle.fa_tag.specs.SlotGrammar.{IsErased as AreErased};
 
 use crate::tag::{DIGEST_BYTES, Opened, open, open_with};
-use fa_lanes::{LANES, digests};
+use fa_lanes::{LANES, WIDE_LANES, digests, digests_of_four, fronts_of_four};
 use fa_types::TAG_BYTES;
 use fa_types::bytes::is_erased;
 
-/// Writes what each slot's bytes are, as [`open`] tells it. Eight slots of one length are hashed side by side, and
-/// what is left over one by one.
+/// Writes what each slot's bytes are, as [`open`] tells it. Eight slots of one length are hashed side by side, then four of those that
+/// are left over, and the last ones one by one.
 pub fn open_all(slots: &[&[u8]], opened: &mut [Opened])
     requires { length opened.old ≡ length slots.now }
     ensures { AreOpened slots.now opened.new }
@@ -20,8 +20,38 @@ pub fn open_all(slots: &[&[u8]], opened: &mut [Opened])
         let from = LANES * i;
         open_eight(&slots[from..from + LANES], &mut opened[from..from + LANES]);
     }
-    'rest: for i in LANES * eights..slots.len() {
-        opened[i] = open(slots[i]);
+    let (_, rest) = opened.split_at_mut(LANES * eights);
+    open_rest(&slots[LANES * eights..], rest);
+}
+
+/// The same of slots of which eight together were opened before.
+fn open_rest(slots: &[&[u8]], opened: &mut [Opened])
+    requires { length opened.old ≡ length slots.now }
+    ensures { AreOpened slots.now opened.new }
+{
+    if slots.len() < WIDE_LANES {
+        open_each(slots, opened);
+        return;
+    }
+    let (four, rest) = opened.split_at_mut(WIDE_LANES);
+    open_four(&slots[..WIDE_LANES], four);
+    open_each(&slots[WIDE_LANES..], rest);
+}
+
+/// The same of four slots.
+fn open_four(slots: &[&[u8]], opened: &mut [Opened])
+    requires slots { length slots.now ≡ 4 }
+    requires opened { length opened.old ≡ 4 }
+    ensures { AreOpened slots.now opened.new }
+{
+    let bytes = slots[0].len();
+    if bytes < TAG_BYTES || !have_length(slots, bytes) || !are_mostly_written(slots) {
+        open_each(slots, opened);
+        return;
+    }
+    let made = digests_of_four(&fronts_of_four(slots, bytes - DIGEST_BYTES));
+    'slots: for i in 0..WIDE_LANES {
+        opened[i] = open_with(slots[i], Some(&made[i]));
     }
 }
 

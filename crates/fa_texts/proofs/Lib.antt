@@ -3,5 +3,7 @@ pub mod CertificateTexts
 pub mod Cuts
 pub mod LinesRead
 pub mod Numbers
+pub mod PageEntries
 pub mod Printed
+pub mod PrintedCertificate
 pub mod Reading

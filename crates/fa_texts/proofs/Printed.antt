@@ -10,10 +10,12 @@ use Rattle.std.proofs.lemmas.List.Concat.{flat_map-append}
 use Rattle.std.proofs.lemmas.List.Elements.{All-nil, All-cons, All-head, All-tail, All-append, All-map, All-push, All-weaker}
 use Rattle.std.proofs.lemmas.List.Sums.{AllPass-from_list_all}
 use Rattle.std.proofs.lemmas.List.Splits.{slice_split_at, slice_split_none}
+use Rattle.fa_types.specs.declared.numbers.Die.{Die}
 use Rattle.fa_types.specs.declared.numbers.Page.{Page}
+use Rattle.fa_texts.specs.BatchText.{page_line}
 use Rattle.fa_texts.specs.CertificateText.{short_lines}
 use Rattle.fa_io.specs.Lines.{lines_of}
-use Rattle.fa_texts.specs.Text.{words_of, words_by_line}
+use Rattle.fa_texts.specs.Text.{words_of, words_by_line, PrintsLines}
 
 -- keys that rise are a list that rises
 pub rises_by : {X : Type 0} (key : X → ℕ) (xs : List X) → IsNonDecreasingBy key xs → IsNonDecreasing (map key xs)
@@ -115,3 +117,33 @@ pub lines_behind : (out line all : List ℕ) (lines last : List (List (List ℕ)
 lines_behind out line all lines last before next is more =
     ap (λ v. words_by_line (v ++ more)) is ∙ ap (λ v. words_by_line v) (append_assoc out line more) ∙ before (line ++ more)
     ∙ ap (λ v. lines ++ v) (next more) ∙ sym (append_assoc lines last (words_by_line more))
+
+-- nothing printed, and lines printed behind lines
+pub prints_none : (old : List ℕ) → PrintsLines old old []
+prints_none old = record { text = []; behind = sym (append-nil old); spelled = λ more. refl }
+
+pub prints_behind : {old mid new : List ℕ} {lines last : List (List (List ℕ))} → PrintsLines old mid lines → PrintsLines mid new last → PrintsLines old new (lines ++ last)
+prints_behind {old} {mid} {new} {lines} {last} one next = record {
+  text = one.text ++ next.text;
+  behind = next.behind ∙ ap (λ v. v ++ next.text) one.behind ∙ append_assoc old one.text next.text;
+  spelled = lines_behind one.text next.text (one.text ++ next.text) lines last one.spelled next.spelled refl;
+}
+
+-- one printed line
+pub prints_line : (old : List ℕ) {new : List ℕ} (word : List ℕ) (words : List (List ℕ)) → new ≡ old ++ (word ++ ended words) → IsWord word → All IsWord words
+    → PrintsLines old new ((word ∷ words) ∷ [])
+prints_line old word words is one rest = record { text = word ++ ended words; behind = is; spelled = line_printed word words one rest }
+
+-- the bytes of a page's line before its holders, and the whole line
+abbrev pub page_head : ℕ → List ℕ
+page_head page = codes "page" ++ 32 ∷ (decimal page ++ codes " on")
+
+pub page_printed : (old : List ℕ) {new : List ℕ} (page : Page) (holders : List Die) → page.0 < 2 ^ 64 → All (λ d. IsWord (decimal d.0)) holders
+    → new ≡ old ++ ((page_head page.0 ++ spaced (map (λ d. decimal d.0) holders)) ++ 10 ∷ []) → PrintsLines old new (page_line (record { page = page; holders = holders }) ∷ [])
+page_printed old page holders low each is =
+    let words : List (List ℕ) = map (λ (d : Die). decimal d.0) holders in
+    let line = append_assoc (page_head page.0) (spaced words) (10 ∷ []) ∙ ap (λ v. page_head page.0 ++ v) (ended_is words)
+    ∙ ap (λ v. codes "page" ++ 32 ∷ v) (append_assoc (decimal page.0) (codes " on") (ended words)) in
+    prints_line old (codes "page") (decimal page.0 ∷ codes "on" ∷ words) (is ∙ ap (λ v. old ++ v) line) (is_word (codes "page") refl)
+    (All-cons IsWord (decimal page.0) (codes "on" ∷ words) (number_word page.0 low)
+    (All-cons IsWord (codes "on") words (is_word (codes "on") refl) (All-map IsWord (λ d. decimal d.0) holders each)))

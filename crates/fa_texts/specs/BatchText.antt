@@ -49,6 +49,13 @@ pub record IsBatchText (lines : List (List (List ℕ))) (entries : List Entry) (
   pub pages : All HasPageLine entries
   pub closed : All HasClosedLine runs
 
+-- a batch that has a text, with these runs of closed rounds
+pub record HasBatchText (entries : List Entry) (runs : List Run) : Type 0 where
+  pub few : length entries ≤ 1024
+  pub few_runs : length runs ≤ 4096
+  pub pages : All HasPageLine entries
+  pub closed : All HasClosedLine runs
+
 -- a batch text, with anything behind it
 abbrev pub StartsWithBatch : List (List (List ℕ)) → Type 0
 StartsWithBatch lines =

@@ -19,6 +19,12 @@ words_left (Some line) = words_of line.now
 abbrev pub words_by_line : List ℕ → List (List (List ℕ))
 words_by_line input = map words_of (lines_of input)
 
+-- Lines were printed behind an old text. What is printed behind them begins a new line.
+pub record PrintsLines (old new : List ℕ) (lines : List (List (List ℕ))) : Type 0 where
+  pub text : List ℕ
+  pub behind : new ≡ old ++ text
+  pub spelled : (more : List ℕ) → words_by_line (text ++ more) ≡ lines ++ words_by_line more
+
 -- some text begins with these lines
 abbrev pub Begins : (List (List (List ℕ)) → Type 0) → List (List (List ℕ)) → Type 0
 Begins IsText lines = (more : List (List (List ℕ))) × IsText (lines ++ more)

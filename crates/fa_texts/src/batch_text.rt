@@ -13,10 +13,10 @@ use fa_types::{Die, Page, Round};
 use std::alloc::{AllocError, Allocator, Global};
 
 /// The most runs of closed rounds of a batch text.
-const MAX_RUNS: usize = 4096;
+pub(crate) const MAX_RUNS: usize = 4096;
 
 /// The highest round in which a batch text closes a die.
-const MAX_CLOSED_ROUND: u64 = 1_000_000;
+pub(crate) const MAX_CLOSED_ROUND: u64 = 1_000_000;
 
 /// What a batch text says, and where it ends.
 #[derive(Debug, Drop)]

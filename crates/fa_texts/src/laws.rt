@@ -5,8 +5,9 @@ ghost use Rattle.fa_types.specs.declared.numbers.Page.{Page};
 ghost use Rattle.fa_batch.specs.declared.closed.Run.{Run};
 ghost use Rattle.fa_batch.specs.declared.plan.Place.{Place};
 ghost use Rattle.fa_batch.specs.Batch.{Entry};
-ghost use Rattle.fa_texts.specs.BatchText.{IsBatchText, StartsWithBatch};
+ghost use Rattle.fa_texts.specs.BatchText.{HasBatchText, IsBatchText, StartsWithBatch};
 ghost use Rattle.fa_texts.specs.CertificateText.{HasCertificateText, IsCertificateText, IsPrinted, IsSomeCertificate};
+ghost use Rattle.fa_texts.specs.LoggedPlan.{AreTexts, IsLoggedPlanPrinted};
 ghost use Rattle.fa_texts.specs.Text.{IsFirstWrongLine, words_by_line};
 
 /// What is printed of a plan and a shortage within the limits of the texts is the text of the same places
@@ -16,6 +17,15 @@ pub fn printed_is_a_text()
         → HasCertificateText rounds places pages → IsPrinted rounds places pages out
         → (placed : List Place) × (short : List Page) × IsPermutation places placed × IsPermutation pages short
         × IsCertificateText (words_by_line out) rounds placed short }
+{}
+
+/// What is printed as the logged plan of a batch within the limits of the texts is its text, with the text of the same places
+/// and pages at once behind it.
+pub fn printed_plan_is_texts()
+    ensures { (entries : List Entry) (runs : List Run) (rounds : ℕ) (places : List Place) (pages : List Page) (out : List ℕ)
+        → HasBatchText entries runs → HasCertificateText rounds places pages → IsLoggedPlanPrinted entries runs rounds places pages out
+        → (placed : List Place) × (short : List Page) × IsPermutation places placed × IsPermutation pages short
+        × AreTexts (words_by_line out) entries runs rounds placed short }
 {}
 
 /// A text says one thing.

@@ -4,12 +4,14 @@
 //! decimal without leading zeros.
 #![tactic(auto)]
 
+mod batch_print;
 mod batch_text;
 mod certificate_text;
 pub mod laws;
 mod text_error;
 mod words;
 
+pub use batch_print::{has_batch_text, print_batch, print_logged_plan};
 pub use batch_text::{BatchText, read_batch};
 pub use certificate_text::{Certificate, print, read_certificate};
 pub use text_error::TextError;

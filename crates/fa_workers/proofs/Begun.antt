@@ -43,6 +43,35 @@ eight_opened bytes opened s0 s1 s2 s3 s4 s5 s6 s7 e0 e1 e2 e3 e4 e5 e6 e7 are k 
     subst (λ (x : List ℕ). IsOpened x (slice_index_or opened k d)) (eight_at bytes s0 s1 s2 s3 s4 s5 s6 s7 e0 e1 e2 e3 e4 e5 e6 e7 k s0 within)
     (opened_in (s0 ∷ s1 ∷ s2 ∷ s3 ∷ s4 ∷ s5 ∷ s6 ∷ s7 ∷ []) opened k s0 d are within)
 
+four_at : (bytes : ℕ → List ℕ) (s0 s1 s2 s3 : Bor (List ℕ)) → s0.now ≡ bytes 0 → s1.now ≡ bytes 1 → s2.now ≡ bytes 2 → s3.now ≡ bytes 3
+    → (k : ℕ) (b : Bor (List ℕ)) → k < 4 → (slice_index_or (s0 ∷ s1 ∷ s2 ∷ s3 ∷ []) k b).now ≡ bytes k
+four_at bytes s0 s1 s2 s3 e0 e1 e2 e3 zero b within = e0
+four_at bytes s0 s1 s2 s3 e0 e1 e2 e3 (suc zero) b within = e1
+four_at bytes s0 s1 s2 s3 e0 e1 e2 e3 (suc (suc zero)) b within = e2
+four_at bytes s0 s1 s2 s3 e0 e1 e2 e3 (suc (suc (suc zero))) b within = e3
+four_at bytes s0 s1 s2 s3 e0 e1 e2 e3 (suc (suc (suc (suc k)))) b within = absurd (omega (arith, within))
+
+-- four slots that were opened together, place by place
+pub four_opened : (bytes : ℕ → List ℕ) (opened : List Opened) (s0 s1 s2 s3 : Bor (List ℕ)) → s0.now ≡ bytes 0 → s1.now ≡ bytes 1 → s2.now ≡ bytes 2 → s3.now ≡ bytes 3
+    → AreOpened (s0 ∷ s1 ∷ s2 ∷ s3 ∷ []) opened → (k : ℕ) (d : Opened) → k < 4 → IsOpened (bytes k) (slice_index_or opened k d)
+four_opened bytes opened s0 s1 s2 s3 e0 e1 e2 e3 are k d within =
+    subst (λ (x : List ℕ). IsOpened x (slice_index_or opened k d)) (four_at bytes s0 s1 s2 s3 e0 e1 e2 e3 k s0 within)
+    (opened_in (s0 ∷ s1 ∷ s2 ∷ s3 ∷ []) opened k s0 d are within)
+
+-- four of them, and the first again for the other places
+pub first_again : (bytes : ℕ → List ℕ) (o0 o1 o2 o3 : Opened) → IsOpened (bytes 0) o0 → IsOpened (bytes 1) o1 → IsOpened (bytes 2) o2 → IsOpened (bytes 3) o3
+    → ((k : ℕ) → 4 ≤ k → bytes k ≡ bytes 0) → (k : ℕ) (d : Opened) → k < 8
+    → IsOpened (bytes k) (slice_index_or (o0 ∷ o1 ∷ o2 ∷ o3 ∷ o0 ∷ o0 ∷ o0 ∷ o0 ∷ []) k d)
+first_again bytes o0 o1 o2 o3 i0 i1 i2 i3 past zero d within = i0
+first_again bytes o0 o1 o2 o3 i0 i1 i2 i3 past (suc zero) d within = i1
+first_again bytes o0 o1 o2 o3 i0 i1 i2 i3 past (suc (suc zero)) d within = i2
+first_again bytes o0 o1 o2 o3 i0 i1 i2 i3 past (suc (suc (suc zero))) d within = i3
+first_again bytes o0 o1 o2 o3 i0 i1 i2 i3 past (suc (suc (suc (suc zero)))) d within = subst (λ b. IsOpened b o0) (sym (past 4 (omega arith))) i0
+first_again bytes o0 o1 o2 o3 i0 i1 i2 i3 past (suc (suc (suc (suc (suc zero))))) d within = subst (λ b. IsOpened b o0) (sym (past 5 (omega arith))) i0
+first_again bytes o0 o1 o2 o3 i0 i1 i2 i3 past (suc (suc (suc (suc (suc (suc zero)))))) d within = subst (λ b. IsOpened b o0) (sym (past 6 (omega arith))) i0
+first_again bytes o0 o1 o2 o3 i0 i1 i2 i3 past (suc (suc (suc (suc (suc (suc (suc zero))))))) d within = subst (λ b. IsOpened b o0) (sym (past 7 (omega arith))) i0
+first_again bytes o0 o1 o2 o3 i0 i1 i2 i3 past (suc (suc (suc (suc (suc (suc (suc (suc k)))))))) d within = absurd (omega (arith, within))
+
 module _ {A : Type 0} where
   bytes_within : (others : List ℕ) (made : List (MadeJob A)) (k : ℕ) (m : MadeJob A) → k < length made
       → (slice_index_or made k m).memory.scratch.items ≡ bytes_or others made k
@@ -119,3 +148,8 @@ module _ {A : Type 0} where
       (ap (λ k. take k (new ++ drop (length new) old)) (sym (opens.0 ∙ is)) ∙ take-append_seam new (drop (length new) old))
       ∙ opens_told old new opens))
       part
+
+  -- so it does whichever place past the last one is looked at
+  pub same_past : (made : List (MadeJob A)) (k : ℕ) → length made ≤ k → bytes_at made k ≡ bytes_at made 0
+  same_past [] k past = refl
+  same_past (first ∷ made) k past = sym (others_past first.memory.scratch.items (first ∷ made) k past)

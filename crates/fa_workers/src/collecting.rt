@@ -30,7 +30,7 @@ pub fn collector_worker<R: Wait + Clock, L: Ledger, M: Map + Drop, A: Allocator 
         }
         give_windows(alloc, &mut guard, seat, window_rounds);
         let awaits = next_look(guard.array());
-        guard = shared.sleep(rt, seat, awaits, guard);
+        guard = shared.sleep(rt, seat, awaits, false, guard);
     }
 }
 

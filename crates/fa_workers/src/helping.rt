@@ -29,8 +29,14 @@ use std::time::{Clock, Duration, Instant};
 /// How many jobs somebody who helps takes at most in one hold.
 const MAX_JOBS: usize = 8;
 
-/// From how many reads on they are hashed side by side: eight side by side take about the time of three one by one.
+/// How many slots are hashed side by side where there are no more jobs.
+const FEW_JOBS: usize = 4;
+
+/// From how many reads on they are hashed side by side, among more than four jobs: eight side by side take about the time of three one by one.
 const FEW_READS: usize = 4;
+
+/// The same among four jobs and fewer: four side by side take less than the time of two one by one.
+const FEWER_READS: usize = 2;
 
 /// How long the calls of a job take at most, in microseconds, that are said to take little time.
 const QUICK_MICROSECONDS: u64 = 50;
@@ -124,6 +130,10 @@ impl<
     ghost held = { λ helper. numbers_of helper.memory.dies.items };
 
     ghost told = { λ helper. map told_of helper.memory.made.items };
+
+    fn helps(&self) -> bool {
+        true
+    }
 
     fn take(&mut self, locked: &mut Locked<L, M, A>, seat: &mut Seat<L>) -> bool {
         locked.settle(seat);
@@ -333,7 +343,12 @@ fn opened_together<A: Allocator>(made: &[MadeJob<A>]) -> Option<[Opened; MAX_JOB
         .iter()
         .filter(|job| matches!(job.outcome, Outcome::Read(_)))
         .count();
-    if reads < FEW_READS {
+    let fewest = if made.len() <= FEW_JOBS {
+        FEWER_READS
+    } else {
+        FEW_READS
+    };
+    if reads < fewest {
         None
     } else {
         Some(open_slots(made))
@@ -387,6 +402,9 @@ fn opened_at(together: Option<&[Opened; MAX_JOBS]>, index: usize, bytes: &[u8]) 
 fn open_slots<A: Allocator>(made: &[MadeJob<A>]) -> [Opened; MAX_JOBS]
     ensures { AreOpenedAt made.now result }
 {
+    if made.len() <= FEW_JOBS {
+        return open_four_slots(made);
+    }
     let mut opened = [Opened::Bad; MAX_JOBS];
     open_all(
         &[
@@ -402,6 +420,25 @@ fn open_slots<A: Allocator>(made: &[MadeJob<A>]) -> [Opened; MAX_JOBS]
         &mut opened,
     );
     opened
+}
+
+/// The same of four memories and fewer. What stands in the first one stands for the others too.
+fn open_four_slots<A: Allocator>(made: &[MadeJob<A>]) -> [Opened; MAX_JOBS]
+    requires { length made.now ≤ 4 }
+    ensures { AreOpenedAt made.now result }
+{
+    let mut opened = [Opened::Bad; FEW_JOBS];
+    open_all(
+        &[
+            slot_in(made, 0),
+            slot_in(made, 1),
+            slot_in(made, 2),
+            slot_in(made, 3),
+        ],
+        &mut opened,
+    );
+    let [first, second, third, fourth] = opened;
+    [first, second, third, fourth, first, first, first, first]
 }
 
 /// What stands for a slot in the memory of this place, or in the first one, where there are fewer: slots of one length alone are hashed side by

@@ -50,7 +50,7 @@ fn make_turns<R: Wait + Clock, L: Ledger, M: Map + Drop, A: Allocator + Copy>(
             Came::More => {}
             Came::Wait => {
                 let awaits = awaits_of(&stage);
-                guard = shared.sleep(rt, seat, awaits, guard);
+                guard = shared.sleep(rt, seat, awaits, false, guard);
             }
         }
         if matches!(stage, RebuildStage::Read(..) | RebuildStage::Ended) {

@@ -109,7 +109,7 @@ fn wait_for_job<R: Wait + Clock, L: Ledger, M: Map + Drop, A: Allocator + Copy>(
                     shared.release(seat, guard);
                     return lain;
                 }
-                guard = shared.sleep(rt, seat, Awaits::Job(die), guard);
+                guard = shared.sleep(rt, seat, Awaits::Job(die), false, guard);
             }
         }
     }

@@ -1,7 +1,7 @@
 //! The digests of messages, for a comparison with another hash's.
 ghost use Rattle.std.specs.Prelude.{◌≡◌, ◌-◌, ◌≤◌, All, IfOk, length};
 
-use fa_lanes::{LANES, begin, digest_all, finish};
+use fa_lanes::{Begun, LANES, begin, digest_all};
 use flasharr_lab_parts::Tools;
 use flasharr_lab_words::{Output, bytes_of, first_length};
 use std::alloc::{AllocError, Global};
@@ -104,14 +104,25 @@ fn begun_and_finished(
     'eights: for i in 0..count / LANES {
         let first = LANES * i;
         let begun = begin(&payloads[first..first + LANES]);
-        let found = finish(&begun, &tails[first..first + LANES]);
-        digests.extend_from_slice(&found)?;
+        finish_each(&begun, &tails[first..first + LANES], &mut digests)?;
     }
     'rest: for i in LANES * (count / LANES)..count {
         let begun = begin(&[payloads[i]; LANES]);
         digests.push(begun[0].finish(tails[i]))?;
     }
     Ok(digests)
+}
+
+/// Lists the digests of messages that were begun, each with its tail behind it. The error is out of memory.
+fn finish_each(
+    begun: &[Begun],
+    tails: &[&[u8]],
+    digests: &mut Vec<Digest>,
+) -> Result<(), AllocError> {
+    'messages: for i in 0..begun.len().min(tails.len()) {
+        digests.push(begun[i].finish(tails[i]))?;
+    }
+    Ok(())
 }
 
 /// What stands between two offsets of each message that is long enough. The error is out of memory.

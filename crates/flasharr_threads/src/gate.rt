@@ -15,13 +15,13 @@ pub(crate) const TURNS: u32 = 10_000;
 pub(crate) enum HeldCalls {
     /// Reads of slots.
     Reads,
-    /// Reads and programs of slots.
+    /// Reads, programs and moves of slots.
     Slots,
     /// Reads of a die's slots.
     ReadsOf(Die),
 }
 
-/// A gate that, once it is shut, holds some calls until enough have begun, or until it is opened. It counts programs that have ended.
+/// A gate that, once it is shut, holds some calls until enough have begun, or until it is opened. It counts programs and moves that have ended.
 #[derive(Drop)]
 pub(crate) struct Holding<'a, R: Clock> {
     rt: &'a R,
@@ -129,7 +129,7 @@ impl<'a, R: Clock> Gate for Holding<'a, R> {
         let is_held = match (call, self.held) {
             (ImageCallKind::ReadSlot, HeldCalls::ReadsOf(slow)) => die.0 == slow.0,
             (ImageCallKind::ReadSlot, _) => true,
-            (ImageCallKind::Program, HeldCalls::Slots) => true,
+            (ImageCallKind::Program | ImageCallKind::Move, HeldCalls::Slots) => true,
             _ => false,
         };
         if is_held && self.is_shut.load(Ordering::SeqCst) {
@@ -139,7 +139,7 @@ impl<'a, R: Clock> Gate for Holding<'a, R> {
     }
 
     fn after(&self, _die: Die, call: ImageCallKind) {
-        if call == ImageCallKind::Program {
+        if matches!(call, ImageCallKind::Program | ImageCallKind::Move) {
             let _ = self.programs.fetch_add(1, Ordering::SeqCst);
         }
     }

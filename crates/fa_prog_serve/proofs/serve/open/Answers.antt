@@ -2,8 +2,8 @@ use Rattle.std.proofs.Common.{inl, inr}
 use Rattle.fa_mount_headers.specs.declared.fault.MountFault.TheVariants.{ImageFault, Unclean}
 use Rattle.fa_prog_serve.proofs.serve.open.Goals as goal
 
-pub returns-in-Err : goal.returns-in-Err
-returns-in-Err g c = inr (inl (ImageFault, c.refuse_mount.ensures))
+pub returns-in-None : goal.returns-in-None
+returns-in-None g c = inr (inl (ImageFault, c.refuse_mount.ensures))
 
 pub returns-in-Err-Image : goal.returns-in-Err-Image
 returns-in-Err-Image g c = inr (inl (ImageFault, c.refuse_mount-in-Err-Image.ensures))

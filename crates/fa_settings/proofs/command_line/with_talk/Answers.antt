@@ -6,10 +6,10 @@ use Rattle.fa_settings.proofs.command_line.with_talk.Goals as goal
 pub returns : goal.returns
 returns c =
     let either : Bool → Bool → Bool = λ a b. a || b in
-    let one = c.in-Ok.ensures.shape c.array_argument.ensures.local ∙ ap₂ with_rule c.plain_line-talk.ensures.shape c.array_argument.ensures.rule in
+    let one = c.in-Ok.ensures.shape c.text_option.ensures.local ∙ ap₂ with_rule c.plain_line-talk.ensures.shape c.text_option.ensures.rule in
     let two = c.in-Ok-arg.ensures.shape c.flag.ensures.local ∙ ap₂ with_rule one c.flag.ensures.rule in
     let three = c.in-Ok-arg-2.ensures.shape c.flag-2.ensures.local ∙ ap₂ with_rule two c.flag-2.ensures.rule in
-    let first = c.in-Ok.ensures.globals ∙ ap₂ either c.plain_line-talk.ensures.local c.array_argument.ensures.local in
+    let first = c.in-Ok.ensures.globals ∙ ap₂ either c.plain_line-talk.ensures.local c.text_option.ensures.local in
     let second = c.in-Ok-arg.ensures.globals ∙ ap₂ either first c.flag.ensures.local in
     let third = c.in-Ok-arg-2.ensures.globals ∙ ap₂ either second c.flag-2.ensures.local in
     IfOk-weaker c.subcommand.result _ _

@@ -1,8 +1,10 @@
-use Rattle.std.proofs.Common.{rules, ◌∙◌, ◌*◌, ◌-◌, ◌≡◌, arith, drop, length, length-drop, ◌+◌}
-use Rattle.std.proofs.lemmas.List.{length-set, length-take-le, take_all}
+use Rattle.std.proofs.Common.{rules, ℕ, List, ◌∙◌, ◌*◌, ◌-◌, ◌/◌, ◌≡◌, arith, drop, take, length, length-drop, ◌+◌, subst, sym}
+use Rattle.std.proofs.lemmas.List.{length-take-le}
 use Rattle.std.proofs.lemmas.Slice.{overwrites}
+use Rattle.fa_tag.specs.declared.tag.Opened.{Opened}
+use Rattle.fa_tag.specs.OpenedTogether.{AreOpened}
 use Rattle.fa_tag.proofs.ByEights.{eight_more, eight_put}
-use Rattle.fa_tag.proofs.OpenedParts.{both_opened, one_more_opened, same_size}
+use Rattle.fa_tag.proofs.OpenedParts.{both_opened, parts_opened, same_size}
 use Rattle.fa_tag.proofs.eights.open_all.Goals as goal
 
 pub eights-preserved : goal.eights-preserved
@@ -16,12 +18,12 @@ eights-preserved c =
           (both_opened _ _ _ _ c.eights.invariant.1 c.open_eight.ensures),
     )
 
-pub rest-preserved : goal.rest-preserved
-rest-preserved c = (
-  length-set c.rest.opened c.rest.i c.open.result ∙ c.rest.invariant.0,
-  one_more_opened c.args.slots.now c.rest.opened c.rest.i c.open.result (omega arith) (omega arith) c.rest.invariant.1 c.open.ensures.opened,
-)
-
 pub returns : goal.returns
 returns c =
-    rw (← take_all c.rest.i c.args.slots.now (omega arith), ← take_all c.rest.i c.rest.opened (omega arith)) c.rest.invariant.1
+    let slots = c.args.slots.now in
+    let whole : ℕ = 8 * (length slots / 8) in
+    let all : 8 * c.eights.i ≡ whole = omega arith in
+    let front : AreOpened (take whole slots) (take whole c.eights.opened) =
+    subst (λ (n : ℕ). AreOpened (take n slots) (take n c.eights.opened)) all c.eights.invariant.1 in
+    parts_opened slots whole _ c.open_rest.new.opened
+    (subst (λ (l : List Opened). AreOpened (take whole slots) l) (sym c.split_at_mut-rest.ensures.front) front) c.open_rest.ensures

@@ -4,6 +4,3 @@ use Rattle.fa_tag.proofs.eights.open_all.Given as goal
 
 abbrev pub invariant-eights : goal.invariant-eights
 invariant-eights l = (length l.opened ≡ length l.slots) × AreOpened (take (8 * l.i) l.slots) (take (8 * l.i) l.opened)
-
-abbrev pub invariant-rest : goal.invariant-rest
-invariant-rest l = (length l.opened ≡ length l.slots) × AreOpened (take l.i l.slots) (take l.i l.opened)

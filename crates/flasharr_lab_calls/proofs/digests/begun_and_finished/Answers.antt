@@ -9,12 +9,6 @@ begin-begun-requires-clause-whole c =
     let all = subst (All (λ part. length part.now ≡ bytes)) (sym c.deref.ensures.value) c.in_ok-payloads.ensures in
     (bytes, omega arith, eight_of bytes (8 * c.eights.i) _ all)
 
-pub finish-found-requires-clause-one_length : goal.finish-found-requires-clause-one_length
-finish-found-requires-clause-one_length c =
-    let bytes : ℕ = c.args.bytes - 64 * (c.args.bytes / 64) in
-    let all = subst (All (λ part. length part.now ≡ bytes)) (sym c.deref-in-eights.ensures.value) c.in_ok-tails.ensures in
-    (bytes, eight_of bytes (8 * c.eights.i) _ all)
-
 pub begin-begun-requires-in-rest-clause-whole : goal.begin-begun-requires-in-rest-clause-whole
 begin-begun-requires-in-rest-clause-whole c =
     let part = c.index.result.now in

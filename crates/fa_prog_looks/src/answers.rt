@@ -1,0 +1,48 @@
+//! Which request gets which answer.
+ghost use Rattle.std.specs.Prelude.{◌≡◌};
+ghost use Rattle.fa_prog_looks.specs.Answers.{answer_for, is_look};
+
+/// What a request is answered with.
+#[derive(Clone, Copy, Debug, PartialEq, Eq)]
+pub enum Answer {
+    /// The page.
+    Page,
+    /// The same in lines.
+    Lines,
+    /// The metrics.
+    Metrics,
+    /// The document.
+    Document,
+    /// 404: there is no such path.
+    NoPath,
+    /// 405: nothing but GET and HEAD is answered.
+    NoMethod,
+}
+
+/// What a request for a path is answered with. Who accepts plain text alone gets lines for the page.
+pub(crate) fn answer_to(method: &str, path: &str, wants_lines: bool) -> Answer
+    ensures { result ≡ answer_for method.now path.now wants_lines }
+{
+    if !is_look(method) {
+        return Answer::NoMethod;
+    }
+    match path {
+        "/" => {
+            if wants_lines {
+                Answer::Lines
+            } else {
+                Answer::Page
+            }
+        }
+        "/metrics" => Answer::Metrics,
+        "/status.json" => Answer::Document,
+        _ => Answer::NoPath,
+    }
+}
+
+/// Whether a method only looks.
+fn is_look(method: &str) -> bool
+    ensures { result ≡ is_look method.now }
+{
+    method == "GET" || method == "HEAD"
+}

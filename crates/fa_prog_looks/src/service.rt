@@ -1,0 +1,67 @@
+//! The answers of the second listener, as HTTP has them.
+use crate::answers::{Answer, answer_to};
+use crate::looker::Texts;
+use bytes::{BufMut, Bytes};
+use http::{HeaderMap, HeaderValue, Request, StatusCode, header};
+use http_server::{Response, Service};
+use std::alloc::AllocError;
+
+/// Answers requests with texts. Each answer ends its connection.
+#[derive(Drop)]
+pub(crate) struct Answering<'a, T> {
+    pub(crate) texts: &'a T,
+}
+
+impl<T: Texts> Service for Answering<'_, T> {
+    ghost answers = { λ old request response new. Unit {0} };
+
+    fn call(
+        &mut self,
+        request: &Request<Bytes>,
+        response: &mut Response,
+    ) -> Result<(), AllocError> {
+        let answer = answer_to(
+            request.method().as_str(),
+            request.uri().path(),
+            wants_lines(request.headers()),
+        );
+        response.status = status_of(answer);
+        response.add_header(header::CONTENT_TYPE, type_of(answer))?;
+        response.add_header(header::CACHE_CONTROL, HeaderValue::from_static("no-store"))?;
+        response.add_header(header::CONNECTION, HeaderValue::from_static("close"))?;
+        if answer == Answer::NoMethod {
+            response.add_header(header::ALLOW, HeaderValue::from_static("GET, HEAD"))?;
+        }
+        let text = self.texts.text(answer)?;
+        response.body.put_slice(text.as_bytes())
+    }
+}
+
+/// Whether plain text alone is accepted.
+fn wants_lines(headers: &HeaderMap<HeaderValue>) -> bool {
+    match headers.get(header::ACCEPT) {
+        Some(value) => value.as_bytes() == b"text/plain".as_slice(),
+        None => false,
+    }
+}
+
+/// The status of an answer.
+fn status_of(answer: Answer) -> StatusCode {
+    match answer {
+        Answer::Page | Answer::Lines | Answer::Metrics | Answer::Document => StatusCode::OK,
+        Answer::NoPath => StatusCode::NOT_FOUND,
+        Answer::NoMethod => StatusCode::METHOD_NOT_ALLOWED,
+    }
+}
+
+/// The type of an answer.
+fn type_of(answer: Answer) -> HeaderValue {
+    match answer {
+        Answer::Page => HeaderValue::from_static("text/html; charset=utf-8"),
+        Answer::Metrics => HeaderValue::from_static("text/plain; version=0.0.4; charset=utf-8"),
+        Answer::Document => HeaderValue::from_static("application/json"),
+        Answer::Lines | Answer::NoPath | Answer::NoMethod => {
+            HeaderValue::from_static("text/plain; charset=utf-8")
+        }
+    }
+}

@@ -1,0 +1,170 @@
+//! The second listener of a server, for those who only look. One thread attends all of them, and waits for none.
+use crate::looker::{Looker, Looking};
+use crate::service::Answering;
+use crate::visitor::{Turn, Visitor};
+use fa_map_calls::Map;
+use fa_prog_clients::Networked;
+use fa_prog_host::tell;
+use fa_prog_status::Subject;
+use http_server::{Config, Connection};
+use mio::net::TcpListener;
+use mio::{Events, Interest, Poll, Token};
+use std::alloc::Global;
+use std::hash::RandomState;
+use std::io::{self, ErrorKind};
+use std::net;
+use std::random::RandomSource;
+use std::sync::ledger::Ledger;
+use std::time::{Duration, Instant};
+
+/// How many may look at once. Others wait until one has gone, and then nobody may stay long.
+const MAX_VISITORS: usize = 64;
+
+/// The listener's name among those that are waited for.
+const LISTENER: Token = Token(MAX_VISITORS);
+
+/// How long is waited at most, in milliseconds.
+const WAIT_MILLISECONDS: u64 = 100;
+
+/// What the thread has whom others ask how the array is.
+pub trait LooksHost: Networked + RandomSource {}
+
+impl<R: Networked + RandomSource> LooksHost for R {}
+
+/// All who look, and what is needed to wait for them.
+#[derive(Drop)]
+struct Visitors {
+    listener: TcpListener,
+    poll: Poll,
+    keys: RandomState,
+    /// By their names.
+    present: Vec<Option<Visitor>>,
+}
+
+/// Answers those who ask at the listener how an array is, until the queue of its clients is closed. It blocks its thread. What keeps it from
+/// listening is told on standard error.
+pub fn serve_looks<R: LooksHost, L: Ledger, M: Map + Drop>(
+    rt: &R,
+    listener: &net::TcpListener,
+    subject: Subject<'_, L, M>,
+    looker: Looker,
+) {
+    let looking = Looking::new(rt, subject, looker);
+    match Visitors::at(rt, listener) {
+        Ok(mut visitors) => {
+            if let Err(refused) = visitors.serve(rt, &looking) {
+                tell(rt, format_args!("status: no more answers: {refused}"));
+            }
+        }
+        Err(refused) => tell(rt, format_args!("status: no answers: {refused}")),
+    }
+}
+
+impl Visitors {
+    /// Nobody has come to the listener yet.
+    fn at<R: LooksHost>(rt: &R, listener: &net::TcpListener) -> io::Result<Visitors> {
+        let listener = listener.try_clone()?;
+        listener.set_nonblocking(true)?;
+        let mut listener = TcpListener::from_std(listener);
+        let poll = Poll::new(rt)?;
+        poll.registry()
+            .register(&mut listener, LISTENER, Interest::READABLE)?;
+        let mut present = Vec::with_capacity(rt.alloc(), MAX_VISITORS)?;
+        for _ in 0..MAX_VISITORS {
+            present.push(None)?;
+        }
+        Ok(Visitors {
+            listener,
+            poll,
+            keys: RandomState::new(rt)?,
+            present,
+        })
+    }
+
+    /// Answers all who come until the array's clients are sent away. The error is the system's, which waits no more.
+    fn serve<R: LooksHost, L: Ledger, M: Map + Drop>(
+        &mut self,
+        rt: &R,
+        looking: &Looking<'_, R, L, M>,
+    ) -> io::Result<()> {
+        let mut events: Events = Events::with_capacity(rt.alloc(), MAX_VISITORS + 1)?;
+        let wait = Duration::from_millis(WAIT_MILLISECONDS);
+        for _ in rt.forever() {
+            if looking.subject.accept_queue.is_closing(rt) {
+                return Ok(());
+            }
+            looking.sample();
+            self.poll.poll(&mut events, Some(wait))?;
+            let mut service = Answering { texts: looking };
+            for event in events.iter() {
+                self.attend(event.token().0, &mut service);
+            }
+            self.let_in(rt, &mut service);
+            self.send_away(rt);
+        }
+        unreachable!()
+    }
+
+    /// Attends the visitor of a name, if there is one.
+    fn attend<S: http_server::Service>(&mut self, name: usize, service: &mut S) {
+        let Some(place) = self.present.get_mut(name) else {
+            return;
+        };
+        let turn = match place {
+            Some(visitor) => visitor.attend(service),
+            None => Turn::Stays,
+        };
+        if turn == Turn::Leaves {
+            *place = None;
+        }
+    }
+
+    /// Lets in all who have come and for whom there is a place.
+    fn let_in<R: LooksHost, S: http_server::Service>(&mut self, rt: &R, service: &mut S) {
+        for name in 0..MAX_VISITORS {
+            if self.present.get(name).is_some_and(|place| place.is_some()) {
+                continue;
+            }
+            match self.accept(rt, name) {
+                Ok(()) => self.attend(name, service),
+                Err(refused) if refused.kind() == ErrorKind::WouldBlock => return,
+                Err(_) => {}
+            }
+        }
+    }
+
+    /// Lets one in under this name.
+    fn accept<R: LooksHost>(&mut self, rt: &R, name: usize) -> io::Result<()> {
+        let (stream, _) = self.listener.accept()?;
+        let global: Global = rt.alloc();
+        let config = Config {
+            max_body_len: 0,
+            ..Config::default()
+        };
+        let connection = Connection::new(global, self.keys, config);
+        let mut visitor = Visitor::new(stream, connection, Instant::now(rt)?);
+        self.poll.registry().register(
+            visitor.stream(),
+            Token(name),
+            Interest::READABLE | Interest::WRITABLE,
+        )?;
+        if let Some(place) = self.present.get_mut(name) {
+            *place = Some(visitor);
+        }
+        Ok(())
+    }
+
+    /// Sends those away who have stayed too long.
+    fn send_away<R: LooksHost>(&mut self, rt: &R) {
+        let has_room = self.present.iter().any(|place| place.is_none());
+        for place in self.present.iter_mut() {
+            let is_late = match place {
+                Some(visitor) => visitor.is_late(rt, has_room),
+                None => false,
+            };
+            if is_late {
+                *place = None;
+            }
+        }
+    }
+}
