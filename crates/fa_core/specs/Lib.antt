@@ -1,2 +1,3 @@
 pub mod Array
 pub mod Calls
+pub mod Windows

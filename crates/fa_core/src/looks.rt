@@ -10,6 +10,7 @@ ghost use Rattle.fa_machine.specs.Looks.{next_thin as rule_thin, wants_window as
 ghost use Rattle.fa_machine.specs.Placement.{room as rule_room};
 ghost use Rattle.fa_machine.specs.State.{is_live as rule_live};
 ghost use Rattle.fa_machine.specs.Taking.{taken};
+ghost use Rattle.fa_core.specs.Windows.{is_window_due as is_due, lacks_window as lacks};
 ghost use Rattle.fa_core_tables.specs.Counted.{capped};
 ghost use Rattle.fa_mirror.specs.Order.{first_dies as rule_first, numbers_of};
 
@@ -238,6 +239,26 @@ impl<M: Map, A: Allocator + Clone> Array<M, A> {
         ensures { result ≡ is_some (get (state_of M.view self.now).calendar.windows die.0) }
     {
         self.state.bookings.window(die).is_some()
+    }
+
+    /// Whether a die wants a window and has none.
+    pub fn is_window_due(&self) -> bool
+        ensures { result ≡ is_due (state_of M.view self.now) }
+    {
+        for die in 0..self.geometry().dies {
+            if self.lacks_window(Die(die as u8)) {
+                return true;
+            }
+        }
+        false
+    }
+
+    /// Whether this die does.
+    fn lacks_window(&self, die: Die) -> bool
+        requires { die.0 < (state_of M.view self.now).page_map.geometry.dies }
+        ensures { result ≡ lacks (state_of M.view self.now) die.0 }
+    {
+        self.wants_window(die) && !self.has_window(die)
     }
 
     /// The kind of the job that the die is at.

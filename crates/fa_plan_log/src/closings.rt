@@ -3,7 +3,10 @@ use fa_batch::Run;
 use fa_types::{Die, Round, Rounds};
 use std::alloc::{AllocError, Allocator};
 
-/// The closed ones of so many rounds from the current one, of all dies, as runs; the current round is told as 1. The error is out of memory.
+/// The most dies of an array.
+const MAX_DIES: u8 = 64;
+
+/// The closed ones of so many rounds from the current one, of all dies of an array, as runs; the current round is told as 1. The error is out of memory.
 pub(crate) fn closings<R: Rounds, A: Allocator>(
     alloc: A,
     calendar: &R,
@@ -14,7 +17,7 @@ pub(crate) fn closings<R: Rounds, A: Allocator>(
     if now.checked_add(rounds).is_none() {
         return Ok(runs);
     }
-    'dies: for number in 0..=255u8 {
+    'dies: for number in 0..MAX_DIES {
         if calendar.open_count(Die(number), rounds) < rounds {
             close_die(&mut runs, calendar, Die(number), rounds)?;
         }

@@ -187,19 +187,8 @@ fn is_due<M: Map, A: Allocator + Clone>(array: &Array<M, A>, changed: bool, awai
         Awaits::Programs(claim) => !array.is_pending(claim),
         Awaits::Flush(flush) => !matches!(array.flush_state(&flush), FlushState::Waiting),
         Awaits::Job(die) => array.is_die(die) && array.has_job(die),
-        Awaits::Window => wants_window(array),
+        Awaits::Window => array.is_window_due(),
         Awaits::ThinPage => changed && array.next_thin().is_some(),
         Awaits::Change => changed,
     }
-}
-
-/// Whether a die wants a window and has none.
-fn wants_window<M: Map, A: Allocator + Clone>(array: &Array<M, A>) -> bool {
-    for number in 0..array.geometry().dies {
-        let die = Die(number as u8);
-        if array.wants_window(die) && !array.has_window(die) {
-            return true;
-        }
-    }
-    false
 }

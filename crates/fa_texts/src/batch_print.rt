@@ -35,7 +35,8 @@ pub fn print_logged_plan<A: Allocator + Copy>(
     plan: &Plan<A>,
     shortage: &Shortage<A>,
 ) -> Result<String<A>, AllocError>
-    ensures { IfOk result (λ out. IsLoggedPlanPrinted batch.now closed.now plan.now.rounds plan.now.places shortage.now (string_bytes out)) }
+    ensures { IfOk result (λ out.
+        IsLoggedPlanPrinted batch.now closed.now plan.now.rounds plan.now.places shortage.now (string_bytes out)) }
 {
     let mut out = String::new(alloc);
     print_batch(&mut out, batch, closed)?;

@@ -1,6 +1,9 @@
 //! The worker that gives dies their windows.
 ghost use Rattle.std.specs.Prelude.{◌≡◌, ◌<◌, false};
+ghost use Rattle.fa_core.specs.Array.{state_of};
+ghost use Rattle.fa_core.specs.Windows.{is_window_due};
 ghost use Rattle.fa_shared_lock.specs.Rest.{LeavesRest};
+ghost use Rattle.fa_shared_lock.specs.declared.sleepers.Awaits.TheVariants.{Change, Window};
 ghost use Rattle.fa_workers.specs.Windows.{GivesWindow, GivesWindows};
 
 use fa_core::Array;
@@ -35,14 +38,14 @@ pub fn collector_worker<R: Wait + Clock, L: Ledger, M: Map + Drop, A: Allocator 
 }
 
 /// What the collector waits for behind a look: that a die wants a window, or any change, where one that wants it was refused.
-fn next_look<M: Map, A: Allocator + Clone>(array: &Array<M, A>) -> Awaits {
-    for number in 0..array.geometry().dies {
-        let die = Die(number as u8);
-        if array.wants_window(die) && !array.has_window(die) {
-            return Awaits::Change;
-        }
+fn next_look<M: Map, A: Allocator + Clone>(array: &Array<M, A>) -> Awaits
+    ensures { result ≡ (if is_window_due (state_of M.view array.now) then Change else Window) }
+{
+    if array.is_window_due() {
+        Awaits::Change
+    } else {
+        Awaits::Window
     }
-    Awaits::Window
 }
 
 /// A Window for each die that wants one. Whether one was accepted.
