@@ -9,6 +9,9 @@ use fa_types::Die;
 use std::alloc::{AllocError, Allocator, Global};
 use std::mem::replace;
 
+/// How many others who help sleep at least where one who helps takes the jobs of all dies, and none of the dies' workers is woken.
+const MANY_OTHERS: u32 = 3;
+
 /// What somebody waits for.
 #[derive(Clone, Copy, Debug, PartialEq, Eq)]
 pub enum Awaits {
@@ -129,6 +132,24 @@ impl<A: Allocator> Sleepers<A> {
         }
     }
 
+    /// Whether many help beside one who is awake.
+    pub(crate) fn do_many_help(&self) -> bool {
+        self.helpers() >= MANY_OTHERS
+    }
+
+    /// How many sleep who help.
+    fn helpers(&self) -> u32 {
+        let mut count = 0u32;
+        for seat in 0..self.seats {
+            if let Some(Some(sleeper)) = self.sleepers.get(seat as usize) {
+                if sleeper.helps {
+                    count = count.saturating_add(1);
+                }
+            }
+        }
+        count
+    }
+
     /// Something has changed that others may wait for.
     pub(crate) fn note_change(&mut self) {
         self.changed = true;
@@ -136,12 +157,13 @@ impl<A: Allocator> Sleepers<A> {
 }
 
 impl<A: Allocator> Sleepers<A> {
-    /// Those for whom it is time, as the array is. They are counted as awake. Where dies whose workers sleep have jobs, one who helps is
-    /// woken in the place of all these workers: it takes the jobs of several dies in one hold.
+    /// Those for whom it is time, as the array is. They are counted as awake. Where dies whose workers sleep have jobs, and many who help
+    /// sleep, one of these is woken in the place of all the workers: it takes the jobs of several dies in one hold.
     pub(crate) fn due<M: Map, B: Allocator + Clone>(&mut self, array: &Array<M, B>) -> SeatSet
         requires { IsWhole M.view array.now }
     {
         let changed = replace(&mut self.changed, false);
+        let are_many = self.helpers() > MANY_OTHERS;
         let mut due = SeatSet::new();
         let mut workers = SeatSet::new();
         let mut leader = None;
@@ -159,7 +181,7 @@ impl<A: Allocator> Sleepers<A> {
             }
         }
         match leader {
-            Some(seat) if !workers.is_empty() => due.insert(seat),
+            Some(seat) if are_many && !workers.is_empty() => due.insert(seat),
             _ => due.insert_all(workers),
         }
         self.wake(due);

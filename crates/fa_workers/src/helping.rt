@@ -291,7 +291,8 @@ fn is_quick<R: Clock>(rt: &R, start: Option<Instant>, jobs: usize) -> bool {
     }
 }
 
-/// Takes the next jobs of dies that have one, this many at most, as long as there is memory for one more, and lays them on the bench.
+/// Takes the next jobs of dies that have one, this many at most, as long as there is memory for one more, and lays them on the bench. A die that
+/// collects is left to its worker, so that no request waits for its moves, unless many who help sleep.
 fn take_jobs<R: Wait, L: Ledger, M: Map + Drop, A: Allocator + Copy>(
     rt: &R,
     alloc: A,
@@ -304,10 +305,14 @@ fn take_jobs<R: Wait, L: Ledger, M: Map + Drop, A: Allocator + Copy>(
     ensures takes { TakesJobs (number_of seat.old) locked.old.core (numbers_of dies.old.items) locked.new.core (numbers_of dies.new.items) }
     ensures account { LeavesRest locked.old seat.old locked.new seat.new }
 {
+    let takes_all = locked.do_many_help();
     for number in 0..locked.array().geometry().dies {
         let die = Die(number as u8);
         if dies.len() >= most || dies.len() >= dies.capacity() || !bench.has_place(die) {
             return;
+        }
+        if !takes_all && locked.array().has_window(die) {
+            continue;
         }
         if let Some(order) = take_job(alloc, locked, seat, die) {
             add(dies, order.die());
