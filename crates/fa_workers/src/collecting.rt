@@ -1,5 +1,5 @@
 //! The worker that gives dies their windows.
-ghost use Rattle.std.specs.Prelude.{◌≡◌, ◌<◌, false};
+ghost use Rattle.std.specs.Prelude.{◌≡◌, ◌<◌, false, if◌then◌else◌};
 ghost use Rattle.fa_core.specs.Array.{state_of};
 ghost use Rattle.fa_core.specs.Windows.{is_window_due};
 ghost use Rattle.fa_shared_lock.specs.Rest.{LeavesRest};
