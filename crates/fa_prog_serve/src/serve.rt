@@ -105,9 +105,10 @@ fn listen_for_looks<R: ServerHost, N: Read, W: Write, A: Allocator>(
 {
     match bind_looks(rt, serve.status) {
         Ok(looks) => {
+            let looks = looks.as_ref();
             let listeners = Listeners {
                 clients: listener,
-                looks: looks.as_ref(),
+                looks,
             };
             open(rt, listeners, settings, serve, input, output)
         }
