@@ -105,11 +105,7 @@ fn listen_for_looks<R: ServerHost, N: Read, W: Write, A: Allocator>(
 {
     match bind_looks(rt, serve.status) {
         Ok(looks) => {
-            let looks = looks.as_ref();
-            let listeners = Listeners {
-                clients: listener,
-                looks,
-            };
+            let listeners = Listeners::new(listener, looks.as_ref());
             open(rt, listeners, settings, serve, input, output)
         }
         Err(_) => print(output, REFUSED, b"listen: failed\n"),
@@ -148,6 +144,13 @@ pub struct Listeners<'a> {
     pub clients: &'a TcpListener,
     /// For those who ask how the array is.
     pub looks: Option<&'a TcpListener>,
+}
+
+impl<'a> Listeners<'a> {
+    /// These listeners.
+    fn new(clients: &'a TcpListener, looks: Option<&'a TcpListener>) -> Listeners<'a> {
+        Listeners { clients, looks }
+    }
 }
 
 /// Serves the array of these settings over the images that they name.
