@@ -75,7 +75,8 @@ impl<M: Map, A: Allocator + Copy> Array<M, A> {
         ensures number { number_of self.new ≡ number_of self.old }
         ensures whole { IsWhole M.view self.new }
     {
-        self.planner.log_plans(alloc, every);
+        let dies = u8::try_from(self.geometry().dies).unwrap_or(u8::MAX);
+        self.planner.log_plans(alloc, every, dies);
     }
 
     /// The plan that waits longest for who checks it. It is no event.
@@ -86,6 +87,16 @@ impl<M: Map, A: Allocator + Copy> Array<M, A> {
         ensures whole { IsWhole M.view self.new }
     {
         self.planner.take_plan()
+    }
+
+    /// A plan that was taken and that nobody wants any more comes back, and plans to come are kept in its memory. It is no event.
+    pub fn give_back_note(&mut self, note: PlanNote<A>)
+        requires whole { IsWhole M.view self.old }
+        ensures state { state_of M.view self.new ≡ state_of M.view self.old }
+        ensures number { number_of self.new ≡ number_of self.old }
+        ensures whole { IsWhole M.view self.new }
+    {
+        self.planner.give_back_note(note);
     }
 
     /// The closed rounds of all dies from the current one on. Those that are booked for the batch and were not started are left out. The

@@ -51,9 +51,9 @@ impl<A: Allocator + Copy> Planner<A> {
         }
     }
 
-    /// From here on the plan of each n-th batch of at least two pages waits for who checks it.
-    pub fn log_plans(&mut self, alloc: A, every: u64) {
-        self.log = Some(PlanLog::new(alloc, every));
+    /// From here on the plan of each n-th batch of at least two pages waits for who checks it, over so many dies.
+    pub fn log_plans(&mut self, alloc: A, every: u64, dies: u8) {
+        self.log = Some(PlanLog::new(alloc, every, dies));
     }
 
     /// The plan that waits longest for who checks it.
@@ -61,6 +61,13 @@ impl<A: Allocator + Copy> Planner<A> {
         match &mut self.log {
             Some(log) => log.take(),
             None => None,
+        }
+    }
+
+    /// A plan that was taken and that nobody wants any more comes back.
+    pub fn give_back_note(&mut self, note: PlanNote<A>) {
+        if let Some(log) = &mut self.log {
+            log.give_back(note);
         }
     }
 

@@ -3,26 +3,25 @@ use fa_batch::Run;
 use fa_types::{Die, Round, Rounds};
 use std::alloc::{AllocError, Allocator};
 
-/// The most dies of an array.
-const MAX_DIES: u8 = 64;
-
-/// The closed ones of so many rounds from the current one, of all dies of an array, as runs; the current round is told as 1. The error is out of memory.
+/// The closed ones of so many rounds from the current one, of the first so many dies, as runs in the place of those that were there; the current
+/// round is told as 1. The error is out of memory.
 pub(crate) fn closings<R: Rounds, A: Allocator>(
-    alloc: A,
+    runs: &mut Vec<Run, A>,
     calendar: &R,
+    dies: u8,
     rounds: u64,
-) -> Result<Vec<Run, A>, AllocError> {
-    let mut runs = Vec::new(alloc);
+) -> Result<(), AllocError> {
+    runs.clear();
     let now = calendar.now().0;
     if now.checked_add(rounds).is_none() {
-        return Ok(runs);
+        return Ok(());
     }
-    'dies: for number in 0..MAX_DIES {
+    'dies: for number in 0..dies {
         if calendar.open_count(Die(number), rounds) < rounds {
-            close_die(&mut runs, calendar, Die(number), rounds)?;
+            close_die(runs, calendar, Die(number), rounds)?;
         }
     }
-    Ok(runs)
+    Ok(())
 }
 
 /// Adds the runs of one die.

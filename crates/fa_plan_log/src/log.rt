@@ -14,6 +14,9 @@ pub const MAX_WAITING: usize = 4_096;
 /// How many pages the plans have at most that wait.
 pub const MAX_PAGES_WAITING: usize = 131_072;
 
+/// How many plans that were taken and came back are kept at most, for the memory that they have.
+const MAX_SPARE: usize = 256;
+
 /// The fewest pages of a batch whose plan is kept: where one page is read there is nothing to be spread.
 const FEWEST_PAGES: usize = 2;
 
@@ -31,9 +34,13 @@ pub struct LogCounts {
 #[derive(Drop)]
 pub struct PlanLog<A: Allocator = Global> {
     every: u64,
+    // How many dies the array has.
+    dies: u8,
     // How many batches come before the next one that is kept.
     skips: u64,
     queue: VecDeque<PlanNote<A>, A>,
+    // Plans that nobody wants any more, for the memory of plans to come.
+    spare: Vec<PlanNote<A>, A>,
     // The pages of all that wait.
     pages: usize,
     counts: LogCounts,
@@ -47,12 +54,14 @@ impl<A: Allocator> PlanLog<A> {
 }
 
 impl<A: Allocator + Copy> PlanLog<A> {
-    /// An empty queue for the plans of each n-th batch, from the first on.
-    pub fn new(alloc: A, every: u64) -> PlanLog<A> {
+    /// An empty queue for the plans of each n-th batch, from the first on, over so many dies.
+    pub fn new(alloc: A, every: u64, dies: u8) -> PlanLog<A> {
         PlanLog {
             every,
+            dies,
             skips: 0,
             queue: VecDeque::new(alloc),
+            spare: Vec::new(alloc),
             pages: 0,
             counts: LogCounts {
                 kept: 0,
@@ -82,8 +91,12 @@ impl<A: Allocator + Copy> PlanLog<A> {
             self.count_dropped();
             return None;
         }
-        match PlanNote::new(alloc, batch, calendar, planned) {
-            Ok(note) => Some(note),
+        let mut note = match self.spare.pop() {
+            Some(note) => note,
+            None => PlanNote::new(alloc),
+        };
+        match note.set(batch, calendar, self.dies, planned) {
+            Ok(()) => Some(note),
             Err(_) => {
                 self.count_dropped();
                 None
@@ -108,6 +121,13 @@ impl<A: Allocator + Copy> PlanLog<A> {
         let note = self.queue.pop_front()?;
         self.pages = self.pages.saturating_sub(note.pages());
         Some(note)
+    }
+
+    /// A plan that was taken and that nobody wants any more comes back, and plans to come are kept in its memory.
+    pub fn give_back(&mut self, note: PlanNote<A>) {
+        if self.spare.len() < MAX_SPARE {
+            let _ = self.spare.push(note);
+        }
     }
 
     fn has_room(&self, pages: usize) -> bool {

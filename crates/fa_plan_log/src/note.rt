@@ -1,10 +1,10 @@
 //! A plan as it is noted while nothing may change.
-ghost use Rattle.std.specs.Prelude.{◌≡◌, map, length, IfOk, IfSome};
+ghost use Rattle.std.specs.Prelude.{◌≡◌, map, length, IfOk, IfSome, OnOk};
 ghost use Rattle.fa_plan_log.specs.Notes.{IsAccepted, batch_of, place_from, places_of, rounds_of, shortage_of, told_from};
 
 use crate::closings::closings;
 use crate::entry::PlanEntry;
-use fa_batch::{Batch, Closed, Listing, Place, Places, Plan, Run, Shortage, end_soon};
+use fa_batch::{Batch, Closed, Place, Places, Plan, Run, Shortage, end_soon};
 use fa_cert::{Verdict, check};
 use fa_plan::Planned;
 use fa_types::{Page, Round, Rounds};
@@ -21,28 +21,39 @@ pub struct PlanNote<A: Allocator = Global> {
 }
 
 impl<A: Allocator + Copy> PlanNote<A> {
-    /// The plan that was just made of this batch, over a calendar in which none of it is booked yet. The error is out of memory.
-    pub fn new<R: Rounds>(
-        alloc: A,
+    /// A plan of no pages, which has no memory yet.
+    pub fn new(alloc: A) -> PlanNote<A> {
+        PlanNote {
+            batch: Batch::new(alloc),
+            runs: Vec::new(alloc),
+            plan: Plan {
+                rounds: 0,
+                places: Places::new(alloc),
+            },
+            shortage: Shortage::new(alloc),
+        }
+    }
+
+    /// The plan that was just made of this batch comes in the place of the one that stood here, in its memory: over a calendar of so many dies in
+    /// which none of it is booked yet. The error is out of memory.
+    pub fn set<R: Rounds>(
+        &mut self,
         batch: &Batch<A>,
         calendar: &R,
+        dies: u8,
         planned: &Planned<A>,
-    ) -> Result<PlanNote<A>, AllocError>
-        ensures batch { IfOk result (λ note. batch_of note ≡ batch.now) }
-        ensures rounds { IfOk result (λ note. rounds_of note ≡ planned.now.rounds) }
-        ensures places { IfOk result (λ note. places_of note ≡ map (place_from (R.current calendar.now)) planned.now.plan.places) }
-        ensures shortage { IfOk result (λ note. shortage_of note ≡ planned.now.shortage) }
+    ) -> Result<(), AllocError>
+        ensures batch { OnOk result (batch_of self.new ≡ batch.now) }
+        ensures rounds { OnOk result (rounds_of self.new ≡ planned.now.rounds) }
+        ensures places { OnOk result (places_of self.new ≡ map (place_from (R.current calendar.now)) planned.now.plan.places) }
+        ensures shortage { OnOk result (shortage_of self.new ≡ planned.now.shortage) }
     {
+        copy_pages(&mut self.batch, batch)?;
+        closings(&mut self.runs, calendar, dies, planned.rounds)?;
+        self.plan.rounds = planned.rounds;
         let now = calendar.now().0;
-        Ok(PlanNote {
-            batch: copy_of(alloc, batch)?,
-            runs: closings(alloc, calendar, planned.rounds)?,
-            plan: Plan {
-                rounds: planned.rounds,
-                places: places_from(alloc, now, planned.plan.places.as_slice())?,
-            },
-            shortage: pages_of(alloc, planned.shortage.as_slice())?,
-        })
+        copy_places(&mut self.plan.places, now, planned.plan.places.as_slice())?;
+        copy_shortage(&mut self.shortage, planned.shortage.as_slice())
     }
 
     /// How many pages it has.
@@ -81,15 +92,34 @@ impl<A: Allocator + Copy> PlanNote<A> {
     }
 }
 
-/// The same batch in memory of its own. The error is out of memory.
-fn copy_of<A: Allocator + Copy>(alloc: A, batch: &Batch<A>) -> Result<Batch<A>, AllocError>
-    ensures { IfOk result (λ copy. copy ≡ batch.now) }
+impl<A: Allocator> PlanEntry<A> {
+    /// Its memory, for a plan to come.
+    pub fn into_note(self) -> PlanNote<A> {
+        let PlanEntry {
+            batch,
+            runs,
+            plan,
+            shortage,
+            ..
+        } = self;
+        PlanNote {
+            batch,
+            runs,
+            plan,
+            shortage,
+        }
+    }
+}
+
+/// The same batch comes in the place of another one. The error is out of memory.
+fn copy_pages<A: Allocator + Copy>(copy: &mut Batch<A>, batch: &Batch<A>) -> Result<(), AllocError>
+    ensures { OnOk result (copy.new ≡ batch.now) }
 {
-    let mut copy = Batch::new(alloc);
+    copy.clear();
     'pages: for index in 0..batch.len() {
         copy.push(batch.page(index), batch.holders_at(index))?;
     }
-    Ok(copy)
+    Ok(())
 }
 
 /// A round, where this one is told as 1.
@@ -99,11 +129,15 @@ fn round_from(now: u64, round: Round) -> Round
     Round(round.0.saturating_sub(now).saturating_add(1))
 }
 
-/// These places, with this round told as 1. The error is out of memory.
-fn places_from<A: Allocator>(alloc: A, now: u64, places: &[Place]) -> Result<Places<A>, AllocError>
-    ensures { IfOk result (λ told. told ≡ map (place_from now) places.now) }
+/// These places, with this round told as 1, come in the place of others. The error is out of memory.
+fn copy_places<A: Allocator>(
+    told: &mut Places<A>,
+    now: u64,
+    places: &[Place],
+) -> Result<(), AllocError>
+    ensures { OnOk result (told.new ≡ map (place_from now) places.now) }
 {
-    let mut told = Listing::new(alloc);
+    told.clear();
     for place in places {
         told.push(Place {
             page: place.page,
@@ -111,16 +145,16 @@ fn places_from<A: Allocator>(alloc: A, now: u64, places: &[Place]) -> Result<Pla
             round: round_from(now, place.round),
         })?;
     }
-    Ok(told)
+    Ok(())
 }
 
-/// These pages in memory of their own. The error is out of memory.
-fn pages_of<A: Allocator>(alloc: A, pages: &[Page]) -> Result<Shortage<A>, AllocError>
-    ensures { IfOk result (λ copy. copy ≡ pages.now) }
+/// These pages come in the place of others. The error is out of memory.
+fn copy_shortage<A: Allocator>(copy: &mut Shortage<A>, pages: &[Page]) -> Result<(), AllocError>
+    ensures { OnOk result (copy.new ≡ pages.now) }
 {
-    let mut copy = Listing::new(alloc);
+    copy.clear();
     for page in pages {
         copy.push(*page)?;
     }
-    Ok(copy)
+    Ok(())
 }

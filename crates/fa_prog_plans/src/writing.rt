@@ -12,13 +12,22 @@ use std::thread;
 use std::time::Duration;
 
 /// How many plans are taken in one hold of the array's lock.
-const PLANS_A_HOLD: usize = 32;
+const PLANS_A_HOLD: usize = 64;
 
 /// The most rounds of a plan that has a text.
 const MAX_ROUNDS: u64 = 1_000_000;
 
 /// How long it is between two looks for plans, where there was none, in milliseconds.
 const LOOK_MILLISECONDS: u64 = 20;
+
+/// What plans are printed in.
+#[derive(Drop)]
+struct Pages {
+    /// One plan.
+    entry: String,
+    /// Those that are written by one call.
+    all: String,
+}
 
 /// Writes the plans that wait into their file until the array is to end and none waits any more. Each is checked before, and one that the check
 /// refuses is not written. It blocks its thread.
@@ -29,11 +38,17 @@ pub fn write_plans<R: Networked, L: Ledger, M: Map + Drop>(
     file: PlanFile,
 ) {
     let mut file = file;
+    let mut used = Vec::new(rt.alloc());
+    let mut pages = Pages {
+        entry: String::new(rt.alloc()),
+        all: String::new(rt.alloc()),
+    };
     for _ in rt.forever() {
         let is_last = shared.stopped(rt);
-        let taken = take(rt, shared);
+        let taken = change(rt, shared, &mut used);
         if !taken.is_empty() {
-            write(rt, counts, &mut file, taken);
+            let written = print(rt.alloc(), counts, &mut pages, taken, &mut used);
+            write(rt, counts, &mut file, pages.all.as_bytes(), written);
         } else if is_last {
             return;
         } else {
@@ -42,23 +57,23 @@ pub fn write_plans<R: Networked, L: Ledger, M: Map + Drop>(
     }
 }
 
-/// Writes these plans.
-fn write<R: Networked>(rt: &R, counts: &PlanFileCounts, file: &mut PlanFile, taken: Vec<PlanNote>) {
-    let (text, written) = text_of(rt.alloc(), counts, taken);
-    if file.add(rt, text.as_bytes()) {
-        counts.note_written(written);
-    } else {
-        counts.note_failed(written);
-    }
-}
-
-/// Takes some of the plans that wait.
-fn take<R: Networked, L: Ledger, M: Map + Drop>(rt: &R, shared: &Shared<L, M>) -> Vec<PlanNote> {
+/// Gives used plans back, and takes some of those that wait.
+fn change<R: Networked, L: Ledger, M: Map + Drop>(
+    rt: &R,
+    shared: &Shared<L, M>,
+    used: &mut Vec<PlanNote>,
+) -> Vec<PlanNote> {
     let mut taken = Vec::new(rt.alloc());
     if taken.reserve(PLANS_A_HOLD).is_err() {
         return taken;
     }
     let mut held = shared.lock(rt);
+    for _ in 0..PLANS_A_HOLD {
+        let Some(note) = used.pop() else {
+            break;
+        };
+        held.give_back_note(note);
+    }
     for _ in 0..PLANS_A_HOLD {
         let Some(note) = held.take_plan() else {
             break;
@@ -68,41 +83,63 @@ fn take<R: Networked, L: Ledger, M: Map + Drop>(rt: &R, shared: &Shared<L, M>) -
     taken
 }
 
-/// The logged plans of these, as far as each is accepted and fits, and how many they are. The others are counted.
-fn text_of(global: Global, counts: &PlanFileCounts, taken: Vec<PlanNote>) -> (String, u64) {
-    let mut text = String::new(global);
-    let mut written = 0u64;
+/// Writes the text of so many plans.
+fn write<R: Networked>(
+    rt: &R,
+    counts: &PlanFileCounts,
+    file: &mut PlanFile,
+    text: &[u8],
+    written: u64,
+) {
+    if file.add(rt, text) {
+        counts.note_written(written);
+    } else {
+        counts.note_failed(written);
+    }
+}
+
+/// Prints these plans, as far as each is accepted and fits, and answers how many they are. The others are counted. Those that are used come to the
+/// used ones.
+fn print(
+    global: Global,
+    counts: &PlanFileCounts,
+    pages: &mut Pages,
+    taken: Vec<PlanNote>,
+    used: &mut Vec<PlanNote>,
+) -> u64 {
+    pages.all.clear();
+    let mut printed = 0u64;
     for note in taken {
-        match add_to(global, &mut text, note) {
-            Ok(true) => written = written.saturating_add(1),
-            Ok(false) => counts.note_unfit(),
+        match note.checked(global) {
+            Ok(Some(entry)) => {
+                if !fits(&entry) {
+                    counts.note_unfit();
+                } else if add(global, pages, &entry).is_ok() {
+                    printed = printed.saturating_add(1);
+                } else {
+                    counts.note_failed(1);
+                }
+                let _ = used.push(entry.into_note());
+            }
+            Ok(None) => counts.note_unfit(),
             Err(_) => counts.note_failed(1),
         }
     }
-    (text, written)
+    printed
 }
 
-/// Adds the logged plan of a plan. Whether it is one that the check accepts and that fits the limits of texts. The error is out of memory, and then
-/// nothing is added.
-fn add_to(global: Global, text: &mut String, note: PlanNote) -> Result<bool, AllocError> {
-    match note.checked(global)? {
-        Some(entry) if fits(&entry) => {
-            text.push_str(&text_of_entry(global, &entry)?)?;
-            Ok(true)
-        }
-        _ => Ok(false),
-    }
-}
-
-/// The logged plan of an entry. The error is out of memory.
-fn text_of_entry(global: Global, entry: &PlanEntry) -> Result<String, AllocError> {
+/// Adds the logged plan of an entry. The error is out of memory, and then nothing is added.
+fn add(global: Global, pages: &mut Pages, entry: &PlanEntry) -> Result<(), AllocError> {
+    pages.entry.clear();
     print_logged_plan(
         global,
+        &mut pages.entry,
         &entry.batch,
         entry.runs.as_slice(),
         &entry.plan,
         &entry.shortage,
-    )
+    )?;
+    pages.all.push_str(&pages.entry)
 }
 
 /// Whether an entry fits the limits of texts.

@@ -179,6 +179,13 @@ impl<L: Ledger, M: Map + Drop, A: Allocator + Copy> Locked<L, M, A> {
         self.array.take_plan()
     }
 
+    /// A plan that was taken and that nobody wants any more comes back, and plans to come are kept in its memory. It is no event.
+    pub fn give_back_note(&mut self, note: PlanNote<A>)
+        ensures { self.new ≡ self.old }
+    {
+        self.array.give_back_note(note);
+    }
+
     /// Something has changed that others may wait for.
     pub fn note_change(&mut self)
         ensures { self.new ≡ self.old }

@@ -15,7 +15,7 @@ use Rattle.fa_types.specs.declared.numbers.Page.{Page}
 use Rattle.fa_texts.specs.BatchText.{page_line}
 use Rattle.fa_texts.specs.CertificateText.{short_lines}
 use Rattle.fa_io.specs.Lines.{lines_of}
-use Rattle.fa_texts.specs.Text.{words_of, words_by_line, PrintsLines}
+use Rattle.fa_texts.specs.Text.{IsWord, words_of, words_by_line, PrintsLines}
 
 -- keys that rise are a list that rises
 pub rises_by : {X : Type 0} (key : X → ℕ) (xs : List X) → IsNonDecreasingBy key xs → IsNonDecreasing (map key xs)
@@ -26,10 +26,6 @@ rises_by key (x ∷ xs) rise = λ i j d le below.
     let high = get_or-map key (x ∷ xs) j x d (omega (arith, below, size)) in
     let up = rise i j x le (omega (arith, below, size)) in
     omega (arith, low, high, up)
-
--- a word has no space and no line feed
-abbrev pub IsWord : List ℕ → Type 0
-IsWord word = All (λ b. 32 < b) word
 
 -- a given word is one by a test
 pub is_word : (word : List ℕ) → list_all (λ b. nat_lt 32 b) word ≡ true → IsWord word
@@ -133,6 +129,21 @@ prints_behind {old} {mid} {new} {lines} {last} one next = record {
 pub prints_line : (old : List ℕ) {new : List ℕ} (word : List ℕ) (words : List (List ℕ)) → new ≡ old ++ (word ++ ended words) → IsWord word → All IsWord words
     → PrintsLines old new ((word ∷ words) ∷ [])
 prints_line old word words is one rest = record { text = word ++ ended words; behind = is; spelled = line_printed word words one rest }
+
+-- a word was added to a text, then three more, each behind a space, and the end of their line
+pub spaced_three : (old word a b d : List ℕ) {one two three four new : List ℕ} → one ≡ old ++ word → two ≡ one ++ 32 ∷ a → three ≡ two ++ 32 ∷ b
+    → four ≡ three ++ 32 ∷ d → new ≡ four ++ 10 ∷ [] → new ≡ old ++ (word ++ ended (a ∷ b ∷ d ∷ []))
+spaced_three old word a b d is_one is_two is_three is_four is_new =
+    is_new ∙ ap (λ v. v ++ 10 ∷ []) (is_four ∙ ap (λ v. v ++ 32 ∷ d) (is_three ∙ ap (λ v. v ++ 32 ∷ b) (is_two ∙ ap (λ v. v ++ 32 ∷ a) is_one)))
+    ∙ ap (λ v. ((v ++ 32 ∷ b) ++ 32 ∷ d) ++ 10 ∷ []) (append_assoc old word (32 ∷ a))
+    ∙ ap (λ v. (v ++ 32 ∷ d) ++ 10 ∷ []) (append_assoc old (word ++ 32 ∷ a) (32 ∷ b))
+    ∙ ap (λ v. v ++ 10 ∷ []) (append_assoc old ((word ++ 32 ∷ a) ++ 32 ∷ b) (32 ∷ d))
+    ∙ append_assoc old (((word ++ 32 ∷ a) ++ 32 ∷ b) ++ 32 ∷ d) (10 ∷ [])
+    ∙ ap (λ v. old ++ v)
+    (ap (λ v. ((v ++ 32 ∷ d) ++ 10 ∷ [])) (append_assoc word (32 ∷ a) (32 ∷ b)) ∙ ap (λ v. v ++ 10 ∷ []) (append_assoc word (32 ∷ (a ++ 32 ∷ b)) (32 ∷ d))
+    ∙ append_assoc word (32 ∷ ((a ++ 32 ∷ b) ++ 32 ∷ d)) (10 ∷ [])
+    ∙ ap (λ v. word ++ 32 ∷ v) (ap (λ v. v ++ 10 ∷ []) (append_assoc a (32 ∷ b) (32 ∷ d)) ∙ append_assoc a (32 ∷ (b ++ 32 ∷ d)) (10 ∷ [])
+    ∙ ap (λ v. a ++ 32 ∷ v) (append_assoc b (32 ∷ d) (10 ∷ []))))
 
 -- the bytes of a page's line before its holders, and the whole line
 abbrev pub page_head : ℕ → List ℕ

@@ -70,6 +70,12 @@ pub record IsPrinted (rounds : ℕ) (places : List Place) (pages : List Page) (o
   pub pages_rise : IsNonDecreasing (map (λ p. p.0) short)
   pub spelled : (more : List ℕ) → words_by_line (out ++ more) ≡ certificate_lines rounds placed short ++ words_by_line more
 
+-- The text of a plan and a shortage was printed behind an old text.
+pub record PrintsCertificate (rounds : ℕ) (places : List Place) (pages : List Page) (old new : List ℕ) : Type 0 where
+  pub text : List ℕ
+  pub behind : new ≡ old ++ text
+  pub printed : IsPrinted rounds places pages text
+
 -- What a line behind the first says by its words, if it may stand in a certificate text at all.
 module _ {A : Type 0} where
   abbrev pub SaysOfCertificate : List (List ℕ) → CertificateLine A → Type 0

@@ -17,6 +17,13 @@ pub record IsLoggedPlanPrinted (entries : List Entry) (runs : List Run) (rounds 
   pub batch : (more : List ℕ) → words_by_line (first ++ more) ≡ batch_lines entries runs ++ words_by_line more
   pub certificate : IsPrinted rounds places pages second
 
+-- A logged plan was printed behind an old text.
+pub record PrintsLoggedPlan (entries : List Entry) (runs : List Run) (rounds : ℕ) (places : List Place) (pages : List Page)
+    (old new : List ℕ) : Type 0 where
+  pub text : List ℕ
+  pub behind : new ≡ old ++ text
+  pub printed : IsLoggedPlanPrinted entries runs rounds places pages text
+
 -- lines that are a batch text with a certificate text at once behind it, and nothing more
 pub record AreTexts (lines : List (List (List ℕ))) (entries : List Entry) (runs : List Run) (rounds : ℕ)
     (places : List Place) (pages : List Page) : Type 0 where

@@ -1,10 +1,14 @@
 -- Texts by their lines and words, and the first line that is wrong.
-use Rattle.std.specs.Prelude.{◌≡◌, ℕ, ◌+◌, ◌==◌, List, [], ◌∷◌, ◌++◌, length, map, Option, Some, None}
+use Rattle.std.specs.Prelude.{◌≡◌, ℕ, ◌+◌, ◌<◌, ◌==◌, List, [], ◌∷◌, ◌++◌, length, map, All, Option, Some, None}
 use Rattle.std.specs.List.{slice_split}
 use Rattle.std.specs.Borrow.{Bor}
 use Rattle.fa_io.specs.Lines.{lines_of}
 use Rattle.fa_texts.specs.declared.text_error.TextError.{TextError}
 use Rattle.fa_texts.specs.declared.text_error.TextError.TheVariants.{Line, NoMemory}
+
+-- a word has no space, and no line feed
+abbrev pub IsWord : List ℕ → Type 0
+IsWord word = All (λ b. 32 < b) word
 
 -- the words of a line, with one space between each and the next
 abbrev pub words_of : List ℕ → List (List ℕ)

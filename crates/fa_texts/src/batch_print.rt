@@ -1,18 +1,18 @@
 //! The printing of a batch text and of a logged plan, and which batches have a text.
-ghost use Rattle.std.specs.Prelude.{◌≤◌, ◌↔◌, [], ◌∷◌, All, IfOk, OnOk, IsTrue, map, string_bytes};
+ghost use Rattle.std.specs.Prelude.{◌≤◌, ◌↔◌, [], ◌∷◌, All, OnOk, IsTrue, map, string_bytes};
 ghost use Rattle.std.specs.List.Sorted.{IsStrictlyIncreasing};
 ghost use Rattle.fa_batch.specs.Batch.{Entry};
 ghost use Rattle.fa_texts.specs.BatchText.{HasBatchText, HasClosedLine, HasPageLine, batch_lines, closed_line, page_line};
-ghost use Rattle.fa_texts.specs.LoggedPlan.{IsLoggedPlanPrinted};
+ghost use Rattle.fa_texts.specs.LoggedPlan.{PrintsLoggedPlan};
 ghost use Rattle.fa_texts.specs.Text.{PrintsLines};
 
 use crate::batch_text::{MAX_CLOSED_ROUND, MAX_RUNS};
-use crate::certificate_text::print;
+use crate::certificate_print::print_certificate;
+use crate::line_print::{print_three, push_number};
 use crate::words::{MAX_DIE, MAX_PAGE};
 use fa_batch::{Batch, MAX_PAGES, Plan, Run, Shortage};
 use fa_types::{Die, Page};
 use std::alloc::{AllocError, Allocator};
-use std::fmt::Write;
 
 /// Whether a batch with these runs of closed rounds has a text: at most 1,024 pages up to 1,048,575, with dies up
 /// to 63 that rise, and at most 4,096 runs within the rounds 1 to 1,000,000, each with a round. Takes no memory.
@@ -25,24 +25,23 @@ pub fn has_batch_text<A: Allocator>(batch: &Batch<A>, closed: &[Run]) -> bool
         && have_closed_lines(closed)
 }
 
-/// The logged plan of a batch, as a file of plans has it: its text, with these runs of closed rounds from round 1 on, and
+/// Adds the logged plan of a batch, as a file of plans has it: its text, with these runs of closed rounds from round 1 on, and
 /// at once behind it the text of its plan and of the shortage that shows that no plan has fewer rounds. What has texts is
 /// read back from it.
 pub fn print_logged_plan<A: Allocator + Copy>(
     alloc: A,
+    out: &mut String<A>,
     batch: &Batch<A>,
     closed: &[Run],
     plan: &Plan<A>,
     shortage: &Shortage<A>,
-) -> Result<String<A>, AllocError>
-    ensures { IfOk result (λ out.
-        IsLoggedPlanPrinted batch.now closed.now plan.now.rounds plan.now.places shortage.now (string_bytes out)) }
+) -> Result<(), AllocError>
+    ensures { OnOk result (PrintsLoggedPlan batch.now closed.now plan.now.rounds plan.now.places shortage.now
+        (string_bytes out.old) (string_bytes out.new)) }
 {
-    let mut out = String::new(alloc);
-    print_batch(&mut out, batch, closed)?;
-    let certificate = print(alloc, plan, shortage)?;
-    out.push_str(certificate.as_str())?;
-    Ok(out)
+    print_batch(out, batch, closed)?;
+    print_certificate(alloc, out, plan, shortage)?;
+    Ok(())
 }
 
 /// Adds the text of a batch, with these runs of closed rounds.
@@ -79,11 +78,11 @@ fn print_page<A: Allocator>(
     ensures { let entry : Entry = record { page = page; holders = holders.now } in
         OnOk result (PrintsLines (string_bytes out.old) (string_bytes out.new) (page_line entry ∷ [])) }
 {
-    let number = page.0;
-    write!(out, "page {number} on")?;
+    out.push_str("page")?;
+    push_number(out, page.0)?;
+    out.push_str(" on")?;
     for die in holders {
-        let die = die.0;
-        write!(out, " {die}")?;
+        push_number(out, die.0.into())?;
     }
     out.push_str("\n")?;
     Ok(())
@@ -103,10 +102,8 @@ fn print_runs<A: Allocator>(out: &mut String<A>, closed: &[Run]) -> Result<(), A
 fn print_run<A: Allocator>(out: &mut String<A>, run: &Run) -> Result<(), AllocError>
     ensures { OnOk result (PrintsLines (string_bytes out.old) (string_bytes out.new) (closed_line run.now ∷ [])) }
 {
-    let die = run.die.0;
-    let first = run.first.0;
-    let last = run.last.0;
-    write!(out, "closed {die} {first} {last}\n")?;
+    let die = run.die.0.into();
+    print_three(out, "closed", die, run.first.0, run.last.0)?;
     Ok(())
 }
 

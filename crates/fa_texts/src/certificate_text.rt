@@ -1,9 +1,8 @@
 //! The text of a certificate: a plan, and the pages that show that no plan has fewer rounds.
-ghost use Rattle.std.specs.Prelude.{◌≡◌, ◌≢◌, ℕ, ◌+◌, ◌^◌, ◌<◌, ◌≤◌, ◌∷◌, ◌++◌, List, length, map, codes};
-ghost use Rattle.std.specs.Prelude.{IfOk, IfErr, OnOk, MatchOption, string_bytes};
-ghost use Rattle.std.specs.List.Sorted.{IsNonDecreasing, IsPermutation};
-ghost use Rattle.fa_texts.specs.CertificateText.{HasPlaceLine, IsCertificateText, IsPrinted, IsSomeCertificate};
-ghost use Rattle.fa_texts.specs.CertificateText.{SaysOfCertificate, place_line, rounds_line, short_lines};
+ghost use Rattle.std.specs.Prelude.{◌≡◌, ◌≢◌, ℕ, ◌+◌, ◌^◌, ◌<◌, ◌≤◌, ◌∷◌, length, map, codes};
+ghost use Rattle.std.specs.Prelude.{IfOk, IfErr, MatchOption};
+ghost use Rattle.fa_texts.specs.CertificateText.{HasPlaceLine, IsCertificateText, IsSomeCertificate};
+ghost use Rattle.fa_texts.specs.CertificateText.{SaysOfCertificate, place_line, rounds_line};
 ghost use Rattle.fa_texts.specs.Text.{IsTextError, words_by_line, words_left, words_of};
 
 use crate::text_error::TextError;
@@ -14,7 +13,6 @@ use fa_batch::{Place, Places, Plan, Shortage};
 use fa_io::cut_line;
 use fa_types::{Die, Page, Round};
 use std::alloc::{AllocError, Allocator, Global};
-use std::fmt::Write;
 
 /// The highest round, and number of rounds, of a certificate text.
 const MAX_CERTIFICATE_ROUND: u64 = 2_000_000;
@@ -162,75 +160,4 @@ fn shortage_of<A: Allocator>(alloc: A, numbers: &[u64]) -> Result<Shortage<A>, A
         shortage.push(Page(*n))?;
     }
     Ok(shortage)
-}
-
-/// The text of a plan and a shortage, its places and its pages by rising page. What has a text is read
-/// back from it.
-pub fn print<A: Allocator + Copy>(
-    alloc: A,
-    plan: &Plan<A>,
-    shortage: &Shortage<A>,
-) -> Result<String<A>, AllocError>
-    ensures { IfOk result (λ out. IsPrinted plan.now.rounds plan.now.places shortage.now (string_bytes out)) }
-{
-    let places = places_by_page(alloc, plan.places.as_slice())?;
-    let pages = rising_pages(alloc, shortage.as_slice())?;
-    let mut out = String::new(alloc);
-    let rounds = plan.rounds;
-    write!(out, "rounds {rounds}\n")?;
-    for place in places.iter() {
-        print_place(&mut out, place)?;
-    }
-    print_short(&mut out, &pages)?;
-    out.push_str("end\n")?;
-    Ok(out)
-}
-
-/// Copies of these places, by rising page.
-fn places_by_page<A: Allocator>(alloc: A, places: &[Place]) -> Result<Vec<Place, A>, AllocError>
-    ensures same { IfOk result (λ copies. IsPermutation places.now copies.items) }
-    ensures rising { IfOk result (λ copies. IsNonDecreasing (map (λ x. x.page.0) copies.items)) }
-{
-    let mut copies = Vec::from_slice(alloc, places)?;
-    copies.sort_unstable_by_key(|x| x.page.0);
-    Ok(copies)
-}
-
-/// Copies of these pages, rising.
-fn rising_pages<A: Allocator>(alloc: A, pages: &[Page]) -> Result<Vec<Page, A>, AllocError>
-    ensures same { IfOk result (λ copies. IsPermutation pages.now copies.items) }
-    ensures rising { IfOk result (λ copies. IsNonDecreasing (map (λ p. p.0) copies.items)) }
-{
-    let mut copies = Vec::from_slice(alloc, pages)?;
-    copies.sort_unstable_by_key(|p| p.0);
-    Ok(copies)
-}
-
-/// Prints the line of a place.
-fn print_place<A: Allocator>(out: &mut String<A>, place: &Place) -> Result<(), AllocError>
-    ensures { OnOk result ((line : List ℕ) × (string_bytes out.new ≡ string_bytes out.old ++ line)
-        × ((more : List ℕ) → words_by_line (line ++ more) ≡ place_line place.now ∷ words_by_line more)) }
-{
-    let page = place.page.0;
-    let die = place.die.0;
-    let round = place.round.0;
-    write!(out, "place {page} {die} {round}\n")?;
-    Ok(())
-}
-
-/// Prints the line of a shortage of these pages, if there are any.
-fn print_short<A: Allocator>(out: &mut String<A>, pages: &[Page]) -> Result<(), AllocError>
-    ensures { OnOk result ((lines : List ℕ) × (string_bytes out.new ≡ string_bytes out.old ++ lines)
-        × ((more : List ℕ) → words_by_line (lines ++ more) ≡ short_lines pages.now ++ words_by_line more)) }
-{
-    if pages.is_empty() {
-        return Ok(());
-    }
-    out.push_str("short")?;
-    for page in pages {
-        let page = page.0;
-        write!(out, " {page}")?;
-    }
-    out.push_str("\n")?;
-    Ok(())
 }

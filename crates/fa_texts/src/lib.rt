@@ -6,12 +6,15 @@
 
 mod batch_print;
 mod batch_text;
+mod certificate_print;
 mod certificate_text;
 pub mod laws;
+mod line_print;
 mod text_error;
 mod words;
 
 pub use batch_print::{has_batch_text, print_batch, print_logged_plan};
 pub use batch_text::{BatchText, read_batch};
-pub use certificate_text::{Certificate, print, read_certificate};
+pub use certificate_print::print;
+pub use certificate_text::{Certificate, read_certificate};
 pub use text_error::TextError;

@@ -1,6 +1,7 @@
 use Rattle.std.proofs.Common.{[], codes, string_bytes, refl}
 use Rattle.std.proofs.lemmas.List.Elements.{All-nil}
-use Rattle.fa_texts.proofs.Printed.{IsWord, is_word, prints_behind, prints_line}
+use Rattle.fa_texts.specs.Text.{IsWord}
+use Rattle.fa_texts.proofs.Printed.{is_word, prints_behind, prints_line}
 use Rattle.fa_texts.proofs.batch_print.print_batch.Goals as goal
 
 pub returns : goal.returns

@@ -1,6 +1,7 @@
 use Rattle.std.proofs.Common.{◌≡◌, ◌++◌, take, map, All, string_bytes}
 use Rattle.std.specs.Fmt.{decimal}
-use Rattle.fa_texts.proofs.Printed.{IsWord, page_head, spaced}
+use Rattle.fa_texts.specs.Text.{IsWord}
+use Rattle.fa_texts.proofs.Printed.{page_head, spaced}
 use Rattle.fa_texts.proofs.batch_print.print_page.Given as goal
 
 abbrev pub invariant-loop-die : goal.invariant-loop-die

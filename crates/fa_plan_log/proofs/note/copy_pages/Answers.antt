@@ -1,6 +1,6 @@
 use Rattle.std.proofs.Common.{◌≡◌, suc, ◌+◌, ◌++◌, ◌∷◌, [], ap, ◌∙◌, sym, take, arith}
 use Rattle.fa_plan_log.proofs.Copied.{copied_more}
-use Rattle.fa_plan_log.proofs.note.copy_of.Goals as goal
+use Rattle.fa_plan_log.proofs.note.copy_pages.Goals as goal
 
 pub pages-preserved : goal.pages-preserved
 pages-preserved g c =

@@ -1,7 +1,8 @@
 use Rattle.std.proofs.Common.{◌≡◌, ◌++◌, take, map, codes, All, string_bytes}
 use Rattle.std.specs.Fmt.{decimal}
-use Rattle.fa_texts.proofs.Printed.{IsWord, spaced}
-use Rattle.fa_texts.proofs.certificate_text.print_short.Given as goal
+use Rattle.fa_texts.specs.Text.{IsWord}
+use Rattle.fa_texts.proofs.Printed.{spaced}
+use Rattle.fa_texts.proofs.certificate_print.print_short.Given as goal
 
 abbrev pub invariant-loop-page : goal.invariant-loop-page
 invariant-loop-page g l =
