@@ -6,8 +6,7 @@ use fa_map_calls::Map;
 use fa_prog_clients::Networked;
 use fa_prog_host::tell;
 use fa_prog_status::Subject;
-use http_server::{Config, Connection};
-use mio::net::TcpListener;
+use mio::net::{TcpListener, TcpStream};
 use mio::{Events, Interest, Poll, Token};
 use std::alloc::Global;
 use std::hash::RandomState;
@@ -135,23 +134,29 @@ impl Visitors {
 
     /// Lets one in under this name.
     fn accept<R: LooksHost>(&mut self, rt: &R, name: usize) -> io::Result<()> {
-        let (stream, _) = self.listener.accept()?;
-        let global: Global = rt.alloc();
-        let config = Config {
-            max_body_len: 0,
-            ..Config::default()
-        };
-        let connection = Connection::new(global, self.keys, config);
-        let mut visitor = Visitor::new(stream, connection, Instant::now(rt)?);
+        let came = Instant::now(rt)?;
+        let stream = self.next_stream(name)?;
+        self.seat(rt.alloc(), name, stream, came);
+        Ok(())
+    }
+
+    /// The stream of the next one who comes, which is waited for under this name.
+    fn next_stream(&mut self, name: usize) -> io::Result<TcpStream> {
+        let (mut stream, _) = self.listener.accept()?;
         self.poll.registry().register(
-            visitor.stream(),
+            &mut stream,
             Token(name),
             Interest::READABLE | Interest::WRITABLE,
         )?;
+        Ok(stream)
+    }
+
+    /// Who came on a stream takes the place of this name.
+    fn seat(&mut self, global: Global, name: usize, stream: TcpStream, came: Instant) {
+        let keys = self.keys;
         if let Some(place) = self.present.get_mut(name) {
-            *place = Some(visitor);
+            *place = Some(Visitor::new(global, keys, stream, came));
         }
-        Ok(())
     }
 
     /// Sends those away who have stayed too long.

@@ -1,6 +1,8 @@
 //! One who looks: a connection of the second listener.
-use http_server::{Connection, Service};
+use http_server::{Config, Connection, Service};
 use mio::net::TcpStream;
+use std::alloc::Global;
+use std::hash::RandomState;
 use std::io::{self, ErrorKind, Read};
 use std::net::Shutdown;
 use std::time::{Clock, Duration, Instant};
@@ -33,32 +35,24 @@ pub(crate) struct Visitor {
 }
 
 impl Visitor {
-    /// A visitor that comes.
-    pub(crate) fn new(stream: TcpStream, connection: Connection, came: Instant) -> Visitor {
+    /// A visitor that comes, which may send no body.
+    pub(crate) fn new(
+        global: Global,
+        keys: RandomState,
+        stream: TcpStream,
+        came: Instant,
+    ) -> Visitor {
         Visitor {
             stream,
-            connection,
+            connection: Connection::new(global, keys, config()),
             came,
             is_answered: false,
         }
     }
 
-    /// Its socket, for whoever waits for it.
-    pub(crate) fn stream(&mut self) -> &mut TcpStream {
-        &mut self.stream
-    }
-
     /// Whether it has stayed too long, where a place is left for others, or none is.
     pub(crate) fn is_late<R: Clock>(&self, rt: &R, has_room: bool) -> bool {
-        let limit = if has_room {
-            STAY_MILLISECONDS
-        } else {
-            HURRY_MILLISECONDS
-        };
-        match self.came.elapsed(rt) {
-            Ok(stayed) => stayed >= Duration::from_millis(limit),
-            Err(_) => true,
-        }
+        is_late(rt, self.came, has_room)
     }
 
     /// Reads what it says, answers it, and sends what it takes, and waits for nothing.
@@ -77,21 +71,59 @@ impl Visitor {
 
     /// Reads or writes once. Whether there may be more to do. The error is the system's, as where there is nothing to read yet.
     fn step<S: Service>(&mut self, service: &mut S) -> io::Result<bool> {
-        let mut stream = &self.stream;
         if self.is_answered {
-            let mut dropped = [0u8; 4096];
-            return Ok(stream.read(&mut dropped)? > 0);
+            return skip(&self.stream);
         }
         self.connection.advance(service);
         if self.connection.wants_write() {
-            return Ok(self.connection.write_to(&mut stream)? > 0);
+            return send(&mut self.connection, &self.stream);
         }
         if self.connection.is_done() {
             self.is_answered = true;
             self.stream.shutdown(Shutdown::Write)?;
             return Ok(true);
         }
-        self.connection.read_from(&mut stream)?;
-        Ok(true)
+        receive(&mut self.connection, &self.stream)
+    }
+}
+
+/// How visitors are heard: they may send no body.
+fn config() -> Config {
+    Config {
+        max_body_len: 0,
+        ..Config::default()
+    }
+}
+
+/// Sends what a connection has to say, as far as its stream takes it. Whether it took anything.
+fn send(connection: &mut Connection, stream: &TcpStream) -> io::Result<bool> {
+    let mut stream = stream;
+    Ok(connection.write_to(&mut stream)? > 0)
+}
+
+/// Reads what a connection is told.
+fn receive(connection: &mut Connection, stream: &TcpStream) -> io::Result<bool> {
+    let mut stream = stream;
+    connection.read_from(&mut stream)?;
+    Ok(true)
+}
+
+/// Reads from a stream, and drops it. Whether there was anything.
+fn skip(stream: &TcpStream) -> io::Result<bool> {
+    let mut stream = stream;
+    let mut dropped = [0u8; 4096];
+    Ok(stream.read(&mut dropped)? > 0)
+}
+
+/// Whether who came then has stayed too long, where a place is left for others, or none is.
+fn is_late<R: Clock>(rt: &R, came: Instant, has_room: bool) -> bool {
+    let limit = if has_room {
+        STAY_MILLISECONDS
+    } else {
+        HURRY_MILLISECONDS
+    };
+    match came.elapsed(rt) {
+        Ok(stayed) => stayed >= Duration::from_millis(limit),
+        Err(_) => true,
     }
 }

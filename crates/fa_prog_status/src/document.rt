@@ -4,35 +4,52 @@ use crate::rates::{Rates, Sample};
 use crate::status::{DieState, DieStatus, Status};
 use fa_prog_counts::{COMMANDS, ERRORS};
 use fa_shared::{Cause, Fault};
-use serde::Serialize;
+use serde::{Described, Serialize, Serializer};
 use std::alloc::{AllocError, Global};
+
+/// Numbers, each behind its name: an object of its own, or members of the one around it.
+#[derive(Drop)]
+struct Numbers<const N: usize> {
+    names: &'static [&'static str],
+    values: [u64; N],
+}
+
+impl<const N: usize> Described for Numbers<N> {}
+
+impl<const N: usize> Serialize for Numbers<N> {
+    fn serialize<S: Serializer>(&self, out: &mut S) -> Result<(), S::Error> {
+        out.begin_map(Some(N))?;
+        for place in 0..N {
+            if let Some(name) = self.names.get(place) {
+                out.key(name)?;
+                out.u64(self.values[place])?;
+            }
+        }
+        out.end_map()
+    }
+}
 
 /// The document.
 #[derive(Drop, Serialize)]
 struct Document<'a> {
-    dies: u64,
-    live: u64,
-    spare: u64,
-    epoch: u64,
+    #[serde(flatten)]
+    dies: Numbers<4>,
     clean: bool,
-    written: u64,
-    thin: u64,
+    #[serde(flatten)]
+    pages: Numbers<2>,
     table: Vec<DieRow<'a>>,
-    out: u64,
-    missing: u64,
-    behind: u64,
-    round: u64,
-    lost: u64,
-    lost_ranges: Vec<RangeRow>,
+    #[serde(flatten)]
+    faulty: Numbers<5>,
+    lost_ranges: Vec<Numbers<2>>,
     lost_more: bool,
-    copies: CopiesRow,
+    copies: Numbers<2>,
     plans: PlansRow,
-    clients: u64,
-    clients_total: u64,
+    #[serde(flatten)]
+    clients: Numbers<2>,
     requests: Vec<RequestRow>,
-    errors: Vec<ErrorRow>,
+    errors: Vec<Numbers<2>>,
     faults: Vec<FaultRow>,
-    seconds: Vec<SecondRow>,
+    seconds: Vec<Numbers<4>>,
 }
 
 /// A row of the table of dies.
@@ -47,62 +64,25 @@ struct DieRow<'a> {
     current: Option<u64>,
     stale: Option<u64>,
     behind: bool,
-    reads: u64,
-    programs: u64,
-    moves: u64,
-    erases: u64,
-    headers: u64,
-    syncs: u64,
+    #[serde(flatten)]
+    calls: Numbers<6>,
     slow_milliseconds: Option<u64>,
 }
 
-/// Lost pages from one on, up to another.
-#[derive(Drop, Serialize)]
-struct RangeRow {
-    first: u64,
-    last: u64,
-}
-
-/// Copies that there could be, and those that there are.
-#[derive(Drop, Serialize)]
-struct CopiesRow {
-    wanted: u64,
-    made: u64,
-}
-
-/// What the plans of batches came to.
+/// What the plans of batches came to, and what became of those that were to be written into a file.
 #[derive(Drop, Serialize)]
 struct PlansRow {
-    batches: u64,
-    pages: u64,
-    rounds: u64,
-    naive_rounds: u64,
-    file: PlanFileRow,
-}
-
-/// What became of the plans that were to be written into a file.
-#[derive(Drop, Serialize)]
-struct PlanFileRow {
-    written: u64,
-    dropped: u64,
-    unfit: u64,
-    failed: u64,
+    #[serde(flatten)]
+    counts: Numbers<4>,
+    file: Numbers<4>,
 }
 
 /// The requests of a command.
 #[derive(Drop, Serialize)]
 struct RequestRow {
     command: &'static str,
-    requests: u64,
-    bytes: u64,
-    nanoseconds: u64,
-}
-
-/// Requests that were answered with an error.
-#[derive(Drop, Serialize)]
-struct ErrorRow {
-    error: u32,
-    requests: u64,
+    #[serde(flatten)]
+    counts: Numbers<3>,
 }
 
 /// A fault that took a die out.
@@ -113,15 +93,6 @@ struct FaultRow {
     words: String,
     round: u64,
     advice: &'static str,
-}
-
-/// What was asked for in a second.
-#[derive(Drop, Serialize)]
-struct SecondRow {
-    reads: u64,
-    writes: u64,
-    read_bytes: u64,
-    written_bytes: u64,
 }
 
 /// What is to be done where a die went out.
@@ -156,44 +127,73 @@ fn document_of<'a>(
     let faults = faults_of(global, status.faults.as_slice())?;
     let seconds = seconds_of(global, rates.kept(global)?)?;
     Ok(Document {
-        dies: status.dies.len() as u64,
-        live: status.dies_in(DieState::Live),
-        spare: status.dies_in(DieState::Spare),
-        epoch: status.epoch,
+        dies: dies_of(status),
         clean: false,
-        written: census.pages.written,
-        thin: census.pages.thin,
+        pages: Numbers {
+            names: &["written", "thin"],
+            values: [census.pages.written, census.pages.thin],
+        },
         table,
-        out: status.dies_in(DieState::Out),
-        missing: status.dies_in(DieState::Missing),
-        behind: status.dies_behind(),
-        round: status.round,
-        lost: census.pages.lost,
+        faulty: faulty_of(status, census.pages.lost),
         lost_ranges,
         lost_more: census.has_more,
-        copies: CopiesRow {
-            wanted: census.pages.wanted,
-            made: census.pages.made,
+        copies: Numbers {
+            names: &["wanted", "made"],
+            values: [census.pages.wanted, census.pages.made],
         },
-        plans: PlansRow {
-            batches: status.plans.batches,
-            pages: status.plans.pages,
-            rounds: status.plans.rounds,
-            naive_rounds: status.plans.naive_rounds,
-            file: PlanFileRow {
-                written: status.plan_file.written,
-                dropped: status.plan_file.dropped,
-                unfit: status.plan_file.unfit,
-                failed: status.plan_file.failed,
-            },
+        plans: plans_of(status),
+        clients: Numbers {
+            names: &["clients", "clients_total"],
+            values: [status.clients, status.totals.clients],
         },
-        clients: status.clients,
-        clients_total: status.totals.clients,
         requests,
         errors,
         faults,
         seconds,
     })
+}
+
+/// How many dies there are, how many of them are in use and spares, and the epoch.
+fn dies_of(status: &Status<'_>) -> Numbers<4> {
+    Numbers {
+        names: &["dies", "live", "spare", "epoch"],
+        values: [
+            status.dies.len() as u64,
+            status.dies_in(DieState::Live),
+            status.dies_in(DieState::Spare),
+            status.epoch,
+        ],
+    }
+}
+
+/// How many dies are out, have no image or a header of another epoch, the round, and how many pages are lost.
+fn faulty_of(status: &Status<'_>, lost: u64) -> Numbers<5> {
+    Numbers {
+        names: &["out", "missing", "behind", "round", "lost"],
+        values: [
+            status.dies_in(DieState::Out),
+            status.dies_in(DieState::Missing),
+            status.dies_behind(),
+            status.round,
+            lost,
+        ],
+    }
+}
+
+/// What the plans came to.
+fn plans_of(status: &Status<'_>) -> PlansRow {
+    let plans = status.plans;
+    let file = status.plan_file;
+    PlansRow {
+        counts: Numbers {
+            names: &["batches", "pages", "rounds", "naive_rounds"],
+            values: [plans.batches, plans.pages, plans.rounds, plans.naive_rounds],
+        },
+        file: Numbers {
+            names: &["written", "dropped", "unfit", "failed"],
+            values: [file.written, file.dropped, file.unfit, file.failed],
+        },
+    }
 }
 
 /// The rows of the dies.
@@ -220,23 +220,21 @@ fn row_of(die: DieStatus<'_>, epoch: u64) -> DieRow<'_> {
         current: slots.map(|slots: SlotCounts| slots.current),
         stale: slots.map(|slots: SlotCounts| slots.stale),
         behind: die.is_behind,
-        reads,
-        programs,
-        moves,
-        erases,
-        headers,
-        syncs,
+        calls: Numbers {
+            names: &["reads", "programs", "moves", "erases", "headers", "syncs"],
+            values: [reads, programs, moves, erases, headers, syncs],
+        },
         slow_milliseconds: die.slow,
     }
 }
 
-/// The rows of the ranges of lost pages.
-fn ranges_of(global: Global, ranges: &[Range]) -> Result<Vec<RangeRow>, AllocError> {
+/// The ranges of lost pages.
+fn ranges_of(global: Global, ranges: &[Range]) -> Result<Vec<Numbers<2>>, AllocError> {
     let mut rows = Vec::with_capacity(global, ranges.len())?;
     for range in ranges {
-        rows.push(RangeRow {
-            first: range.first,
-            last: range.last,
+        rows.push(Numbers {
+            names: &["first", "last"],
+            values: [range.first, range.last],
         })?;
     }
     Ok(rows)
@@ -249,21 +247,24 @@ fn requests_of(global: Global, status: &Status<'_>) -> Result<Vec<RequestRow>, A
         let found = status.totals.of(command);
         rows.push(RequestRow {
             command: command.name(),
-            requests: found.requests,
-            bytes: found.bytes,
-            nanoseconds: found.nanoseconds,
+            counts: Numbers {
+                names: &["requests", "bytes", "nanoseconds"],
+                values: [found.requests, found.bytes, found.nanoseconds],
+            },
         })?;
     }
     Ok(rows)
 }
 
-/// The rows of the errors.
-fn errors_of(global: Global, status: &Status<'_>) -> Result<Vec<ErrorRow>, AllocError> {
+/// The errors, with how many requests were answered with each.
+fn errors_of(global: Global, status: &Status<'_>) -> Result<Vec<Numbers<2>>, AllocError> {
     let mut rows = Vec::with_capacity(global, ERRORS.len())?;
     for place in 0..ERRORS.len() {
-        rows.push(ErrorRow {
-            error: ERRORS[place],
-            requests: status.totals.errors[place],
+        let error = u64::from(ERRORS[place]);
+        let requests = status.totals.errors[place];
+        rows.push(Numbers {
+            names: &["error", "requests"],
+            values: [error, requests],
         })?;
     }
     Ok(rows)
@@ -296,15 +297,18 @@ pub(crate) fn words_of(global: Global, cause: Cause) -> Result<String, AllocErro
     }
 }
 
-/// The rows of the last seconds.
-fn seconds_of(global: Global, samples: Vec<Sample>) -> Result<Vec<SecondRow>, AllocError> {
+/// What was asked for in each of the last seconds.
+fn seconds_of(global: Global, samples: Vec<Sample>) -> Result<Vec<Numbers<4>>, AllocError> {
     let mut rows = Vec::with_capacity(global, samples.len())?;
     for sample in samples {
-        rows.push(SecondRow {
-            reads: sample.reads,
-            writes: sample.writes,
-            read_bytes: sample.read_bytes,
-            written_bytes: sample.written_bytes,
+        rows.push(Numbers {
+            names: &["reads", "writes", "read_bytes", "written_bytes"],
+            values: [
+                sample.reads,
+                sample.writes,
+                sample.read_bytes,
+                sample.written_bytes,
+            ],
         })?;
     }
     Ok(rows)
