@@ -52,14 +52,15 @@ impl Looker {
             self.sampled = Some(now);
             return;
         };
-        if now.duration_since(sampled) < Duration::from_secs(SAMPLE_SECONDS) {
+        let second = Duration::from_secs(SAMPLE_SECONDS);
+        if now.duration_since(sampled) < second {
             return;
         }
         self.rates.note(&subject.counts.totals());
-        self.sampled = sampled
-            .checked_add(Duration::from_secs(SAMPLE_SECONDS))
-            .filter(|next| now.duration_since(*next) < Duration::from_secs(SAMPLE_SECONDS))
-            .or(Some(now));
+        self.sampled = match sampled.checked_add(second) {
+            Some(next) if now.duration_since(next) < second => Some(next),
+            _ => Some(now),
+        };
     }
 }
 

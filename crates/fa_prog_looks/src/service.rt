@@ -29,7 +29,7 @@ impl<T: Texts> Service for Answering<'_, T> {
         response.add_header(header::CONTENT_TYPE, type_of(answer))?;
         response.add_header(header::CACHE_CONTROL, HeaderValue::from_static("no-store"))?;
         response.add_header(header::CONNECTION, HeaderValue::from_static("close"))?;
-        if answer == Answer::NoMethod {
+        if matches!(answer, Answer::NoMethod) {
             response.add_header(header::ALLOW, HeaderValue::from_static("GET, HEAD"))?;
         }
         let text = self.texts.text(answer)?;

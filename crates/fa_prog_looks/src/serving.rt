@@ -113,7 +113,7 @@ impl Visitors {
             Some(visitor) => visitor.attend(service),
             None => Turn::Stays,
         };
-        if turn == Turn::Leaves {
+        if matches!(turn, Turn::Leaves) {
             *place = None;
         }
     }

@@ -16,7 +16,7 @@ const HURRY_MILLISECONDS: u64 = 500;
 const MAX_STEPS: u32 = 64;
 
 /// Whether a visitor stays.
-#[derive(Clone, Copy, Debug, PartialEq, Eq)]
+#[derive(Clone, Copy)]
 pub(crate) enum Turn {
     /// More is to come.
     Stays,

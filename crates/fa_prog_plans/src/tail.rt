@@ -10,7 +10,7 @@ const MIDDLE: &[u8] = b"\nend\nrounds ";
 const LAST_LINE: &[u8] = b"\nend\n";
 
 /// How a file of plans ends.
-#[derive(Clone, Copy, Debug, PartialEq, Eq)]
+#[derive(Clone, Copy)]
 pub(crate) enum End {
     /// It ends with an entry, or has none.
     Whole,

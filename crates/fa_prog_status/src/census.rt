@@ -20,7 +20,7 @@ const MAX_RANGES: usize = 10_000;
 const REST: u32 = 100;
 
 /// How many pages there are of each sort.
-#[derive(Clone, Copy, Debug, PartialEq, Eq)]
+#[derive(Clone, Copy)]
 pub struct PageCounts {
     /// Pages that were ever written.
     pub written: u64,
@@ -60,7 +60,7 @@ impl PageCounts {
 }
 
 /// How many slots of a die are in each state.
-#[derive(Clone, Copy, Debug, PartialEq, Eq)]
+#[derive(Clone, Copy)]
 pub struct SlotCounts {
     /// Erased slots.
     pub erased: u64,
@@ -71,7 +71,7 @@ pub struct SlotCounts {
 }
 
 /// Pages from one on, up to another.
-#[derive(Clone, Copy, Debug, PartialEq, Eq)]
+#[derive(Clone, Copy)]
 pub struct Range {
     /// The first.
     pub first: u64,

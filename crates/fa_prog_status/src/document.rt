@@ -1,5 +1,5 @@
 //! What `/status.json` tells.
-use crate::census::{Census, Range, SlotCounts};
+use crate::census::Census;
 use crate::rates::{Rates, Sample};
 use crate::status::{DieState, DieStatus, Status};
 use fa_prog_counts::{COMMANDS, ERRORS};
@@ -7,96 +7,20 @@ use fa_shared::{Cause, Fault};
 use serde::{Described, Serialize, Serializer};
 use std::alloc::{AllocError, Global};
 
-/// Numbers, each behind its name: an object of its own, or members of the one around it.
-#[derive(Drop)]
-struct Numbers<const N: usize> {
-    names: &'static [&'static str],
-    values: [u64; N],
-}
-
-impl<const N: usize> Described for Numbers<N> {}
-
-impl<const N: usize> Serialize for Numbers<N> {
-    fn serialize<S: Serializer>(&self, out: &mut S) -> Result<(), S::Error> {
-        out.begin_map(Some(N))?;
-        for place in 0..N {
-            if let Some(name) = self.names.get(place) {
-                out.key(name)?;
-                out.u64(self.values[place])?;
-            }
-        }
-        out.end_map()
-    }
-}
-
-/// The document.
-#[derive(Drop, Serialize)]
-struct Document<'a> {
-    #[serde(flatten)]
-    dies: Numbers<4>,
-    clean: bool,
-    #[serde(flatten)]
-    pages: Numbers<2>,
-    table: Vec<DieRow<'a>>,
-    #[serde(flatten)]
-    faulty: Numbers<5>,
-    lost_ranges: Vec<Numbers<2>>,
-    lost_more: bool,
-    copies: Numbers<2>,
-    plans: PlansRow,
-    #[serde(flatten)]
-    clients: Numbers<2>,
-    requests: Vec<RequestRow>,
-    errors: Vec<Numbers<2>>,
-    faults: Vec<FaultRow>,
-    seconds: Vec<Numbers<4>>,
-}
-
-/// A row of the table of dies.
-#[derive(Drop, Serialize)]
-struct DieRow<'a> {
-    die: u8,
-    path: Option<&'a str>,
-    state: &'static str,
-    epoch: Option<u64>,
-    clean: Option<bool>,
-    erased: Option<u64>,
-    current: Option<u64>,
-    stale: Option<u64>,
-    behind: bool,
-    #[serde(flatten)]
-    calls: Numbers<6>,
-    slow_milliseconds: Option<u64>,
-}
-
-/// What the plans of batches came to, and what became of those that were to be written into a file.
-#[derive(Drop, Serialize)]
-struct PlansRow {
-    #[serde(flatten)]
-    counts: Numbers<4>,
-    file: Numbers<4>,
-}
-
-/// The requests of a command.
-#[derive(Drop, Serialize)]
-struct RequestRow {
-    command: &'static str,
-    #[serde(flatten)]
-    counts: Numbers<3>,
-}
-
-/// A fault that took a die out.
-#[derive(Drop, Serialize)]
-struct FaultRow {
-    die: u8,
-    cause: u8,
-    words: String,
-    round: u64,
-    advice: &'static str,
-}
-
 /// What is to be done where a die went out.
 pub(crate) const ADVICE: &str = "replace it";
+
+/// What a slot with wrong bytes is in words.
+const WRONG_SLOT: &str = "a slot has other bytes than were written";
+
+/// The document of an array. It borrows what it tells.
+#[derive(Drop)]
+struct Document<'a> {
+    status: &'a Status<'a>,
+    census: &'a Census,
+    /// What was asked for in each of the last seconds.
+    seconds: &'a [Sample],
+}
 
 /// The document of an array, on a line of its own. The error is out of memory.
 pub fn document_text(
@@ -105,7 +29,12 @@ pub fn document_text(
     census: &Census,
     rates: &Rates,
 ) -> Result<String, AllocError> {
-    let document = document_of(global, status, census, rates)?;
+    let seconds = rates.kept(global)?;
+    let document = Document {
+        status,
+        census,
+        seconds: seconds.as_slice(),
+    };
     let Ok(mut text) = serde_json::to_string(global, &document) else {
         return Err(AllocError);
     };
@@ -113,203 +42,265 @@ pub fn document_text(
     Ok(text)
 }
 
-/// The document of an array.
-fn document_of<'a>(
-    global: Global,
-    status: &Status<'a>,
-    census: &Census,
-    rates: &Rates,
-) -> Result<Document<'a>, AllocError> {
-    let table = rows_of(global, status)?;
-    let lost_ranges = ranges_of(global, census.lost.as_slice())?;
-    let requests = requests_of(global, status)?;
-    let errors = errors_of(global, status)?;
-    let faults = faults_of(global, status.faults.as_slice())?;
-    let seconds = seconds_of(global, rates.kept(global)?)?;
-    Ok(Document {
-        dies: dies_of(status),
-        clean: false,
-        pages: Numbers {
-            names: &["written", "thin"],
-            values: [census.pages.written, census.pages.thin],
-        },
-        table,
-        faulty: faulty_of(status, census.pages.lost),
-        lost_ranges,
-        lost_more: census.has_more,
-        copies: Numbers {
-            names: &["wanted", "made"],
-            values: [census.pages.wanted, census.pages.made],
-        },
-        plans: plans_of(status),
-        clients: Numbers {
-            names: &["clients", "clients_total"],
-            values: [status.clients, status.totals.clients],
-        },
-        requests,
-        errors,
-        faults,
-        seconds,
-    })
+impl Described for Document<'_> {}
+
+impl Serialize for Document<'_> {
+    fn serialize<S: Serializer>(&self, out: &mut S) -> Result<(), S::Error> {
+        out.begin_map(None)?;
+        put_dies(out, self.status, self.census)?;
+        put_faulty(out, self.status, self.census)?;
+        put_lost(out, self.census)?;
+        put_plans(out, self.status)?;
+        put_requests(out, self.status)?;
+        put_faults(out, self.status.faults.as_slice())?;
+        put_seconds(out, self.seconds)?;
+        out.end_map()
+    }
 }
 
-/// How many dies there are, how many of them are in use and spares, and the epoch.
-fn dies_of(status: &Status<'_>) -> Numbers<4> {
-    Numbers {
-        names: &["dies", "live", "spare", "epoch"],
-        values: [
-            status.dies.len() as u64,
-            status.dies_in(DieState::Live),
-            status.dies_in(DieState::Spare),
-            status.epoch,
-        ],
+/// Numbers behind their names, as members of the object around them.
+fn put_numbers<S: Serializer>(out: &mut S, numbers: &[(&str, u64)]) -> Result<(), S::Error> {
+    for (name, number) in numbers {
+        out.key(name)?;
+        out.u64(*number)?;
     }
+    Ok(())
+}
+
+/// An object of numbers behind their names.
+fn put_object<S: Serializer>(out: &mut S, numbers: &[(&str, u64)]) -> Result<(), S::Error> {
+    out.begin_map(Some(numbers.len()))?;
+    put_numbers(out, numbers)?;
+    out.end_map()
+}
+
+/// A member that is a number, or null.
+fn put_option<S: Serializer>(out: &mut S, name: &str, number: Option<u64>) -> Result<(), S::Error> {
+    out.key(name)?;
+    match number {
+        Some(number) => out.u64(number),
+        None => out.unit(),
+    }
+}
+
+/// A member that is a text.
+fn put_text<S: Serializer>(out: &mut S, name: &str, text: &str) -> Result<(), S::Error> {
+    out.key(name)?;
+    out.str(text)
+}
+
+/// A member that is true or false.
+fn put_flag<S: Serializer>(out: &mut S, name: &str, flag: bool) -> Result<(), S::Error> {
+    out.key(name)?;
+    out.bool(flag)
+}
+
+/// A member that is a list begins.
+fn begin_list<S: Serializer>(out: &mut S, name: &str, count: usize) -> Result<(), S::Error> {
+    out.key(name)?;
+    out.begin_seq(Some(count))
+}
+
+/// How many dies there are, how many of them are in use and spares, the epoch, the pages that were written, and the table of the dies.
+fn put_dies<S: Serializer>(
+    out: &mut S,
+    status: &Status<'_>,
+    census: &Census,
+) -> Result<(), S::Error> {
+    let dies = [
+        ("dies", status.dies.len() as u64),
+        ("live", status.dies_in(DieState::Live)),
+        ("spare", status.dies_in(DieState::Spare)),
+        ("epoch", status.epoch),
+    ];
+    put_numbers(out, &dies)?;
+    put_flag(out, "clean", false)?;
+    let pages = [
+        ("written", census.pages.written),
+        ("thin", census.pages.thin),
+    ];
+    put_numbers(out, &pages)?;
+    begin_list(out, "table", status.dies.len())?;
+    for die in &status.dies {
+        put_die(out, die, status.epoch)?;
+    }
+    out.end_seq()
+}
+
+/// The row of a die, of an array of this epoch.
+fn put_die<S: Serializer>(out: &mut S, die: &DieStatus<'_>, epoch: u64) -> Result<(), S::Error> {
+    out.begin_map(None)?;
+    put_numbers(out, &[("die", u64::from(die.die.0))])?;
+    out.key("path")?;
+    match die.path {
+        Some(path) => out.str(path)?,
+        None => out.unit()?,
+    }
+    put_text(out, "state", die.state.name())?;
+    put_header(out, die, epoch)?;
+    put_slots(out, die)?;
+    put_flag(out, "behind", die.is_behind)?;
+    let [reads, programs, moves, erases, headers, syncs] = die.calls;
+    let calls = [
+        ("reads", reads),
+        ("programs", programs),
+        ("moves", moves),
+        ("erases", erases),
+        ("headers", headers),
+        ("syncs", syncs),
+    ];
+    put_numbers(out, &calls)?;
+    put_option(out, "slow_milliseconds", die.slow)?;
+    out.end_map()
+}
+
+/// What a die's header tells. It is known alone of one that was written in this epoch.
+fn put_header<S: Serializer>(out: &mut S, die: &DieStatus<'_>, epoch: u64) -> Result<(), S::Error> {
+    let is_known = die.state == DieState::Live && !die.is_behind;
+    if is_known {
+        put_numbers(out, &[("epoch", epoch)])?;
+        put_flag(out, "clean", false)
+    } else {
+        put_option(out, "epoch", None)?;
+        put_option(out, "clean", None)
+    }
+}
+
+/// How many slots of a die are in each state, where they are counted.
+fn put_slots<S: Serializer>(out: &mut S, die: &DieStatus<'_>) -> Result<(), S::Error> {
+    let (erased, current, stale) = match die.slots {
+        Some(slots) => (Some(slots.erased), Some(slots.current), Some(slots.stale)),
+        None => (None, None, None),
+    };
+    put_option(out, "erased", erased)?;
+    put_option(out, "current", current)?;
+    put_option(out, "stale", stale)
 }
 
 /// How many dies are out, have no image or a header of another epoch, the round, and how many pages are lost.
-fn faulty_of(status: &Status<'_>, lost: u64) -> Numbers<5> {
-    Numbers {
-        names: &["out", "missing", "behind", "round", "lost"],
-        values: [
-            status.dies_in(DieState::Out),
-            status.dies_in(DieState::Missing),
-            status.dies_behind(),
-            status.round,
-            lost,
-        ],
-    }
+fn put_faulty<S: Serializer>(
+    out: &mut S,
+    status: &Status<'_>,
+    census: &Census,
+) -> Result<(), S::Error> {
+    let faulty = [
+        ("out", status.dies_in(DieState::Out)),
+        ("missing", status.dies_in(DieState::Missing)),
+        ("behind", status.dies_behind()),
+        ("round", status.round),
+        ("lost", census.pages.lost),
+    ];
+    put_numbers(out, &faulty)
 }
 
-/// What the plans came to.
-fn plans_of(status: &Status<'_>) -> PlansRow {
+/// Which pages are lost, and how many copies there could be and are.
+fn put_lost<S: Serializer>(out: &mut S, census: &Census) -> Result<(), S::Error> {
+    begin_list(out, "lost_ranges", census.lost.len())?;
+    for range in &census.lost {
+        put_object(out, &[("first", range.first), ("last", range.last)])?;
+    }
+    out.end_seq()?;
+    put_flag(out, "lost_more", census.has_more)?;
+    out.key("copies")?;
+    put_object(
+        out,
+        &[("wanted", census.pages.wanted), ("made", census.pages.made)],
+    )
+}
+
+/// What the plans of batches came to, and what became of those that were to be written into a file.
+fn put_plans<S: Serializer>(out: &mut S, status: &Status<'_>) -> Result<(), S::Error> {
+    out.key("plans")?;
+    out.begin_map(None)?;
     let plans = status.plans;
-    let file = status.plan_file;
-    PlansRow {
-        counts: Numbers {
-            names: &["batches", "pages", "rounds", "naive_rounds"],
-            values: [plans.batches, plans.pages, plans.rounds, plans.naive_rounds],
-        },
-        file: Numbers {
-            names: &["written", "dropped", "unfit", "failed"],
-            values: [file.written, file.dropped, file.unfit, file.failed],
-        },
-    }
+    let numbers = [
+        ("batches", plans.batches),
+        ("pages", plans.pages),
+        ("rounds", plans.rounds),
+        ("naive_rounds", plans.naive_rounds),
+    ];
+    put_numbers(out, &numbers)?;
+    out.key("file")?;
+    put_object(out, &status.plan_file)?;
+    out.end_map()
 }
 
-/// The rows of the dies.
-fn rows_of<'a>(global: Global, status: &Status<'a>) -> Result<Vec<DieRow<'a>>, AllocError> {
-    let mut rows = Vec::with_capacity(global, status.dies.len())?;
-    for die in &status.dies {
-        rows.push(row_of(*die, status.epoch))?;
-    }
-    Ok(rows)
-}
-
-/// The row of a die, of an array of this epoch. Of its header that alone is known which was written in this epoch.
-fn row_of(die: DieStatus<'_>, epoch: u64) -> DieRow<'_> {
-    let is_known = die.state == DieState::Live && !die.is_behind;
-    let slots = die.slots;
-    let [reads, programs, moves, erases, headers, syncs] = die.calls;
-    DieRow {
-        die: die.die.0,
-        path: die.path,
-        state: die.state.name(),
-        epoch: if is_known { Some(epoch) } else { None },
-        clean: if is_known { Some(false) } else { None },
-        erased: slots.map(|slots: SlotCounts| slots.erased),
-        current: slots.map(|slots: SlotCounts| slots.current),
-        stale: slots.map(|slots: SlotCounts| slots.stale),
-        behind: die.is_behind,
-        calls: Numbers {
-            names: &["reads", "programs", "moves", "erases", "headers", "syncs"],
-            values: [reads, programs, moves, erases, headers, syncs],
-        },
-        slow_milliseconds: die.slow,
-    }
-}
-
-/// The ranges of lost pages.
-fn ranges_of(global: Global, ranges: &[Range]) -> Result<Vec<Numbers<2>>, AllocError> {
-    let mut rows = Vec::with_capacity(global, ranges.len())?;
-    for range in ranges {
-        rows.push(Numbers {
-            names: &["first", "last"],
-            values: [range.first, range.last],
-        })?;
-    }
-    Ok(rows)
-}
-
-/// The rows of the commands.
-fn requests_of(global: Global, status: &Status<'_>) -> Result<Vec<RequestRow>, AllocError> {
-    let mut rows = Vec::with_capacity(global, COMMANDS.len())?;
+/// The clients, their requests by command, and the errors, with how many requests were answered with each.
+fn put_requests<S: Serializer>(out: &mut S, status: &Status<'_>) -> Result<(), S::Error> {
+    let clients = [
+        ("clients", status.clients),
+        ("clients_total", status.totals.clients),
+    ];
+    put_numbers(out, &clients)?;
+    begin_list(out, "requests", COMMANDS.len())?;
     for command in COMMANDS {
         let found = status.totals.of(command);
-        rows.push(RequestRow {
-            command: command.name(),
-            counts: Numbers {
-                names: &["requests", "bytes", "nanoseconds"],
-                values: [found.requests, found.bytes, found.nanoseconds],
-            },
-        })?;
+        out.begin_map(None)?;
+        put_text(out, "command", command.name())?;
+        let counts = [
+            ("requests", found.requests),
+            ("bytes", found.bytes),
+            ("nanoseconds", found.nanoseconds),
+        ];
+        put_numbers(out, &counts)?;
+        out.end_map()?;
     }
-    Ok(rows)
-}
-
-/// The errors, with how many requests were answered with each.
-fn errors_of(global: Global, status: &Status<'_>) -> Result<Vec<Numbers<2>>, AllocError> {
-    let mut rows = Vec::with_capacity(global, ERRORS.len())?;
+    out.end_seq()?;
+    begin_list(out, "errors", ERRORS.len())?;
     for place in 0..ERRORS.len() {
         let error = u64::from(ERRORS[place]);
         let requests = status.totals.errors[place];
-        rows.push(Numbers {
-            names: &["error", "requests"],
-            values: [error, requests],
-        })?;
+        put_object(out, &[("error", error), ("requests", requests)])?;
     }
-    Ok(rows)
+    out.end_seq()
 }
 
-/// The rows of the faults.
-fn faults_of(global: Global, faults: &[Fault]) -> Result<Vec<FaultRow>, AllocError> {
-    let mut rows = Vec::with_capacity(global, faults.len())?;
+/// The faults that took dies out.
+fn put_faults<S: Serializer>(out: &mut S, faults: &[Fault]) -> Result<(), S::Error> {
+    begin_list(out, "faults", faults.len())?;
     for fault in faults {
-        rows.push(FaultRow {
-            die: fault.die.0,
-            cause: fault.cause.number(),
-            words: words_of(global, fault.cause)?,
-            round: fault.round.0,
-            advice: ADVICE,
-        })?;
+        put_fault(out, *fault)?;
     }
-    Ok(rows)
+    out.end_seq()
+}
+
+/// The row of a fault.
+fn put_fault<S: Serializer>(out: &mut S, fault: Fault) -> Result<(), S::Error> {
+    out.begin_map(None)?;
+    let numbers = [
+        ("die", u64::from(fault.die.0)),
+        ("cause", u64::from(fault.cause.number())),
+    ];
+    put_numbers(out, &numbers)?;
+    out.key("words")?;
+    match fault.cause {
+        Cause::Image(fault) => out.collect_str(&fault)?,
+        Cause::Wrong => out.str(WRONG_SLOT)?,
+    }
+    put_numbers(out, &[("round", fault.round.0)])?;
+    put_text(out, "advice", ADVICE)?;
+    out.end_map()
+}
+
+/// What was asked for in each of the last seconds.
+fn put_seconds<S: Serializer>(out: &mut S, seconds: &[Sample]) -> Result<(), S::Error> {
+    begin_list(out, "seconds", seconds.len())?;
+    for sample in seconds {
+        let numbers = [
+            ("reads", sample.reads),
+            ("writes", sample.writes),
+            ("read_bytes", sample.read_bytes),
+            ("written_bytes", sample.written_bytes),
+        ];
+        put_object(out, &numbers)?;
+    }
+    out.end_seq()
 }
 
 /// A cause in words. The error is out of memory.
 pub(crate) fn words_of(global: Global, cause: Cause) -> Result<String, AllocError> {
     match cause {
         Cause::Image(fault) => fault.to_string(global),
-        Cause::Wrong => {
-            let mut words = String::new(global);
-            words.push_str("a slot has other bytes than were written")?;
-            Ok(words)
-        }
+        Cause::Wrong => WRONG_SLOT.to_string(global),
     }
-}
-
-/// What was asked for in each of the last seconds.
-fn seconds_of(global: Global, samples: Vec<Sample>) -> Result<Vec<Numbers<4>>, AllocError> {
-    let mut rows = Vec::with_capacity(global, samples.len())?;
-    for sample in samples {
-        rows.push(Numbers {
-            names: &["reads", "writes", "read_bytes", "written_bytes"],
-            values: [
-                sample.reads,
-                sample.writes,
-                sample.read_bytes,
-                sample.written_bytes,
-            ],
-        })?;
-    }
-    Ok(rows)
 }

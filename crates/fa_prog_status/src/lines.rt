@@ -17,25 +17,9 @@ pub fn lines_text(
     census: &Census,
     rates: &Rates,
 ) -> Result<String, AllocError> {
+    let last = last_of(global, rates)?;
     let mut out = String::new(global);
-    push_dies(&mut out, status)?;
-    push_pages(&mut out, census)?;
-    push_plans(&mut out, status)?;
-    push_load(&mut out, status, last_of(global, rates)?)?;
-    for die in &status.dies {
-        push_die(&mut out, die)?;
-    }
-    for range in &census.lost {
-        push_pairs(
-            &mut out,
-            "lost",
-            &[("from", range.first), ("to", range.last)],
-        )?;
-    }
-    let told = status.faults.len().saturating_sub(TOLD_FAULTS);
-    for fault in status.faults.get(told..).unwrap_or(&[]) {
-        push_fault(global, &mut out, *fault)?;
-    }
+    push_lines(global, &mut out, status, census, last)?;
     Ok(out)
 }
 
@@ -43,6 +27,31 @@ pub fn lines_text(
 fn last_of(global: Global, rates: &Rates) -> Result<Sample, AllocError> {
     let kept = rates.kept(global)?;
     Ok(kept.last().copied().unwrap_or(Sample::NONE))
+}
+
+/// Adds the lines of an array that had this last second.
+fn push_lines(
+    global: Global,
+    out: &mut String,
+    status: &Status<'_>,
+    census: &Census,
+    last: Sample,
+) -> Result<(), AllocError> {
+    push_dies(out, status)?;
+    push_pages(out, census)?;
+    push_plans(out, status)?;
+    push_load(out, status, last)?;
+    for die in &status.dies {
+        push_die(out, die)?;
+    }
+    for range in &census.lost {
+        push_pairs(out, "lost", &[("from", range.first), ("to", range.last)])?;
+    }
+    let told = status.faults.len().saturating_sub(TOLD_FAULTS);
+    for fault in status.faults.get(told..).unwrap_or(&[]) {
+        push_fault(global, out, *fault)?;
+    }
+    Ok(())
 }
 
 /// Adds how many dies stand how, the epoch and the round.
@@ -62,82 +71,59 @@ fn push_dies(out: &mut String, status: &Status<'_>) -> Result<(), AllocError> {
 /// Adds how many pages there are of each sort, and the copies that are still to be made.
 fn push_pages(out: &mut String, census: &Census) -> Result<(), AllocError> {
     let pages = census.pages;
-    push_pairs(
-        out,
-        "",
-        &[
-            ("written", pages.written),
-            ("thin", pages.thin),
-            ("lost", pages.lost),
-        ],
-    )?;
-    push_pairs(
-        out,
-        "copies",
-        &[
-            ("made", pages.made),
-            ("to make", pages.wanted.saturating_sub(pages.made)),
-        ],
-    )
+    let written = [
+        ("written", pages.written),
+        ("thin", pages.thin),
+        ("lost", pages.lost),
+    ];
+    push_pairs(out, "", &written)?;
+    let left = pages.wanted.saturating_sub(pages.made);
+    push_pairs(out, "copies", &[("made", pages.made), ("to make", left)])
 }
 
 /// Adds what the plans of batches came to.
 fn push_plans(out: &mut String, status: &Status<'_>) -> Result<(), AllocError> {
     let plans = status.plans;
-    push_pairs(
-        out,
-        "plans",
-        &[
-            ("batches", plans.batches),
-            ("pages", plans.pages),
-            ("rounds", plans.rounds),
-            ("naive", plans.naive_rounds),
-        ],
-    )?;
-    let file = status.plan_file;
-    push_pairs(
-        out,
-        "plan file",
-        &[
-            ("written", file.written),
-            ("dropped", file.dropped),
-            ("unfit", file.unfit),
-            ("failed", file.failed),
-        ],
-    )
+    let numbers = [
+        ("batches", plans.batches),
+        ("pages", plans.pages),
+        ("rounds", plans.rounds),
+        ("naive", plans.naive_rounds),
+    ];
+    push_pairs(out, "plans", &numbers)?;
+    push_pairs(out, "plan file", &status.plan_file)
 }
 
 /// Adds how many clients there are, and what they asked for in the last second.
 fn push_load(out: &mut String, status: &Status<'_>, last: Sample) -> Result<(), AllocError> {
     push_pairs(out, "", &[("clients", status.clients)])?;
-    push_pairs(
-        out,
-        "last second",
-        &[
-            ("reads", last.reads),
-            ("writes", last.writes),
-            ("bytes read", last.read_bytes),
-            ("bytes written", last.written_bytes),
-        ],
-    )
+    let load = [
+        ("reads", last.reads),
+        ("writes", last.writes),
+        ("bytes read", last.read_bytes),
+        ("bytes written", last.written_bytes),
+    ];
+    push_pairs(out, "last second", &load)
 }
 
 /// Adds a die.
 fn push_die(out: &mut String, die: &DieStatus<'_>) -> Result<(), AllocError> {
-    out.push_str("die ")?;
-    push_number(out, u64::from(die.die.0))?;
+    push_after(out, "die", u64::from(die.die.0))?;
     out.push(' ')?;
     out.push_str(die.state.name())?;
     if die.is_behind {
         out.push_str(" behind")?;
     }
     if let Some(slots) = die.slots {
-        push_after(out, "erased", slots.erased)?;
-        push_after(out, "current", slots.current)?;
-        push_after(out, "stale", slots.stale)?;
+        let counts = [
+            ("erased", slots.erased),
+            ("current", slots.current),
+            ("stale", slots.stale),
+        ];
+        push_all_after(out, &counts)?;
     }
     if let Some(milliseconds) = die.slow {
-        push_after(out, "call for milliseconds", milliseconds)?;
+        push_all_after(out, &[("call for milliseconds", milliseconds)])?;
     }
     if let Some(path) = die.path {
         out.push(' ')?;
@@ -148,12 +134,20 @@ fn push_die(out: &mut String, die: &DieStatus<'_>) -> Result<(), AllocError> {
 
 /// Adds a fault.
 fn push_fault(global: Global, out: &mut String, fault: Fault) -> Result<(), AllocError> {
-    out.push_str("fault die ")?;
-    push_number(out, u64::from(fault.die.0))?;
-    push_after(out, "cause", u64::from(fault.cause.number()))?;
-    push_after(out, "round", fault.round.0)?;
+    let words = words_of(global, fault.cause)?;
+    let numbers = [
+        ("cause", u64::from(fault.cause.number())),
+        ("round", fault.round.0),
+    ];
+    push_after(out, "fault die", u64::from(fault.die.0))?;
+    push_all_after(out, &numbers)?;
+    push_reason(out, &words)
+}
+
+/// Ends a line with why a die went out, and what is to be done.
+fn push_reason(out: &mut String, words: &str) -> Result<(), AllocError> {
     out.push_str(": ")?;
-    out.push_str(&words_of(global, fault.cause)?)?;
+    out.push_str(words)?;
     out.push_str("; ")?;
     out.push_str(ADVICE)?;
     out.push('\n')
@@ -166,16 +160,22 @@ fn push_pairs(out: &mut String, word: &str, pairs: &[(&str, u64)]) -> Result<(),
         if !out.is_empty() && !out.ends_with('\n') {
             out.push(' ')?;
         }
-        out.push_str(name)?;
-        out.push(' ')?;
-        push_number(out, *number)?;
+        push_after(out, name, *number)?;
     }
     out.push('\n')
 }
 
+/// Adds numbers behind their names, with a space before each.
+fn push_all_after(out: &mut String, pairs: &[(&str, u64)]) -> Result<(), AllocError> {
+    for (name, number) in pairs {
+        out.push(' ')?;
+        push_after(out, name, *number)?;
+    }
+    Ok(())
+}
+
 /// Adds a number behind its name.
 fn push_after(out: &mut String, name: &str, number: u64) -> Result<(), AllocError> {
-    out.push(' ')?;
     out.push_str(name)?;
     out.push(' ')?;
     push_number(out, number)

@@ -18,65 +18,112 @@ pub fn metrics_text(
     census: &Census,
 ) -> Result<String, AllocError> {
     let mut out = String::new(global);
-    push_dies(&mut out, status)?;
-    push_pages(&mut out, census)?;
-    push_slots(&mut out, status)?;
-    push_calls(&mut out, status)?;
-    push_plans(&mut out, status)?;
-    push_clients(&mut out, status)?;
-    push_requests(&mut out, status)?;
-    push_latencies(&mut out, status)?;
+    push_metrics(&mut out, status, census)?;
     Ok(out)
 }
 
-/// Adds how many dies stand how, and the rounds and epochs.
-fn push_dies(out: &mut String, status: &Status<'_>) -> Result<(), AllocError> {
+/// Adds the metrics of an array.
+fn push_metrics(out: &mut String, status: &Status<'_>, census: &Census) -> Result<(), AllocError> {
+    push_array(out, status)?;
+    push_plans(out, status)?;
+    push_dies(out, status)?;
+    push_pages(out, census)?;
+    push_slots(out, status)?;
+    push_calls(out, status)?;
+    push_errors(out, status)?;
+    push_requests(out, status)?;
+    push_latencies(out, status)
+}
+
+/// Adds the epoch, the rounds and the clients.
+fn push_array(out: &mut String, status: &Status<'_>) -> Result<(), AllocError> {
+    let clients = "Clients that are served.";
+    let clients_total = "Clients that have come.";
+    let epoch = "How often the live dies have changed.";
+    let rounds = "Rounds that have passed since the start.";
+    let passed = status.round.saturating_sub(1);
+    push_all(
+        out,
+        &[
+            ("flasharr_epoch", "gauge", epoch, status.epoch),
+            ("flasharr_rounds_total", "counter", rounds, passed),
+            ("flasharr_clients", "gauge", clients, status.clients),
+            (
+                "flasharr_clients_total",
+                "counter",
+                clients_total,
+                status.totals.clients,
+            ),
+        ],
+    )
+}
+
+/// Adds what the plans of batches came to, and what became of those that were to be written into a file.
+fn push_plans(out: &mut String, status: &Status<'_>) -> Result<(), AllocError> {
+    let plans = status.plans;
+    let batches = "Batches of reads that were planned.";
+    let pages = "Their pages.";
+    let rounds = "The rounds that their plans take.";
+    let naive =
+        "The rounds that they would have taken, had each page been read from its first holder.";
+    let kind = "counter";
+    push_all(
+        out,
+        &[
+            (
+                "flasharr_planned_batches_total",
+                kind,
+                batches,
+                plans.batches,
+            ),
+            ("flasharr_planned_pages_total", kind, pages, plans.pages),
+            ("flasharr_planned_rounds_total", kind, rounds, plans.rounds),
+            (
+                "flasharr_naive_rounds_total",
+                kind,
+                naive,
+                plans.naive_rounds,
+            ),
+        ],
+    )?;
+    let name = "flasharr_plan_file_total";
     push_head(
         out,
-        "flasharr_dies",
+        name,
+        kind,
+        "Plans that were to be written into a file, by what became of them.",
+    )?;
+    push_by_words(out, name, "end", &status.plan_file)
+}
+
+/// Adds how many dies stand how.
+fn push_dies(out: &mut String, status: &Status<'_>) -> Result<(), AllocError> {
+    let name = "flasharr_dies";
+    push_head(
+        out,
+        name,
         "gauge",
         "Dies by how they stand; one that is behind is live too.",
     )?;
-    for state in [
-        DieState::Live,
-        DieState::Out,
-        DieState::Spare,
-        DieState::Missing,
-    ] {
-        push_by_word(
-            out,
-            "flasharr_dies",
-            "state",
-            state.name(),
-            status.dies_in(state),
-        )?;
-    }
-    push_by_word(
-        out,
-        "flasharr_dies",
-        "state",
-        "behind",
-        status.dies_behind(),
-    )?;
-    push_one(
-        out,
-        "flasharr_epoch",
-        "gauge",
-        "How often the live dies have changed.",
-        status.epoch,
-    )?;
-    push_one(
-        out,
-        "flasharr_rounds_total",
-        "counter",
-        "Rounds that have passed since the start.",
-        status.round.saturating_sub(1),
-    )
+    let dies = [
+        ("live", status.dies_in(DieState::Live)),
+        ("out", status.dies_in(DieState::Out)),
+        ("spare", status.dies_in(DieState::Spare)),
+        ("missing", status.dies_in(DieState::Missing)),
+        ("behind", status.dies_behind()),
+    ];
+    push_by_words(out, name, "state", &dies)
 }
 
 /// Adds how many pages and copies there are of each sort.
 fn push_pages(out: &mut String, census: &Census) -> Result<(), AllocError> {
-    let pages = census.pages;
+    let counts = census.pages;
+    let pages = [
+        ("written", counts.written),
+        ("thin", counts.thin),
+        ("lost", counts.lost),
+    ];
+    let copies = [("wanted", counts.wanted), ("made", counts.made)];
     let name = "flasharr_pages";
     push_head(
         out,
@@ -84,9 +131,7 @@ fn push_pages(out: &mut String, census: &Census) -> Result<(), AllocError> {
         "gauge",
         "Pages that were written, that have too few copies, and that have none.",
     )?;
-    push_by_word(out, name, "state", "written", pages.written)?;
-    push_by_word(out, name, "state", "thin", pages.thin)?;
-    push_by_word(out, name, "state", "lost", pages.lost)?;
+    push_by_words(out, name, "state", &pages)?;
     let name = "flasharr_copies";
     push_head(
         out,
@@ -94,8 +139,7 @@ fn push_pages(out: &mut String, census: &Census) -> Result<(), AllocError> {
         "gauge",
         "Copies that the pages could have that are not lost, and those that they have.",
     )?;
-    push_by_word(out, name, "state", "wanted", pages.wanted)?;
-    push_by_word(out, name, "state", "made", pages.made)
+    push_by_words(out, name, "state", &copies)
 }
 
 /// Adds how many slots of each die are in each state.
@@ -116,16 +160,15 @@ fn push_slots(out: &mut String, status: &Status<'_>) -> Result<(), AllocError> {
 
 /// Adds the slots of a die.
 fn push_die_slots(out: &mut String, die: u8, slots: SlotCounts) -> Result<(), AllocError> {
-    push_by_die(out, "flasharr_slots", die, "state", "erased", slots.erased)?;
-    push_by_die(
-        out,
-        "flasharr_slots",
-        die,
-        "state",
-        "current",
-        slots.current,
-    )?;
-    push_by_die(out, "flasharr_slots", die, "state", "stale", slots.stale)
+    let counts = [
+        ("erased", slots.erased),
+        ("current", slots.current),
+        ("stale", slots.stale),
+    ];
+    for (state, count) in counts {
+        push_by_die(out, "flasharr_slots", die, "state", state, count)?;
+    }
+    Ok(())
 }
 
 /// Adds the calls of each die's image.
@@ -177,72 +220,8 @@ fn push_slow(out: &mut String, die: u8, milliseconds: u64) -> Result<(), AllocEr
     out.push('\n')
 }
 
-/// Adds what the plans of batches came to.
-fn push_plans(out: &mut String, status: &Status<'_>) -> Result<(), AllocError> {
-    let plans = status.plans;
-    push_one(
-        out,
-        "flasharr_planned_batches_total",
-        "counter",
-        "Batches of reads that were planned.",
-        plans.batches,
-    )?;
-    push_one(
-        out,
-        "flasharr_planned_pages_total",
-        "counter",
-        "Their pages.",
-        plans.pages,
-    )?;
-    push_one(
-        out,
-        "flasharr_planned_rounds_total",
-        "counter",
-        "The rounds that their plans take.",
-        plans.rounds,
-    )?;
-    push_one(
-        out,
-        "flasharr_naive_rounds_total",
-        "counter",
-        "The rounds that they would have taken, had each page been read from its first holder.",
-        plans.naive_rounds,
-    )?;
-    push_plan_file(out, status)
-}
-
-/// Adds what became of the plans that were to be written into a file.
-fn push_plan_file(out: &mut String, status: &Status<'_>) -> Result<(), AllocError> {
-    let name = "flasharr_plan_file_total";
-    let file = status.plan_file;
-    push_head(
-        out,
-        name,
-        "counter",
-        "Plans that were to be written into a file, by what became of them.",
-    )?;
-    push_by_word(out, name, "end", "written", file.written)?;
-    push_by_word(out, name, "end", "dropped", file.dropped)?;
-    push_by_word(out, name, "end", "unfit", file.unfit)?;
-    push_by_word(out, name, "end", "failed", file.failed)
-}
-
-/// Adds the clients, and the errors that they were answered.
-fn push_clients(out: &mut String, status: &Status<'_>) -> Result<(), AllocError> {
-    push_one(
-        out,
-        "flasharr_clients",
-        "gauge",
-        "Clients that are served.",
-        status.clients,
-    )?;
-    push_one(
-        out,
-        "flasharr_clients_total",
-        "counter",
-        "Clients that have come.",
-        status.totals.clients,
-    )?;
+/// Adds the errors that requests were answered with.
+fn push_errors(out: &mut String, status: &Status<'_>) -> Result<(), AllocError> {
     let name = "flasharr_errors_total";
     push_head(
         out,
@@ -254,9 +233,7 @@ fn push_clients(out: &mut String, status: &Status<'_>) -> Result<(), AllocError>
         out.push_str(name)?;
         out.push('{')?;
         push_number_label(out, "error", u64::from(ERRORS[place]))?;
-        out.push_str("} ")?;
-        push_number(out, status.totals.errors[place])?;
-        out.push('\n')?;
+        push_value(out, status.totals.errors[place])?;
     }
     Ok(())
 }
@@ -303,13 +280,14 @@ fn push_histogram(
     command: Command,
     found: &RequestTotals,
 ) -> Result<(), AllocError> {
+    let name = command.name();
     let mut count = 0u64;
     for place in 0..BUCKETS {
         count = count.saturating_add(found.buckets[place]);
-        push_bucket(out, command, place, count)?;
+        push_bucket(out, name, place, count)?;
     }
     out.push_str("flasharr_request_seconds_sum{")?;
-    push_word_label(out, "command", command.name())?;
+    push_word_label(out, "command", name)?;
     out.push_str("} ")?;
     push_seconds(out, found.nanoseconds)?;
     out.push('\n')?;
@@ -317,20 +295,20 @@ fn push_histogram(
         out,
         "flasharr_request_seconds_count",
         "command",
-        command.name(),
+        name,
         count,
     )
 }
 
-/// Adds a bucket.
+/// Adds a bucket of the requests of a command.
 fn push_bucket(
     out: &mut String,
-    command: Command,
+    command: &str,
     place: usize,
     count: u64,
 ) -> Result<(), AllocError> {
     out.push_str("flasharr_request_seconds_bucket{")?;
-    push_word_label(out, "command", command.name())?;
+    push_word_label(out, "command", command)?;
     out.push_str(",le=\"")?;
     if place < BUCKETS - 1 {
         push_seconds(out, bound_of(place))?;
@@ -340,6 +318,14 @@ fn push_bucket(
     out.push_str("\"} ")?;
     push_number(out, count)?;
     out.push('\n')
+}
+
+/// Adds metrics with one sample each: name, kind, help and value.
+fn push_all(out: &mut String, metrics: &[(&str, &str, &str, u64)]) -> Result<(), AllocError> {
+    for (name, kind, help, value) in metrics {
+        push_one(out, name, kind, help, *value)?;
+    }
+    Ok(())
 }
 
 /// Adds a metric with one sample.
@@ -359,6 +345,19 @@ fn push_one(
     out.push('\n')
 }
 
+/// Adds samples with a label.
+fn push_by_words(
+    out: &mut String,
+    name: &str,
+    label: &str,
+    samples: &[(&str, u64)],
+) -> Result<(), AllocError> {
+    for (word, value) in samples {
+        push_by_word(out, name, label, word, *value)?;
+    }
+    Ok(())
+}
+
 /// Adds a sample with a label.
 fn push_by_word(
     out: &mut String,
@@ -370,9 +369,7 @@ fn push_by_word(
     out.push_str(name)?;
     out.push('{')?;
     push_word_label(out, label, word)?;
-    out.push_str("} ")?;
-    push_number(out, value)?;
-    out.push('\n')
+    push_value(out, value)
 }
 
 /// Adds a sample of a die, with a label besides.
@@ -389,6 +386,11 @@ fn push_by_die(
     push_number_label(out, "die", u64::from(die))?;
     out.push(',')?;
     push_word_label(out, label, word)?;
+    push_value(out, value)
+}
+
+/// Ends the labels of a sample, and adds its value.
+fn push_value(out: &mut String, value: u64) -> Result<(), AllocError> {
     out.push_str("} ")?;
     push_number(out, value)?;
     out.push('\n')

@@ -7,7 +7,7 @@ use std::alloc::{AllocError, Global};
 pub const MAX_SECONDS: usize = 300;
 
 /// What was asked for in a second.
-#[derive(Clone, Copy, Debug, PartialEq, Eq)]
+#[derive(Clone, Copy)]
 pub struct Sample {
     /// READs.
     pub reads: u64,
