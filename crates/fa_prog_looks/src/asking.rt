@@ -5,7 +5,7 @@ ghost use Rattle.fa_prog_looks.specs.Asking.{TellsOnce, TellsStatus, shown_byte}
 use fa_prog_clients::Networked;
 use fa_prog_host::printing::{DONE, REFUSED, print};
 use fa_prog_host::tell;
-use std::alloc::Global;
+use std::alloc::{AllocError, Global};
 use std::io::{self, ErrorKind, Read, Write};
 use std::net::TcpStream;
 use std::thread;
@@ -80,34 +80,45 @@ fn tell_once<R: Networked, W: Write>(rt: &R, address: &str, before: &[u8], outpu
 /// What is printed of the answer of the server at an address, behind these bytes. The error is the system's, or tells that the answer is none.
 fn answer_at<R: Networked>(rt: &R, address: &str, before: &[u8]) -> io::Result<Vec<u8>> {
     let mut stream = TcpStream::connect(rt, address)?;
+    let mut answer = Vec::new(rt.alloc());
+    hear(&mut stream, &mut answer)?;
+    printed_of(rt.alloc(), &answer, before)
+}
+
+/// Asks a server, and hears all that it says until it ends the connection. More than a limit is an error.
+fn hear(stream: &mut TcpStream, answer: &mut Vec<u8>) -> io::Result<()> {
     let limit = Some(Duration::from_secs(ANSWER_SECONDS));
     stream.set_read_timeout(limit)?;
     stream.set_write_timeout(limit)?;
     stream.write_all(REQUEST)?;
-    let answer = read_all(rt.alloc(), &mut stream)?;
-    let Some(text) = text_in(&answer) else {
-        return Err(io::Error::from(ErrorKind::InvalidData));
-    };
-    let mut printed = Vec::with_capacity(rt.alloc(), before.len().saturating_add(text.len()))?;
-    printed.extend_from_slice(before)?;
-    for byte in text {
-        printed.push(shown(*byte))?;
-    }
-    Ok(printed)
-}
-
-/// All that a server says until it ends the connection. More than a limit is an error.
-fn read_all(global: Global, stream: &mut TcpStream) -> io::Result<Vec<u8>> {
-    let mut answer = Vec::new(global);
     let mut buffer = [0u8; 4096];
     for _ in 0..MAX_READS {
         let count = stream.read(&mut buffer)?;
         if count == 0 {
-            return Ok(answer);
+            return Ok(());
         }
         answer.extend_from_slice(buffer.get(..count).unwrap_or(&[]))?;
     }
     Err(io::Error::from(ErrorKind::InvalidData))
+}
+
+/// What is printed of an answer, behind these bytes. The error is out of memory, or tells that the answer is none.
+fn printed_of(global: Global, answer: &[u8], before: &[u8]) -> io::Result<Vec<u8>> {
+    let Some(text) = text_in(answer) else {
+        return Err(io::Error::from(ErrorKind::InvalidData));
+    };
+    let mut printed = Vec::with_capacity(global, before.len().saturating_add(text.len()))?;
+    push_shown(&mut printed, before, text)?;
+    Ok(printed)
+}
+
+/// Adds these bytes as they are, and a text as a terminal is shown it.
+fn push_shown(out: &mut Vec<u8>, before: &[u8], text: &[u8]) -> Result<(), AllocError> {
+    out.extend_from_slice(before)?;
+    for byte in text {
+        out.push(shown(*byte))?;
+    }
+    Ok(())
 }
 
 /// The text of an answer with status 200: what stands behind the first empty line.

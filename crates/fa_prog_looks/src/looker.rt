@@ -31,9 +31,10 @@ pub struct Looker {
 impl Looker {
     /// One that has not looked yet. The error is out of memory.
     pub fn new(global: Global) -> Result<Looker, AllocError> {
+        let rates = Rates::new(global)?;
         Ok(Looker {
             census: Census::new(global),
-            rates: Rates::new(global)?,
+            rates,
             sampled: None,
         })
     }
@@ -61,6 +62,23 @@ impl Looker {
             Some(next) if now.duration_since(next) < second => Some(next),
             _ => Some(now),
         };
+    }
+
+    /// The text of a look at the array.
+    fn look<R: Networked, L: Ledger, M: Map + Drop>(
+        &mut self,
+        rt: &R,
+        subject: &Subject<'_, L, M>,
+        answer: Answer,
+    ) -> Result<String, AllocError> {
+        let global: Global = rt.alloc();
+        self.census.renew(rt, subject.shared)?;
+        let status = status_of(rt, subject, &self.census)?;
+        match answer {
+            Answer::Metrics => metrics_text(global, &status, &self.census),
+            Answer::Document => document_text(global, &status, &self.census, &self.rates),
+            _ => lines_text(global, &status, &self.census, &self.rates),
+        }
     }
 }
 
@@ -108,17 +126,9 @@ impl<'a, R: Networked, L: Ledger, M: Map + Drop> Looking<'a, R, L, M> {
 
     /// The text of a look at the array.
     fn look(&self, answer: Answer) -> Result<String, AllocError> {
-        let global: Global = self.rt.alloc();
-        let Ok(mut looker) = self.looker.try_borrow_mut() else {
-            return Err(AllocError);
-        };
-        let Looker { census, rates, .. } = &mut *looker;
-        census.renew(self.rt, self.subject.shared)?;
-        let status = status_of(self.rt, &self.subject, census)?;
-        match answer {
-            Answer::Metrics => metrics_text(global, &status, census),
-            Answer::Document => document_text(global, &status, census, rates),
-            _ => lines_text(global, &status, census, rates),
+        match self.looker.try_borrow_mut() {
+            Ok(mut looker) => looker.look(self.rt, &self.subject, answer),
+            Err(_) => Err(AllocError),
         }
     }
 }

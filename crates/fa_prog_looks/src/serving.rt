@@ -8,7 +8,7 @@ use fa_prog_host::tell;
 use fa_prog_status::Subject;
 use mio::net::{TcpListener, TcpStream};
 use mio::{Events, Interest, Poll, Token};
-use std::alloc::Global;
+use std::alloc::{AllocError, Global};
 use std::hash::RandomState;
 use std::io::{self, ErrorKind};
 use std::net;
@@ -62,20 +62,14 @@ pub fn serve_looks<R: LooksHost, L: Ledger, M: Map + Drop>(
 impl Visitors {
     /// Nobody has come to the listener yet.
     fn at<R: LooksHost>(rt: &R, listener: &net::TcpListener) -> io::Result<Visitors> {
-        let listener = listener.try_clone()?;
-        listener.set_nonblocking(true)?;
-        let mut listener = TcpListener::from_std(listener);
+        let keys = RandomState::new(rt)?;
         let poll = Poll::new(rt)?;
-        poll.registry()
-            .register(&mut listener, LISTENER, Interest::READABLE)?;
-        let mut present = Vec::with_capacity(rt.alloc(), MAX_VISITORS)?;
-        for _ in 0..MAX_VISITORS {
-            present.push(None)?;
-        }
+        let listener = registered(&poll, listener)?;
+        let present = places(rt.alloc())?;
         Ok(Visitors {
             listener,
             poll,
-            keys: RandomState::new(rt)?,
+            keys,
             present,
         })
     }
@@ -172,4 +166,22 @@ impl Visitors {
             }
         }
     }
+}
+
+/// The listener, whose visitors are waited for by this poll.
+fn registered(poll: &Poll, listener: &net::TcpListener) -> io::Result<TcpListener> {
+    listener.set_nonblocking(true)?;
+    let mut listener = TcpListener::from_std(listener.try_clone()?);
+    poll.registry()
+        .register(&mut listener, LISTENER, Interest::READABLE)?;
+    Ok(listener)
+}
+
+/// A place for each visitor, and nobody there. The error is out of memory.
+fn places(global: Global) -> Result<Vec<Option<Visitor>>, AllocError> {
+    let mut places = Vec::with_capacity(global, MAX_VISITORS)?;
+    for _ in 0..MAX_VISITORS {
+        let _ = places.push(None);
+    }
+    Ok(places)
 }

@@ -57,21 +57,35 @@ pub(crate) fn tasks_of<'a, R: Networked, L: Ledger, M: Map + Drop>(
     let count = dies.len().saturating_add(plan.sessions).saturating_add(6);
     let seats = Vec::with_capacity(rt.alloc(), count)?;
     let mut tasks = Vec::with_capacity(rt.alloc(), count)?;
-    add_workers(rt, shared, dies, plan, &mut tasks)?;
-    if let Some(file) = plan_file {
-        add(&mut tasks, Task::WritePlans(file))?;
-    }
-    let workers = tasks.len();
-    add_sessions(rt, shared, plan, &mut tasks)?;
-    if plan.has_looks {
-        add(&mut tasks, Task::Look(Looker::new(rt.alloc())?))?;
-    }
-    add(&mut tasks, Task::Accept)?;
+    let workers = add_all(rt, shared, dies, plan, plan_file, &mut tasks)?;
     Ok(Tasks {
         tasks,
         workers,
         seats,
     })
+}
+
+/// Adds the tasks of all, and answers how many are of those who work for the array or watch it. It stands apart from whoever owns the tasks, so that
+/// no exit of it drops them.
+fn add_all<'a, R: Networked, L: Ledger, M: Map + Drop>(
+    rt: &R,
+    shared: &Shared<L, M>,
+    dies: &[Die],
+    plan: ThreadPlan<'a>,
+    plan_file: Option<PlanFile>,
+    tasks: &mut Vec<Task<'a, L>>,
+) -> Result<usize, AllocError> {
+    if let Some(file) = plan_file {
+        add(tasks, Task::WritePlans(file))?;
+    }
+    add_workers(rt, shared, dies, plan, tasks)?;
+    let workers = tasks.len();
+    add_sessions(rt, shared, plan, tasks)?;
+    if plan.has_looks {
+        add(tasks, Task::Look(Looker::new(rt.alloc())?))?;
+    }
+    add(tasks, Task::Accept)?;
+    Ok(workers)
 }
 
 /// Adds a task for each die, for the collector, for the rebuilder and for the watch.

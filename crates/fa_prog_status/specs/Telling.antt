@@ -19,9 +19,10 @@ sample_line name labels value = name ++ labels ++ codes " " ++ decimal value ++ 
 abbrev pub head_lines : List ℕ → List ℕ → List ℕ → List ℕ
 head_lines name kind help = codes "# HELP " ++ name ++ codes " " ++ help ++ 10 ∷ codes "# TYPE " ++ name ++ codes " " ++ kind ++ 10 ∷ []
 
--- a label by a name and a word, and by a name and a number
+-- a label by a name and a word
 abbrev pub word_label : List ℕ → List ℕ → List ℕ
 word_label name word = name ++ codes "=" ++ 34 ∷ word ++ 34 ∷ []
 
-abbrev pub number_label : List ℕ → ℕ → List ℕ
-number_label name number = name ++ codes "=" ++ 34 ∷ decimal number ++ 34 ∷ []
+-- labels as they stand behind the name of a metric
+abbrev pub braces : List ℕ → List ℕ
+braces labels = 123 ∷ labels ++ 125 ∷ []

@@ -6,6 +6,7 @@ mod document;
 mod lines;
 mod metrics;
 mod page;
+mod parts;
 mod rates;
 mod status;
 

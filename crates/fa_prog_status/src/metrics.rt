@@ -1,11 +1,13 @@
 //! What `/metrics` tells, as Prometheus reads it.
 ghost use Rattle.std.specs.Prelude.{◌≡◌, ◌++◌, [], OnOk, string_bytes};
-ghost use Rattle.fa_prog_status.specs.Telling.{head_lines, number_label, sample_line, word_label};
+ghost use Rattle.fa_prog_status.specs.Telling.{braces, head_lines, sample_line, word_label};
 
 use crate::census::{Census, SlotCounts};
+use crate::parts::{push_line, push_parts};
 use crate::status::{DieState, DieStatus, Status};
 use fa_prog_counts::{BUCKETS, CALLS, COMMANDS, Command, ERRORS, RequestTotals, bound_of};
 use fa_prog_host::printing::push_number;
+use itoa::Buffer;
 use std::alloc::{AllocError, Global};
 
 /// How many nanoseconds a second has.
@@ -160,6 +162,8 @@ fn push_slots(out: &mut String, status: &Status<'_>) -> Result<(), AllocError> {
 
 /// Adds the slots of a die.
 fn push_die_slots(out: &mut String, die: u8, slots: SlotCounts) -> Result<(), AllocError> {
+    let mut digits = Buffer::new();
+    let die = digits.format(die);
     let counts = [
         ("erased", slots.erased),
         ("current", slots.current),
@@ -198,24 +202,20 @@ fn push_calls(out: &mut String, status: &Status<'_>) -> Result<(), AllocError> {
 
 /// Adds the calls of one image.
 fn push_die_calls(out: &mut String, die: &DieStatus<'_>) -> Result<(), AllocError> {
+    let mut digits = Buffer::new();
+    let name = "flasharr_image_calls_total";
+    let number = digits.format(die.die.0);
     for place in 0..CALLS.len() {
-        push_by_die(
-            out,
-            "flasharr_image_calls_total",
-            die.die.0,
-            "call",
-            CALLS[place],
-            die.calls[place],
-        )?;
+        push_by_die(out, name, number, "call", CALLS[place], die.calls[place])?;
     }
     Ok(())
 }
 
 /// Adds for how long a call of an image has lasted.
 fn push_slow(out: &mut String, die: u8, milliseconds: u64) -> Result<(), AllocError> {
-    out.push_str("flasharr_image_call_seconds{")?;
-    push_number_label(out, "die", u64::from(die))?;
-    out.push_str("} ")?;
+    push_parts(out, &["flasharr_image_call_seconds{die=\""])?;
+    push_number(out, u64::from(die))?;
+    push_parts(out, &["\"} "])?;
     push_seconds(out, milliseconds.saturating_mul(1_000_000))?;
     out.push('\n')
 }
@@ -230,10 +230,9 @@ fn push_errors(out: &mut String, status: &Status<'_>) -> Result<(), AllocError> 
         "Requests that were answered with an error, by its number.",
     )?;
     for place in 0..ERRORS.len() {
-        out.push_str(name)?;
-        out.push('{')?;
-        push_number_label(out, "error", u64::from(ERRORS[place]))?;
-        push_value(out, status.totals.errors[place])?;
+        push_parts(out, &[name, "{error=\""])?;
+        push_number(out, u64::from(ERRORS[place]))?;
+        push_line(out, &["\"} "], status.totals.errors[place])?;
     }
     Ok(())
 }
@@ -286,9 +285,10 @@ fn push_histogram(
         count = count.saturating_add(found.buckets[place]);
         push_bucket(out, name, place, count)?;
     }
-    out.push_str("flasharr_request_seconds_sum{")?;
-    push_word_label(out, "command", name)?;
-    out.push_str("} ")?;
+    push_parts(
+        out,
+        &["flasharr_request_seconds_sum{command=\"", name, "\"} "],
+    )?;
     push_seconds(out, found.nanoseconds)?;
     out.push('\n')?;
     push_by_word(
@@ -307,17 +307,14 @@ fn push_bucket(
     place: usize,
     count: u64,
 ) -> Result<(), AllocError> {
-    out.push_str("flasharr_request_seconds_bucket{")?;
-    push_word_label(out, "command", command)?;
-    out.push_str(",le=\"")?;
+    let name = "flasharr_request_seconds_bucket{command=\"";
+    push_parts(out, &[name, command, "\",le=\""])?;
     if place < BUCKETS - 1 {
         push_seconds(out, bound_of(place))?;
     } else {
         out.push_str("+Inf")?;
     }
-    out.push_str("\"} ")?;
-    push_number(out, count)?;
-    out.push('\n')
+    push_line(out, &["\"} "], count)
 }
 
 /// Adds metrics with one sample each: name, kind, help and value.
@@ -339,10 +336,7 @@ fn push_one(
     ensures { OnOk result (string_bytes out.new ≡ string_bytes out.old ++ head_lines name.now kind.now help.now ++ sample_line name.now [] value) }
 {
     push_head(out, name, kind, help)?;
-    out.push_str(name)?;
-    out.push(' ')?;
-    push_number(out, value)?;
-    out.push('\n')
+    push_line(out, &[name, " "], value)
 }
 
 /// Adds samples with a label.
@@ -365,70 +359,47 @@ fn push_by_word(
     label: &str,
     word: &str,
     value: u64,
-) -> Result<(), AllocError> {
-    out.push_str(name)?;
-    out.push('{')?;
-    push_word_label(out, label, word)?;
-    push_value(out, value)
+) -> Result<(), AllocError>
+    ensures { OnOk result (string_bytes out.new
+        ≡ string_bytes out.old ++ sample_line name.now (braces (word_label label.now word.now)) value) }
+{
+    push_line(out, &[name, "{", label, "=\"", word, "\"} "], value)
 }
 
-/// Adds a sample of a die, with a label besides.
+/// Adds a sample of a die, which is named by its digits, with a label besides.
 fn push_by_die(
     out: &mut String,
     name: &str,
-    die: u8,
+    die: &str,
     label: &str,
     word: &str,
     value: u64,
 ) -> Result<(), AllocError> {
-    out.push_str(name)?;
-    out.push('{')?;
-    push_number_label(out, "die", u64::from(die))?;
-    out.push(',')?;
-    push_word_label(out, label, word)?;
-    push_value(out, value)
-}
-
-/// Ends the labels of a sample, and adds its value.
-fn push_value(out: &mut String, value: u64) -> Result<(), AllocError> {
-    out.push_str("} ")?;
-    push_number(out, value)?;
-    out.push('\n')
+    push_line(
+        out,
+        &[name, "{die=\"", die, "\",", label, "=\"", word, "\"} "],
+        value,
+    )
 }
 
 /// Adds what stands before the samples of a metric.
 fn push_head(out: &mut String, name: &str, kind: &str, help: &str) -> Result<(), AllocError>
     ensures { OnOk result (string_bytes out.new ≡ string_bytes out.old ++ head_lines name.now kind.now help.now) }
 {
-    out.push_str("# HELP ")?;
-    out.push_str(name)?;
-    out.push(' ')?;
-    out.push_str(help)?;
-    out.push_str("\n# TYPE ")?;
-    out.push_str(name)?;
-    out.push(' ')?;
-    out.push_str(kind)?;
-    out.push('\n')
-}
-
-/// Adds a label with a word.
-fn push_word_label(out: &mut String, name: &str, word: &str) -> Result<(), AllocError>
-    ensures { OnOk result (string_bytes out.new ≡ string_bytes out.old ++ word_label name.now word.now) }
-{
-    out.push_str(name)?;
-    out.push_str("=\"")?;
-    out.push_str(word)?;
-    out.push('"')
-}
-
-/// Adds a label with a number.
-fn push_number_label(out: &mut String, name: &str, number: u64) -> Result<(), AllocError>
-    ensures { OnOk result (string_bytes out.new ≡ string_bytes out.old ++ number_label name.now number) }
-{
-    out.push_str(name)?;
-    out.push_str("=\"")?;
-    push_number(out, number)?;
-    out.push('"')
+    push_parts(
+        out,
+        &[
+            "# HELP ",
+            name,
+            " ",
+            help,
+            "\n# TYPE ",
+            name,
+            " ",
+            kind,
+            "\n",
+        ],
+    )
 }
 
 /// Adds nanoseconds as seconds, with nine digits behind the point.
