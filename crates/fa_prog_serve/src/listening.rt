@@ -81,7 +81,7 @@ pub(crate) fn listening_of<'a, A: Allocator>(
 fn names_of<'a>(global: Global, paths: &[Option<&'a str>]) -> Result<Vec<&'a str>, AllocError> {
     let mut names = Vec::with_capacity(global, paths.len())?;
     for path in paths {
-        names.push(path.unwrap_or("an image"))?;
+        let _ = names.push(path.unwrap_or("an image"));
     }
     Ok(names)
 }
@@ -95,7 +95,7 @@ fn paths_of<'a, A: Allocator>(
 ) -> Result<Vec<Option<&'a str>>, AllocError> {
     let mut paths = Vec::with_capacity(global, dies.len())?;
     for standing in dies {
-        paths.push(path_of(*standing, places, settings))?;
+        let _ = paths.push(path_of(*standing, places, settings));
     }
     Ok(paths)
 }

@@ -221,7 +221,7 @@ fn put_plans<S: Serializer>(out: &mut S, status: &Status<'_>) -> Result<(), S::E
     ];
     put_numbers(out, &numbers)?;
     out.key("file")?;
-    put_object(out, &status.plan_file)?;
+    put_object(out, &status.plan_file.numbers())?;
     out.end_map()
 }
 

@@ -91,7 +91,7 @@ fn push_plans(out: &mut String, status: &Status<'_>) -> Result<(), AllocError> {
         ("naive", plans.naive_rounds),
     ];
     push_pairs(out, "plans", &numbers)?;
-    push_pairs(out, "plan file", &status.plan_file)
+    push_pairs(out, "plan file", &status.plan_file.numbers())
 }
 
 /// Adds how many clients there are, and what they asked for in the last second.

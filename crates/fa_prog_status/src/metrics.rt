@@ -95,7 +95,7 @@ fn push_plans(out: &mut String, status: &Status<'_>) -> Result<(), AllocError> {
         kind,
         "Plans that were to be written into a file, by what became of them.",
     )?;
-    push_by_words(out, name, "end", &status.plan_file)
+    push_by_words(out, name, "end", &status.plan_file.numbers())
 }
 
 /// Adds how many dies stand how.

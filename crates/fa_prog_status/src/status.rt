@@ -72,6 +72,31 @@ pub struct DieStatus<'a> {
     pub slow: Option<u64>,
 }
 
+/// What became of the plans that were to be written into a file.
+#[derive(Clone, Copy)]
+pub struct PlanFileStatus {
+    /// They stand in the file.
+    pub written: u64,
+    /// The queue had no room for them, or there was no memory.
+    pub dropped: u64,
+    /// They do not fit the limits of the file.
+    pub unfit: u64,
+    /// The file could not be written.
+    pub failed: u64,
+}
+
+impl PlanFileStatus {
+    /// The numbers, each behind its word.
+    pub(crate) fn numbers(self) -> [(&'static str, u64); 4] {
+        [
+            ("written", self.written),
+            ("dropped", self.dropped),
+            ("unfit", self.unfit),
+            ("failed", self.failed),
+        ]
+    }
+}
+
 /// How an array is.
 #[derive(Drop)]
 pub struct Status<'a> {
@@ -83,9 +108,8 @@ pub struct Status<'a> {
     pub round: u64,
     /// What the plans of its batches came to.
     pub plans: PlanCounts,
-    /// What became of those that were to be written into a file, each behind its word: they were written; dropped, for want of room in the
-    /// queue or of memory; unfit for the limits of the file; or it could not be written.
-    pub plan_file: [(&'static str, u64); 4],
+    /// What became of those that were to be written into a file.
+    pub plan_file: PlanFileStatus,
     /// What was counted while it was served.
     pub totals: Totals,
     /// How many clients are served.
@@ -132,7 +156,7 @@ pub fn status_of<'a, R: Networked, L: Ledger, M: Map + Drop>(
         epoch,
         round,
         plans,
-        plan_file: plan_file_numbers(subject.counts.plans(), kept),
+        plan_file: plan_file_status(subject.counts.plans(), kept),
         totals: subject.counts.totals(),
         clients: subject.accept_queue.clients(),
         faults,
@@ -140,17 +164,17 @@ pub fn status_of<'a, R: Networked, L: Ledger, M: Map + Drop>(
 }
 
 /// What became of the plans that were to be written, of which so many were kept and dropped.
-fn plan_file_numbers(counts: &PlanFileCounts, kept: Option<LogCounts>) -> [(&'static str, u64); 4] {
+fn plan_file_status(counts: &PlanFileCounts, kept: Option<LogCounts>) -> PlanFileStatus {
     let dropped = match kept {
         Some(kept) => kept.dropped,
         None => 0,
     };
-    [
-        ("written", counts.written()),
-        ("dropped", dropped),
-        ("unfit", counts.unfit()),
-        ("failed", counts.failed()),
-    ]
+    PlanFileStatus {
+        written: counts.written(),
+        dropped,
+        unfit: counts.unfit(),
+        failed: counts.failed(),
+    }
 }
 
 /// How the die of a number is.
