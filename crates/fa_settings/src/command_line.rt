@@ -1,17 +1,16 @@
 //! The command line, as `clap` reads it.
-ghost use Rattle.std.specs.Prelude.{◌≡◌, [], ◌∷◌, false, map, option_map, string_bytes, codes, IfOk, IfErr};
-ghost use Rattle.clap.specs.Kinds.{HasKind};
-ghost use Rattle.clap.specs.Simple.{app_of, new_app, with_subcommand};
-ghost use Rattle.clap.specs.declared.builder.command.Command.TheViews.{out-Command as fields_of};
-ghost use Rattle.clap.specs.Walk.{rows_of, rule_of, first_of, one_of};
+ghost use Rattle.std.specs.Prelude.{◌≡◌, [], ◌∷◌, Some, true, false, map, option_map, option_and_then, string_bytes, codes, IfOk, IfErr};
+ghost use Rattle.clap.specs.Kinds.{FailsBy, HasKind};
+ghost use Rattle.clap.specs.Simple.{App, app_of, new_app, new_rule, subcommand_of, subcommand_rows_of, with_rule, with_subcommand};
+ghost use Rattle.clap.specs.Walk.{Rule, rows_of, rule_of, first_of, one_of};
 ghost use Rattle.clap.specs.Matches.{found_of};
+ghost use Rattle.clap.specs.declared.builder.action.ArgAction.TheVariants.{Set};
 ghost use Rattle.fa_settings.specs.CommandLine.{command_line as line, found_instead, wanted_in, wanted_by, formats, checks, dumps};
 ghost use Rattle.fa_settings.specs.CommandLine.{serves, asks, talks, verifies, plans_in, misses_plans as plans_missed, ArePlans, IsDie, IsEvery, IsWanted};
 ghost use Rattle.fa_settings.specs.CommandLine.{is_given as flag_given, terms_in, with_arguments, array_arguments, serve_arguments};
 ghost use Rattle.fa_settings.specs.CommandLine.{status_arguments, talk_arguments, verify_arguments};
 ghost use Rattle.fa_settings.specs.CommandLine.{program as program_shape, settings_argument as settings_rule, die_argument as die_rule};
 ghost use Rattle.fa_settings.specs.CommandLine.{flag as flag_rule, option_argument as option_rule, every_argument as every_rule};
-ghost use Rattle.fa_settings.specs.CommandLine.{address_argument as address_rule};
 
 use crate::help::{self, Help};
 use crate::terms::Terms;
@@ -20,7 +19,7 @@ use fa_types::Die;
 use std::alloc::{AllocError, Allocator, Global};
 
 /// What the program is asked to do.
-#[derive(Clone, Copy, Debug, PartialEq, Eq)]
+#[derive(Clone, Copy)]
 pub enum Subcommand<'a> {
     /// Makes the images of an array.
     Format {
@@ -88,7 +87,7 @@ pub enum Subcommand<'a> {
 }
 
 /// The file to which a server appends plans.
-#[derive(Clone, Copy, Debug, PartialEq, Eq)]
+#[derive(Clone, Copy)]
 pub struct PlansFile<'a> {
     /// The path of the file.
     pub path: &'a str,
@@ -109,46 +108,68 @@ pub fn command<'a, A: Allocator>(
     ensures no_other { IfOk result (λ _. found_instead (map string_bytes arguments.now) ≡ []) }
     ensures instead { IfErr result (HasKind (found_instead (map string_bytes arguments.now))) }
 {
-    let matches = command_line(global)?.try_get_matches_from(arguments)?;
-    match matches.subcommand() {
-        Some((name, found)) => Ok(wanted(name, found)),
-        None => Ok(None),
-    }
+    let matches = matches_of(global, arguments)?;
+    Ok(asked(&matches))
+}
+
+/// What `clap` finds in the arguments.
+fn matches_of<'a, A: Allocator>(
+    global: Global,
+    arguments: &'a [String<A>],
+) -> Result<ArgMatches<'a>, Error>
+    ensures rows { IfOk result (λ matches. subcommand_rows_of matches ≡ subcommand_of line (map string_bytes arguments.now)) }
+    ensures fault { FailsBy (found_instead (map string_bytes arguments.now)) result }
+{
+    command_line(global)?.try_get_matches_from(arguments)
 }
 
 /// The command line that the program has.
 fn command_line<'a>(global: Global) -> Result<Command<'a>, AllocError>
     ensures { IfOk result (λ command. app_of command ≡ line) }
 {
-    let Ok(format) = with_format(global, program(global)) else {
+    let program = Ok(program(global));
+    let program = with_command(program, format_line(global));
+    let check = array_line(global, "check", help::CHECK, "json", help::ABOUT_JSON);
+    let program = with_command(program, check);
+    let dump = array_line(global, "dump", help::DUMP, "json", help::ABOUT_JSON);
+    let program = with_command(program, dump);
+    let program = with_command(program, serve_line(global));
+    let program = with_command(program, status_line(global));
+    let program = with_command(program, Ok(plain_line(global, "plan", help::PLAN)));
+    let program = with_command(program, talk_line(global));
+    with_command(program, verify_line(global))
+}
+
+/// The program with one command more.
+fn with_command<'a>(
+    program: Result<Command<'a>, AllocError>,
+    command: Result<Command<'a>, AllocError>,
+) -> Result<Command<'a>, AllocError>
+    ensures { (before added : App) → IfOk program.entry (λ p. app_of p ≡ before) → IfOk command.entry (λ c. app_of c ≡ added)
+        → added.top.is_plain ≡ true → IfOk result (λ p. app_of p ≡ with_subcommand before added.top) }
+{
+    let Ok(program) = program else {
         return Err(AllocError);
     };
-    let Ok(check) = with_array(
-        global,
-        format,
-        "check",
-        help::CHECK,
-        "json",
-        help::ABOUT_JSON,
-    ) else {
+    let Ok(command) = command else {
         return Err(AllocError);
     };
-    let Ok(dump) = with_array(global, check, "dump", help::DUMP, "json", help::ABOUT_JSON) else {
+    program.subcommand(command)
+}
+
+/// The command with one argument more.
+fn with_argument<'a>(
+    command: Result<Command<'a>, AllocError>,
+    argument: Arg<'a>,
+) -> Result<Command<'a>, AllocError>
+    requires { argument.global ≡ false }
+    ensures { (before : App) (rule : Rule) → IfOk command.entry (λ c. app_of c ≡ before) → rule_of argument.entry ≡ rule
+        → IfOk result (λ c. app_of c ≡ with_rule before rule) }
+{
+    let Ok(command) = command else {
         return Err(AllocError);
     };
-    let Ok(serve) = with_serve(global, dump) else {
-        return Err(AllocError);
-    };
-    let Ok(status) = with_status(global, serve) else {
-        return Err(AllocError);
-    };
-    let Ok(plan) = status.subcommand(plain_line(global, "plan", help::PLAN)) else {
-        return Err(AllocError);
-    };
-    let Ok(talk) = with_talk(global, plan) else {
-        return Err(AllocError);
-    };
-    with_verify(global, talk)
+    command.arg(argument)
 }
 
 /// The program with no commands.
@@ -166,8 +187,7 @@ fn program<'a>(global: Global) -> Command<'a>
 
 /// A command with no arguments.
 fn plain_line<'a>(global: Global, name: &'a str, help: Help) -> Command<'a>
-    ensures shape { app_of result ≡ new_app name.entry.now }
-    ensures local { (fields_of result).has_globals ≡ false }
+    ensures { app_of result ≡ new_app name.entry.now }
 {
     Command::new(global, name)
         .about(help.about)
@@ -175,123 +195,86 @@ fn plain_line<'a>(global: Global, name: &'a str, help: Help) -> Command<'a>
         .after_help(help.more)
 }
 
-/// The program with the command that makes images besides.
-fn with_format<'a>(global: Global, program: Command<'a>) -> Result<Command<'a>, AllocError>
-    ensures { IfOk result (λ c. app_of c
-        ≡ with_subcommand (app_of program.entry) (with_arguments (codes "format") (settings_rule ∷ die_rule ∷ []))) }
+/// A command with the path of the settings.
+fn settings_line<'a>(global: Global, name: &'a str, help: Help) -> Result<Command<'a>, AllocError>
+    ensures { IfOk result (λ c. app_of c ≡ record { top = with_arguments name.entry.now (settings_rule ∷ []); subs = [] }) }
 {
-    let format = plain_line(global, "format", help::FORMAT);
-    let Ok(format) = format.arg(settings_argument(global)) else {
-        return Err(AllocError);
-    };
-    let Ok(format) = format.arg(die_argument(global)) else {
-        return Err(AllocError);
-    };
-    program.subcommand(format)
+    let line = Ok(plain_line(global, name, help));
+    let settings = required_argument(global, "settings", "SETTINGS", help::ABOUT_SETTINGS);
+    with_argument(line, settings)
 }
 
-/// The program with a command besides that mounts an array. It has a flag besides
-/// `--unclean` and `--recover`, of this name and with this help.
-fn with_array<'a>(
+/// The command that makes images.
+fn format_line<'a>(global: Global) -> Result<Command<'a>, AllocError>
+    ensures { IfOk result (λ c. app_of c
+        ≡ record { top = with_arguments (codes "format") (settings_rule ∷ die_rule ∷ []); subs = [] }) }
+{
+    let line = settings_line(global, "format", help::FORMAT);
+    with_argument(line, die_argument(global))
+}
+
+/// A command that mounts an array. It has a flag besides `--unclean` and `--recover`, of this
+/// name and with this help.
+fn array_line<'a>(
     global: Global,
-    program: Command<'a>,
     name: &'a str,
     help: Help,
     flag_name: &'a str,
     about: &'a str,
 ) -> Result<Command<'a>, AllocError>
-    ensures { IfOk result (λ c. app_of c ≡ with_subcommand (app_of program.entry)
-        (with_arguments name.entry.now (array_arguments flag_name.entry.now))) }
+    ensures { IfOk result (λ c. app_of c
+        ≡ record { top = with_arguments name.entry.now (array_arguments flag_name.entry.now); subs = [] }) }
 {
-    let array = plain_line(global, name, help);
-    let Ok(array) = array.arg(settings_argument(global)) else {
-        return Err(AllocError);
-    };
-    let Ok(array) = array.arg(flag(global, "unclean", help::ABOUT_UNCLEAN)) else {
-        return Err(AllocError);
-    };
-    let Ok(array) = array.arg(flag(global, "recover", help::ABOUT_RECOVER)) else {
-        return Err(AllocError);
-    };
-    let Ok(array) = array.arg(flag(global, flag_name, about)) else {
-        return Err(AllocError);
-    };
-    program.subcommand(array)
+    let line = settings_line(global, name, help);
+    let line = with_argument(line, flag(global, "unclean", help::ABOUT_UNCLEAN));
+    let line = with_argument(line, flag(global, "recover", help::ABOUT_RECOVER));
+    with_argument(line, flag(global, flag_name, about))
 }
 
-/// The program with the command that serves an array besides.
-fn with_serve<'a>(global: Global, program: Command<'a>) -> Result<Command<'a>, AllocError>
+/// The command that serves an array.
+fn serve_line<'a>(global: Global) -> Result<Command<'a>, AllocError>
     ensures { IfOk result (λ c. app_of c
-        ≡ with_subcommand (app_of program.entry) (with_arguments (codes "serve") serve_arguments)) }
+        ≡ record { top = with_arguments (codes "serve") serve_arguments; subs = [] }) }
 {
-    let serve = plain_line(global, "serve", help::SERVE);
-    let Ok(serve) = serve.arg(settings_argument(global)) else {
-        return Err(AllocError);
-    };
-    let Ok(serve) = serve.arg(flag(global, "unclean", help::ABOUT_UNCLEAN)) else {
-        return Err(AllocError);
-    };
-    let Ok(serve) = serve.arg(flag(global, "recover", help::ABOUT_RECOVER)) else {
-        return Err(AllocError);
-    };
-    let Ok(serve) = serve.arg(flag(global, "verbose", help::ABOUT_VERBOSE)) else {
-        return Err(AllocError);
-    };
-    let Ok(serve) = serve.arg(text_option(global, "status", "ADDRESS", help::ABOUT_STATUS)) else {
-        return Err(AllocError);
-    };
-    let Ok(serve) = serve.arg(text_option(global, "plans", "FILE", help::ABOUT_PLANS)) else {
-        return Err(AllocError);
-    };
-    let Ok(serve) = serve.arg(every_argument(global)) else {
-        return Err(AllocError);
-    };
-    program.subcommand(serve)
+    let line = array_line(global, "serve", help::SERVE, "verbose", help::ABOUT_VERBOSE);
+    let status = text_option(global, "status", "ADDRESS", help::ABOUT_STATUS);
+    let line = with_argument(line, status);
+    let plans = text_option(global, "plans", "FILE", help::ABOUT_PLANS);
+    let line = with_argument(line, plans);
+    with_argument(line, every_argument(global))
 }
 
-/// The program with the command that asks a server besides.
-fn with_status<'a>(global: Global, program: Command<'a>) -> Result<Command<'a>, AllocError>
+/// The command that asks a server.
+fn status_line<'a>(global: Global) -> Result<Command<'a>, AllocError>
     ensures { IfOk result (λ c. app_of c
-        ≡ with_subcommand (app_of program.entry) (with_arguments (codes "status") status_arguments)) }
+        ≡ record { top = with_arguments (codes "status") status_arguments; subs = [] }) }
 {
-    let status = plain_line(global, "status", help::STATUS);
-    let Ok(status) = status.arg(address_argument(global)) else {
-        return Err(AllocError);
-    };
-    let Ok(status) = status.arg(flag(global, "watch", help::ABOUT_WATCH)) else {
-        return Err(AllocError);
-    };
-    program.subcommand(status)
+    let line = Ok(plain_line(global, "status", help::STATUS));
+    let address = required_argument(global, "address", "ADDRESS", help::ABOUT_ADDRESS);
+    let line = with_argument(line, address);
+    with_argument(line, flag(global, "watch", help::ABOUT_WATCH))
 }
 
-/// The program with the command that serves one client besides.
-fn with_talk<'a>(global: Global, program: Command<'a>) -> Result<Command<'a>, AllocError>
+/// The command that serves one client.
+fn talk_line<'a>(global: Global) -> Result<Command<'a>, AllocError>
     ensures { IfOk result (λ c. app_of c
-        ≡ with_subcommand (app_of program.entry) (with_arguments (codes "talk") talk_arguments)) }
+        ≡ record { top = with_arguments (codes "talk") talk_arguments; subs = [] }) }
 {
-    let talk = plain_line(global, "talk", help::TALK);
-    let Ok(talk) = talk.arg(text_option(global, "array", "SETTINGS", help::ABOUT_ARRAY)) else {
-        return Err(AllocError);
-    };
-    let Ok(talk) = talk.arg(flag(global, "unclean", help::ABOUT_UNCLEAN)) else {
-        return Err(AllocError);
-    };
-    let Ok(talk) = talk.arg(flag(global, "recover", help::ABOUT_RECOVER)) else {
-        return Err(AllocError);
-    };
-    program.subcommand(talk)
+    let line = Ok(plain_line(global, "talk", help::TALK));
+    let array = text_option(global, "array", "SETTINGS", help::ABOUT_ARRAY);
+    let line = with_argument(line, array);
+    let line = with_argument(line, flag(global, "unclean", help::ABOUT_UNCLEAN));
+    with_argument(line, flag(global, "recover", help::ABOUT_RECOVER))
 }
 
-/// The program with the command that checks certificates besides.
-fn with_verify<'a>(global: Global, program: Command<'a>) -> Result<Command<'a>, AllocError>
+/// The command that checks certificates.
+fn verify_line<'a>(global: Global) -> Result<Command<'a>, AllocError>
     ensures { IfOk result (λ c. app_of c
-        ≡ with_subcommand (app_of program.entry) (with_arguments (codes "verify") verify_arguments)) }
+        ≡ record { top = with_arguments (codes "verify") verify_arguments; subs = [] }) }
 {
-    let verify = plain_line(global, "verify", help::VERIFY);
-    let Ok(verify) = verify.arg(text_option(global, "log", "FILE", help::ABOUT_LOG)) else {
-        return Err(AllocError);
-    };
-    program.subcommand(verify)
+    let line = Ok(plain_line(global, "verify", help::VERIFY));
+    let log = text_option(global, "log", "FILE", help::ABOUT_LOG);
+    with_argument(line, log)
 }
 
 /// An option with a text, shown under this name in the help.
@@ -311,36 +294,22 @@ fn every_argument<'a>(global: Global) -> Arg<'a>
     ensures rule { rule_of result ≡ every_rule }
     ensures local { result.global ≡ false }
 {
-    Arg::new(global, "plans-every")
-        .long("plans-every")
-        .action(ArgAction::Set)
-        .value_parser(clap::value_parser!(u32).range(1..1_000_001))
-        .value_name("N")
-        .help(help::ABOUT_PLANS_EVERY)
+    text_option(global, "plans-every", "N", help::ABOUT_PLANS_EVERY).value_parser(
+        clap::value_parser!(u32).range(1..1_000_001),
+    )
 }
 
-/// The address of a server that is asked.
-fn address_argument<'a>(global: Global) -> Arg<'a>
-    ensures rule { rule_of result ≡ address_rule }
+/// A text that has to be given, shown under this name in the help.
+fn required_argument<'a>(global: Global, name: &'a str, value: &'a str, about: &'a str) -> Arg<'a>
+    ensures rule { rule_of result
+        ≡ record (new_rule name.entry.now) { action = Some Set; value_names = 1; required = true } }
     ensures local { result.global ≡ false }
 {
-    Arg::new(global, "address")
+    Arg::new(global, name)
         .action(ArgAction::Set)
         .required(true)
-        .value_name("ADDRESS")
-        .help(help::ABOUT_ADDRESS)
-}
-
-/// The path of the settings.
-fn settings_argument<'a>(global: Global) -> Arg<'a>
-    ensures rule { rule_of result ≡ settings_rule }
-    ensures local { result.global ≡ false }
-{
-    Arg::new(global, "settings")
-        .action(ArgAction::Set)
-        .required(true)
-        .value_name("SETTINGS")
-        .help(help::ABOUT_SETTINGS)
+        .value_name(value)
+        .help(about)
 }
 
 /// A flag.
@@ -359,12 +328,19 @@ fn die_argument<'a>(global: Global) -> Arg<'a>
     ensures rule { rule_of result ≡ die_rule }
     ensures local { result.global ≡ false }
 {
-    Arg::new(global, "die")
-        .long("die")
-        .action(ArgAction::Set)
-        .value_parser(clap::value_parser!(u8).range(0..64))
-        .value_name("K")
-        .help(help::ABOUT_DIE)
+    text_option(global, "die", "K", help::ABOUT_DIE).value_parser(clap::value_parser!(u8).range(
+        0..64,
+    ))
+}
+
+/// The command that was found.
+fn asked<'a>(matches: &ArgMatches<'a>) -> Option<Subcommand<'a>>
+    ensures { IsWanted result (option_and_then (λ found. wanted_by found.0 found.1) (subcommand_rows_of matches.now)) }
+{
+    match matches.subcommand() {
+        Some((name, found)) => wanted(name, found),
+        None => None,
+    }
 }
 
 /// The command of this name, with what was found of its arguments.

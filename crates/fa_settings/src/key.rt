@@ -5,7 +5,7 @@ ghost use Rattle.fa_settings.specs.Keys.{name_of, is_known as known};
 use std::fmt;
 
 /// A key of the settings, in the order in which they are judged.
-#[derive(Clone, Copy, Debug, PartialEq, Eq)]
+#[derive(Clone, Copy, Debug)]
 pub enum Key {
     /// `array`: which array it is, 32 hexadecimal digits.
     Array,

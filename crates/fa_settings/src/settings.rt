@@ -7,7 +7,7 @@ use std::alloc::{Allocator, Global};
 use std::net::SocketAddrV4;
 
 /// The settings of an array and its server. Only [`Settings::read`] judges a text.
-#[derive(Debug, Drop)]
+#[derive(Drop)]
 pub struct Settings<A: Allocator> {
     /// Which array it is.
     pub array: [u8; 16],

@@ -13,7 +13,7 @@ use std::alloc::Allocator;
 use toml::Table;
 
 /// The numbers of a geometry, each within its own limits.
-#[derive(Clone, Copy, Debug)]
+#[derive(Clone, Copy)]
 pub(crate) struct Shape {
     pub(crate) dies: u32,
     pub(crate) spares: u32,

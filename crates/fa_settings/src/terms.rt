@@ -3,7 +3,7 @@ ghost use Rattle.std.specs.Prelude.{◌≡◌};
 ghost use Rattle.fa_settings.specs.Terms.{is_whole as whole_terms, leaves_aside as images_left};
 
 /// On what terms the images of an array are taken.
-#[derive(Clone, Copy, Debug, PartialEq, Eq)]
+#[derive(Clone, Copy)]
 pub enum Terms {
     /// The array was closed, and its images are all there.
     Closed,

@@ -1,18 +1,13 @@
-use Rattle.std.proofs.Common.{[], ◌∷◌, ap, ◌∙◌}
-use Rattle.std.specs.Prelude.{codes}
-use Rattle.std.proofs.lemmas.Result.{IfOk-weaker}
-use Rattle.clap.specs.Simple.{with_subcommand}
-use Rattle.fa_settings.proofs.Commands.{added}
-use Rattle.fa_settings.specs.CommandLine.{array_arguments, die_argument, serve_arguments, settings_argument, status_arguments, talk_arguments, verify_arguments, with_arguments}
+use Rattle.std.proofs.Common.{refl}
 use Rattle.fa_settings.proofs.command_line.command_line.Goals as goal
 
 pub returns : goal.returns
 returns c =
-    let one = c.in-Ok.ensures ∙ ap (λ a. with_subcommand a (with_arguments (codes "format") (settings_argument ∷ die_argument ∷ []))) c.program.ensures in
-    let two = c.in-Ok-with_array.ensures ∙ ap (λ a. with_subcommand a (with_arguments (codes "check") (array_arguments (codes "json")))) one in
-    let three = c.in-Ok-with_array-2.ensures ∙ ap (λ a. with_subcommand a (with_arguments (codes "dump") (array_arguments (codes "json")))) two in
-    let serve = c.in-Ok-with_serve.ensures ∙ ap (λ a. with_subcommand a (with_arguments (codes "serve") serve_arguments)) three in
-    let four = c.in-Ok-with_status.ensures ∙ ap (λ a. with_subcommand a (with_arguments (codes "status") status_arguments)) serve in
-    let five = c.in-Ok-subcommand.ensures.shape c.plain_line.ensures.local ∙ added four c.plain_line.ensures.shape in
-    let six = c.in-Ok-with_talk.ensures ∙ ap (λ a. with_subcommand a (with_arguments (codes "talk") talk_arguments)) five in
-    IfOk-weaker c.with_verify.result _ _ (λ r is. is ∙ ap (λ a. with_subcommand a (with_arguments (codes "verify") verify_arguments)) six) c.with_verify.ensures
+    let one = c.with_command-program.ensures _ _ c.program.ensures c.format_line.ensures refl in
+    let two = c.with_command-program-2.ensures _ _ one c.array_line-check.ensures refl in
+    let three = c.with_command-program-3.ensures _ _ two c.array_line-dump.ensures refl in
+    let four = c.with_command-program-4.ensures _ _ three c.serve_line.ensures refl in
+    let five = c.with_command-program-5.ensures _ _ four c.status_line.ensures refl in
+    let six = c.with_command-program-6.ensures _ _ five c.plain_line.ensures refl in
+    let seven = c.with_command-program-7.ensures _ _ six c.talk_line.ensures refl in
+    c.with_command.ensures _ _ seven c.verify_line.ensures refl
