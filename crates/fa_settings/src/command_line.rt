@@ -1,5 +1,5 @@
 //! The command line, as `clap` reads it.
-ghost use Rattle.std.specs.Prelude.{◌≡◌, [], ◌∷◌, Some, true, false, map, option_map, option_and_then, string_bytes, codes, IfOk, IfErr};
+ghost use Rattle.std.specs.Prelude.{◌≡◌, [], ◌∷◌, Some, true, map, option_map, option_and_then, string_bytes, codes, IfOk, IfErr};
 ghost use Rattle.clap.specs.Kinds.{FailsBy, HasKind};
 ghost use Rattle.clap.specs.Simple.{App, app_of, new_app, new_rule, subcommand_of, subcommand_rows_of, with_rule, with_subcommand};
 ghost use Rattle.clap.specs.Walk.{Rule, rows_of, rule_of, first_of, one_of};
@@ -162,9 +162,8 @@ fn with_argument<'a>(
     command: Result<Command<'a>, AllocError>,
     argument: Arg<'a>,
 ) -> Result<Command<'a>, AllocError>
-    requires { argument.global ≡ false }
     ensures { (before : App) (rule : Rule) → IfOk command.entry (λ c. app_of c ≡ before) → rule_of argument.entry ≡ rule
-        → IfOk result (λ c. app_of c ≡ with_rule before rule) }
+        → rule.is_simple ≡ true → IfOk result (λ c. app_of c ≡ with_rule before rule) }
 {
     let Ok(command) = command else {
         return Err(AllocError);
@@ -279,8 +278,7 @@ fn verify_line<'a>(global: Global) -> Result<Command<'a>, AllocError>
 
 /// An option with a text, shown under this name in the help.
 fn text_option<'a>(global: Global, name: &'a str, value: &'a str, about: &'a str) -> Arg<'a>
-    ensures rule { rule_of result ≡ option_rule name.entry.now }
-    ensures local { result.global ≡ false }
+    ensures { rule_of result ≡ option_rule name.entry.now }
 {
     Arg::new(global, name)
         .long(name)
@@ -291,19 +289,16 @@ fn text_option<'a>(global: Global, name: &'a str, value: &'a str, about: &'a str
 
 /// How many batches there are for one whose plan is appended.
 fn every_argument<'a>(global: Global) -> Arg<'a>
-    ensures rule { rule_of result ≡ every_rule }
-    ensures local { result.global ≡ false }
+    ensures { rule_of result ≡ every_rule }
 {
-    text_option(global, "plans-every", "N", help::ABOUT_PLANS_EVERY).value_parser(
-        clap::value_parser!(u32).range(1..1_000_001),
-    )
+    let parser = clap::value_parser!(u32).range(1..1_000_001);
+    text_option(global, "plans-every", "N", help::ABOUT_PLANS_EVERY).value_parser(parser)
 }
 
 /// A text that has to be given, shown under this name in the help.
 fn required_argument<'a>(global: Global, name: &'a str, value: &'a str, about: &'a str) -> Arg<'a>
-    ensures rule { rule_of result
+    ensures { rule_of result
         ≡ record (new_rule name.entry.now) { action = Some Set; value_names = 1; required = true } }
-    ensures local { result.global ≡ false }
 {
     Arg::new(global, name)
         .action(ArgAction::Set)
@@ -314,8 +309,7 @@ fn required_argument<'a>(global: Global, name: &'a str, value: &'a str, about: &
 
 /// A flag.
 fn flag<'a>(global: Global, name: &'a str, about: &'a str) -> Arg<'a>
-    ensures rule { rule_of result ≡ flag_rule name.entry.now }
-    ensures local { result.global ≡ false }
+    ensures { rule_of result ≡ flag_rule name.entry.now }
 {
     Arg::new(global, name)
         .long(name)
@@ -325,12 +319,10 @@ fn flag<'a>(global: Global, name: &'a str, about: &'a str) -> Arg<'a>
 
 /// The die whose image is made.
 fn die_argument<'a>(global: Global) -> Arg<'a>
-    ensures rule { rule_of result ≡ die_rule }
-    ensures local { result.global ≡ false }
+    ensures { rule_of result ≡ die_rule }
 {
-    text_option(global, "die", "K", help::ABOUT_DIE).value_parser(clap::value_parser!(u8).range(
-        0..64,
-    ))
+    let parser = clap::value_parser!(u8).range(0..64);
+    text_option(global, "die", "K", help::ABOUT_DIE).value_parser(parser)
 }
 
 /// The command that was found.
