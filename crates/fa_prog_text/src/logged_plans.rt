@@ -6,7 +6,7 @@ use std::io::{self, BufRead, BufReader, Read};
 const MAX_LOGGED: usize = 1 << 22;
 
 /// How the reading of a logged plan ended.
-#[derive(Clone, Copy, Debug, PartialEq, Eq)]
+#[derive(Clone, Copy)]
 pub(crate) enum Ended {
     /// The file was at its end.
     Nothing,

@@ -13,7 +13,7 @@ use std::fs::File;
 use std::io::{self, Eprint, ErrorKind, Read, Write};
 
 /// What was counted of the plans of a file.
-#[derive(Clone, Copy, Debug, PartialEq, Eq)]
+#[derive(Clone, Copy)]
 pub(crate) struct Tally {
     /// How many plans there are.
     plans: u64,
@@ -26,7 +26,7 @@ pub(crate) struct Tally {
 }
 
 /// What a file of plans comes to.
-#[derive(Clone, Copy, Debug, PartialEq, Eq)]
+#[derive(Clone, Copy)]
 pub(crate) enum Checked {
     /// This line is the first that is in no logged plan.
     Line(u64),
@@ -81,7 +81,7 @@ fn check_plans<E: Eprint, R: Read + Drop, A: Allocator + Copy>(
     for number in 1..u64::MAX {
         let before = plans.lines();
         let ended = plans.read_next()?;
-        if ended == Ended::Nothing {
+        if matches!(ended, Ended::Nothing) {
             break;
         }
         let judged = judge(alloc, plans.text())?;
