@@ -65,8 +65,8 @@ pub(crate) fn tasks_of<'a, R: Networked, L: Ledger, M: Map + Drop>(
     })
 }
 
-/// Adds the tasks of all, and answers how many are of those who work for the array or watch it. It stands apart from whoever owns the tasks, so that
-/// no exit of it drops them.
+/// Adds the tasks of all, and answers how many are of those who work for the array or watch it. It stands apart from whoever owns the
+/// tasks, so that no exit of it drops them.
 fn add_all<'a, R: Networked, L: Ledger, M: Map + Drop>(
     rt: &R,
     shared: &Shared<L, M>,
