@@ -3,7 +3,7 @@ use Rattle.fa_core_batches.specs.Batches.{batches_of, bytes_of, next_of, state_o
 use Rattle.fa_core_batches.specs.Pages.{opened}
 use Rattle.fa_core_batches.specs.declared.batches.Batches.{Batches}
 use Rattle.fa_core.specs.Array.{IsWhole, state_of}
-use Rattle.fa_core_begin.specs.Begun.{begun, numbers_of}
+use Rattle.fa_core_state.specs.Begun.{begun, numbers_of}
 use Rattle.fa_core.specs.declared.array.Array.{Array}
 use Rattle.fa_laws.specs.Counted.{HasHistory}
 use Rattle.fa_machine.proofs.Maps.{found_changed, has_some, nat_same}

@@ -1,15 +1,14 @@
 //! The array.
 ghost use Rattle.std.specs.Prelude.{◌≡◌, ℕ, ◌+◌, ◌-◌, ◌*◌, ◌<◌, ◌≤◌, ◌^◌, true, false, IfOk, Some};
 ghost use Rattle.std.specs.FinMap.{contains_key, get, len};
-ghost use Rattle.fa_core_begin.specs.Begun.{begun};
+ghost use Rattle.fa_core_state.specs.Begun.{begun};
 ghost use Rattle.fa_machine.specs.Reading.{zeros as rule_zeros};
 ghost use Rattle.fa_machine.specs.State.{is_live};
 ghost use Rattle.fa_machine.specs.declared.places.Version.{Version};
 ghost use Rattle.fa_set.specs.Members.{bound_of, members};
 
-use fa_core_begin::begin;
 use fa_core_read::Planner;
-use fa_core_state::State;
+use fa_core_state::{State, begin};
 use fa_map_calls::Map;
 use fa_set::NumberSet;
 use fa_tag::Payload;

@@ -1,3 +1,4 @@
 pub mod Below
 pub mod Fitted
 pub mod Numbers
+mod Tracked

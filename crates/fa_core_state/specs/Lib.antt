@@ -1,3 +1,4 @@
+pub mod Begun
 pub mod Core
 pub mod Fitted
 pub mod Tracked

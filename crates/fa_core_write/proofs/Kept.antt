@@ -9,7 +9,7 @@ use Rattle.fa_sound.proofs.Owning.{reserved_owned}
 use Rattle.fa_sound.specs.Owners.{owned_of}
 use Rattle.fa_sound.specs.Sound.{IsSound}
 use Rattle.std.specs.Prelude.{option_map, unwrap_or}
-use Rattle.fa_core_write.specs.Placed.{FitsLive}
+use Rattle.fa_core_commit.specs.Holding.{FitsLive}
 use Rattle.std.proofs.Common.{List, Some, [], arith, get_or, inl, inr, length, refl, suc, true, zero, ℕ, ◌<◌, ◌∷◌, ◌≡◌}
 use Rattle.std.specs.FinMap.{get}
 use Rattle.std.specs.List.{All}

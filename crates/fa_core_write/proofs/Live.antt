@@ -1,12 +1,10 @@
 -- Slots of live dies that pass a test.
 use Rattle.fa_machine.specs.State.{MapState, is_live}
 use Rattle.fa_machine.specs.declared.places.Target.{Target}
+use Rattle.fa_core_commit.specs.Holding.{live_of}
 use Rattle.std.proofs.Common.{Bool, List, [], ap, cond, false, refl, true, ◌∷◌, ◌≡◌}
 use Rattle.std.specs.List.{list_any}
-use Rattle.std.specs.Prelude.{filter, ◌&&◌, ◌||◌}
-
-abbrev pub live_of : MapState → List Target → List Target
-live_of m ts = filter (λ (t : Target). is_live m t.die.0) ts
+use Rattle.std.specs.Prelude.{◌&&◌, ◌||◌}
 
 -- whether one of those of live dies passes
 pub any_live : (m : MapState) (test : Target → Bool) (ts : List Target)

@@ -12,7 +12,7 @@ ghost use Rattle.fa_core_tables.specs.Waits.{dies_of, waiting_of};
 ghost use Rattle.fa_sound.specs.Sound.{IsSound};
 ghost use Rattle.fa_core_state.specs.Core.{core_of};
 ghost use Rattle.fa_core_state.specs.Fitted.{IsFitted};
-ghost use Rattle.fa_core_write.specs.Placed.{FitsLive};
+ghost use Rattle.fa_core_commit.specs.Holding.{FitsLive};
 
 use crate::looking::are_programmed;
 use fa_core_state::State;

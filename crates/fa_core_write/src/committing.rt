@@ -5,8 +5,7 @@ ghost use Rattle.std.specs.Option.{option_map_or};
 ghost use Rattle.fa_core_tables.specs.Claims.{reservation_of};
 ghost use Rattle.fa_machine.specs.Conditions.{claim_open, first_that, history_full, is_reserved, reserved_under};
 ghost use Rattle.fa_machine.specs.State.{is_live};
-ghost use Rattle.fa_machine.specs.Writing.{Commits, claimed_page, committed, with_targets};
-ghost use Rattle.fa_machine.specs.declared.places.Used.TheVariants.{Held};
+ghost use Rattle.fa_machine.specs.Writing.{Commits, claimed_page, committed};
 ghost use Rattle.fa_machine.specs.declared.refusals.CommitRefused.TheVariants.{Pending, Failed};
 ghost use Rattle.fa_map_calls.specs.Changes.{renewed};
 ghost use Rattle.fa_core_tables.specs.Logs.{history_of};
@@ -14,12 +13,13 @@ ghost use Rattle.fa_core_tables.specs.declared.log.TheConstants.{MAX_ENTRIES};
 ghost use Rattle.fa_sound.specs.Sound.{IsSound};
 ghost use Rattle.fa_core_state.specs.Core.{core_of};
 ghost use Rattle.fa_core_state.specs.Fitted.{IsFitted};
-ghost use Rattle.fa_core_write.specs.Holding.{MayHoldAll};
+ghost use Rattle.fa_core_commit.specs.Holding.{MayHoldAll};
 
 use crate::looking::{are_pending, are_programmed};
+use fa_core_commit::replace_copies;
 use fa_core_state::State;
 use fa_core_tables::Reservation;
-use fa_machine::{ClaimId, CommitRefused, Target, Version};
+use fa_machine::{ClaimId, CommitRefused, Target};
 use fa_map_calls::Map;
 use fa_types::{Page, Seq};
 use std::alloc::Allocator;
@@ -80,8 +80,7 @@ fn settle<M: Map, A: Allocator + Clone>(
     ensures settled { core_of M.view state.new ≡ committed claim.0 seat (reservation_of reservation) (core_of M.view state.old) }
     ensures fitted { IsFitted M.view state.old → IsFitted M.view state.new }
 {
-    state.page_map.renew(page, reservation.version);
-    hold_slots(
+    replace_copies(
         &mut state.page_map,
         page,
         reservation.version,
@@ -89,20 +88,6 @@ fn settle<M: Map, A: Allocator + Clone>(
     );
     state.log.note_commit(seat, page, reservation.version.seq);
     state.claims.set_reserved(claim, None);
-}
-
-/// Those of these slots that are on live dies hold the page's last write, which is this one.
-fn hold_slots<M: Map>(page_map: &mut M, page: Page, version: Version, slots: &[Target])
-    requires { MayHoldAll (M.view page_map.old) page version slots.now }
-    ensures { M.view page_map.new
-        ≡ with_targets (Held page version) (filter (λ slot. is_live (M.view page_map.old) slot.die.0) slots.now) (M.view page_map.old) }
-{
-    for index in 0..slots.len() {
-        let slot = slots[index];
-        if page_map.is_live(slot.die) {
-            page_map.hold(page, version, slot.die, slot.slot);
-        }
-    }
 }
 
 /// Why what is reserved in these slots is not committed.

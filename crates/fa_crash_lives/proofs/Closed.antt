@@ -1,7 +1,7 @@
 -- The headers of an array that was closed with all its live dies.
 use Rattle.fa_crash.specs.Flushed.{is_of_array}
 use Rattle.fa_crash.specs.Headers.{AreFirstHeaders, IsNewest, NameOurs, names}
-use Rattle.fa_crash_headers.proofs.Masked.{mask_seen}
+use Rattle.fa_crash_mount.proofs.Masked.{mask_seen}
 use Rattle.fa_crash_lives.proofs.Stands.{plain_stands}
 use Rattle.fa_crash_lives.specs.Behind.{AreImagesClosed, HoldersStand, IsLiveSeen, is_named}
 use Rattle.fa_machine.specs.Copies.{holds_page}

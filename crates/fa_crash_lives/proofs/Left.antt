@@ -1,7 +1,7 @@
 -- What is recovered of images that are there: of each live die what stands there, and each die that the newest headers name.
 use Rattle.fa_crash.specs.Flushed.{is_of_array}
 use Rattle.fa_crash.specs.Headers.{IsNewest, NameOurs, names}
-use Rattle.fa_crash_headers.proofs.Masked.{mask_seen}
+use Rattle.fa_crash_mount.proofs.Masked.{mask_seen}
 use Rattle.fa_crash_lives.proofs.Refused.{HasFirst, all_read, all_unused, has_first, mask_there}
 use Rattle.fa_crash_lives.proofs.Stands.{AsLive, AsSpare, StandsInMask, live_seen, read_live, spare_settled, stands_in_mask}
 use Rattle.fa_crash_lives.specs.Behind.{AreThere}

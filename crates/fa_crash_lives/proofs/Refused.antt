@@ -1,5 +1,5 @@
 -- What it says of images that recovering was not refused.
-use Rattle.fa_crash_headers.proofs.Masked.{some_passes}
+use Rattle.fa_crash_mount.proofs.Masked.{some_passes}
 use Rattle.fa_machine.proofs.Lists.{among-range, none_passes}
 use Rattle.fa_machine.specs.Among.{Among}
 use Rattle.fa_machine.specs.Maps.{below}

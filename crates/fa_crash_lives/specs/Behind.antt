@@ -5,7 +5,7 @@ use Rattle.fa_crash.specs.Flushed.{AreOfLast, IsPromised, is_of_array, slots_of}
 use Rattle.fa_crash.specs.Headers.{AreToldAlike, names, tells}
 use Rattle.fa_crash.specs.Unsynced.{Unsynced, nothing_unsynced}
 use Rattle.fa_crash.specs.Whole.{RunWhole}
-use Rattle.fa_crash_headers.specs.Left.{AreHeadersLeft}
+use Rattle.fa_crash_mount.specs.HeadersLeft.{AreHeadersLeft}
 use Rattle.fa_crash_lives.specs.Life.{IsLife}
 use Rattle.fa_crash_mount.specs.Left.{HasOutlasted}
 use Rattle.fa_machine.specs.Among.{Among}

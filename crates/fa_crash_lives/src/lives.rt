@@ -24,7 +24,7 @@ use fa_crash::beginnings::a_formatted_array_is_such_a_beginning;
 use fa_crash::crashes::{
     the_newest_headers_name_dies_of_the_array, what_a_cut_leaves_are_first_headers_again,
 };
-use fa_crash_headers::headers::the_mask_has_the_holders;
+use fa_crash_mount::headers::the_mask_has_the_holders;
 use fa_crash_mount::mounts::{
     a_promised_page_is_promised_again, a_promised_page_outlasts_a_crash,
     what_is_mounted_is_such_a_beginning_again,

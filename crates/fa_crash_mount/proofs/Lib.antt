@@ -1,3 +1,6 @@
-pub mod Mounted
-pub mod Live
 pub mod Again
+pub mod Live
+pub mod Masked
+pub mod Mounted
+pub mod Recovered
+pub mod Slots

@@ -1,1 +1,4 @@
+pub mod HeadersLeft
 pub mod Left
+pub mod Read
+pub mod Whole

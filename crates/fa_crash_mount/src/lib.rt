@@ -1,4 +1,6 @@
-//! What is mounted of the images that a crash leaves: laws, each the contract of a function with no code, over the cuts of `fa_crash`.
+//! Laws of what is mounted behind a crash: what the headers that are left tell, what is mounted of the images, and when recovering is not refused.
 #![tactic(auto)]
 
+pub mod headers;
 pub mod mounts;
+pub mod recovering;

@@ -6,7 +6,7 @@ ghost use Rattle.fa_crash.specs.Flushed.{AreOfLast, IsPromised};
 ghost use Rattle.fa_crash.specs.Headers.{AreFirstHeaders};
 ghost use Rattle.fa_crash.specs.Unsynced.{Unsynced, nothing_unsynced};
 ghost use Rattle.fa_crash.specs.Whole.{RunWhole};
-ghost use Rattle.fa_crash_headers.specs.Left.{AreHeadersLeft};
+ghost use Rattle.fa_crash_mount.specs.HeadersLeft.{AreHeadersLeft};
 ghost use Rattle.fa_crash_mount.specs.Left.{AreHoldersLive, AreLeft, HasOutlasted, IsMountedLeft};
 ghost use Rattle.fa_machine.specs.declared.places.Version.{Version};
 ghost use Rattle.fa_machine.specs.Among.{Among};
@@ -23,11 +23,11 @@ ghost use Rattle.fa_mount_headers.specs.declared.seen.Seen.{Seen};
 ghost use Rattle.fa_mount_scan.specs.declared.slots.content.SlotContent.{SlotContent};
 ghost use Rattle.fa_mount_headers.specs.declared.judging.Standing.{Standing};
 
+use crate::headers::the_mask_has_the_holders;
 use fa_crash::crashes::{
     a_promised_page_is_left_on_its_holders, each_good_cell_of_a_cut_is_reserved,
     what_is_mounted_is_promised,
 };
-use fa_crash_headers::headers::the_mask_has_the_holders;
 use fa_image::Image;
 use fa_mount_laws::laws::{
     bytes_are_one_cell, what_is_mounted_stands_there, what_was_found_is_what_is_seen,

@@ -9,7 +9,7 @@ use Rattle.std.specs.Cmp.{nat_cmp_total}
 use Rattle.std.specs.FinMap.{contains_key, entries, get, get-entries, get-from_entries}
 use Rattle.std.specs.List.{AllByRecursion}
 use Rattle.std.specs.Prelude.{is_some, option_and_then, option_map, slice_index_or}
-use Rattle.fa_core_begin.specs.Begun.{begun, numbers_of}
+use Rattle.fa_core_state.specs.Begun.{begun, numbers_of}
 use Rattle.fa_mount_headers.proofs.Images.{images_of}
 use Rattle.fa_mount_headers.specs.Rules.{seen_from}
 use Rattle.fa_mount_headers.specs.declared.judging.Standing.{Standing}

@@ -1,7 +1,7 @@
 -- The array over what was mounted, and what holds of what is mounted so that there is one.
 use Rattle.std.specs.Prelude.{◌≡◌, ℕ, ◌+◌, ◌^◌, ◌<◌, ◌≤◌, ◌⊎◌, true, false, List, length, Option, Some, None}
 use Rattle.std.specs.FinMap.{contains_key, get}
-use Rattle.fa_core_begin.specs.Begun.{begun}
+use Rattle.fa_core_state.specs.Begun.{begun}
 use Rattle.fa_mount_headers.specs.declared.judging.Standing.{Standing}
 use Rattle.fa_machine.specs.Maps.{Numbers}
 use Rattle.fa_machine.specs.State.{Core, MapState, is_live}

@@ -17,9 +17,6 @@ pub trait Hands<L: Ledger, M: Map + Drop, A: Allocator + Copy> {
     /// How the jobs have ended whose calls were made.
     ghost told: { Self → List Told };
 
-    /// Whether jobs are made here at all. What is told is a matter of speed alone, and in no clause.
-    fn helps(&self) -> bool;
-
     /// Takes jobs of dies that nobody works for, with the lock held. Whether there are any.
     fn take(&mut self, locked: &mut Locked<L, M, A>, seat: &mut Seat<L>) -> bool
         ensures takes { TakesJobs (number_of seat.old) locked.old.core (held self.old) locked.new.core (held self.new) }
@@ -45,28 +42,4 @@ pub trait Hands<L: Ledger, M: Map + Drop, A: Allocator + Copy> {
     fn note(&mut self)
         ensures held { held self.new ≡ held self.old }
         ensures told { told self.new ≡ told self.old };
-}
-
-/// Somebody who makes none.
-#[derive(Clone, Copy, Debug)]
-pub struct NoHands;
-
-impl<L: Ledger, M: Map + Drop, A: Allocator + Copy> Hands<L, M, A> for NoHands {
-    ghost held = { λ hands. [] };
-
-    ghost told = { λ hands. [] };
-
-    fn helps(&self) -> bool {
-        false
-    }
-
-    fn take(&mut self, _locked: &mut Locked<L, M, A>, _seat: &mut Seat<L>) -> bool {
-        false
-    }
-
-    fn work(&mut self) {}
-
-    fn end(&mut self, _locked: &mut Locked<L, M, A>, _seat: &mut Seat<L>) {}
-
-    fn note(&mut self) {}
 }

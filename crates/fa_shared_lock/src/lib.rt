@@ -7,7 +7,7 @@ mod making;
 mod seat;
 mod sleepers;
 
-pub use hands::{Hands, NoHands};
+pub use hands::Hands;
 pub use locked::{Gathered, Locked, MAX_SEATS, plain};
 pub use making::make;
 pub use seat::Seat;

@@ -1,3 +1,2 @@
-pub mod Counts
 pub mod Tallies
 pub mod Tiles

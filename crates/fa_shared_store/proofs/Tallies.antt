@@ -7,8 +7,9 @@ use Rattle.std.proofs.lemmas.List.Sums.{AllPass-from_list_all, get_or-le-sum_by,
 use Rattle.std.proofs.lemmas.Option.{same_Some}
 use Rattle.std.specs.List.{list_all, sum_by}
 use Rattle.std.specs.Prelude.{is_ok, is_some, OnOk}
-use Rattle.fa_shared_store.proofs.Counts.{counts_on, made_whole, prepared_counts, retasked}
-use Rattle.fa_shared_store.specs.Counts.{Counts, GoesOn, IsMade, PartsGoOn, has_ended, is_served, left_in, refusals_in, tally_of_parts}
+use Rattle.fa_shared_request.proofs.Counts.{counts_on, made_whole, prepared_counts, retasked}
+use Rattle.fa_shared_request.specs.Counts.{Counts, GoesOn, IsMade, is_served}
+use Rattle.fa_shared_store.specs.PartCounts.{PartsGoOn, has_ended, left_in, refusals_in, tally_of_parts}
 use Rattle.fa_shared_store.specs.declared.parts.Part.{Part}
 use Rattle.fa_shared_request.specs.Ops.{OpView, Prepares, answer_of, ended, stage_of, task_in}
 use Rattle.fa_shared_request.specs.Tallies.{left, tally_of}

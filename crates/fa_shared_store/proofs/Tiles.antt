@@ -6,7 +6,7 @@ use Rattle.std.proofs.lemmas.Bool.{cases_eq}
 use Rattle.std.proofs.lemmas.Bool.Decides.{nat_tests}
 use Rattle.std.proofs.lemmas.Nat.{div-mul-add, div_below, le-div}
 use Rattle.std.specs.Prelude.{max, min, nat_le, nat_lt, if◌then◌else◌}
-use Rattle.fa_shared_store.specs.Counts.{pages_between}
+use Rattle.fa_shared_store.specs.PartCounts.{pages_between}
 use Rattle.fa_shared_request.specs.Tallies.{pages_by, pages_in}
 use Rattle.fa_shared_steps.specs.Tasks.{begin_of, bytes_from, end_of, task_of, whole_range, zeros_as}
 use Rattle.fa_shared_steps.specs.declared.request.Fill.{Fill}

@@ -43,7 +43,7 @@ impl<
     H: Hands<L, M, A> + Drop,
 > ArrayBlocks<'a, R, L, M, A, H> {
     ghost use Rattle.std.specs.Prelude.{◌≡◌, true, is_none, is_some, unwrap_or};
-    ghost use Rattle.fa_shared_store.specs.Counts.{IsMade, is_served};
+    ghost use Rattle.fa_shared_request.specs.Counts.{IsMade, is_served};
     ghost use Rattle.fa_shared_request.specs.Ops.{ended, stage_of, task_in};
     ghost use Rattle.fa_shared_steps.specs.Stages.{beginning};
     ghost use Rattle.fa_shared_request.specs.Tallies.{pages_in};
@@ -110,8 +110,8 @@ impl<
     H: Hands<L, M, A> + Drop,
 > Blocks for ArrayBlocks<'a, R, L, M, A, H> {
     ghost use Rattle.std.specs.Prelude.{◌≡◌};
-    ghost use Rattle.fa_shared_store.specs.Counts.{IsMade, is_accepted, pages_of};
-    ghost use Rattle.fa_shared_store.specs.SharedStore.{shared_meets, shared_view, shared_whole};
+    ghost use Rattle.fa_shared_request.specs.Counts.{IsMade, is_accepted, pages_of};
+    ghost use Rattle.fa_shared_request.specs.SharedStore.{shared_meets, shared_view, shared_whole};
     ghost use Rattle.fa_types.specs.Store.{IsAnswer};
 
     ghost view = { λ store. shared_view store.bytes store.context.page_bytes };

@@ -1,7 +1,8 @@
 //! A request on several pages, done in parts side by side.
 ghost use Rattle.std.specs.Prelude.{◌≡◌, ℕ, ◌+◌, ◌≤◌, ◌^◌, true, is_ok, IfOk, OnOk};
 ghost use Rattle.std.specs.List.{list_all, sum_by};
-ghost use Rattle.fa_shared_store.specs.Counts.{Counts, IsMade, PartsGoOn, has_ended as rule_ended, left_in, pages_between, refusals_in, tally_of_parts};
+ghost use Rattle.fa_shared_request.specs.Counts.{Counts, IsMade};
+ghost use Rattle.fa_shared_store.specs.PartCounts.{PartsGoOn, has_ended as rule_ended, left_in, pages_between, refusals_in, tally_of_parts};
 ghost use Rattle.fa_shared_request.specs.Tallies.{pages_in, refusals_by, tally_of};
 ghost use Rattle.fa_shared_steps.specs.Tasks.{end_of, task_of};
 

@@ -1,6 +1,6 @@
 //! Requests over an array that is shared, from their beginning to their end.
 ghost use Rattle.std.specs.Prelude.{◌≡◌, ◌+◌, ◌*◌, ◌^◌, ◌≤◌, length, is_ok, IfOk, IfErr};
-ghost use Rattle.fa_shared_store.specs.Counts.{GoesOn, IsMade};
+ghost use Rattle.fa_shared_request.specs.Counts.{GoesOn, IsMade};
 ghost use Rattle.fa_shared_request.specs.Ops.{ended, stage_of};
 ghost use Rattle.fa_shared_request.specs.Tallies.{pages_in};
 ghost use Rattle.fa_shared_steps.specs.Tasks.{end_of, task_of};
@@ -236,8 +236,7 @@ pub(crate) fn pass_time<
 {
     let mut guard = guard;
     if !hands.take(&mut guard, seat) {
-        let helps = hands.helps();
-        return context.shared.sleep(context.rt, seat, awaits, helps, guard);
+        return context.shared.sleep(context.rt, seat, awaits, true, guard);
     }
     context.shared.release(seat, guard);
     hands.work();

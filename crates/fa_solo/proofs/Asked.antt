@@ -1,8 +1,8 @@
 -- Requests that go on, step by step.
 use Rattle.std.proofs.Common.{◌≡◌, ◌∙◌, ◌+◌, ◌≤◌, ℕ, Bool, List, true, false, ap, arith, refl, subst, sym}
 use Rattle.std.proofs.lemmas.Bool.{false≢true}
-use Rattle.fa_shared_store.proofs.Counts.{goes_further, prepared_on, turned_on}
-use Rattle.fa_shared_store.specs.Counts.{Counts, GoesOn, IsMade}
+use Rattle.fa_shared_request.proofs.Counts.{goes_further, prepared_on, turned_on}
+use Rattle.fa_shared_request.specs.Counts.{Counts, GoesOn, IsMade}
 use Rattle.fa_mount_headers.specs.declared.judging.Standing.{Standing}
 use Rattle.fa_image.specs.Image.{ImageAnswer, ImageCall}
 use Rattle.fa_shared_lock.specs.Accounts.{IsAccounted}

@@ -1,6 +1,6 @@
 -- What a call of the store of one thread does, from its beginning to its answer.
 use Rattle.std.specs.Prelude.{◌≡◌, ◌⊎◌, ℕ, ◌-◌, ◌^◌, ◌<◌, ◌≤◌, true, false, List, [], length, Some, None, Result, Ok, Err}
-use Rattle.fa_shared_store.specs.Counts.{request_of}
+use Rattle.fa_shared_request.specs.Counts.{request_of}
 use Rattle.fa_image.specs.Image.{ImageAnswer, ImageCall}
 use Rattle.fa_shared_request.specs.Ops.{OpView, answer_of, ended, stage_of, task_in}
 use Rattle.fa_shared_steps.specs.Stages.{beginning}

@@ -1,6 +1,6 @@
 -- A call of the store of one thread.
 use Rattle.std.specs.Prelude.{◌≡◌, ℕ}
-use Rattle.fa_shared_store.specs.Counts.{IsMade, is_accepted, pages_of}
+use Rattle.fa_shared_request.specs.Counts.{IsMade, is_accepted, pages_of}
 use Rattle.fa_image.specs.Image.{ImageAnswer, ImageCall}
 use Rattle.fa_image.specs.declared.image.Image.{Ghosts as ImageGhosts}
 use Rattle.fa_map_calls.specs.declared.map.Map.{Ghosts as MapGhosts}

@@ -1,6 +1,6 @@
 -- A request from its beginning to its end, by one thread: its turns, what it prepares, and what is done for dies while it waits.
 use Rattle.std.specs.Prelude.{◌≡◌, ℕ, ◌+◌, IsTrue, List}
-use Rattle.fa_shared_store.specs.Counts.{GoesOn}
+use Rattle.fa_shared_request.specs.Counts.{GoesOn}
 use Rattle.fa_mount_headers.specs.declared.judging.Standing.{Standing}
 use Rattle.fa_image.specs.Image.{ImageAnswer, ImageCall}
 use Rattle.fa_shared_request.specs.Moves.{Turned}

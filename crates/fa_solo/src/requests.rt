@@ -1,6 +1,6 @@
 //! Requests, from their beginning to their end.
 ghost use Rattle.std.specs.Prelude.{◌≡◌, ◌+◌, ◌-◌, ◌^◌, ◌≤◌, ℕ, IsTrue, List, [], length, is_ok, true, false, IfOk, IfErr, IfSome, Some, None};
-ghost use Rattle.fa_shared_store.specs.Counts.{IsMade};
+ghost use Rattle.fa_shared_request.specs.Counts.{IsMade};
 ghost use Rattle.fa_core.specs.Array.{state_of};
 ghost use Rattle.fa_machine.specs.Reading.{is_late as rule_late};
 ghost use Rattle.fa_shared_request.specs.Ops.{answer_of, ended, stage_of, task_in};

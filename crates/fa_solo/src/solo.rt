@@ -98,7 +98,7 @@ fn store_bytes(geometry: Geometry) -> (u64, u32)
 }
 
 impl<L: Ledger, M: Map + Drop, I: Image, A: Allocator + Copy> Blocks for Solo<L, M, I, A> {
-    ghost use Rattle.fa_shared_store.specs.SharedStore.{shared_meets, shared_view, shared_whole};
+    ghost use Rattle.fa_shared_request.specs.SharedStore.{shared_meets, shared_view, shared_whole};
     ghost use Rattle.fa_solo.specs.Stores.{StoreMakes};
 
     ghost view = { λ store. shared_view store.bytes store.page_bytes };

@@ -1,6 +1,6 @@
 //! Whole calls: what is for dies before a request, the request, and what the array wants behind it.
 ghost use Rattle.std.specs.Prelude.{◌≡◌, ◌+◌, ◌^◌, ◌≤◌, [], length, is_ok, true, false, IfOk, IfErr, OnOk};
-ghost use Rattle.fa_shared_store.specs.Counts.{IsMade};
+ghost use Rattle.fa_shared_request.specs.Counts.{IsMade};
 ghost use Rattle.fa_shared_request.specs.Tallies.{pages_in};
 ghost use Rattle.fa_shared_steps.specs.Tasks.{end_of, task_of};
 ghost use Rattle.fa_shared_steps.specs.declared.request.Request.TheVariants.{Flush, Read};

@@ -2,7 +2,7 @@
 use Rattle.fa_session_ask.specs.Asking.{call_of as wanted_call}
 use Rattle.fa_solo_laws.specs.Calls.{HasBytes, call_of as asked_call}
 use Rattle.fa_solo_laws.specs.Shown.{store_of}
-use Rattle.fa_shared_store.specs.Counts.{request_of}
+use Rattle.fa_shared_request.specs.Counts.{request_of}
 use Rattle.fa_cmds.specs.Requests.{body_length, decision, first_of, has_unknown_flag, is_disconnect, is_past_end, is_too_long, row_of}
 use Rattle.fa_cmds.specs.declared.decision.Decision.TheVariants.{Disconnect as Leave, Do, Refuse}
 use Rattle.fa_cmds.specs.declared.reply.ReplyCode.{ReplyCode}

@@ -1,7 +1,7 @@
 -- The store of one thread over a world, and the calls that a connection makes of it.
 use Rattle.std.proofs.Common.{inl, inr}
 use Rattle.std.specs.Prelude.{◌≡◌, ◌⊎◌, ℕ, ◌*◌, List, [], ◌∷◌}
-use Rattle.fa_shared_store.specs.Counts.{request_of}
+use Rattle.fa_shared_request.specs.Counts.{request_of}
 use Rattle.fa_solo_laws.specs.Rest.{IsIdle}
 use Rattle.fa_solo_laws.specs.Standing.{IsGivenUp, IsWorldOf}
 use Rattle.fa_image.specs.Image.{ImageAnswer, ImageCall, ImageState}

@@ -131,10 +131,6 @@ impl<
 
     ghost told = { λ helper. map told_of helper.memory.made.items };
 
-    fn helps(&self) -> bool {
-        true
-    }
-
     fn take(&mut self, locked: &mut Locked<L, M, A>, seat: &mut Seat<L>) -> bool {
         locked.settle(seat);
         let most = if self.is_quick { MAX_JOBS } else { 1 };

@@ -5,7 +5,7 @@ use Rattle.fa_machine.specs.declared.places.Used.TheVariants.{Stale}
 use Rattle.fa_core_state.specs.Core.{core_of}
 use Rattle.fa_core_write.proofs.Abandoned.{others_of}
 use Rattle.fa_core_write.proofs.Kept.{reserved_fit}
-use Rattle.fa_core_write.specs.Placed.{FitsLive}
+use Rattle.fa_core_commit.specs.Holding.{FitsLive}
 use Rattle.std.specs.List.{All}
 use Rattle.std.specs.Prelude.{option_map}
 use Rattle.fa_core_write.proofs.abandoning.abandon.Goals as goal

@@ -6,7 +6,7 @@ use Rattle.fa_machine.specs.declared.places.Used.TheVariants.{Held}
 use Rattle.fa_map_calls.specs.Changes.{renewed}
 use Rattle.fa_core_tables.specs.Logs.{history_of}
 use Rattle.fa_core_state.specs.Core.{core_of}
-use Rattle.fa_core_write.proofs.Live.{live_of}
+use Rattle.fa_core_commit.specs.Holding.{live_of}
 use Rattle.std.specs.FinMap.{insert}
 use Rattle.fa_core_write.proofs.committing.settle.Goals as goal
 
@@ -15,8 +15,8 @@ returns-clause-settled g c =
     let m = g.M.Map.view c.args.state.now.page_map in
     let version = c.args.reservation.version in
     let claims = claims_of c.args.state.now.claims in λ i. record (core_of g.M.Map.view c.args.state.now) {
-      page_map = (c.hold_slots.ensures
-          ∙ (λ j. with_targets (Held c.args.page version) (live_of (c.renew.ensures j) (c.items.ensures j)) (c.renew.ensures j))
+      page_map = (c.replace_copies.ensures
+          ∙ (λ j. with_targets (Held c.args.page version) (live_of m (c.items.ensures j)) (renewed c.args.page.0 version m))
           ∙ (λ j. with_targets (Held (record { 0 = c.requires.page j }) version) (live_of m (targets_of c.args.reservation.targets))
           (renewed (c.requires.page j) version m))) i;
       claims = (c.set_reserved.ensures.reserved

@@ -1,6 +1,6 @@
 use Rattle.std.proofs.Common.{◌≡◌, take}
 use Rattle.std.specs.List.{sum_by}
-use Rattle.fa_shared_store.specs.Counts.{refusals_in}
+use Rattle.fa_shared_store.specs.PartCounts.{refusals_in}
 use Rattle.fa_shared_store.proofs.parts.fault_of.Given as goal
 
 abbrev pub invariant-loop-part : goal.invariant-loop-part

@@ -1,7 +1,7 @@
 use Rattle.std.proofs.Common.{◌≡◌, ◌+◌, ◌≤◌}
 use Rattle.std.specs.List.{sum_by}
 use Rattle.fa_shared_store.proofs.Tiles.{IsEdge}
-use Rattle.fa_shared_store.specs.Counts.{left_in, pages_between, refusals_in}
+use Rattle.fa_shared_store.specs.PartCounts.{left_in, pages_between, refusals_in}
 use Rattle.fa_shared_store.proofs.parts.parts_of.Given as goal
 
 -- the parts so far have the pages before the offset that was reached

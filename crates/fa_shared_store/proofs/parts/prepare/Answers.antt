@@ -1,5 +1,5 @@
 use Rattle.std.proofs.Common.{arith}
-use Rattle.fa_shared_store.proofs.Counts.{counts_on}
+use Rattle.fa_shared_request.proofs.Counts.{counts_on}
 use Rattle.fa_shared_store.proofs.Tallies.{part_counts}
 use Rattle.fa_shared_store.proofs.parts.prepare.Goals as goal
 

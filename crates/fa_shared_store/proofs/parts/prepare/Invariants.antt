@@ -1,5 +1,6 @@
 use Rattle.std.proofs.Common.{ℕ}
-use Rattle.fa_shared_store.specs.Counts.{Counts, tally_of_parts}
+use Rattle.fa_shared_request.specs.Counts.{Counts}
+use Rattle.fa_shared_store.specs.PartCounts.{tally_of_parts}
 use Rattle.fa_shared_store.proofs.parts.prepare.Given as goal
 
 abbrev pub invariant-loop-part : goal.invariant-loop-part

@@ -1,6 +1,6 @@
 use Rattle.std.proofs.Common.{◌∙◌, ap}
 use Rattle.fa_shared_store.proofs.Tallies.{pushed}
-use Rattle.fa_shared_store.specs.Counts.{left_in}
+use Rattle.fa_shared_store.specs.PartCounts.{left_in}
 use Rattle.fa_shared_request.specs.Tallies.{Tally, pages_in}
 use Rattle.fa_shared_steps.specs.Tasks.{task_of}
 use Rattle.fa_shared_store.proofs.parts.push_part.Goals as goal

@@ -1,4 +1,4 @@
-use Rattle.fa_shared_store.proofs.Counts.{goes_further, prepared_on}
+use Rattle.fa_shared_request.proofs.Counts.{goes_further, prepared_on}
 use Rattle.fa_shared_store.proofs.running.finish.Goals as goal
 
 pub loop-preserved : goal.loop-preserved

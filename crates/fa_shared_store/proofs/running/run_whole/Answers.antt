@@ -1,5 +1,5 @@
 use Rattle.std.proofs.lemmas.Bool.{false≢true}
-use Rattle.fa_shared_store.proofs.Counts.{made_new}
+use Rattle.fa_shared_request.proofs.Counts.{made_new}
 use Rattle.fa_shared_store.proofs.running.run_whole.Goals as goal
 
 pub returns-in-None : goal.returns-in-None

@@ -1,4 +1,4 @@
-use Rattle.fa_shared_store.proofs.Counts.{goes_further, turned_on}
+use Rattle.fa_shared_request.proofs.Counts.{goes_further, turned_on}
 use Rattle.fa_shared_store.proofs.running.turn_further.Goals as goal
 
 pub returns-then-matches : goal.returns-then-matches

@@ -1,4 +1,4 @@
-use Rattle.fa_shared_store.specs.Counts.{GoesOn}
+use Rattle.fa_shared_request.specs.Counts.{GoesOn}
 use Rattle.fa_shared_store.proofs.running.turn_further.Given as goal
 
 abbrev pub invariant-loop : goal.invariant-loop

@@ -1,5 +1,5 @@
 use Rattle.std.proofs.Common.{Some, ap, refl, ◌∙◌}
-use Rattle.fa_shared_store.proofs.Counts.{made_new}
+use Rattle.fa_shared_request.proofs.Counts.{made_new}
 use Rattle.fa_solo.proofs.Asked.{refused_by}
 use Rattle.fa_solo.proofs.Begun.{made_request}
 use Rattle.fa_solo.specs.Calls.{Ended, Endless}

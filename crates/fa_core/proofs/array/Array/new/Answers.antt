@@ -1,6 +1,6 @@
 use Rattle.fa_core.proofs.Whole.{begun_history, begun_sound}
 use Rattle.fa_core_state.proofs.Numbers.{below_bound}
-use Rattle.fa_core_begin.specs.Begun.{begun}
+use Rattle.fa_core_state.specs.Begun.{begun}
 use Rattle.fa_laws.specs.Counted.{HasHistory}
 use Rattle.fa_machine.specs.State.{Core, MapState}
 use Rattle.fa_sound.specs.Ready.{AreReady}

@@ -1,5 +1,0 @@
-use Rattle.fa_core_begin.specs.Begun.{numbers_of}
-use Rattle.fa_core_begin.proofs.mounting.new_log.Given as goal
-
-abbrev pub ghost-new : goal.ghost-new
-ghost-new g a = λ pages. numbers_of (g.M.Map.view pages)

@@ -1,6 +1,0 @@
-//! The array's state as it is mounted.
-#![tactic(auto)]
-
-mod mounting;
-
-pub use mounting::begin;

@@ -1,2 +1,0 @@
-pub mod Recovered
-pub mod Slots
