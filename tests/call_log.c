@@ -1,12 +1,7 @@
 // A library that a test puts before the C library of a server (LD_PRELOAD). It looks at the calls on images, the files named d0.img,
 // d1.img and so on, and passes each of them on. CALL_LOG names the file to which their records are appended, if there is to be one.
-// CALL_CONTROL names a file of seven numbers that the test and the server have in common:
-//
-//   0  the dies whose calls are refused with EIO and not made, a bit for each
-//   1  how many nanoseconds a sync waits before it is made
-//   2  how many syncs were made
-//   3  how many writes were made
-//   4  how many of these were of ff bytes alone
+// CALL_CONTROL names the file of the numbers that the test and the server have in common (tests/call_control.h): by these calls are counted,
+// refused, delayed, held at a gate, and reads made to hand out wrong bytes.
 //
 // A call has a record before it is made, and one after it. A record is its head and the bytes of a write, if they are not all ff. Each
 // record is appended by one call of the system, so the log has whole records alone, and its length is a moment of the server's life.
@@ -27,8 +22,11 @@
 #include <time.h>
 #include <unistd.h>
 
+#include "call_control.h"
+
 enum { WRITE = 0, ERASE = 1, SYNC = 2, REFUSED = 3 };
-enum { DIES = 64, FILES = 4096 };
+// Where the slots of an image begin, and how often it is looked whether a call is held any longer, a millisecond apart.
+enum { DIES = 64, FILES = 4096, HEADER_END = 4096, TURNS = 10000 };
 
 struct head {
     uint32_t data;
@@ -37,12 +35,8 @@ struct head {
     int64_t result;
 };
 
-struct control {
-    _Atomic uint64_t refused, sync_nanoseconds, syncs, writes, erases;
-};
-
 static struct control unshared;
-static struct control *control = &unshared;
+struct control *control = &unshared;
 static int log_file = -1;
 static _Atomic uint64_t calls;
 // One more than the die whose image a file is, and 0 for any other file.
@@ -99,6 +93,25 @@ static int is_refused(int die) {
     return 1;
 }
 
+// Holds a call of a die's slot while the gate is shut for these dies, until enough have begun, or until the gate is opened.
+static void hold(uint64_t dies, int die) {
+    if (!control->is_shut || !(dies >> die & 1))
+        return;
+    control->begun++;
+    for (int turn = 0; turn < TURNS; turn++) {
+        if (control->begun >= control->enough || !control->is_shut || control->is_late)
+            return;
+        nanosleep(&(struct timespec){0, 1000000}, NULL);
+    }
+    control->is_late = 1;
+}
+
+// Whether a die's next read is to hand out wrong bytes, which this one does then.
+static int is_lie(int die) {
+    uint64_t bit = (uint64_t)1 << die;
+    return control->lying & bit && atomic_fetch_and(&control->lying, ~bit) & bit;
+}
+
 int open(const char *path, int flags, ...) {
     va_list more;
     va_start(more, flags);
@@ -123,7 +136,16 @@ ssize_t pread(int file, void *data, size_t count, off_t offset) {
     int die = die_at(file);
     if (die >= 0 && is_refused(die))
         return -1;
-    return next_pread(file, data, count, offset);
+    if (die < 0 || offset < HEADER_END)
+        return next_pread(file, data, count, offset);
+    hold(control->held_reads, die);
+    ssize_t result = next_pread(file, data, count, offset);
+    if (result > 0 && is_lie(die)) {
+        unsigned char *bytes = data;
+        for (ssize_t at = 0; at < result; at++)
+            bytes[at] ^= 0xff;
+    }
+    return result;
 }
 
 ssize_t pwrite(int file, const void *data, size_t count, off_t offset) {
@@ -133,6 +155,9 @@ ssize_t pwrite(int file, const void *data, size_t count, off_t offset) {
     if (is_refused(die))
         return -1;
     int erases = is_erase(data, count);
+    int programs = !erases && offset >= HEADER_END;
+    if (programs)
+        hold(control->held_programs, die);
     struct head head = {.data = erases ? 0 : count, .kind = erases ? ERASE : WRITE, .die = die, .call = calls++,
                         .offset = offset, .count = count};
     append(head, data);
@@ -140,6 +165,7 @@ ssize_t pwrite(int file, const void *data, size_t count, off_t offset) {
     control->erases += erases;
     head.result = next_pwrite(file, data, count, offset);
     int error = errno;
+    control->programs += programs;
     head.data = 0;
     head.is_end = 1;
     append(head, NULL);

@@ -6,17 +6,22 @@ import struct
 import subprocess
 import sys
 
-SOURCE = os.path.join(os.path.dirname(os.path.abspath(__file__)), "call_log.c")
-REFUSED, SYNC_NANOSECONDS, SYNCS, WRITES, ERASES = range(5)
+HERE = os.path.dirname(os.path.abspath(__file__))
+# The numbers of tests/call_control.h, in their order.
+(REFUSED, SYNC_NANOSECONDS, SYNCS, WRITES, ERASES, PROGRAMS, IS_SHUT, HELD_READS, HELD_PROGRAMS, ENOUGH, BEGUN, IS_LATE, LYING,
+ THREAD_WITHOUT_MEMORY, MEMORY_REFUSALS) = range(15)
 CONTROL_BYTES = 4096
+# All dies, and more calls than ever begin.
+ALL = NEVER = (1 << 64) - 1
 
 
-def compiled(folder):
-    """The path of the library, which `cc` makes in a folder."""
+def compiled(folder, *, refuses_memory=False):
+    """The path of the library, which `cc` makes in a folder. One that can refuse memory is before each request for memory too."""
     if not shutil.which("cc"):
         sys.exit(f"{os.path.basename(sys.argv[0])}: it needs cc, a compiler of C: apt-get install gcc libc6-dev")
     path = os.path.join(folder, "call_log.so")
-    subprocess.run(["cc", "-O2", "-Wall", "-Wextra", "-shared", "-fPIC", "-o", path, SOURCE], check=True)
+    sources = ["call_log.c", *(["thread_memory.c"] if refuses_memory else [])]
+    subprocess.run(["cc", "-O2", "-Wall", "-Wextra", "-shared", "-fPIC", "-o", path, *(os.path.join(HERE, it) for it in sources)], check=True)
     return path
 
 
@@ -54,6 +59,23 @@ class CallLog:
     def refuse(self, die):
         """From now on each call of a die's image is refused."""
         self.put(REFUSED, self.number(REFUSED) | 1 << die)
+
+    def shut(self, *, reads=0, programs=0, enough=NEVER):
+        """Shuts the gate: from now on reads of slots of these dies, and programs of those, are held until so many have begun."""
+        for which, number in (BEGUN, 0), (HELD_READS, reads), (HELD_PROGRAMS, programs), (ENOUGH, enough), (IS_SHUT, 1):
+            self.put(which, number)
+
+    def open(self):
+        """Opens the gate, for the calls that are held too."""
+        self.put(IS_SHUT, 0)
+
+    def lie(self, die):
+        """The next read of a slot of the die hands out wrong bytes."""
+        self.put(LYING, 1 << die)
+
+    def refuse_memory(self, thread):
+        """From now on the thread of this number is refused memory. As it was made, no other had the number, and each lesser one was taken."""
+        self.put(THREAD_WITHOUT_MEMORY, thread)
 
     def close(self):
         self.numbers.close()

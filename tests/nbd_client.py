@@ -189,6 +189,10 @@ class Client:
     def flush(self):
         self.done(FLUSH)
 
+    def end_output(self):
+        """Sends no more. What the server says still comes."""
+        self.socket.shutdown(socket.SHUT_WR)
+
     def leave(self):
         self.send(request_bytes(DISC))
         self.close()

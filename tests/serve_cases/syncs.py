@@ -1,39 +1,14 @@
 """What the server syncs, as a library sees it that looks at its calls of images (tests/call_log.c). No clause can tell that a sync which is
 noted was made."""
-import os
-
-from call_log import CallLog, compiled
-from crashes import ERASE, SYNC, WRITE, records
+from crashes import ERASE, SYNC, WRITE
 from nbd_client import FUA
 from serve_cases import case
+from serve_cases.watched import Watched
 from servers import Geometry, ensure, equal
 
 DIES = 4
 SMALL = Geometry(dies=DIES, blocks=8, slots=8, pages=60)
 ALL = set(range(DIES))
-
-
-class Watched:
-    """An array of which each call on its images is recorded while it is served."""
-
-    def __init__(self, make):
-        self.array = make(SMALL)
-        folder = os.path.dirname(self.array.image(0))
-        self.log = CallLog(compiled(folder), folder)
-
-    def serve(self, *words):
-        return self.array.serve(*words, env=self.log.environment())
-
-    def records(self, since=0):
-        return records(self.log.path, since)[0]
-
-    def synced(self, since=0):
-        """The dies whose images were synced since a place of the log."""
-        return {it.die for it in self.records(since) if it.kind == SYNC and it.is_end and it.result == 0}
-
-    def by_die(self, since=0):
-        """The calls of each die's image since a place of the log, in their order."""
-        return {die: [it for it in self.records(since) if it.die == die and not it.is_end] for die in ALL}
 
 
 def rewrites(client, times):
@@ -44,7 +19,7 @@ def rewrites(client, times):
 
 @case
 def each_start_syncs_each_image_first(make):
-    watched = Watched(make)
+    watched = Watched(make(SMALL))
     for words in (), ("--recover",):
         place = watched.log.place()
         with watched.serve(*words) as server:
@@ -56,7 +31,7 @@ def each_start_syncs_each_image_first(make):
 
 @case
 def a_flush_syncs_each_live_die(make):
-    watched = Watched(make)
+    watched = Watched(make(SMALL))
     with watched.serve() as server:
         with server.client() as client:
             for flags in (0, FUA):
@@ -72,7 +47,7 @@ def a_flush_syncs_each_live_die(make):
 
 @case
 def a_header_is_synced_before_anything_else(make):
-    watched = Watched(make)
+    watched = Watched(make(SMALL))
     with watched.serve() as server:
         with server.client() as client:
             rewrites(client, 1)
@@ -86,7 +61,7 @@ def a_header_is_synced_before_anything_else(make):
 
 @case
 def an_erase_comes_right_behind_a_sync(make):
-    watched = Watched(make)
+    watched = Watched(make(SMALL))
     with watched.serve() as server:
         with server.client() as client:
             rewrites(client, 6)

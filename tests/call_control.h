@@ -1,0 +1,28 @@
+// The numbers that a test and the server that it looks at have in common, in a file that CALL_CONTROL names. tests/call_log.py names them in
+// the same order.
+#ifndef CALL_CONTROL_H
+#define CALL_CONTROL_H
+
+#include <stdatomic.h>
+#include <stdint.h>
+
+// Dies are a bit for each. A program is a write of a slot that does not erase it.
+struct control {
+    // The dies whose calls are refused with EIO and not made, and how many nanoseconds a sync waits before it is made.
+    _Atomic uint64_t refused, sync_nanoseconds;
+    // How many syncs and writes were made, how many of the writes were of ff bytes alone, and how many programs have ended.
+    _Atomic uint64_t syncs, writes, erases, programs;
+    // Whether the gate is shut. While it is, reads of slots of the first dies and programs of the second dies are counted and held, until
+    // enough have begun or the gate is opened.
+    _Atomic uint64_t is_shut, held_reads, held_programs, enough;
+    // How many calls of these have begun, and whether one was held in vain: no other is held then.
+    _Atomic uint64_t begun, is_late;
+    // The dies whose next read of a slot hands out wrong bytes. What the image holds stays as it is.
+    _Atomic uint64_t lying;
+    // The number of the thread that is refused memory, or 0, and how often it was refused (tests/thread_memory.c).
+    _Atomic uint64_t thread_without_memory, memory_refusals;
+};
+
+extern struct control *control;
+
+#endif

@@ -1,0 +1,237 @@
+"""What the threads of a server do beside one another. A library counts and holds calls of images (tests/call_log.c), so that a case shows
+what runs side by side and does not rest on time: a call is held for ten seconds at most, and then the case is late and fails.
+
+Sessions of the server make jobs of dies while they wait. So where one is held in a call of a die's image, it is the workers of the other dies
+that make theirs."""
+import os
+
+from call_log import ALL, ERASES, LYING, MEMORY_REFUSALS, PROGRAMS
+from nbd_client import NO_HOLE, READ, WRITE
+from serve_cases import case
+from serve_cases.watched import LIMIT, User, Watched, written
+from servers import FAULT, Geometry, ensure, equal, same_bytes, wait_until
+
+TWO, THREE, FOUR = (Geometry(dies=dies) for dies in (2, 3, 4))
+# Four dies of 16 slots each, for 8 pages.
+SMALL = Geometry(dies=4, blocks=4, slots=4, pages=8)
+# The pages that are written before many of the cases begin.
+FIRST = range(8)
+# How many calls are made in turn: a write and a read of page 3, and a hundred others.
+CALLS = 102
+
+
+def drawn(number):
+    """A number that looks drawn, the same each time."""
+    low = (1 << 64) - 1
+    mixed = (number + 1) * 0x9E3779B97F4A7C15 & low
+    mixed = (mixed ^ mixed >> 30) * 0xBF58476D1CE4E5B9 & low
+    return (mixed ^ mixed >> 27) >> 4
+
+
+def make_call(number, client, plain):
+    """Makes the call of a number, of whole pages or of parts, of the disk and of a plain store."""
+    seed = drawn(number)
+    if number < 2:
+        offset, length, kind, seed = 3 * 512, 512, (2, 0)[number], 0
+    elif seed % 4 == 0:
+        offset, length, kind = seed // 4 % 60 * 512, (seed // 256 % 4 + 1) * 512, seed // 1024 % 5
+    else:
+        offset, length, kind = seed // 4 % 30_000, seed // 131_072 % 2_000 + 1, seed // 1024 % 5
+    if kind < 2:
+        same_bytes(client.read(offset, length), plain[offset:offset + length], f"call {number}, a read of {length} bytes at {offset}")
+    elif kind < 4:
+        plain[offset:offset + length] = bytes((at * 7 + seed) % 251 for at in range(length))
+        client.write(offset, plain[offset:offset + length])
+    else:
+        plain[offset:offset + length] = bytes(length)
+        client.zero(offset, length, NO_HOLE)
+
+
+@case
+def two_sessions_read_back(make):
+    """Two clients make calls in turn, and each is answered as a plain store answers it."""
+    plain = bytearray(THREE.size)
+    with make(THREE).serve() as server:
+        with server.client() as one, server.client() as other:
+            for number in range(CALLS):
+                make_call(number, (one, other)[number % 2], plain)
+        server.stop()
+
+
+@case
+def two_dies_read_in_one_round(make):
+    """A read of two pages on two dies is at both dies at once, whichever is first: each read of a die waits for that of the other. The session
+    is in one of them, and the worker of the other die in the other. Calls before it were quick, so that the session takes both."""
+    watched = Watched(make(TWO))
+    with watched.serve() as server:
+        with User(server, TWO) as user:
+            user.write(0)
+            user.write(1)
+            user.reads(0, 2)
+            watched.log.shut(reads=ALL, enough=2)
+            user.reads(0, 2)
+        watched.in_time()
+        server.stop()
+
+
+@case
+def admit_page_by_page(make):
+    """A read of nine pages, of which three were written, is at all dies at once, whichever they are. The session is in the call of one die at
+    most, so two workers are in those of theirs at once."""
+    for pages in (1, 2, 6), (0, 2, 7), (0, 5, 8), (0, 3, 5):
+        watched = Watched(make(THREE))
+        with watched.serve() as server:
+            with User(server, THREE) as user:
+                for page in pages:
+                    user.write(page)
+                user.reads(0, 9)
+                watched.log.shut(reads=ALL, enough=3)
+                user.reads(0, 9)
+            watched.in_time()
+            server.stop()
+
+
+@case
+def slow_image_holds_up_its_die_alone(make):
+    """A session reads from three dies, behind calls that were quick, and the image of the last becomes slow. Another session writes page 0
+    meanwhile, which is on the two other dies."""
+    watched = Watched(written(make(THREE), 8))
+    with watched.serve() as server:
+        with User(server, THREE, FIRST) as reader, User(server, THREE, FIRST) as writer:
+            reader.reads(0, 8)
+            watched.log.shut(reads=1 << 2)
+            cookie = reader.client.begin(READ, 0, 8 * 512)
+            watched.await_begun(1)
+            writer.write(0)
+            watched.in_time()
+            watched.log.open()
+            equal(reader.client.end(cookie, 8 * 512), (0, reader.content(0, 8)), "the answer to the read that was held up")
+        server.stop()
+
+
+@case
+def flush_without_sync(make):
+    """A flush syncs each image, behind no write too."""
+    watched = Watched(make(THREE))
+    with watched.serve() as server:
+        with server.client() as client:
+            place = watched.log.place()
+            client.flush()
+            equal(watched.synced(place), {0, 1, 2}, "the dies that were synced before a flush was answered")
+        server.stop()
+
+
+@case
+def workers_collect_and_rebuild(make):
+    """The rebuilder gives each page of a die that is missing another copy, and the collector makes room for many writes of one page."""
+    rebuild(make)
+    collect(make)
+
+
+def rebuild(make):
+    """Die 1 is missing, which has four pages: four programs give them their copies."""
+    watched = Watched(written(make(SMALL), 8))
+    image, away = watched.array.image(1), watched.array.path("away")
+    os.rename(image, away)
+    with watched.serve("--unclean") as server:
+        watched.await_programs(4)
+        os.rename(away, image)
+        server.stop()
+    watched.array.checked(dies=4, live=3, written=8, thin=0)
+
+
+def collect(make):
+    """Each write is answered before ten seconds have passed, so there was room for both copies of it by then. It wants more slots than two dies
+    have, so what the writes took was erased."""
+    watched = Watched(written(make(SMALL), 8))
+    with watched.serve() as server:
+        with User(server, SMALL, FIRST, seconds=LIMIT) as user:
+            for _ in range(40):
+                user.write(6)
+            ensure(watched.erases, "nothing was erased")
+            user.reads(0, 8)
+        server.stop()
+
+
+@case
+def writes_end_without_windows(make):
+    """Two dies run full by writes of one page, and no window is to be had: the next writes go to other dies, and do not wait."""
+    watched = Watched(written(make(SMALL), 8), refuses_memory=True)
+    homes = dies_of(watched.array, 6)
+    with watched.serve() as server:
+        watched.log.refuse_memory(collector(SMALL))
+        with User(server, SMALL, FIRST, seconds=LIMIT) as user:
+            write_full(user)
+            user.reads(0, 8)
+        ensure(watched.log.number(MEMORY_REFUSALS), "no memory was refused, and so no window")
+        equal(watched.erases, 0, "the number of erases without a window")
+        server.stop()
+    equal(homes & dies_of(watched.array, 6), set(), "the dies of page 6 that it was on before")
+
+
+@case
+def the_same_writes_with_windows(make):
+    """What `writes_end_without_windows` does wants windows: where memory is not refused, blocks are erased."""
+    watched = Watched(written(make(SMALL), 8), refuses_memory=True)
+    with watched.serve() as server:
+        with User(server, SMALL, FIRST, seconds=LIMIT) as user:
+            write_full(user)
+            ensure(wait_until(lambda: watched.erases, LIMIT), "late: nothing was erased")
+            user.reads(0, 8)
+        equal(watched.log.number(MEMORY_REFUSALS), 0, "how often memory was refused")
+        server.stop()
+
+
+def collector(geometry):
+    """The number of the collector's thread, which is made behind a worker of each die, once no other thread is left but the main one."""
+    return geometry.dies + 1
+
+
+def write_full(user):
+    """Writes page 6 more often than its dies have room for."""
+    for _ in range(14):
+        user.write(6)
+
+
+def dies_of(array, page):
+    """The dies that a page is on."""
+    return {die for die, _ in array.dump()[page][2]}
+
+
+@case
+def vanished_client_leaves_nothing(make):
+    """Clients that vanish before a reply, or inside a request, while calls of images are held for them, leave nothing open: what was asked for
+    whole is done, the rest is not, and the two sessions serve others."""
+    watched = Watched(written(make(THREE, sessions=2), 8))
+    with watched.serve() as server:
+        watched.log.shut(reads=ALL, programs=ALL)
+        reader, writer = server.client(), server.client()
+        reader.begin(READ, 0, 3 * 512)
+        cookie = writer.begin(WRITE, 9 * 512, 512, b"\x11" * 512)
+        writer.begin(WRITE, 10 * 512, 512, b"\x22" * 100)
+        writer.end_output()
+        watched.await_begun(2)
+        reader.reset()
+        watched.in_time()
+        watched.log.open()
+        equal(writer.end(cookie), (0, b""), "the answer to the write of page 9")
+        equal(writer.rest(), b"", "what comes behind it")
+        writer.close()
+        with User(server, THREE, FIRST) as one, User(server, THREE, FIRST) as other:
+            one.reads(0, 9)
+            same_bytes(other.client.read(9 * 512, 1024), b"\x11" * 512 + bytes(512), "pages 9 and 10")
+        server.stop()
+    watched.array.checked(written=9, thin=0)
+
+
+@case
+def wrong_bytes_take_the_die_out(make):
+    """A die whose image gives wrong bytes once goes out, and what is read is right."""
+    watched = Watched(written(make(FOUR), 8))
+    with watched.serve() as server:
+        watched.log.lie(1)
+        with User(server, FOUR, FIRST) as user:
+            user.reads(0, 8)
+        equal(watched.log.number(LYING), 0, "the dies that have not given wrong bytes yet")
+        lines = server.stop(faults=[1])
+    equal([FAULT.fullmatch(line).group(2) for line in lines[:-1]], ["7"], "the causes of the faults")
