@@ -1,5 +1,5 @@
-// The numbers that a test and the server that it looks at have in common, in a file that CALL_CONTROL names. tests/call_log.py names them in
-// the same order.
+// The numbers that a test and the server that it looks at have in common, in a file that CALL_CONTROL names. tests/call_log.py names them
+// in the same order.
 #ifndef CALL_CONTROL_H
 #define CALL_CONTROL_H
 

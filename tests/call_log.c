@@ -1,7 +1,7 @@
 // A library that a test puts before the C library of a server (LD_PRELOAD). It looks at the calls on images, the files named d0.img,
 // d1.img and so on, and passes each of them on. CALL_LOG names the file to which their records are appended, if there is to be one.
-// CALL_CONTROL names the file of the numbers that the test and the server have in common (tests/call_control.h): by these calls are counted,
-// refused, delayed, held at a gate, and reads made to hand out wrong bytes.
+// CALL_CONTROL names the file of the numbers that the test and the server have in common (tests/call_control.h). By these it counts calls,
+// refuses them, has them wait, and has a read hand out wrong bytes.
 //
 // A call has a record before it is made, and one after it. A record is its head and the bytes of a write, if they are not all ff. Each
 // record is appended by one call of the system, so the log has whole records alone, and its length is a moment of the server's life.

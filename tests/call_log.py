@@ -21,7 +21,8 @@ def compiled(folder, *, refuses_memory=False):
         sys.exit(f"{os.path.basename(sys.argv[0])}: it needs cc, a compiler of C: apt-get install gcc libc6-dev")
     path = os.path.join(folder, "call_log.so")
     sources = ["call_log.c", *(["thread_memory.c"] if refuses_memory else [])]
-    subprocess.run(["cc", "-O2", "-Wall", "-Wextra", "-shared", "-fPIC", "-o", path, *(os.path.join(HERE, it) for it in sources)], check=True)
+    words = ["cc", "-O2", "-Wall", "-Wextra", "-shared", "-fPIC", "-o", path]
+    subprocess.run([*words, *(os.path.join(HERE, it) for it in sources)], check=True)
     return path
 
 
@@ -74,7 +75,7 @@ class CallLog:
         self.put(LYING, 1 << die)
 
     def refuse_memory(self, thread):
-        """From now on the thread of this number is refused memory. As it was made, no other had the number, and each lesser one was taken."""
+        """From now on the thread of this number is refused memory: the least number that no other thread had as it was made."""
         self.put(THREAD_WITHOUT_MEMORY, thread)
 
     def close(self):

@@ -1,5 +1,5 @@
-// A part of the library of tests/call_log.c that refuses memory to one thread of the server, as long as the test says so. Each thread has the
-// least number from 1 on that no other has as it is made, up to 63. The main thread has none.
+// A part of the library of tests/call_log.c that refuses memory to one thread of the server, as long as the test says so. Each thread has
+// the least number from 1 on that no other has as it is made, up to 63. The main thread has none.
 #define _GNU_SOURCE
 #include <dlfcn.h>
 #include <errno.h>

@@ -1,11 +1,11 @@
 """What the threads of a server do beside one another. A library counts and holds calls of images (tests/call_log.c), so that a case shows
 what runs side by side and does not rest on time: a call is held for ten seconds at most, and then the case is late and fails.
 
-Sessions of the server make jobs of dies while they wait. So where one is held in a call of a die's image, it is the workers of the other dies
-that make theirs."""
+Sessions of the server make jobs of dies while they wait. So where one is held in a call of a die's image, the workers of the other dies
+make theirs."""
 import os
 
-from call_log import ALL, ERASES, LYING, MEMORY_REFUSALS, PROGRAMS
+from call_log import ALL, LYING, MEMORY_REFUSALS
 from nbd_client import NO_HOLE, READ, WRITE
 from serve_cases import case
 from serve_cases.watched import LIMIT, User, Watched, written
@@ -18,6 +18,8 @@ SMALL = Geometry(dies=4, blocks=4, slots=4, pages=8)
 FIRST = range(8)
 # How many calls are made in turn: a write and a read of page 3, and a hundred others.
 CALLS = 102
+# By how many writes of one page its dies run full there, where nothing is erased, and how many are made behind these.
+FULL, MORE = 8, 6
 
 
 def drawn(number):
@@ -60,8 +62,8 @@ def two_sessions_read_back(make):
 
 @case
 def two_dies_read_in_one_round(make):
-    """A read of two pages on two dies is at both dies at once, whichever is first: each read of a die waits for that of the other. The session
-    is in one of them, and the worker of the other die in the other. Calls before it were quick, so that the session takes both."""
+    """A read of two pages on two dies is at both dies at once, whichever is first: each read of a die waits for that of the other. Calls
+    before it were quick, so the session takes both. It is in one of them, and the worker of the other's die in the other."""
     watched = Watched(make(TWO))
     with watched.serve() as server:
         with User(server, TWO) as user:
@@ -76,8 +78,8 @@ def two_dies_read_in_one_round(make):
 
 @case
 def admit_page_by_page(make):
-    """A read of nine pages, of which three were written, is at all dies at once, whichever they are. The session is in the call of one die at
-    most, so two workers are in those of theirs at once."""
+    """A read of nine pages, of which three were written, is at all dies at once, whichever they are. The session is in the call of one
+    die at most, so two workers are in those of theirs at once."""
     for pages in (1, 2, 6), (0, 2, 7), (0, 5, 8), (0, 3, 5):
         watched = Watched(make(THREE))
         with watched.serve() as server:
@@ -141,13 +143,12 @@ def rebuild(make):
 
 
 def collect(make):
-    """Each write is answered before ten seconds have passed, so there was room for both copies of it by then. It wants more slots than two dies
-    have, so what the writes took was erased."""
+    """Each write is answered before ten seconds have passed, so there was room for both of its copies by then. The writes take more slots
+    than all dies have, so some of these were erased meanwhile."""
     watched = Watched(written(make(SMALL), 8))
     with watched.serve() as server:
         with User(server, SMALL, FIRST, seconds=LIMIT) as user:
-            for _ in range(40):
-                user.write(6)
+            write_often(user, 40)
             ensure(watched.erases, "nothing was erased")
             user.reads(0, 8)
         server.stop()
@@ -155,27 +156,29 @@ def collect(make):
 
 @case
 def writes_end_without_windows(make):
-    """Two dies run full by writes of one page, and no window is to be had: the next writes go to other dies, and do not wait."""
+    """Two dies run full by writes of one page, and no window is to be had, since the collector is refused memory: the next writes go to
+    other dies, and do not wait."""
     watched = Watched(written(make(SMALL), 8), refuses_memory=True)
     homes = dies_of(watched.array, 6)
     with watched.serve() as server:
         watched.log.refuse_memory(collector(SMALL))
         with User(server, SMALL, FIRST, seconds=LIMIT) as user:
-            write_full(user)
+            write_often(user, FULL)
+            ensure(wait_until(lambda: watched.log.number(MEMORY_REFUSALS), LIMIT), "late: no window was refused")
+            write_often(user, MORE)
+            equal(watched.erases, 0, "the number of erases without a window")
             user.reads(0, 8)
-        ensure(watched.log.number(MEMORY_REFUSALS), "no memory was refused, and so no window")
-        equal(watched.erases, 0, "the number of erases without a window")
         server.stop()
     equal(homes & dies_of(watched.array, 6), set(), "the dies of page 6 that it was on before")
 
 
 @case
-def the_same_writes_with_windows(make):
-    """What `writes_end_without_windows` does wants windows: where memory is not refused, blocks are erased."""
+def writes_have_windows(make):
+    """The writes of `writes_end_without_windows` want windows: blocks are erased where memory is not refused."""
     watched = Watched(written(make(SMALL), 8), refuses_memory=True)
     with watched.serve() as server:
         with User(server, SMALL, FIRST, seconds=LIMIT) as user:
-            write_full(user)
+            write_often(user, FULL + MORE)
             ensure(wait_until(lambda: watched.erases, LIMIT), "late: nothing was erased")
             user.reads(0, 8)
         equal(watched.log.number(MEMORY_REFUSALS), 0, "how often memory was refused")
@@ -187,9 +190,9 @@ def collector(geometry):
     return geometry.dies + 1
 
 
-def write_full(user):
-    """Writes page 6 more often than its dies have room for."""
-    for _ in range(14):
+def write_often(user, times):
+    """Writes page 6 as often as that."""
+    for _ in range(times):
         user.write(6)
 
 
@@ -200,10 +203,10 @@ def dies_of(array, page):
 
 @case
 def vanished_client_leaves_nothing(make):
-    """Clients that vanish before a reply, or inside a request, while calls of images are held for them, leave nothing open: what was asked for
-    whole is done, the rest is not, and the two sessions serve others."""
+    """Clients that vanish before a reply, or inside a request, while calls of images are held, leave nothing open: a request that came
+    whole is done, the other is not, each end is told, and the two sessions serve others."""
     watched = Watched(written(make(THREE, sessions=2), 8))
-    with watched.serve() as server:
+    with watched.serve("--verbose") as server:
         watched.log.shut(reads=ALL, programs=ALL)
         reader, writer = server.client(), server.client()
         reader.begin(READ, 0, 3 * 512)
@@ -217,6 +220,8 @@ def vanished_client_leaves_nothing(make):
         equal(writer.end(cookie), (0, b""), "the answer to the write of page 9")
         equal(writer.rest(), b"", "what comes behind it")
         writer.close()
+        for end in "(reading from|writing to) the client has failed", "the connection has ended":
+            ensure(wait_until(lambda: server.is_told(end), LIMIT), f"late: of no client is told that {end}: {server.errors}")
         with User(server, THREE, FIRST) as one, User(server, THREE, FIRST) as other:
             one.reads(0, 9)
             same_bytes(other.client.read(9 * 512, 1024), b"\x11" * 512 + bytes(512), "pages 9 and 10")

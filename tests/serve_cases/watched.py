@@ -35,15 +35,17 @@ class Watched:
 
     def await_begun(self, count):
         """Waits until so many calls that are held have begun."""
-        ensure(wait_until(lambda: self.log.number(BEGUN) >= count, LIMIT), f"late: {self.log.number(BEGUN)} of {count} calls have begun")
+        in_time = wait_until(lambda: self.log.number(BEGUN) >= count, LIMIT)
+        ensure(in_time, f"late: {self.log.number(BEGUN)} of {count} calls have begun")
 
     def await_programs(self, count):
         """Waits until so many programs have ended."""
-        ensure(wait_until(lambda: self.log.number(PROGRAMS) >= count, LIMIT), f"late: {self.log.number(PROGRAMS)} of {count} programs have ended")
+        in_time = wait_until(lambda: self.log.number(PROGRAMS) >= count, LIMIT)
+        ensure(in_time, f"late: {self.log.number(PROGRAMS)} of {count} programs have ended")
 
     def in_time(self):
         """Asks that no call was held in vain."""
-        ensure(not self.log.number(IS_LATE), f"late: a call was held for ten seconds, and {self.log.number(BEGUN)} had begun")
+        ensure(not self.log.number(IS_LATE), "late: a call was held for ten seconds in vain")
 
 
 class User:
@@ -70,7 +72,8 @@ class User:
 
     def reads(self, first, count):
         """Reads pages by one READ, which is to be answered right."""
-        same_bytes(self.client.read(first * self.page_bytes, count * self.page_bytes), self.content(first, count), f"{count} pages from {first} on")
+        found = self.client.read(first * self.page_bytes, count * self.page_bytes)
+        same_bytes(found, self.content(first, count), f"{count} pages from page {first} on")
 
 
 def written(array, count):
