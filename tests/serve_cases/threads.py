@@ -97,13 +97,26 @@ def admit_page_by_page(make):
 def slow_image_holds_up_its_die_alone(make):
     """A session reads from three dies, behind calls that were quick, and the image of the last becomes slow. Another session writes page 0
     meanwhile, which is on the two other dies."""
-    watched = Watched(written(make(THREE), 8))
+    write_beside_slow(make, THREE, {2})
+
+
+@case
+def slow_images_hold_up_their_dies_alone(make):
+    """The same with four dies, of which two become slow. The session is in the call of one of these at most, so a worker is in that of the
+    other."""
+    write_beside_slow(make, FOUR, {2, 3})
+
+
+def write_beside_slow(make, geometry, slow):
+    """Has one client read while the images of some dies are slow, and another write page 0 meanwhile, which is on dies 0 and 1."""
+    watched = Watched(written(make(geometry), 8))
+    equal(dies_of(watched.array, 0), {0, 1}, "the dies of page 0")
     with watched.serve() as server:
-        with User(server, THREE, FIRST) as reader, User(server, THREE, FIRST) as writer:
+        with User(server, geometry, FIRST) as reader, User(server, geometry, FIRST) as writer:
             reader.reads(0, 8)
-            watched.log.shut(reads=1 << 2)
+            watched.log.shut(reads=sum(1 << die for die in slow))
             cookie = reader.client.begin(READ, 0, 8 * 512)
-            watched.await_begun(1)
+            watched.await_begun(len(slow))
             writer.write(0)
             watched.in_time()
             watched.log.open()
