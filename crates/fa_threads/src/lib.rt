@@ -25,10 +25,6 @@ pub trait Starter<R> {
     fn meanwhile(&mut self, rt: &R);
 }
 
-impl<R> Starter<R> for () {
-    fn meanwhile(&mut self, _rt: &R) {}
-}
-
 /// Does all tasks side by side. The first ones, as many as `endless` says, are told to stop once all others have ended. A task that gets no
 /// thread is done here, behind the word to give up. What is left of the tasks comes in no order. None where memory is refused, before anything was
 /// begun.
