@@ -1,10 +1,14 @@
 //! How many requests there were in each of the last seconds.
 use circular_buffer::HeapCircularBuffer;
-use fa_prog_counts::{Command, Totals};
+use fa_prog_counts::{Command, Counts, Totals};
 use std::alloc::{AllocError, Global};
+use std::time::{Clock, Duration, Instant};
 
 /// How many seconds are kept.
 pub const MAX_SECONDS: usize = 300;
+
+/// How long it is between two samples, in seconds.
+const SAMPLE_SECONDS: u64 = 1;
 
 /// What was asked for in a second.
 #[derive(Clone, Copy)]
@@ -55,7 +59,10 @@ impl Sample {
 #[derive(Drop)]
 pub struct Rates {
     ring: HeapCircularBuffer<Sample>,
+    /// What had been asked for when the last sample was taken.
     last: Sample,
+    /// When that was.
+    sampled: Option<Instant>,
 }
 
 impl Rates {
@@ -64,19 +71,43 @@ impl Rates {
         Ok(Rates {
             ring: HeapCircularBuffer::with_capacity(global, MAX_SECONDS)?,
             last: Sample::NONE,
+            sampled: None,
         })
     }
 
-    /// The first second begins.
-    pub fn begin(&mut self, totals: &Totals) {
-        self.last = Sample::of(totals);
+    /// Takes the sample of a second that has passed. The first call begins the first second.
+    pub fn sample<R: Clock>(&mut self, rt: &R, counts: &Counts) {
+        let Ok(now) = Instant::now(rt) else {
+            return;
+        };
+        let second = Duration::from_secs(SAMPLE_SECONDS);
+        let Some(sampled) = self.sampled else {
+            self.last = Sample::of(&counts.totals());
+            self.sampled = Some(now);
+            return;
+        };
+        if now.duration_since(sampled) < second {
+            return;
+        }
+        self.note(Sample::of(&counts.totals()));
+        self.sampled = match sampled.checked_add(second) {
+            Some(next) if now.duration_since(next) < second => Some(next),
+            _ => Some(now),
+        };
     }
 
-    /// A second has passed.
-    pub fn note(&mut self, totals: &Totals) {
-        let now = Sample::of(totals);
+    /// A second has passed, by whose end so much had been asked for.
+    fn note(&mut self, now: Sample) {
         self.ring.push_back(now.since(self.last));
         self.last = now;
+    }
+
+    /// The newest second.
+    pub fn newest(&self) -> Sample {
+        match self.ring.back() {
+            Some(sample) => *sample,
+            None => Sample::NONE,
+        }
     }
 
     /// The seconds, the oldest first. The error is out of memory.
