@@ -3,11 +3,13 @@
 
 mod answers;
 mod asking;
+mod host;
 mod service;
 mod serving;
 mod shown;
 mod visitor;
 
 pub use asking::{Ask, run_status};
-pub use serving::{LooksHost, serve_looks};
+pub use host::LooksHost;
+pub use serving::serve_looks;
 pub use shown::{Shown, Text};

@@ -1,8 +1,8 @@
 //! The second listener of a server, for those who only look. One thread attends all of them, and waits for none.
+use crate::host::LooksHost;
 use crate::service::Answering;
 use crate::shown::Shown;
 use crate::visitor::{Turn, Visitor};
-use fa_prog_clients::Networked;
 use fa_prog_host::tell;
 use mio::net::{TcpListener, TcpStream};
 use mio::{Events, Interest, Poll, Token};
@@ -10,7 +10,6 @@ use std::alloc::{AllocError, Global};
 use std::hash::RandomState;
 use std::io::{self, ErrorKind};
 use std::net;
-use std::random::RandomSource;
 use std::time::{Duration, Instant};
 
 /// How many may look at once. Others wait until one has gone, and then nobody may stay long.
@@ -21,11 +20,6 @@ const LISTENER: Token = Token(MAX_VISITORS);
 
 /// How long is waited at most, in milliseconds.
 const WAIT_MILLISECONDS: u64 = 100;
-
-/// What the thread has whom others ask how the array is.
-pub trait LooksHost: Networked + RandomSource {}
-
-impl<R: Networked + RandomSource> LooksHost for R {}
 
 /// All who look, and what is needed to wait for them.
 #[derive(Drop)]

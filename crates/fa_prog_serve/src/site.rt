@@ -32,7 +32,7 @@ pub(crate) struct Site<'a, L: Ledger, M: Map + Drop, I: Image + Drop> {
     pub(crate) listening: &'a Listening<'a>,
 }
 
-impl<'a, 'b, R: LooksHost, L: Ledger, M: Map + Drop, I: Image + Drop> Workplace<
+impl<'a, 'b, R: Networked + LooksHost, L: Ledger, M: Map + Drop, I: Image + Drop> Workplace<
     R,
     Task<'b, L>,
     Option<Seat<L>>,
