@@ -33,10 +33,11 @@ struct Visitors {
 
 /// Answers those who ask at the listener how something is that runs, until that is over. It blocks its thread. What keeps it from
 /// listening is told on standard error.
-pub fn serve_looks<R: LooksHost, T: Shown>(rt: &R, listener: &net::TcpListener, shown: &mut T) {
+pub fn serve_looks<R: LooksHost, T: Shown + Drop>(rt: &R, listener: &net::TcpListener, shown: T) {
+    let mut shown = shown;
     match Visitors::at(rt, listener) {
         Ok(mut visitors) => {
-            if let Err(refused) = visitors.serve(rt, shown) {
+            if let Err(refused) = visitors.serve(rt, &mut shown) {
                 tell(rt, format_args!("status: no more answers: {refused}"));
             }
         }

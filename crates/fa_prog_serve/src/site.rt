@@ -75,7 +75,7 @@ impl<'a, 'b, R: Networked + LooksHost, L: Ledger, M: Map + Drop, I: Image + Drop
             Task::Look(looker) => {
                 if let Some(listener) = listening.looks {
                     let subject = listening.subject(self.shared);
-                    serve_looks(rt, listener, &mut Looking::new(rt, subject, looker));
+                    serve_looks(rt, listener, Looking::new(rt, subject, looker));
                 }
                 None
             }
