@@ -25,11 +25,10 @@ pub fn document_text(
     pages: &PageStatus,
     rates: &Rates,
 ) -> Result<String, AllocError> {
-    let seconds = rates.kept(global)?;
     let document = Document {
         status,
         pages,
-        seconds: seconds.as_slice(),
+        seconds: rates.seconds(),
     };
     let Ok(mut text) = serde_json::to_string(global, &document) else {
         return Err(AllocError);

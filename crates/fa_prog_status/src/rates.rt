@@ -1,5 +1,4 @@
 //! How many requests there were in each of the last seconds.
-use circular_buffer::HeapCircularBuffer;
 use fa_prog_counts::{Command, Counts, Totals};
 use std::alloc::{AllocError, Global};
 use std::time::{Clock, Duration, Instant};
@@ -55,10 +54,11 @@ impl Sample {
     }
 }
 
-/// What was asked for in each of the last 300 seconds. No call but `new` and `kept` takes memory.
+/// What was asked for in each of the last 300 seconds. No call but `new` takes memory.
 #[derive(Drop)]
 pub struct Rates {
-    ring: HeapCircularBuffer<Sample>,
+    /// The oldest first. There is memory for 300.
+    seconds: Vec<Sample>,
     /// What had been asked for when the last sample was taken.
     last: Sample,
     /// When that was.
@@ -69,7 +69,7 @@ impl Rates {
     /// No second has passed. The error is out of memory.
     pub fn new(global: Global) -> Result<Rates, AllocError> {
         Ok(Rates {
-            ring: HeapCircularBuffer::with_capacity(global, MAX_SECONDS)?,
+            seconds: Vec::with_capacity(global, MAX_SECONDS)?,
             last: Sample::NONE,
             sampled: None,
         })
@@ -98,20 +98,23 @@ impl Rates {
 
     /// A second has passed, by whose end so much had been asked for.
     fn note(&mut self, now: Sample) {
-        self.ring.push_back(now.since(self.last));
+        if self.seconds.len() >= MAX_SECONDS {
+            self.seconds.remove(0);
+        }
+        let _ = self.seconds.push(now.since(self.last));
         self.last = now;
     }
 
     /// The newest second.
     pub fn newest(&self) -> Sample {
-        match self.ring.back() {
+        match self.seconds.last() {
             Some(sample) => *sample,
             None => Sample::NONE,
         }
     }
 
-    /// The seconds, the oldest first. The error is out of memory.
-    pub fn kept(&self, global: Global) -> Result<Vec<Sample>, AllocError> {
-        self.ring.to_vec(global)
+    /// The seconds, the oldest first.
+    pub fn seconds(&self) -> &[Sample] {
+        self.seconds.as_slice()
     }
 }
