@@ -2,7 +2,6 @@
 use crate::dies::DieCounts;
 use crate::plans::PlanFileCounts;
 use crate::sessions::{SessionCounts, Totals};
-use fa_jobs::{Gate, ImageCallKind};
 use fa_types::Die;
 use std::alloc::{AllocError, Global};
 
@@ -57,20 +56,5 @@ impl Counts {
             session.add_to(&mut totals);
         }
         totals
-    }
-}
-
-/// Each call of an image is counted as it begins and as it ends.
-impl Gate for Counts {
-    fn before(&self, die: Die, _call: ImageCallKind) {
-        if let Some(counts) = self.die(die) {
-            counts.begin();
-        }
-    }
-
-    fn after(&self, die: Die, call: ImageCallKind) {
-        if let Some(counts) = self.die(die) {
-            counts.end(call);
-        }
     }
 }

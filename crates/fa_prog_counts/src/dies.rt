@@ -1,6 +1,5 @@
 //! What is counted of the calls of the dies' images.
 use crate::sessions::{add, value, zeros};
-use fa_jobs::ImageCallKind;
 use std::alloc::{AllocError, Global};
 use std::sync::atomic::{AtomicU64, Ordering};
 
@@ -29,13 +28,13 @@ impl DieCounts {
     }
 
     /// A call begins.
-    pub(crate) fn begin(&self) {
+    pub fn begin(&self) {
         add(&self.begun, 1);
     }
 
-    /// A call has ended.
-    pub(crate) fn end(&self, call: ImageCallKind) {
-        if let Some(count) = self.ended.get(place_of(call)) {
+    /// A call has ended, which has this place among [`CALLS`].
+    pub fn end(&self, place: usize) {
+        if let Some(count) = self.ended.get(place) {
             add(count, 1);
         }
     }
@@ -72,17 +71,5 @@ impl DieCounts {
             0 => None,
             milliseconds => Some(milliseconds),
         }
-    }
-}
-
-/// The place of a call.
-fn place_of(call: ImageCallKind) -> usize {
-    match call {
-        ImageCallKind::ReadSlot => 0,
-        ImageCallKind::Program => 1,
-        ImageCallKind::Move => 2,
-        ImageCallKind::EraseBlock => 3,
-        ImageCallKind::WriteHeader => 4,
-        ImageCallKind::Sync => 5,
     }
 }

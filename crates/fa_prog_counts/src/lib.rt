@@ -14,6 +14,6 @@ pub use commands::{COMMANDS, Command};
 pub use counts::Counts;
 pub use dies::{CALLS, DieCounts};
 pub use latency::{BUCKETS, bound_of, bucket_of};
-pub use plans::PlanFileCounts;
+pub use plans::{PlanFileCounts, PlanFileTotals};
 pub use sessions::{ERRORS, RequestTotals, SessionCounts, Totals};
 pub use store::CountingStore;

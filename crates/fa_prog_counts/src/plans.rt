@@ -35,18 +35,23 @@ impl PlanFileCounts {
         add(&self.failed, plans);
     }
 
-    /// How many were written.
-    pub fn written(&self) -> u64 {
-        value(&self.written)
+    /// What they have come to.
+    pub fn totals(&self) -> PlanFileTotals {
+        PlanFileTotals {
+            written: value(&self.written),
+            unfit: value(&self.unfit),
+            failed: value(&self.failed),
+        }
     }
+}
 
-    /// How many do not fit the limits of the file, or are refused by the check.
-    pub fn unfit(&self) -> u64 {
-        value(&self.unfit)
-    }
-
-    /// How many could not be written.
-    pub fn failed(&self) -> u64 {
-        value(&self.failed)
-    }
+/// How many of the plans that were taken to be written ended how.
+#[derive(Clone, Copy)]
+pub struct PlanFileTotals {
+    /// They were written.
+    pub written: u64,
+    /// They do not fit the limits of the file, or are refused by the check.
+    pub unfit: u64,
+    /// They could not be written.
+    pub failed: u64,
 }

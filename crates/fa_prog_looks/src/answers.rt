@@ -2,17 +2,15 @@
 ghost use Rattle.std.specs.Prelude.{◌≡◌};
 ghost use Rattle.fa_prog_looks.specs.Answers.{answer_for, is_look};
 
+use crate::shown::Text;
+
 /// What a request is answered with.
 #[derive(Clone, Copy)]
-pub enum Answer {
+pub(crate) enum Answer {
     /// The page.
     Page,
-    /// The same in lines.
-    Lines,
-    /// The metrics.
-    Metrics,
-    /// The document.
-    Document,
+    /// A text.
+    Text(Text),
     /// 404: there is no such path.
     NoPath,
     /// 405: nothing but GET and HEAD is answered.
@@ -29,13 +27,13 @@ pub(crate) fn answer_to(method: &str, path: &str, wants_lines: bool) -> Answer
     match path {
         "/" => {
             if wants_lines {
-                Answer::Lines
+                Answer::Text(Text::Lines)
             } else {
                 Answer::Page
             }
         }
-        "/metrics" => Answer::Metrics,
-        "/status.json" => Answer::Document,
+        "/metrics" => Answer::Text(Text::Metrics),
+        "/status.json" => Answer::Text(Text::Document),
         _ => Answer::NoPath,
     }
 }

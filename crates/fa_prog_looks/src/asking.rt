@@ -2,7 +2,7 @@
 ghost use Rattle.std.specs.Prelude.{◌≡◌, true};
 ghost use Rattle.fa_prog_looks.specs.Asking.{TellsOnce, TellsStatus, shown_byte};
 
-use fa_prog_clients::Networked;
+use crate::host::LooksHost;
 use fa_prog_host::printing::{DONE, REFUSED, print};
 use fa_prog_host::tell;
 use std::alloc::{AllocError, Global};
@@ -38,7 +38,7 @@ pub struct Ask<'a> {
 
 /// The command `status`: prints how the array is of the server at this address, once, or each second until the server gives no answer. Where
 /// it gives none, a line is printed for it, with status 1, and the reason is told on standard error.
-pub fn run_status<R: Networked, W: Write>(rt: &R, ask: Ask<'_>, output: &mut W) -> u8
+pub fn run_status<R: LooksHost, W: Write>(rt: &R, ask: Ask<'_>, output: &mut W) -> u8
     ensures { TellsStatus ask.entry.watch (W.contents output.old) (W.contents output.new) result }
 {
     if ask.watch {
@@ -49,7 +49,7 @@ pub fn run_status<R: Networked, W: Write>(rt: &R, ask: Ask<'_>, output: &mut W) 
 }
 
 /// Prints how the array is each second, until the server gives no answer, or until printing fails.
-fn watch<R: Networked, W: Write>(rt: &R, address: &str, output: &mut W) -> u8
+fn watch<R: LooksHost, W: Write>(rt: &R, address: &str, output: &mut W) -> u8
     ensures { TellsStatus true (W.contents output.old) (W.contents output.new) result }
 {
     for _ in rt.forever() {
@@ -62,7 +62,7 @@ fn watch<R: Networked, W: Write>(rt: &R, address: &str, output: &mut W) -> u8
 }
 
 /// Prints how the array is once, behind these bytes, or that there is no answer.
-fn tell_once<R: Networked, W: Write>(rt: &R, address: &str, before: &[u8], output: &mut W) -> u8
+fn tell_once<R: LooksHost, W: Write>(rt: &R, address: &str, before: &[u8], output: &mut W) -> u8
     ensures { TellsOnce (W.contents output.old) (W.contents output.new) result }
 {
     match answer_at(rt, address, before) {
@@ -78,7 +78,7 @@ fn tell_once<R: Networked, W: Write>(rt: &R, address: &str, before: &[u8], outpu
 }
 
 /// What is printed of the answer of the server at an address, behind these bytes. The error is the system's, or tells that the answer is none.
-fn answer_at<R: Networked>(rt: &R, address: &str, before: &[u8]) -> io::Result<Vec<u8>> {
+fn answer_at<R: LooksHost>(rt: &R, address: &str, before: &[u8]) -> io::Result<Vec<u8>> {
     let mut stream = TcpStream::connect(rt, address)?;
     let mut answer = Vec::new(rt.alloc());
     hear(&mut stream, &mut answer)?;

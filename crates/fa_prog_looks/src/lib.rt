@@ -1,13 +1,15 @@
-//! Who looks at a running array: the second listener of a server, and the command that asks it.
+//! Who looks at what runs: the second listener of a server, and the command that asks it. What is shown there is not known here.
 #![tactic(auto)]
 
 mod answers;
 mod asking;
-mod looker;
+mod host;
 mod service;
 mod serving;
+mod shown;
 mod visitor;
 
 pub use asking::{Ask, run_status};
-pub use looker::Looker;
-pub use serving::{LooksHost, serve_looks};
+pub use host::LooksHost;
+pub use serving::serve_looks;
+pub use shown::{Shown, Text};

@@ -1,6 +1,6 @@
 //! The answers of the second listener, as HTTP has them.
 use crate::answers::{Answer, answer_to};
-use crate::looker::Texts;
+use crate::shown::{Shown, Text};
 use bytes::{BufMut, Bytes};
 use http::{HeaderMap, HeaderValue, Request, StatusCode, header};
 use http_server::{Response, Service};
@@ -9,10 +9,10 @@ use std::alloc::AllocError;
 /// Answers requests with texts. Each answer ends its connection.
 #[derive(Drop)]
 pub(crate) struct Answering<'a, T> {
-    pub(crate) texts: &'a T,
+    pub(crate) shown: &'a mut T,
 }
 
-impl<T: Texts> Service for Answering<'_, T> {
+impl<T: Shown> Service for Answering<'_, T> {
     ghost answers = { λ old request response new. Unit {0} };
 
     fn call(
@@ -32,8 +32,17 @@ impl<T: Texts> Service for Answering<'_, T> {
         if matches!(answer, Answer::NoMethod) {
             response.add_header(header::ALLOW, HeaderValue::from_static("GET, HEAD"))?;
         }
-        let text = self.texts.text(answer)?;
-        response.body.put_slice(text.as_bytes())
+        match answer {
+            Answer::Page => response.body.put_slice(self.shown.page().as_bytes()),
+            Answer::Text(text) => {
+                let text = self.shown.text(text)?;
+                response.body.put_slice(text.as_bytes())
+            }
+            Answer::NoPath => response
+                .body
+                .put_slice(b"there is /, /metrics and /status.json\n"),
+            Answer::NoMethod => response.body.put_slice(b"there is GET and HEAD\n"),
+        }
     }
 }
 
@@ -48,7 +57,7 @@ fn wants_lines(headers: &HeaderMap<HeaderValue>) -> bool {
 /// The status of an answer.
 fn status_of(answer: Answer) -> StatusCode {
     match answer {
-        Answer::Page | Answer::Lines | Answer::Metrics | Answer::Document => StatusCode::OK,
+        Answer::Page | Answer::Text(_) => StatusCode::OK,
         Answer::NoPath => StatusCode::NOT_FOUND,
         Answer::NoMethod => StatusCode::METHOD_NOT_ALLOWED,
     }
@@ -58,9 +67,11 @@ fn status_of(answer: Answer) -> StatusCode {
 fn type_of(answer: Answer) -> HeaderValue {
     match answer {
         Answer::Page => HeaderValue::from_static("text/html; charset=utf-8"),
-        Answer::Metrics => HeaderValue::from_static("text/plain; version=0.0.4; charset=utf-8"),
-        Answer::Document => HeaderValue::from_static("application/json"),
-        Answer::Lines | Answer::NoPath | Answer::NoMethod => {
+        Answer::Text(Text::Metrics) => {
+            HeaderValue::from_static("text/plain; version=0.0.4; charset=utf-8")
+        }
+        Answer::Text(Text::Document) => HeaderValue::from_static("application/json"),
+        Answer::Text(Text::Lines) | Answer::NoPath | Answer::NoMethod => {
             HeaderValue::from_static("text/plain; charset=utf-8")
         }
     }

@@ -1,19 +1,15 @@
 //! The second listener of a server, for those who only look. One thread attends all of them, and waits for none.
-use crate::looker::{Looker, Looking};
+use crate::host::LooksHost;
 use crate::service::Answering;
+use crate::shown::Shown;
 use crate::visitor::{Turn, Visitor};
-use fa_map_calls::Map;
-use fa_prog_clients::Networked;
 use fa_prog_host::tell;
-use fa_prog_status::Subject;
 use mio::net::{TcpListener, TcpStream};
 use mio::{Events, Interest, Poll, Token};
 use std::alloc::{AllocError, Global};
 use std::hash::RandomState;
 use std::io::{self, ErrorKind};
 use std::net;
-use std::random::RandomSource;
-use std::sync::ledger::Ledger;
 use std::time::{Duration, Instant};
 
 /// How many may look at once. Others wait until one has gone, and then nobody may stay long.
@@ -25,11 +21,6 @@ const LISTENER: Token = Token(MAX_VISITORS);
 /// How long is waited at most, in milliseconds.
 const WAIT_MILLISECONDS: u64 = 100;
 
-/// What the thread has whom others ask how the array is.
-pub trait LooksHost: Networked + RandomSource {}
-
-impl<R: Networked + RandomSource> LooksHost for R {}
-
 /// All who look, and what is needed to wait for them.
 #[derive(Drop)]
 struct Visitors {
@@ -40,18 +31,13 @@ struct Visitors {
     present: Vec<Option<Visitor>>,
 }
 
-/// Answers those who ask at the listener how an array is, until the queue of its clients is closed. It blocks its thread. What keeps it from
+/// Answers those who ask at the listener how something is that runs, until that is over. It blocks its thread. What keeps it from
 /// listening is told on standard error.
-pub fn serve_looks<R: LooksHost, L: Ledger, M: Map + Drop>(
-    rt: &R,
-    listener: &net::TcpListener,
-    subject: Subject<'_, L, M>,
-    looker: Looker,
-) {
-    let looking = Looking::new(rt, subject, looker);
+pub fn serve_looks<R: LooksHost, T: Shown + Drop>(rt: &R, listener: &net::TcpListener, shown: T) {
+    let mut shown = shown;
     match Visitors::at(rt, listener) {
         Ok(mut visitors) => {
-            if let Err(refused) = visitors.serve(rt, &looking) {
+            if let Err(refused) = visitors.serve(rt, &mut shown) {
                 tell(rt, format_args!("status: no more answers: {refused}"));
             }
         }
@@ -74,21 +60,17 @@ impl Visitors {
         })
     }
 
-    /// Answers all who come until the array's clients are sent away. The error is the system's, which waits no more.
-    fn serve<R: LooksHost, L: Ledger, M: Map + Drop>(
-        &mut self,
-        rt: &R,
-        looking: &Looking<'_, R, L, M>,
-    ) -> io::Result<()> {
+    /// Answers all who come until what is shown is over. The error is the system's, which waits no more.
+    fn serve<R: LooksHost, T: Shown>(&mut self, rt: &R, shown: &mut T) -> io::Result<()> {
         let mut events: Events = Events::with_capacity(rt.alloc(), MAX_VISITORS + 1)?;
         let wait = Duration::from_millis(WAIT_MILLISECONDS);
         for _ in rt.forever() {
-            if looking.subject.accept_queue.is_closing(rt) {
+            if shown.is_over() {
                 return Ok(());
             }
-            looking.sample();
+            shown.sample();
             self.poll.poll(&mut events, Some(wait))?;
-            let mut service = Answering { texts: looking };
+            let mut service = Answering { shown: &mut *shown };
             for event in events.iter() {
                 self.attend(event.token().0, &mut service);
             }

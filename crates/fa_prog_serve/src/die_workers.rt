@@ -1,6 +1,7 @@
 //! Those who work for the dies of the array.
 use fa_image::Image;
 use fa_map_calls::Map;
+use fa_prog_census::CountingGate;
 use fa_prog_clients::Networked;
 use fa_prog_counts::Counts;
 use fa_shared::Shared;
@@ -51,7 +52,7 @@ pub(crate) fn work_die<R: Networked, L: Ledger, M: Map + Drop, I: Image + Drop>(
         die,
         image_table,
         memory,
-        counts,
+        &CountingGate { counts },
     );
     seat
 }

@@ -22,7 +22,7 @@ use fa_prog_host::{
 };
 use fa_prog_inspect::explain;
 use fa_prog_lost::{keep_lost_at_end, open_lost, remove_if_empty, tell_not_kept};
-use fa_prog_plans::{PlanFile, open_plans};
+use fa_prog_watch::{PlanFile, open_plans};
 use fa_settings::{PlansFile, Settings, Terms};
 use fa_shared::{Fault, Shared};
 use std::alloc::{AllocError, Allocator, Global};

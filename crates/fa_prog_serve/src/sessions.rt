@@ -2,6 +2,7 @@
 use crate::listening::Listening;
 use fa_image::Image;
 use fa_map_calls::Map;
+use fa_prog_census::CountingGate;
 use fa_prog_clients::{ConnectionMemory, Networked, Service, serve_clients};
 use fa_prog_counts::CountingStore;
 use fa_prog_lost::TellingStore;
@@ -57,8 +58,10 @@ pub(crate) fn serve_array<R: Networked, L: Ledger, M: Map + Drop, I: Image + Dro
         memory,
         connection,
     } = session;
-    let gate = &listening.counts;
-    let helper = Helper::new(rt, rt.alloc(), shared, image_table, gate, memory);
+    let gate = CountingGate {
+        counts: &listening.counts,
+    };
+    let helper = Helper::new(rt, rt.alloc(), shared, image_table, &gate, memory);
     serve_with(rt, listening, shared, service, connection, seat, helper)
 }
 

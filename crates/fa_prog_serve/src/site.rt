@@ -6,10 +6,10 @@ use crate::tasks::Task;
 use fa_core::Array;
 use fa_image::Image;
 use fa_map_calls::Map;
+use fa_prog_census::Looking;
 use fa_prog_clients::{Networked, accept_clients};
 use fa_prog_looks::{LooksHost, serve_looks};
-use fa_prog_plans::write_plans;
-use fa_prog_watch::watch;
+use fa_prog_watch::{watch, write_plans};
 use fa_shared::Shared;
 use fa_shared_lock::Seat;
 use fa_threads::Workplace;
@@ -32,7 +32,7 @@ pub(crate) struct Site<'a, L: Ledger, M: Map + Drop, I: Image + Drop> {
     pub(crate) listening: &'a Listening<'a>,
 }
 
-impl<'a, 'b, R: LooksHost, L: Ledger, M: Map + Drop, I: Image + Drop> Workplace<
+impl<'a, 'b, R: Networked + LooksHost, L: Ledger, M: Map + Drop, I: Image + Drop> Workplace<
     R,
     Task<'b, L>,
     Option<Seat<L>>,
@@ -74,7 +74,8 @@ impl<'a, 'b, R: LooksHost, L: Ledger, M: Map + Drop, I: Image + Drop> Workplace<
             )),
             Task::Look(looker) => {
                 if let Some(listener) = listening.looks {
-                    serve_looks(rt, listener, listening.subject(self.shared), looker);
+                    let subject = listening.subject(self.shared);
+                    serve_looks(rt, listener, Looking::new(rt, subject, looker));
                 }
                 None
             }

@@ -1,23 +1,19 @@
 //! What `/status.json` tells.
-use crate::census::Census;
+use crate::pages::PageStatus;
 use crate::rates::{Rates, Sample};
-use crate::status::{DieState, DieStatus, Status};
+use crate::status::{DieState, DieStatus, FaultStatus, StateCounts, Status};
 use fa_prog_counts::{COMMANDS, ERRORS};
-use fa_shared::{Cause, Fault};
 use serde::{Described, Serialize, Serializer};
 use std::alloc::{AllocError, Global};
 
 /// What is to be done where a die went out.
 pub(crate) const ADVICE: &str = "replace it";
 
-/// What a slot with wrong bytes is in words.
-const WRONG_SLOT: &str = "a slot has other bytes than were written";
-
 /// The document of an array. It borrows what it tells.
 #[derive(Drop)]
 struct Document<'a> {
     status: &'a Status<'a>,
-    census: &'a Census,
+    pages: &'a PageStatus,
     /// What was asked for in each of the last seconds.
     seconds: &'a [Sample],
 }
@@ -26,14 +22,13 @@ struct Document<'a> {
 pub fn document_text(
     global: Global,
     status: &Status<'_>,
-    census: &Census,
+    pages: &PageStatus,
     rates: &Rates,
 ) -> Result<String, AllocError> {
-    let seconds = rates.kept(global)?;
     let document = Document {
         status,
-        census,
-        seconds: seconds.as_slice(),
+        pages,
+        seconds: rates.seconds(),
     };
     let Ok(mut text) = serde_json::to_string(global, &document) else {
         return Err(AllocError);
@@ -47,9 +42,10 @@ impl Described for Document<'_> {}
 impl Serialize for Document<'_> {
     fn serialize<S: Serializer>(&self, out: &mut S) -> Result<(), S::Error> {
         out.begin_map(None)?;
-        put_dies(out, self.status, self.census)?;
-        put_faulty(out, self.status, self.census)?;
-        put_lost(out, self.census)?;
+        let counts = StateCounts::of(self.status.dies.as_slice());
+        put_dies(out, self.status, counts, self.pages)?;
+        put_faulty(out, self.status, counts, self.pages)?;
+        put_lost(out, self.pages)?;
         put_plans(out, self.status)?;
         put_requests(out, self.status)?;
         put_faults(out, self.status.faults.as_slice())?;
@@ -105,21 +101,22 @@ fn begin_list<S: Serializer>(out: &mut S, name: &str, count: usize) -> Result<()
 fn put_dies<S: Serializer>(
     out: &mut S,
     status: &Status<'_>,
-    census: &Census,
+    counts: StateCounts,
+    pages: &PageStatus,
 ) -> Result<(), S::Error> {
     let dies = [
         ("dies", status.dies.len() as u64),
-        ("live", status.dies_in(DieState::Live)),
-        ("spare", status.dies_in(DieState::Spare)),
+        ("live", counts.live),
+        ("spare", counts.spare),
         ("epoch", status.epoch),
     ];
     put_numbers(out, &dies)?;
     put_flag(out, "clean", false)?;
-    let pages = [
-        ("written", census.pages.written),
-        ("thin", census.pages.thin),
+    let written = [
+        ("written", pages.counts.written),
+        ("thin", pages.counts.thin),
     ];
-    put_numbers(out, &pages)?;
+    put_numbers(out, &written)?;
     begin_list(out, "table", status.dies.len())?;
     for die in &status.dies {
         put_die(out, die, status.epoch)?;
@@ -156,8 +153,7 @@ fn put_die<S: Serializer>(out: &mut S, die: &DieStatus<'_>, epoch: u64) -> Resul
 
 /// What a die's header tells. It is known alone of one that was written in this epoch.
 fn put_header<S: Serializer>(out: &mut S, die: &DieStatus<'_>, epoch: u64) -> Result<(), S::Error> {
-    let is_known = die.state == DieState::Live && !die.is_behind;
-    if is_known {
+    if matches!(die.state, DieState::Live) && !die.is_behind {
         put_numbers(out, &[("epoch", epoch)])?;
         put_flag(out, "clean", false)
     } else {
@@ -168,44 +164,44 @@ fn put_header<S: Serializer>(out: &mut S, die: &DieStatus<'_>, epoch: u64) -> Re
 
 /// How many slots of a die are in each state, where they are counted.
 fn put_slots<S: Serializer>(out: &mut S, die: &DieStatus<'_>) -> Result<(), S::Error> {
-    let (erased, current, stale) = match die.slots {
-        Some(slots) => (Some(slots.erased), Some(slots.current), Some(slots.stale)),
-        None => (None, None, None),
-    };
-    put_option(out, "erased", erased)?;
-    put_option(out, "current", current)?;
-    put_option(out, "stale", stale)
+    match die.slots {
+        Some(slots) => put_numbers(out, &slots.numbers()),
+        None => {
+            put_option(out, "erased", None)?;
+            put_option(out, "current", None)?;
+            put_option(out, "stale", None)
+        }
+    }
 }
 
 /// How many dies are out, have no image or a header of another epoch, the round, and how many pages are lost.
 fn put_faulty<S: Serializer>(
     out: &mut S,
     status: &Status<'_>,
-    census: &Census,
+    counts: StateCounts,
+    pages: &PageStatus,
 ) -> Result<(), S::Error> {
     let faulty = [
-        ("out", status.dies_in(DieState::Out)),
-        ("missing", status.dies_in(DieState::Missing)),
-        ("behind", status.dies_behind()),
+        ("out", counts.out),
+        ("missing", counts.missing),
+        ("behind", counts.behind),
         ("round", status.round),
-        ("lost", census.pages.lost),
+        ("lost", pages.counts.lost),
     ];
     put_numbers(out, &faulty)
 }
 
 /// Which pages are lost, and how many copies there could be and are.
-fn put_lost<S: Serializer>(out: &mut S, census: &Census) -> Result<(), S::Error> {
-    begin_list(out, "lost_ranges", census.lost.len())?;
-    for range in &census.lost {
+fn put_lost<S: Serializer>(out: &mut S, pages: &PageStatus) -> Result<(), S::Error> {
+    begin_list(out, "lost_ranges", pages.lost.len())?;
+    for range in &pages.lost {
         put_object(out, &[("first", range.first), ("last", range.last)])?;
     }
     out.end_seq()?;
-    put_flag(out, "lost_more", census.has_more)?;
+    put_flag(out, "lost_more", pages.has_more)?;
     out.key("copies")?;
-    put_object(
-        out,
-        &[("wanted", census.pages.wanted), ("made", census.pages.made)],
-    )
+    let copies = [("wanted", pages.counts.wanted), ("made", pages.counts.made)];
+    put_object(out, &copies)
 }
 
 /// What the plans of batches came to, and what became of those that were to be written into a file.
@@ -256,28 +252,24 @@ fn put_requests<S: Serializer>(out: &mut S, status: &Status<'_>) -> Result<(), S
 }
 
 /// The faults that took dies out.
-fn put_faults<S: Serializer>(out: &mut S, faults: &[Fault]) -> Result<(), S::Error> {
+fn put_faults<S: Serializer>(out: &mut S, faults: &[FaultStatus]) -> Result<(), S::Error> {
     begin_list(out, "faults", faults.len())?;
     for fault in faults {
-        put_fault(out, *fault)?;
+        put_fault(out, fault)?;
     }
     out.end_seq()
 }
 
 /// The row of a fault.
-fn put_fault<S: Serializer>(out: &mut S, fault: Fault) -> Result<(), S::Error> {
+fn put_fault<S: Serializer>(out: &mut S, fault: &FaultStatus) -> Result<(), S::Error> {
     out.begin_map(None)?;
     let numbers = [
         ("die", u64::from(fault.die.0)),
-        ("cause", u64::from(fault.cause.number())),
+        ("cause", u64::from(fault.cause)),
     ];
     put_numbers(out, &numbers)?;
-    out.key("words")?;
-    match fault.cause {
-        Cause::Image(fault) => out.collect_str(&fault)?,
-        Cause::Wrong => out.str(WRONG_SLOT)?,
-    }
-    put_numbers(out, &[("round", fault.round.0)])?;
+    put_text(out, "words", &fault.words)?;
+    put_numbers(out, &[("round", fault.round)])?;
     put_text(out, "advice", ADVICE)?;
     out.end_map()
 }
@@ -295,12 +287,4 @@ fn put_seconds<S: Serializer>(out: &mut S, seconds: &[Sample]) -> Result<(), S::
         put_object(out, &numbers)?;
     }
     out.end_seq()
-}
-
-/// A cause in words. The error is out of memory.
-pub(crate) fn words_of(global: Global, cause: Cause) -> Result<String, AllocError> {
-    match cause {
-        Cause::Image(fault) => fault.to_string(global),
-        Cause::Wrong => WRONG_SLOT.to_string(global),
-    }
 }

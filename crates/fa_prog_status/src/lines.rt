@@ -1,10 +1,10 @@
 //! The same in lines, for a terminal.
-use crate::census::Census;
-use crate::document::{ADVICE, words_of};
+use crate::document::ADVICE;
+use crate::pages::PageStatus;
+use crate::parts::push_parts;
 use crate::rates::{Rates, Sample};
-use crate::status::{DieState, DieStatus, Status};
+use crate::status::{DieStatus, FaultStatus, StateCounts, Status};
 use fa_prog_host::printing::push_number;
-use fa_shared::Fault;
 use std::alloc::{AllocError, Global};
 
 /// How many faults are told, the newest ones.
@@ -14,71 +14,64 @@ const TOLD_FAULTS: usize = 8;
 pub fn lines_text(
     global: Global,
     status: &Status<'_>,
-    census: &Census,
+    pages: &PageStatus,
     rates: &Rates,
 ) -> Result<String, AllocError> {
-    let last = last_of(global, rates)?;
     let mut out = String::new(global);
-    push_lines(global, &mut out, status, census, last)?;
+    push_lines(&mut out, status, pages, rates.newest())?;
     Ok(out)
-}
-
-/// The last second.
-fn last_of(global: Global, rates: &Rates) -> Result<Sample, AllocError> {
-    let kept = rates.kept(global)?;
-    Ok(kept.last().copied().unwrap_or(Sample::NONE))
 }
 
 /// Adds the lines of an array that had this last second.
 fn push_lines(
-    global: Global,
     out: &mut String,
     status: &Status<'_>,
-    census: &Census,
+    pages: &PageStatus,
     last: Sample,
 ) -> Result<(), AllocError> {
     push_dies(out, status)?;
-    push_pages(out, census)?;
+    push_pages(out, pages)?;
     push_plans(out, status)?;
     push_load(out, status, last)?;
     for die in &status.dies {
         push_die(out, die)?;
     }
-    for range in &census.lost {
+    for range in &pages.lost {
         push_pairs(out, "lost", &[("from", range.first), ("to", range.last)])?;
     }
     let told = status.faults.len().saturating_sub(TOLD_FAULTS);
     for fault in status.faults.get(told..).unwrap_or(&[]) {
-        push_fault(global, out, *fault)?;
+        push_fault(out, fault)?;
     }
     Ok(())
 }
 
 /// Adds how many dies stand how, the epoch and the round.
 fn push_dies(out: &mut String, status: &Status<'_>) -> Result<(), AllocError> {
+    let counts = StateCounts::of(status.dies.as_slice());
     let dies = [
         ("dies", status.dies.len() as u64),
-        ("live", status.dies_in(DieState::Live)),
-        ("out", status.dies_in(DieState::Out)),
-        ("spare", status.dies_in(DieState::Spare)),
-        ("missing", status.dies_in(DieState::Missing)),
-        ("behind", status.dies_behind()),
+        ("live", counts.live),
+        ("out", counts.out),
+        ("spare", counts.spare),
+        ("missing", counts.missing),
+        ("behind", counts.behind),
     ];
     push_pairs(out, "", &dies)?;
     push_pairs(out, "", &[("epoch", status.epoch), ("round", status.round)])
 }
 
 /// Adds how many pages there are of each sort, and the copies that are still to be made.
-fn push_pages(out: &mut String, census: &Census) -> Result<(), AllocError> {
-    let pages = census.pages;
+fn push_pages(out: &mut String, pages: &PageStatus) -> Result<(), AllocError> {
+    let counts = pages.counts;
     let written = [
-        ("written", pages.written),
-        ("thin", pages.thin),
-        ("lost", pages.lost),
+        ("written", counts.written),
+        ("thin", counts.thin),
+        ("lost", counts.lost),
     ];
     push_pairs(out, "", &written)?;
-    let left = pages.wanted.saturating_sub(pages.made);
-    push_pairs(out, "copies", &[("made", pages.made), ("to make", left)])
+    let left = counts.wanted.saturating_sub(counts.made);
+    push_pairs(out, "copies", &[("made", counts.made), ("to make", left)])
 }
 
 /// Adds what the plans of batches came to.
@@ -115,12 +108,7 @@ fn push_die(out: &mut String, die: &DieStatus<'_>) -> Result<(), AllocError> {
         out.push_str(" behind")?;
     }
     if let Some(slots) = die.slots {
-        let counts = [
-            ("erased", slots.erased),
-            ("current", slots.current),
-            ("stale", slots.stale),
-        ];
-        push_all_after(out, &counts)?;
+        push_all_after(out, &slots.numbers())?;
     }
     if let Some(milliseconds) = die.slow {
         push_all_after(out, &[("call for milliseconds", milliseconds)])?;
@@ -132,25 +120,12 @@ fn push_die(out: &mut String, die: &DieStatus<'_>) -> Result<(), AllocError> {
     out.push('\n')
 }
 
-/// Adds a fault.
-fn push_fault(global: Global, out: &mut String, fault: Fault) -> Result<(), AllocError> {
-    let words = words_of(global, fault.cause)?;
-    let numbers = [
-        ("cause", u64::from(fault.cause.number())),
-        ("round", fault.round.0),
-    ];
+/// Adds a fault: which die went out when and why, and what is to be done.
+fn push_fault(out: &mut String, fault: &FaultStatus) -> Result<(), AllocError> {
+    let numbers = [("cause", u64::from(fault.cause)), ("round", fault.round)];
     push_after(out, "fault die", u64::from(fault.die.0))?;
     push_all_after(out, &numbers)?;
-    push_reason(out, &words)
-}
-
-/// Ends a line with why a die went out, and what is to be done.
-fn push_reason(out: &mut String, words: &str) -> Result<(), AllocError> {
-    out.push_str(": ")?;
-    out.push_str(words)?;
-    out.push_str("; ")?;
-    out.push_str(ADVICE)?;
-    out.push('\n')
+    push_parts(out, &[": ", &fault.words, "; ", ADVICE, "\n"])
 }
 
 /// Adds a line: a word, if there is one, and numbers behind their names.

@@ -2,12 +2,12 @@
 ghost use Rattle.std.specs.Prelude.{◌≡◌, ◌++◌, [], OnOk, string_bytes};
 ghost use Rattle.fa_prog_status.specs.Telling.{braces, head_lines, sample_line, word_label};
 
-use crate::census::{Census, SlotCounts};
+use crate::pages::PageStatus;
 use crate::parts::{push_line, push_parts};
-use crate::status::{DieState, DieStatus, Status};
+use crate::status::{StateCounts, Status};
 use fa_prog_counts::{BUCKETS, CALLS, COMMANDS, Command, ERRORS, RequestTotals, bound_of};
 use fa_prog_host::printing::push_number;
-use itoa::Buffer;
+use fa_types::Die;
 use std::alloc::{AllocError, Global};
 
 /// How many nanoseconds a second has.
@@ -17,19 +17,23 @@ const NANOSECONDS: u64 = 1_000_000_000;
 pub fn metrics_text(
     global: Global,
     status: &Status<'_>,
-    census: &Census,
+    pages: &PageStatus,
 ) -> Result<String, AllocError> {
     let mut out = String::new(global);
-    push_metrics(&mut out, status, census)?;
+    push_metrics(&mut out, status, pages)?;
     Ok(out)
 }
 
 /// Adds the metrics of an array.
-fn push_metrics(out: &mut String, status: &Status<'_>, census: &Census) -> Result<(), AllocError> {
+fn push_metrics(
+    out: &mut String,
+    status: &Status<'_>,
+    pages: &PageStatus,
+) -> Result<(), AllocError> {
     push_array(out, status)?;
-    push_plans(out, status)?;
+    push_plan_file(out, status)?;
     push_dies(out, status)?;
-    push_pages(out, census)?;
+    push_pages(out, pages)?;
     push_slots(out, status)?;
     push_calls(out, status)?;
     push_errors(out, status)?;
@@ -37,185 +41,148 @@ fn push_metrics(out: &mut String, status: &Status<'_>, census: &Census) -> Resul
     push_latencies(out, status)
 }
 
-/// Adds the epoch, the rounds and the clients.
+/// Adds the epoch, the rounds, the clients, and what the plans of batches came to.
 fn push_array(out: &mut String, status: &Status<'_>) -> Result<(), AllocError> {
-    let clients = "Clients that are served.";
-    let clients_total = "Clients that have come.";
-    let epoch = "How often the live dies have changed.";
-    let rounds = "Rounds that have passed since the start.";
-    let passed = status.round.saturating_sub(1);
-    push_all(
-        out,
-        &[
-            ("flasharr_epoch", "gauge", epoch, status.epoch),
-            ("flasharr_rounds_total", "counter", rounds, passed),
-            ("flasharr_clients", "gauge", clients, status.clients),
-            (
-                "flasharr_clients_total",
-                "counter",
-                clients_total,
-                status.totals.clients,
-            ),
-        ],
-    )
+    let plans = status.plans;
+    let metrics = [
+        (
+            "flasharr_epoch",
+            "gauge",
+            "How often the live dies have changed.",
+            status.epoch,
+        ),
+        (
+            "flasharr_rounds_total",
+            "counter",
+            "Rounds that have passed since the start.",
+            status.round.saturating_sub(1),
+        ),
+        (
+            "flasharr_clients",
+            "gauge",
+            "Clients that are served.",
+            status.clients,
+        ),
+        (
+            "flasharr_clients_total",
+            "counter",
+            "Clients that have come.",
+            status.totals.clients,
+        ),
+        (
+            "flasharr_planned_batches_total",
+            "counter",
+            "Batches of reads that were planned.",
+            plans.batches,
+        ),
+        (
+            "flasharr_planned_pages_total",
+            "counter",
+            "Their pages.",
+            plans.pages,
+        ),
+        (
+            "flasharr_planned_rounds_total",
+            "counter",
+            "The rounds that their plans take.",
+            plans.rounds,
+        ),
+        (
+            "flasharr_naive_rounds_total",
+            "counter",
+            "The rounds that they would have taken, had each page been read from its first holder.",
+            plans.naive_rounds,
+        ),
+    ];
+    for (name, kind, help, value) in &metrics {
+        push_one(out, name, kind, help, *value)?;
+    }
+    Ok(())
 }
 
-/// Adds what the plans of batches came to, and what became of those that were to be written into a file.
-fn push_plans(out: &mut String, status: &Status<'_>) -> Result<(), AllocError> {
-    let plans = status.plans;
-    let batches = "Batches of reads that were planned.";
-    let pages = "Their pages.";
-    let rounds = "The rounds that their plans take.";
-    let naive =
-        "The rounds that they would have taken, had each page been read from its first holder.";
-    let kind = "counter";
-    push_all(
-        out,
-        &[
-            (
-                "flasharr_planned_batches_total",
-                kind,
-                batches,
-                plans.batches,
-            ),
-            ("flasharr_planned_pages_total", kind, pages, plans.pages),
-            ("flasharr_planned_rounds_total", kind, rounds, plans.rounds),
-            (
-                "flasharr_naive_rounds_total",
-                kind,
-                naive,
-                plans.naive_rounds,
-            ),
-        ],
-    )?;
+/// Adds what became of the plans that were to be written into a file.
+fn push_plan_file(out: &mut String, status: &Status<'_>) -> Result<(), AllocError> {
     let name = "flasharr_plan_file_total";
-    push_head(
-        out,
-        name,
-        kind,
-        "Plans that were to be written into a file, by what became of them.",
-    )?;
+    let help = "Plans that were to be written into a file, by what became of them.";
+    push_head(out, name, "counter", help)?;
     push_by_words(out, name, "end", &status.plan_file.numbers())
 }
 
 /// Adds how many dies stand how.
 fn push_dies(out: &mut String, status: &Status<'_>) -> Result<(), AllocError> {
-    let name = "flasharr_dies";
-    push_head(
-        out,
-        name,
-        "gauge",
-        "Dies by how they stand; one that is behind is live too.",
-    )?;
+    let counts = StateCounts::of(status.dies.as_slice());
     let dies = [
-        ("live", status.dies_in(DieState::Live)),
-        ("out", status.dies_in(DieState::Out)),
-        ("spare", status.dies_in(DieState::Spare)),
-        ("missing", status.dies_in(DieState::Missing)),
-        ("behind", status.dies_behind()),
+        ("live", counts.live),
+        ("out", counts.out),
+        ("spare", counts.spare),
+        ("missing", counts.missing),
+        ("behind", counts.behind),
     ];
-    push_by_words(out, name, "state", &dies)
+    let help = "Dies by how they stand; one that is behind is live too.";
+    push_states(out, "flasharr_dies", help, &dies)
 }
 
 /// Adds how many pages and copies there are of each sort.
-fn push_pages(out: &mut String, census: &Census) -> Result<(), AllocError> {
-    let counts = census.pages;
-    let pages = [
+fn push_pages(out: &mut String, pages: &PageStatus) -> Result<(), AllocError> {
+    let counts = pages.counts;
+    let written = [
         ("written", counts.written),
         ("thin", counts.thin),
         ("lost", counts.lost),
     ];
+    let help = "Pages that were written, that have too few copies, and that have none.";
+    push_states(out, "flasharr_pages", help, &written)?;
     let copies = [("wanted", counts.wanted), ("made", counts.made)];
-    let name = "flasharr_pages";
-    push_head(
-        out,
-        name,
-        "gauge",
-        "Pages that were written, that have too few copies, and that have none.",
-    )?;
-    push_by_words(out, name, "state", &pages)?;
-    let name = "flasharr_copies";
-    push_head(
-        out,
-        name,
-        "gauge",
-        "Copies that the pages could have that are not lost, and those that they have.",
-    )?;
-    push_by_words(out, name, "state", &copies)
+    let help = "Copies that the pages could have that are not lost, and those that they have.";
+    push_states(out, "flasharr_copies", help, &copies)
 }
 
 /// Adds how many slots of each die are in each state.
 fn push_slots(out: &mut String, status: &Status<'_>) -> Result<(), AllocError> {
-    push_head(
-        out,
-        "flasharr_slots",
-        "gauge",
-        "Slots of the live dies and the spares, by state.",
-    )?;
+    let name = "flasharr_slots";
+    let help = "Slots of the live dies and the spares, by state.";
+    push_head(out, name, "gauge", help)?;
     for die in &status.dies {
         if let Some(slots) = die.slots {
-            push_die_slots(out, die.die.0, slots)?;
+            push_by_die(out, name, die.die, "state", &slots.numbers())?;
         }
-    }
-    Ok(())
-}
-
-/// Adds the slots of a die.
-fn push_die_slots(out: &mut String, die: u8, slots: SlotCounts) -> Result<(), AllocError> {
-    let mut digits = Buffer::new();
-    let die = digits.format(die);
-    let counts = [
-        ("erased", slots.erased),
-        ("current", slots.current),
-        ("stale", slots.stale),
-    ];
-    for (state, count) in counts {
-        push_by_die(out, "flasharr_slots", die, "state", state, count)?;
     }
     Ok(())
 }
 
 /// Adds the calls of each die's image.
 fn push_calls(out: &mut String, status: &Status<'_>) -> Result<(), AllocError> {
-    push_head(
-        out,
-        "flasharr_image_calls_total",
-        "counter",
-        "Calls of the dies' images that have ended.",
-    )?;
+    let name = "flasharr_image_calls_total";
+    let help = "Calls of the dies' images that have ended.";
+    push_head(out, name, "counter", help)?;
     for die in &status.dies {
-        push_die_calls(out, die)?;
+        push_by_die(out, name, die.die, "call", &named(die.calls))?;
     }
-    push_head(
-        out,
-        "flasharr_image_call_seconds",
-        "gauge",
-        "For how long the call of an image has lasted that is under way, where that is more than a second.",
-    )?;
+    let name = "flasharr_image_call_seconds";
+    let help =
+        "For how long the call of an image has lasted that is under way, where that is more than a second.";
+    push_head(out, name, "gauge", help)?;
     for die in &status.dies {
         if let Some(milliseconds) = die.slow {
-            push_slow(out, die.die.0, milliseconds)?;
+            push_slow(out, name, die.die, milliseconds)?;
         }
     }
     Ok(())
 }
 
-/// Adds the calls of one image.
-fn push_die_calls(out: &mut String, die: &DieStatus<'_>) -> Result<(), AllocError> {
-    let mut digits = Buffer::new();
-    let name = "flasharr_image_calls_total";
-    let number = digits.format(die.die.0);
-    for place in 0..CALLS.len() {
-        push_by_die(out, name, number, "call", CALLS[place], die.calls[place])?;
+/// The calls of an image, each behind its name.
+fn named(calls: [u64; 6]) -> [(&'static str, u64); 6] {
+    let mut named = [("", 0); 6];
+    for place in 0..6 {
+        named[place] = (CALLS[place], calls[place]);
     }
-    Ok(())
+    named
 }
 
 /// Adds for how long a call of an image has lasted.
-fn push_slow(out: &mut String, die: u8, milliseconds: u64) -> Result<(), AllocError> {
-    push_parts(out, &["flasharr_image_call_seconds{die=\""])?;
-    push_number(out, u64::from(die))?;
-    push_parts(out, &["\"} "])?;
+fn push_slow(out: &mut String, name: &str, die: Die, milliseconds: u64) -> Result<(), AllocError> {
+    push_numbered(out, name, "die", u64::from(die.0))?;
+    out.push_str("\"} ")?;
     push_seconds(out, milliseconds.saturating_mul(1_000_000))?;
     out.push('\n')
 }
@@ -223,15 +190,10 @@ fn push_slow(out: &mut String, die: u8, milliseconds: u64) -> Result<(), AllocEr
 /// Adds the errors that requests were answered with.
 fn push_errors(out: &mut String, status: &Status<'_>) -> Result<(), AllocError> {
     let name = "flasharr_errors_total";
-    push_head(
-        out,
-        name,
-        "counter",
-        "Requests that were answered with an error, by its number.",
-    )?;
+    let help = "Requests that were answered with an error, by its number.";
+    push_head(out, name, "counter", help)?;
     for place in 0..ERRORS.len() {
-        push_parts(out, &[name, "{error=\""])?;
-        push_number(out, u64::from(ERRORS[place]))?;
+        push_numbered(out, name, "error", u64::from(ERRORS[place]))?;
         push_line(out, &["\"} "], status.totals.errors[place])?;
     }
     Ok(())
@@ -240,12 +202,8 @@ fn push_errors(out: &mut String, status: &Status<'_>) -> Result<(), AllocError> 
 /// Adds how many requests there were, and their bytes.
 fn push_requests(out: &mut String, status: &Status<'_>) -> Result<(), AllocError> {
     let name = "flasharr_requests_total";
-    push_head(
-        out,
-        name,
-        "counter",
-        "Requests that the store was asked for, by command.",
-    )?;
+    let help = "Requests that the store was asked for, by command.";
+    push_head(out, name, "counter", help)?;
     for command in COMMANDS {
         let found = status.totals.of(command);
         push_by_word(out, name, "command", command.name(), found.requests)?;
@@ -261,12 +219,8 @@ fn push_requests(out: &mut String, status: &Status<'_>) -> Result<(), AllocError
 
 /// Adds how long requests took.
 fn push_latencies(out: &mut String, status: &Status<'_>) -> Result<(), AllocError> {
-    push_head(
-        out,
-        "flasharr_request_seconds",
-        "histogram",
-        "How long the store took for a request.",
-    )?;
+    let help = "How long the store took for a request.";
+    push_head(out, "flasharr_request_seconds", "histogram", help)?;
     for command in COMMANDS {
         push_histogram(out, command, status.totals.of(command))?;
     }
@@ -285,10 +239,8 @@ fn push_histogram(
         count = count.saturating_add(found.buckets[place]);
         push_bucket(out, name, place, count)?;
     }
-    push_parts(
-        out,
-        &["flasharr_request_seconds_sum{command=\"", name, "\"} "],
-    )?;
+    let sum = "flasharr_request_seconds_sum{command=\"";
+    push_parts(out, &[sum, name, "\"} "])?;
     push_seconds(out, found.nanoseconds)?;
     out.push('\n')?;
     push_by_word(
@@ -317,12 +269,15 @@ fn push_bucket(
     push_line(out, &["\"} "], count)
 }
 
-/// Adds metrics with one sample each: name, kind, help and value.
-fn push_all(out: &mut String, metrics: &[(&str, &str, &str, u64)]) -> Result<(), AllocError> {
-    for (name, kind, help, value) in metrics {
-        push_one(out, name, kind, help, *value)?;
-    }
-    Ok(())
+/// Adds a gauge with a sample for each state.
+fn push_states(
+    out: &mut String,
+    name: &str,
+    help: &str,
+    samples: &[(&str, u64)],
+) -> Result<(), AllocError> {
+    push_head(out, name, "gauge", help)?;
+    push_by_words(out, name, "state", samples)
 }
 
 /// Adds a metric with one sample.
@@ -366,20 +321,25 @@ fn push_by_word(
     push_line(out, &[name, "{", label, "=\"", word, "\"} "], value)
 }
 
-/// Adds a sample of a die, which is named by its digits, with a label besides.
+/// Adds samples of a die with a label besides.
 fn push_by_die(
     out: &mut String,
     name: &str,
-    die: &str,
+    die: Die,
     label: &str,
-    word: &str,
-    value: u64,
+    samples: &[(&str, u64)],
 ) -> Result<(), AllocError> {
-    push_line(
-        out,
-        &[name, "{die=\"", die, "\",", label, "=\"", word, "\"} "],
-        value,
-    )
+    for (word, value) in samples {
+        push_numbered(out, name, "die", u64::from(die.0))?;
+        push_line(out, &["\",", label, "=\"", word, "\"} "], *value)?;
+    }
+    Ok(())
+}
+
+/// Begins a sample with a label that is a number.
+fn push_numbered(out: &mut String, name: &str, label: &str, number: u64) -> Result<(), AllocError> {
+    push_parts(out, &[name, "{", label, "=\""])?;
+    push_number(out, number)
 }
 
 /// Adds what stands before the samples of a metric.

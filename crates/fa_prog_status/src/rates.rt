@@ -1,10 +1,13 @@
 //! How many requests there were in each of the last seconds.
-use circular_buffer::HeapCircularBuffer;
-use fa_prog_counts::{Command, Totals};
+use fa_prog_counts::{Command, Counts, Totals};
 use std::alloc::{AllocError, Global};
+use std::time::{Clock, Duration, Instant};
 
 /// How many seconds are kept.
 pub const MAX_SECONDS: usize = 300;
+
+/// How long it is between two samples, in seconds.
+const SAMPLE_SECONDS: u64 = 1;
 
 /// What was asked for in a second.
 #[derive(Clone, Copy)]
@@ -51,36 +54,67 @@ impl Sample {
     }
 }
 
-/// What was asked for in each of the last 300 seconds. No call but `new` and `kept` takes memory.
+/// What was asked for in each of the last 300 seconds. No call but `new` takes memory.
 #[derive(Drop)]
 pub struct Rates {
-    ring: HeapCircularBuffer<Sample>,
+    /// The oldest first. There is memory for 300.
+    seconds: Vec<Sample>,
+    /// What had been asked for when the last sample was taken.
     last: Sample,
+    /// When that was.
+    sampled: Option<Instant>,
 }
 
 impl Rates {
     /// No second has passed. The error is out of memory.
     pub fn new(global: Global) -> Result<Rates, AllocError> {
         Ok(Rates {
-            ring: HeapCircularBuffer::with_capacity(global, MAX_SECONDS)?,
+            seconds: Vec::with_capacity(global, MAX_SECONDS)?,
             last: Sample::NONE,
+            sampled: None,
         })
     }
 
-    /// The first second begins.
-    pub fn begin(&mut self, totals: &Totals) {
-        self.last = Sample::of(totals);
+    /// Takes the sample of a second that has passed. The first call begins the first second.
+    pub fn sample<R: Clock>(&mut self, rt: &R, counts: &Counts) {
+        let Ok(now) = Instant::now(rt) else {
+            return;
+        };
+        let second = Duration::from_secs(SAMPLE_SECONDS);
+        let Some(sampled) = self.sampled else {
+            self.last = Sample::of(&counts.totals());
+            self.sampled = Some(now);
+            return;
+        };
+        if now.duration_since(sampled) < second {
+            return;
+        }
+        self.note(Sample::of(&counts.totals()));
+        self.sampled = match sampled.checked_add(second) {
+            Some(next) if now.duration_since(next) < second => Some(next),
+            _ => Some(now),
+        };
     }
 
-    /// A second has passed.
-    pub fn note(&mut self, totals: &Totals) {
-        let now = Sample::of(totals);
-        self.ring.push_back(now.since(self.last));
+    /// A second has passed, by whose end so much had been asked for.
+    fn note(&mut self, now: Sample) {
+        if self.seconds.len() >= MAX_SECONDS {
+            self.seconds.remove(0);
+        }
+        let _ = self.seconds.push(now.since(self.last));
         self.last = now;
     }
 
-    /// The seconds, the oldest first. The error is out of memory.
-    pub fn kept(&self, global: Global) -> Result<Vec<Sample>, AllocError> {
-        self.ring.to_vec(global)
+    /// The newest second.
+    pub fn newest(&self) -> Sample {
+        match self.seconds.last() {
+            Some(sample) => *sample,
+            None => Sample::NONE,
+        }
+    }
+
+    /// The seconds, the oldest first.
+    pub fn seconds(&self) -> &[Sample] {
+        self.seconds.as_slice()
     }
 }

@@ -2,32 +2,11 @@
 ghost use Rattle.std.specs.Prelude.{◌≡◌};
 ghost use Rattle.fa_prog_status.specs.Telling.{state_name};
 
-use crate::census::{Census, SlotCounts};
-use fa_core_read::PlanCounts;
-use fa_map_calls::Map;
-use fa_plan_log::LogCounts;
-use fa_prog_clients::{AcceptQueue, Networked};
-use fa_prog_counts::{Counts, PlanFileCounts, Totals};
-use fa_shared::{Fault, Shared};
+use fa_prog_counts::Totals;
 use fa_types::Die;
-use std::alloc::AllocError;
-use std::sync::ledger::Ledger;
-
-/// What is looked at.
-#[derive(Drop)]
-pub struct Subject<'a, L: Ledger, M: Map + Drop> {
-    /// The array.
-    pub shared: &'a Shared<L, M>,
-    /// What is counted while it is served.
-    pub counts: &'a Counts,
-    /// Where its clients come.
-    pub accept_queue: &'a AcceptQueue,
-    /// The paths of its images, by the numbers of the dies. None where a die has none.
-    pub paths: &'a [Option<&'a str>],
-}
 
 /// How a die stands.
-#[derive(Clone, Copy, PartialEq, Eq)]
+#[derive(Clone, Copy)]
 pub enum DieState {
     /// It is in use.
     Live,
@@ -53,6 +32,28 @@ impl DieState {
     }
 }
 
+/// How many slots of a die are in each state.
+#[derive(Clone, Copy)]
+pub struct SlotCounts {
+    /// Erased slots.
+    pub erased: u64,
+    /// Slots that hold a current copy.
+    pub current: u64,
+    /// Stale slots.
+    pub stale: u64,
+}
+
+impl SlotCounts {
+    /// The numbers, each behind its word.
+    pub(crate) fn numbers(self) -> [(&'static str, u64); 3] {
+        [
+            ("erased", self.erased),
+            ("current", self.current),
+            ("stale", self.stale),
+        ]
+    }
+}
+
 /// How a die is.
 #[derive(Clone, Copy)]
 pub struct DieStatus<'a> {
@@ -70,6 +71,19 @@ pub struct DieStatus<'a> {
     pub calls: [u64; 6],
     /// For how long the call under way has lasted, in milliseconds, where it lasts long.
     pub slow: Option<u64>,
+}
+
+/// What the plans of batches came to.
+#[derive(Clone, Copy)]
+pub struct PlanStatus {
+    /// Batches that were planned.
+    pub batches: u64,
+    /// Their pages.
+    pub pages: u64,
+    /// The rounds that their plans take.
+    pub rounds: u64,
+    /// The rounds that they would have taken, had each page been read from its first holder.
+    pub naive_rounds: u64,
 }
 
 /// What became of the plans that were to be written into a file.
@@ -97,6 +111,19 @@ impl PlanFileStatus {
     }
 }
 
+/// A die that went out.
+#[derive(Drop)]
+pub struct FaultStatus {
+    /// The die.
+    pub die: Die,
+    /// The number of the cause.
+    pub cause: u8,
+    /// The cause in words.
+    pub words: String,
+    /// The round in which it went out.
+    pub round: u64,
+}
+
 /// How an array is.
 #[derive(Drop)]
 pub struct Status<'a> {
@@ -107,7 +134,7 @@ pub struct Status<'a> {
     /// The current round.
     pub round: u64,
     /// What the plans of its batches came to.
-    pub plans: PlanCounts,
+    pub plans: PlanStatus,
     /// What became of those that were to be written into a file.
     pub plan_file: PlanFileStatus,
     /// What was counted while it was served.
@@ -115,110 +142,46 @@ pub struct Status<'a> {
     /// How many clients are served.
     pub clients: u64,
     /// The last faults that took dies out, the oldest first.
-    pub faults: Vec<Fault>,
+    pub faults: Vec<FaultStatus>,
 }
 
-impl Status<'_> {
-    /// How many dies stand so.
-    pub fn dies_in(&self, state: DieState) -> u64 {
-        self.dies.iter().filter(|die| die.state == state).count() as u64
-    }
-
-    /// How many dies have a header that is not one of this epoch.
-    pub fn dies_behind(&self) -> u64 {
-        self.dies.iter().filter(|die| die.is_behind).count() as u64
-    }
+/// How many dies of an array stand how.
+#[derive(Clone, Copy)]
+pub(crate) struct StateCounts {
+    pub(crate) live: u64,
+    pub(crate) spare: u64,
+    pub(crate) out: u64,
+    pub(crate) missing: u64,
+    /// Those that have a header that is not one of this epoch.
+    pub(crate) behind: u64,
 }
 
-/// How an array is, with a census of it. The error is out of memory.
-pub fn status_of<'a, R: Networked, L: Ledger, M: Map + Drop>(
-    rt: &R,
-    subject: &Subject<'a, L, M>,
-    census: &Census,
-) -> Result<Status<'a>, AllocError> {
-    let faults = subject.shared.faults(rt, rt.alloc())?;
-    let mut dies = Vec::with_capacity(rt.alloc(), subject.paths.len())?;
-    let (epoch, round, plans, kept) = {
-        let held = subject.shared.lock(rt);
-        let array = held.array();
-        (
-            array.epoch(),
-            array.now().0,
-            array.plan_counts(),
-            array.plan_log_counts(),
-        )
-    };
-    for number in 0..subject.paths.len() {
-        dies.push(die_status(rt, subject, census, number))?;
-    }
-    Ok(Status {
-        dies,
-        epoch,
-        round,
-        plans,
-        plan_file: plan_file_status(subject.counts.plans(), kept),
-        totals: subject.counts.totals(),
-        clients: subject.accept_queue.clients(),
-        faults,
-    })
-}
-
-/// What became of the plans that were to be written, of which so many were kept and dropped.
-fn plan_file_status(counts: &PlanFileCounts, kept: Option<LogCounts>) -> PlanFileStatus {
-    let dropped = match kept {
-        Some(kept) => kept.dropped,
-        None => 0,
-    };
-    PlanFileStatus {
-        written: counts.written(),
-        dropped,
-        unfit: counts.unfit(),
-        failed: counts.failed(),
-    }
-}
-
-/// How the die of a number is.
-fn die_status<'a, R: Networked, L: Ledger, M: Map + Drop>(
-    rt: &R,
-    subject: &Subject<'a, L, M>,
-    census: &Census,
-    number: usize,
-) -> DieStatus<'a> {
-    let die = die_of(number);
-    let path = subject.paths.get(number).copied().flatten();
-    let (state, is_behind) = {
-        let held = subject.shared.lock(rt);
-        let array = held.array();
-        if array.is_live(die) {
-            (DieState::Live, array.is_behind(die))
-        } else if path.is_none() {
-            (DieState::Missing, false)
-        } else if array.is_spare(die) {
-            (DieState::Spare, false)
-        } else {
-            (DieState::Out, false)
+impl StateCounts {
+    /// How many of these dies stand how.
+    pub(crate) fn of(dies: &[DieStatus<'_>]) -> StateCounts {
+        let mut counts = StateCounts {
+            live: 0,
+            spare: 0,
+            out: 0,
+            missing: 0,
+            behind: 0,
+        };
+        for die in dies {
+            counts.note(die);
         }
-    };
-    let slots = match state {
-        DieState::Live | DieState::Spare => census.slots.get(number).copied(),
-        DieState::Out | DieState::Missing => None,
-    };
-    let counts = subject.counts.die(die);
-    DieStatus {
-        die,
-        path,
-        state,
-        is_behind,
-        slots,
-        calls: counts.map_or([0; 6], |counts| counts.ended()),
-        slow: counts.and_then(|counts| counts.slow()),
+        counts
     }
-}
 
-/// The die of a number. An array has no more than 64.
-fn die_of(number: usize) -> Die {
-    match u8::try_from(number) {
-        Ok(number) => Die(number),
-        Err(_) => Die(u8::MAX),
+    /// One more die.
+    fn note(&mut self, die: &DieStatus<'_>) {
+        match die.state {
+            DieState::Live => self.live = self.live.saturating_add(1),
+            DieState::Spare => self.spare = self.spare.saturating_add(1),
+            DieState::Out => self.out = self.out.saturating_add(1),
+            DieState::Missing => self.missing = self.missing.saturating_add(1),
+        }
+        if die.is_behind {
+            self.behind = self.behind.saturating_add(1);
+        }
     }
 }

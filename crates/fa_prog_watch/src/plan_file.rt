@@ -1,5 +1,5 @@
 //! The file that plans are added to.
-use crate::tail::{End, end_of};
+use crate::plan_tail::{End, end_of};
 use fa_prog_host::{Host, complain_of_call, tell};
 use std::alloc::Global;
 use std::fs::{File, OpenFile, OpenOptions};

@@ -1,5 +1,5 @@
 //! Who writes the file of plans.
-use crate::file::PlanFile;
+use crate::plan_file::PlanFile;
 use fa_map_calls::Map;
 use fa_plan_log::{PlanEntry, PlanNote};
 use fa_prog_clients::Networked;

@@ -1,0 +1,92 @@
+//! Who looks at an array for those who ask.
+use crate::census::Census;
+use crate::subject::Subject;
+use fa_map_calls::Map;
+use fa_prog_clients::Networked;
+use fa_prog_looks::{Shown, Text};
+use fa_prog_status::{PAGE, PageStatus, Rates, Status, document_text, lines_text, metrics_text};
+use std::alloc::{AllocError, Global};
+use std::sync::ledger::Ledger;
+
+/// Who looks at an array, with what it has counted. It is made before its thread is started.
+#[derive(Drop)]
+pub struct Looker {
+    census: Census,
+    rates: Rates,
+}
+
+impl Looker {
+    /// One that has not looked yet. The error is out of memory.
+    pub fn new(global: Global) -> Result<Looker, AllocError> {
+        let rates = Rates::new(global)?;
+        Ok(Looker {
+            census: Census::new(global),
+            rates,
+        })
+    }
+
+    /// A text of what is looked at. The error is out of memory.
+    fn look<R: Networked, L: Ledger, M: Map + Drop>(
+        &mut self,
+        rt: &R,
+        subject: &Subject<'_, L, M>,
+        text: Text,
+    ) -> Result<String, AllocError> {
+        self.census.renew(rt, subject.shared)?;
+        let status = subject.status(rt, self.census.slots.as_slice())?;
+        text_of(rt.alloc(), text, &status, &self.census.pages, &self.rates)
+    }
+}
+
+/// Who looks at this array, in a thread.
+#[derive(Drop)]
+pub struct Looking<'a, R, L: Ledger, M: Map + Drop> {
+    rt: &'a R,
+    subject: Subject<'a, L, M>,
+    looker: Looker,
+}
+
+impl<'a, R: Networked, L: Ledger, M: Map + Drop> Looking<'a, R, L, M> {
+    /// Whoever looks at this array.
+    pub fn new(rt: &'a R, subject: Subject<'a, L, M>, looker: Looker) -> Looking<'a, R, L, M> {
+        Looking {
+            rt,
+            subject,
+            looker,
+        }
+    }
+}
+
+/// The array is shown until the queue of its clients is closed.
+impl<R: Networked, L: Ledger, M: Map + Drop> Shown for Looking<'_, R, L, M> {
+    fn is_over(&self) -> bool {
+        self.subject.accept_queue.is_closing(self.rt)
+    }
+
+    fn sample(&mut self) {
+        self.looker.rates.sample(self.rt, self.subject.counts);
+    }
+
+    fn page(&self) -> &'static str {
+        PAGE
+    }
+
+    fn text(&mut self, text: Text) -> Result<String, AllocError> {
+        self.looker.look(self.rt, &self.subject, text)
+    }
+}
+
+/// A text of an array that is so. The error is out of memory.
+fn text_of(
+    global: Global,
+    text: Text,
+    status: &Status<'_>,
+    pages: &PageStatus,
+    rates: &Rates,
+) -> Result<String, AllocError> {
+    match text {
+        Text::Lines => lines_text(global, status, pages, rates),
+        Text::Metrics => metrics_text(global, status, pages),
+        Text::Document => document_text(global, status, pages, rates),
+    }
+}
