@@ -6,6 +6,7 @@ use fa_prog_clients::Networked;
 use fa_prog_looks::{Shown, Text};
 use fa_prog_status::{PAGE, PageStatus, Rates, Status, document_text, lines_text, metrics_text};
 use std::alloc::{AllocError, Global};
+use std::cell::RefCell;
 use std::sync::ledger::Ledger;
 
 /// Who looks at an array, with what it has counted. It is made before its thread is started.
@@ -43,7 +44,8 @@ impl Looker {
 pub struct Looking<'a, R, L: Ledger, M: Map + Drop> {
     rt: &'a R,
     subject: Subject<'a, L, M>,
-    looker: Looker,
+    // One thread has it, which uses it in one place at a time.
+    looker: RefCell<Looker>,
 }
 
 impl<'a, R: Networked, L: Ledger, M: Map + Drop> Looking<'a, R, L, M> {
@@ -52,7 +54,7 @@ impl<'a, R: Networked, L: Ledger, M: Map + Drop> Looking<'a, R, L, M> {
         Looking {
             rt,
             subject,
-            looker,
+            looker: RefCell::new(looker),
         }
     }
 }
@@ -63,16 +65,21 @@ impl<R: Networked, L: Ledger, M: Map + Drop> Shown for Looking<'_, R, L, M> {
         self.subject.accept_queue.is_closing(self.rt)
     }
 
-    fn sample(&mut self) {
-        self.looker.rates.sample(self.rt, self.subject.counts);
+    fn sample(&self) {
+        if let Ok(mut looker) = self.looker.try_borrow_mut() {
+            looker.rates.sample(self.rt, self.subject.counts);
+        }
     }
 
     fn page(&self) -> &'static str {
         PAGE
     }
 
-    fn text(&mut self, text: Text) -> Result<String, AllocError> {
-        self.looker.look(self.rt, &self.subject, text)
+    fn text(&self, text: Text) -> Result<String, AllocError> {
+        match self.looker.try_borrow_mut() {
+            Ok(mut looker) => looker.look(self.rt, &self.subject, text),
+            Err(_) => Err(AllocError),
+        }
     }
 }
 

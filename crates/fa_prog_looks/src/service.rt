@@ -9,7 +9,7 @@ use std::alloc::AllocError;
 /// Answers requests with texts. Each answer ends its connection.
 #[derive(Drop)]
 pub(crate) struct Answering<'a, T> {
-    pub(crate) shown: &'a mut T,
+    pub(crate) shown: &'a T,
 }
 
 impl<T: Shown> Service for Answering<'_, T> {

@@ -34,10 +34,9 @@ struct Visitors {
 /// Answers those who ask at the listener how something is that runs, until that is over. It blocks its thread. What keeps it from
 /// listening is told on standard error.
 pub fn serve_looks<R: LooksHost, T: Shown + Drop>(rt: &R, listener: &net::TcpListener, shown: T) {
-    let mut shown = shown;
     match Visitors::at(rt, listener) {
         Ok(mut visitors) => {
-            if let Err(refused) = visitors.serve(rt, &mut shown) {
+            if let Err(refused) = visitors.serve(rt, &shown) {
                 tell(rt, format_args!("status: no more answers: {refused}"));
             }
         }
@@ -61,7 +60,7 @@ impl Visitors {
     }
 
     /// Answers all who come until what is shown is over. The error is the system's, which waits no more.
-    fn serve<R: LooksHost, T: Shown>(&mut self, rt: &R, shown: &mut T) -> io::Result<()> {
+    fn serve<R: LooksHost, T: Shown>(&mut self, rt: &R, shown: &T) -> io::Result<()> {
         let mut events: Events = Events::with_capacity(rt.alloc(), MAX_VISITORS + 1)?;
         let wait = Duration::from_millis(WAIT_MILLISECONDS);
         for _ in rt.forever() {
@@ -70,7 +69,7 @@ impl Visitors {
             }
             shown.sample();
             self.poll.poll(&mut events, Some(wait))?;
-            let mut service = Answering { shown: &mut *shown };
+            let mut service = Answering { shown };
             for event in events.iter() {
                 self.attend(event.token().0, &mut service);
             }
