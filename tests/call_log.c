@@ -1,12 +1,13 @@
 // A library that a test puts before the C library of a server (LD_PRELOAD). It looks at the calls on images, the files named d0.img,
 // d1.img and so on, and passes each of them on. CALL_LOG names the file to which their records are appended, if there is to be one.
-// CALL_CONTROL names a file of seven numbers that the test and the server have in common:
+// CALL_CONTROL names a file of six numbers that the test and the server have in common:
 //
 //   0  the dies whose calls are refused with EIO and not made, a bit for each
 //   1  how many nanoseconds a sync waits before it is made
 //   2  how many syncs were made
 //   3  how many writes were made
 //   4  how many of these were of ff bytes alone
+//   5  the write or sync from now on, the first being 1, that is refused with EIO and not made; with 0 none is
 //
 // A call has a record before it is made, and one after it. A record is its head and the bytes of a write, if they are not all ff. Each
 // record is appended by one call of the system, so the log has whole records alone, and its length is a moment of the server's life.
@@ -38,7 +39,7 @@ struct head {
 };
 
 struct control {
-    _Atomic uint64_t refused, sync_nanoseconds, syncs, writes, erases;
+    _Atomic uint64_t refused, sync_nanoseconds, syncs, writes, erases, due;
 };
 
 static struct control unshared;
@@ -90,9 +91,17 @@ static int is_erase(const unsigned char *data, size_t count) {
     return count && data[0] == 0xff && !memcmp(data, data + 1, count - 1);
 }
 
+// Whether this write or sync is the one that is refused.
+static int is_due(void) {
+    uint64_t left = control->due;
+    while (left && !atomic_compare_exchange_weak(&control->due, &left, left - 1))
+        ;
+    return left == 1;
+}
+
 // Whether a call of a die's image is refused, which is recorded.
-static int is_refused(int die) {
-    if (!(control->refused >> die & 1))
+static int is_refused(int die, int is_read) {
+    if (!(control->refused >> die & 1) && (is_read || !is_due()))
         return 0;
     append((struct head){.kind = REFUSED, .die = die, .is_end = 1, .call = calls++}, NULL);
     errno = EIO;
@@ -121,7 +130,7 @@ int close(int file) {
 
 ssize_t pread(int file, void *data, size_t count, off_t offset) {
     int die = die_at(file);
-    if (die >= 0 && is_refused(die))
+    if (die >= 0 && is_refused(die, 1))
         return -1;
     return next_pread(file, data, count, offset);
 }
@@ -130,7 +139,7 @@ ssize_t pwrite(int file, const void *data, size_t count, off_t offset) {
     int die = die_at(file);
     if (die < 0)
         return next_pwrite(file, data, count, offset);
-    if (is_refused(die))
+    if (is_refused(die, 0))
         return -1;
     int erases = is_erase(data, count);
     struct head head = {.data = erases ? 0 : count, .kind = erases ? ERASE : WRITE, .die = die, .call = calls++,
@@ -151,7 +160,7 @@ static int synced(int file, int (*next)(int)) {
     int die = die_at(file);
     if (die < 0)
         return next(file);
-    if (is_refused(die))
+    if (is_refused(die, 0))
         return -1;
     struct head head = {.kind = SYNC, .die = die, .call = calls++};
     append(head, NULL);

@@ -7,7 +7,7 @@ import subprocess
 import sys
 
 SOURCE = os.path.join(os.path.dirname(os.path.abspath(__file__)), "call_log.c")
-REFUSED, SYNC_NANOSECONDS, SYNCS, WRITES, ERASES = range(5)
+REFUSED, SYNC_NANOSECONDS, SYNCS, WRITES, ERASES, DUE = range(6)
 CONTROL_BYTES = 4096
 
 
@@ -54,6 +54,10 @@ class CallLog:
     def refuse(self, die):
         """From now on each call of a die's image is refused."""
         self.put(REFUSED, self.number(REFUSED) | 1 << die)
+
+    def refuse_call(self, number):
+        """The write or sync of this number from now on, the first being 1, is refused; with 0 none is."""
+        self.put(DUE, number)
 
     def close(self):
         self.numbers.close()
