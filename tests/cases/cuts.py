@@ -52,25 +52,21 @@ OWN = [
     *((f"export_name_and_disconnect_with_flags_{flags}",
        [f"0000000{flags} 49484156454f5054 00000001 00000004 6469736b", "25609513 0000 0002 0000000000000001 0000000000000000 00000000"],
        [GREETING, "0000000000008000 016d", zeros], DISCONNECTED) for flags, zeros in ((1, "00x124"), (2, ""))),
-    # Flags that are unknown, an option with a wrong magic number, one that announces too much data, and another name: alone, and with a byte
-    # behind them.
-    ("closed_for_unknown_flags", ["00000004"], [GREETING], CLOSED),
-    ("closed_for_a_wrong_magic", [FLAGS, "49484156454f5053 00000007 00000006"], [GREETING], CLOSED),
-    ("closed_for_too_much_data", [FLAGS, "49484156454f5054 00000007 00010001"], [GREETING], CLOSED),
-    ("closed_for_another_name", [FLAGS, "49484156454f5054 00000001 00000004 6469736c"], [GREETING], CLOSED),
-    ("closed_amid_flags_and_more", ["00000004 49"], [GREETING], CLOSED),
-    ("closed_amid_a_wrong_magic_and_more", [FLAGS, "49484156454f5053 00000007 00000006 00"], [GREETING], CLOSED),
-    ("closed_amid_too_much_data", [FLAGS, "49484156454f5054 00000007 00010001 00"], [GREETING], CLOSED),
-    ("closed_amid_another_name_and_more", [FLAGS, "49484156454f5054 00000001 00000004 6475736b 00"], [GREETING], CLOSED),
+    # What closes a connection, alone or with a byte behind it.
+    ("an_option_with_a_wrong_magic_alone", [FLAGS, "49484156454f5053 00000007 00000006"], [GREETING], CLOSED),
+    ("another_name_alone", [FLAGS, "49484156454f5054 00000001 00000004 6469736c"], [GREETING], CLOSED),
+    ("another_name_and_a_byte", [FLAGS, "49484156454f5054 00000001 00000004 6475736b 00"], [GREETING], CLOSED),
+    ("unknown_flags_and_a_byte", ["00000004 49"], [GREETING], CLOSED),
+    ("too_much_data_and_a_byte", [FLAGS, "49484156454f5054 00000007 00010001 00"], [GREETING], CLOSED),
 ]
 
 # The conversations, and how many bytes of magic numbers their clients say.
 MAGIC_BYTES = {
     "hello": 8, "read_at_the_end": 16, "write_past_the_end": 16, "unaligned_write": 16, "unknown_options": 24, "list_and_abort": 16,
     "export_name": 8, "info": 8, "each_command": 44, "each_option": 64, "export_name_and_disconnect_with_flags_1": 12,
-    "export_name_and_disconnect_with_flags_2": 12, "closed_for_unknown_flags": 0, "closed_for_a_wrong_magic": 0,
-    "closed_for_too_much_data": 8, "closed_for_another_name": 8, "closed_amid_flags_and_more": 0, "closed_amid_a_wrong_magic_and_more": 0,
-    "closed_amid_too_much_data": 8, "closed_amid_another_name_and_more": 8,
+    "export_name_and_disconnect_with_flags_2": 12, "bad_client_flags": 0, "option_with_a_wrong_magic": 0, "option_with_too_much_data": 8,
+    "an_option_with_a_wrong_magic_alone": 0, "another_name_alone": 8, "another_name_and_a_byte": 8, "unknown_flags_and_a_byte": 0,
+    "too_much_data_and_a_byte": 8,
 }
 MAGICS = spelled("49484156454f5054"), spelled("25609513")
 
@@ -85,10 +81,12 @@ def heard(lab, clients):
 def wrong_cuts(found, answer, end):
     """What is wrong with what is told to clients that are cut off behind none of their bytes, behind the first, and so on up to the last."""
     told = [] if found[-1] == (answer, end) else ["another answer to the whole"]
-    for cut, ((before, was), (now, came)) in enumerate(zip(found, found[1:]), 1):
-        is_over = was != INPUT_ENDED
-        if not (answer.startswith(now) and now.startswith(before)) or came not in ((end,) if is_over else (INPUT_ENDED, end)):
+    before, was = b"", INPUT_ENDED
+    for cut, (now, came) in enumerate(found):
+        ends = (INPUT_ENDED, end) if was == INPUT_ENDED else (end,)
+        if not (answer.startswith(now) and now.startswith(before)) or came not in ends:
             told.append(f"cut off behind {cut} bytes: it ends with {came} behind {len(now)} bytes, and it was {was} behind {len(before)}")
+        before, was = now, came
     return told
 
 
