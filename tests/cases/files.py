@@ -1,9 +1,8 @@
 """Image files under the laboratory: the bytes that calls of an image leave in its file, those that are around them, and files that
-lose bytes while they are open or take no more. Files are written and compared from docs/FORMATS.md alone. Arrays are mounted whose images refuse
+lose bytes while they are open. Files are written and compared from docs/FORMATS.md alone. Arrays are mounted whose images refuse
 each call and whose memory is refused in turn, and no byte of a file changes.
 """
 import os
-import resource
 import tempfile
 
 from cases import Case, Talk
@@ -63,11 +62,6 @@ class Desk:
         with open(self.path(name), "r+b") as out:
             out.truncate(0)
             out.write(content)
-
-    def limit(self, length):
-        """From now on the system refuses to write behind this length of a file; with None it takes all again."""
-        _, most = resource.getrlimit(resource.RLIMIT_FSIZE)
-        resource.prlimit(self.lab.process.pid, resource.RLIMIT_FSIZE, (most if length is None else length, most))
 
     def writes(self):
         """How many writes the laboratory has made, as the system counts them. None where it does not tell."""
@@ -185,29 +179,6 @@ def files_that_lose_bytes(desk):
     desk.ask("slot 0 2", "erased")
 
 
-def files_that_take_no_bytes(desk):
-    """What is written is refused, and counted; what is there is read, and stays. Of a slot the file takes the first bytes, and no more."""
-    whole = image_bytes(header_bytes(0, FOUR, ARRAY, mask=15), 128, {3: slot_bytes(5, 7, 0, 3, page_of(90))})
-    for line, answer in ((images(FOUR), "made"), ("bare", "made"), ("put 0 3 5 7 90", "written")):
-        desk.ask(line, answer)
-    desk.limit(0)
-    header = header_bytes(0, FOUR, ARRAY, epoch=2, mask=3)
-    for line, answer in (("put 0 4 6 8 1", "not written"), (f"write header 0 {header.hex()}", "refused: the header could not be written"),
-                         ("old slot 0 4 6 8 1", "not written"), ("bare write 3 1 1", "no slot"), ("bare erase 1 1", "no slot"),
-                         ("faults", "faults 3 3 0 0 0 0 0 0 0 0 0 0"), ("slot 0 3", "page 5 seq 7 of 90"), ("slot 0 4", "erased"),
-                         ("header 0", "format 2 epoch 1 live 0 1 2 3 clean"), ("bare read 3 1", "done")):
-        desk.ask(line, answer)
-    desk.has("die-0", whole)
-    desk.has("bare", bytes(FILE))
-    desk.limit(slot_at(4) + 100)
-    for line, answer in (("put 0 4 6 8 1", "not written"), ("slot 0 4", "bad"), ("faults", "faults 4 4 0 0 0 0 0 0 0 0 0 0")):
-        desk.ask(line, answer)
-    desk.has("die-0", over(whole, (slot_at(4), slot_bytes(6, 8, 0, 4, page_of(1))[:100])))
-    desk.limit(None)
-    desk.ask("put 0 4 6 8 1", "written")
-    desk.has("die-0", over(whole, (slot_at(4), slot_bytes(6, 8, 0, 4, page_of(1)))))
-
-
 def greatest_numbers(desk):
     """Die 63 has the greatest page, in the greatest write, of 4,096 bytes, in both versions."""
     desk.ask("images dies 64 spares 0 blocks 4 slots 4 bytes 4096 pages 8", "made")
@@ -304,7 +275,7 @@ def each_request_refused(desk):
 
 def cases():
     plain = (new_files, new_files_of_format_1, around_a_program, around_an_erase_and_a_header, one_write_each, files_that_lose_bytes,
-             files_that_take_no_bytes, greatest_numbers, sealed_by_jobs)
+             greatest_numbers, sealed_by_jobs)
     yield from (case(play.__name__, play) for play in plain)
     for play in (each_read_refused, each_request_refused):
         yield case(f"mounting/{play.__name__}", lambda desk, play=play: with_contents(desk, play))
