@@ -21,6 +21,8 @@ struct control {
     _Atomic uint64_t lying;
     // The number of the thread that is refused memory, or 0, and how often it was refused (tests/thread_memory.c).
     _Atomic uint64_t thread_without_memory, memory_refusals;
+    // The write or sync from now on, the first being 1, that is refused with EIO and not made. With 0 none is.
+    _Atomic uint64_t due;
 };
 
 extern struct control *control;

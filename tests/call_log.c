@@ -84,9 +84,17 @@ static int is_erase(const unsigned char *data, size_t count) {
     return count && data[0] == 0xff && !memcmp(data, data + 1, count - 1);
 }
 
+// Whether this write or sync is the one that is refused.
+static int is_due(void) {
+    uint64_t left = control->due;
+    while (left && !atomic_compare_exchange_weak(&control->due, &left, left - 1))
+        ;
+    return left == 1;
+}
+
 // Whether a call of a die's image is refused, which is recorded.
-static int is_refused(int die) {
-    if (!(control->refused >> die & 1))
+static int is_refused(int die, int is_read) {
+    if (!(control->refused >> die & 1) && (is_read || !is_due()))
         return 0;
     append((struct head){.kind = REFUSED, .die = die, .is_end = 1, .call = calls++}, NULL);
     errno = EIO;
@@ -134,7 +142,7 @@ int close(int file) {
 
 ssize_t pread(int file, void *data, size_t count, off_t offset) {
     int die = die_at(file);
-    if (die >= 0 && is_refused(die))
+    if (die >= 0 && is_refused(die, 1))
         return -1;
     if (die < 0 || offset < HEADER_END)
         return next_pread(file, data, count, offset);
@@ -152,7 +160,7 @@ ssize_t pwrite(int file, const void *data, size_t count, off_t offset) {
     int die = die_at(file);
     if (die < 0)
         return next_pwrite(file, data, count, offset);
-    if (is_refused(die))
+    if (is_refused(die, 0))
         return -1;
     int erases = is_erase(data, count);
     int programs = !erases && offset >= HEADER_END;
@@ -177,7 +185,7 @@ static int synced(int file, int (*next)(int)) {
     int die = die_at(file);
     if (die < 0)
         return next(file);
-    if (is_refused(die))
+    if (is_refused(die, 0))
         return -1;
     struct head head = {.kind = SYNC, .die = die, .call = calls++};
     append(head, NULL);

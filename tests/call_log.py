@@ -9,7 +9,7 @@ import sys
 HERE = os.path.dirname(os.path.abspath(__file__))
 # The numbers of tests/call_control.h, in their order.
 (REFUSED, SYNC_NANOSECONDS, SYNCS, WRITES, ERASES, PROGRAMS, IS_SHUT, HELD_READS, HELD_PROGRAMS, ENOUGH, BEGUN, IS_LATE, LYING,
- THREAD_WITHOUT_MEMORY, MEMORY_REFUSALS) = range(15)
+ THREAD_WITHOUT_MEMORY, MEMORY_REFUSALS, DUE) = range(16)
 CONTROL_BYTES = 4096
 # All dies, and more calls than ever begin.
 ALL = NEVER = (1 << 64) - 1
@@ -77,6 +77,10 @@ class CallLog:
     def refuse_memory(self, thread):
         """From now on the thread of this number is refused memory: the least number that no other thread had as it was made."""
         self.put(THREAD_WITHOUT_MEMORY, thread)
+
+    def refuse_call(self, number):
+        """The write or sync of this number from now on, the first being 1, is refused; with 0 none is."""
+        self.put(DUE, number)
 
     def close(self):
         self.numbers.close()

@@ -13,9 +13,9 @@ class Ended(Exception):
 class Lab:
     """A laboratory that runs. Each line that it is asked has one line of an answer."""
 
-    def __init__(self, program, folder=None):
+    def __init__(self, program, folder=None, **how):
         words = [program] if folder is None else [program, folder]
-        self.process = subprocess.Popen(words, stdin=subprocess.PIPE, stdout=subprocess.PIPE)
+        self.process = subprocess.Popen(words, stdin=subprocess.PIPE, stdout=subprocess.PIPE, **how)
         self.input, self.output = self.process.stdin, self.process.stdout
 
     def __enter__(self):

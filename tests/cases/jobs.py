@@ -3,6 +3,8 @@ What is wanted is worked out by hand from docs/MACHINE.md, as in the texts of ev
 """
 from cases import Case, Run
 from cases.events import EIGHT, MOUNTED, PLACES, PROGRAM, case, filled_dies, headers, pages_at, pairs, programs, read, write
+from cases.files import ARRAY
+from images import header_bytes
 
 
 def images(dies, spares=0, blocks=16, slots=8, pages=64, old=False):
@@ -459,6 +461,16 @@ def mounting():
         page 0 -> page 0 seq 1 at 0 0 at 3 0
     """) + slots((3, 0, "page 0 seq 1 of 10")) + CLEAN)
 
+    # The image at place 2 has the header of die 1.
+    header = header_bytes(1, (3, 0, 16, 8, 64), ARRAY, mask=7).hex()
+    yield case("two_images_of_a_die", THREE, [(f"write header 2 {header}", "written")] + pairs("""
+        mount 2 -> refused: die twice 2
+        mount unclean 2 -> refused: die twice 2
+        scan 2 -> refused: die twice 2
+        drop 2 -> dropped
+        mount unclean 2 -> mounted live 0 1
+    """))
+
     yield case("images_that_are_not_there", THREE, pairs("""
         mount 4 -> refused: copies outside their limits
         arm 3 1 -> no die
@@ -520,6 +532,17 @@ def images_alone():
         slot 0 9 -> bad
         slot 0 9 -> erased
         faults -> faults 0 0 1 0 0 0 0 0 0
+    """))
+
+    # A sync is one call, as the second fuse counts them: the third call of the image is refused, and no call before it.
+    yield case("a_sync_is_one_call", THREE, FRESH + pairs("""
+        rig 0 3 0 -> armed
+        flush begin -> flush 1
+        take 0 -> sync
+        run 0 -> done ok
+        header 0 -> format 2 epoch 2 live 0 1 2 not clean
+        header 0 -> refused: the header could not be read
+        faults -> faults 1 1 0 0 0 0 0 0 0
     """))
 
     # The call that a fuse is armed for is refused, and no other; a second one behind it counts the calls that come through.

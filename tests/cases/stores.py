@@ -36,11 +36,15 @@ def arm(*dies, count=1):
     return [(f"arm {die} {count}", "armed") for die in dies]
 
 
-def case(name, copies, *steps, long=False):
+def of_lines(name, lines, long=False):
     """Lines in turn, each with its answer."""
-    lines = [(IMAGES, "made"), (f"mount {copies}", "mounted live 0 1 2 3"), *(line for step in steps for line in step)]
     wanted = "".join(f"{answer}\n" for _, answer in lines)
     return Case(name, [Run((), wanted, input=lambda _: "".join(f"{line}\n" for line, _ in lines))], long=long, program=PROGRAM)
+
+
+def case(name, copies, *steps, long=False):
+    """The same of new images that are mounted."""
+    return of_lines(name, [(IMAGES, "made"), (f"mount {copies}", "mounted live 0 1 2 3"), *(line for step in steps for line in step)], long)
 
 
 # Pages 0 and 5 are written.
@@ -106,6 +110,19 @@ def over_stores(copies):
         yield case(f"{copies}_copies/{told.name}", copies, served(run.input(b""), run.output), long=told.long)
 
 
+def last_number():
+    """A page has the last sequence number but one, and one more write has the last. Behind it nothing is written and nothing changes, what is there
+    is read, and a flush is done."""
+    spent = "refused: a counter is at its end"
+    calls = ["store fill 0 512 9", "store write 511 1111", "store zero 0 512", "store hole 512 512", "store trim fua 0 512"]
+    last = 2 ** 62 - 1
+    lines = [(IMAGES, "made"), *((f"put {die} 0 5 {last - 1} 7", "written") for die in (1, 3)), ("mount 2", "mounted live 0 1 2 3"),
+             ("solo 1", "store"), ("store fill 0 512 8", "done"), *((call, spent) for call in calls), ("store read 511 3", "read 080000"),
+             ("store read 2560 2", "read 0707"), ("store flush", "done"), ("page 0", f"page 0 seq {last} at 0 0 at 1 1"), ("live", "live 0 1 2 3"),
+             *client(f"{REWRITE_5} {READ_5} {FLUSH}", f"{reply(6)} {reply(4, '07x512')} {reply(3, '')}")]
+    yield of_lines("the_last_sequence_number", lines)
+
+
 def windows():
     """A store whose windows would have no round, or more than 64, is not made, and the array is as before."""
     for rounds, told in ((0, "no window"), (1, "store"), (64, "store"), (65, "no window"), (2 ** 64 - 1, "no window")):
@@ -113,4 +130,4 @@ def windows():
 
 
 def cases():
-    return [*rows(), *windows(), *over_stores(2), *over_stores(3)]
+    return [*rows(), *last_number(), *windows(), *over_stores(2), *over_stores(3)]

@@ -1,10 +1,15 @@
 """What the server syncs, as a library sees it that looks at its calls of images (tests/call_log.c). No clause can tell that a sync which is
 noted was made."""
-from crashes import ERASE, SYNC, WRITE
+import subprocess
+
+from call_log import CallLog, compiled
+from children import CHILDREN
+from crashes import ERASE, REFUSED, SYNC, WRITE, records
+from images import ERASED, HEADER_END, header_bytes
 from nbd_client import FUA
 from serve_cases import case
 from serve_cases.watched import Watched
-from servers import Geometry, ensure, equal
+from servers import ARRAY, SETTINGS, Geometry, ensure, equal, same_bytes
 
 DIES = 4
 SMALL = Geometry(dies=DIES, blocks=8, slots=8, pages=60)
@@ -73,3 +78,41 @@ def an_erase_comes_right_behind_a_sync(make):
                 erases += 1
                 equal(before.kind, SYNC, f"the kind of the call of die {die} before an erase")
     ensure(erases >= DIES, f"there were {erases} erases")
+
+
+# The writes and syncs by which an image of four blocks is formatted, and what is told where one of them is refused.
+FORMATTING = [*[(ERASE, "a block could not be erased")] * 4, (WRITE, "the header could not be written"), (SYNC, "the header could not be written"),
+              (SYNC, "the image could not be synced")]
+TINY = Geometry(dies=2, blocks=4, slots=4, pages=8)
+
+
+def formatted_in_part(die, calls):
+    """The bytes of a die's image behind so many of these calls."""
+    block = TINY.slots * TINY.slot_bytes
+    header = header_bytes(die, (TINY.dies, TINY.spares, TINY.blocks, TINY.slots, TINY.pages), ARRAY, mask=3)
+    erased = ERASED * (block * min(calls, TINY.blocks)) + bytes(block * max(0, TINY.blocks - calls))
+    return (header if calls > TINY.blocks else b"").ljust(HEADER_END, b"\0") + erased
+
+
+@case
+def each_call_of_format_is_refused_in_turn(make):
+    """It is told which image refused what. The images before it are whole, and of those behind it no call is made."""
+    array = make(TINY, formatted=False)
+    log = CallLog(compiled(array.folder), array.folder)
+    for number in range(1, 2 * len(FORMATTING) + 2):
+        die, call = divmod(number - 1, len(FORMATTING))
+        log.refuse_call(number)
+        place = log.place()
+        status, told = CHILDREN.run([array.program, "format", SETTINGS], 60, cwd=array.folder, env=log.environment(), stderr=subprocess.STDOUT)
+        if die < TINY.dies:
+            wanted = (1, f"flasharr: d{die}.img: {FORMATTING[call][1]}: look at its disk, and format it again\nformat: image {die}\n".encode())
+        else:
+            wanted = (0, b"formatted 2 images\n")
+        equal((status, told), wanted, f"what format ends with and prints, with call {number} refused")
+        for other in range(TINY.dies):
+            done = len(FORMATTING) if other < die else call if other == die else 0
+            with open(array.image(other), "rb") as it:
+                same_bytes(it.read(), formatted_in_part(other, done), f"the image of die {other}, with call {number} refused")
+        made = [(it.die, it.kind) for it in records(log.path, place)[0] if it.is_end]
+        due = [(other, kind) for other in range(TINY.dies) for kind, _ in FORMATTING][:number - 1]
+        equal(made, due + [(die, REFUSED)] * (die < TINY.dies), f"the writes and syncs, with call {number} refused")

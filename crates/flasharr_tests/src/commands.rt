@@ -1,100 +1,17 @@
-//! The commands that work on text where memory is refused, or their input or their output fails.
-use fa_io::faulty::{Failing, Piecewise};
-use fa_prog_text::{run_talk, run_verify};
+//! The command `verify` where memory is refused.
+use fa_prog_text::run_verify;
 use linked_list_allocator::LocalHeap;
 use std::alloc::{Allocator, Global};
 use std::io::{Read, Write};
 use std::test::Fail;
 
-/// The commands of which each call to a stream fails in turn.
-#[derive(Clone, Copy)]
-enum Command {
-    /// `talk`.
-    Talk,
-    /// `verify`.
-    Verify,
-}
-
-/// The status of a command's run. What the run promises is told here alone: a test looks at what it did.
+/// The status of a run of `verify`. What the run promises is told here alone: a test looks at what it did.
 fn status_of<R: Read, W: Write, A: Allocator + Copy>(
     alloc: A,
-    command: Command,
     input: &mut R,
     output: &mut W,
 ) -> u8 {
-    match command {
-        Command::Talk => run_talk(alloc, input, output),
-        Command::Verify => run_verify(alloc, input, output),
-    }
-}
-
-/// Whether so many bytes were written, the first of what is told.
-fn is_begun(written: &[u8], told: &str, taken: usize) -> bool {
-    written.len() == taken && told.as_bytes().starts_with(written)
-}
-
-/// Whether a command ends with status 1 where its writer takes five bytes a call until a call fails: so many were
-/// taken.
-fn fails_at_write(
-    alloc: Global,
-    command: Command,
-    text: &str,
-    told: &str,
-    call: u64,
-    taken: usize,
-) -> bool {
-    let mut input = text.as_bytes();
-    let mut output = Failing::new(Piecewise::new(Vec::new(alloc), 5), call);
-    let status = status_of(alloc, command, &mut input, &mut output);
-    status == 1 && output.calls == call && is_begun(output.inner.inner.as_slice(), told, taken)
-}
-
-#[test]
-fn output_that_fails(rt: HostRuntime) -> Result<(), Fail> {
-    let cases = [
-        (
-            Command::Talk,
-            "",
-            "4e42444d4147494349484156454f50540003\nend 4\n",
-        ),
-        (
-            Command::Verify,
-            "batch\nend\nrounds 1\nend",
-            "refused 6 last round differs\n",
-        ),
-        (Command::Verify, "batch", "text: line 2\n"),
-    ];
-    for (command, text, told) in cases {
-        ensure!(
-            fails_at_write(rt.alloc(), command, text, told, 1, 0)
-                && fails_at_write(rt.alloc(), command, text, told, 2, 5),
-            at told
-        );
-    }
-    Ok(())
-}
-
-/// Whether a command whose input fails at a call ends with status 1, and tells this.
-fn fails_at_read(alloc: Global, command: Command, told: &str, call: u64) -> bool {
-    let text = b"batch\nend\nrounds 0\nend".as_slice();
-    let mut input = Failing::new(Piecewise::new(text, 7), call);
-    let mut output = Vec::new(alloc);
-    let status = status_of(alloc, command, &mut input, &mut output);
-    status == 1 && output.as_slice() == told.as_bytes()
-}
-
-#[test]
-fn input_that_fails(rt: HostRuntime) -> Result<(), Fail> {
-    for (command, told) in [
-        (Command::Talk, "talk: cannot read\n"),
-        (Command::Verify, "verify: cannot read\n"),
-    ] {
-        ensure!(
-            fails_at_read(rt.alloc(), command, told, 1) && fails_at_read(rt.alloc(), command, told, 2),
-            at told
-        );
-    }
-    Ok(())
+    run_verify(alloc, input, output)
 }
 
 /// What came of verifying texts.
@@ -124,7 +41,7 @@ fn verified_in(alloc: Global, text: &str, room: usize) -> Result<Verified, Fail>
     let heap = LocalHeap::new(alloc, room)?;
     let mut input = text.as_bytes();
     let mut output = Vec::new(alloc);
-    let status = status_of(&heap, Command::Verify, &mut input, &mut output);
+    let status = status_of(&heap, &mut input, &mut output);
     Ok(meaning(status, output.as_slice()))
 }
 

@@ -1,10 +1,9 @@
-//! Connections whose memory, reader or writer fails.
-use crate::rows::{FLAGS, GO, GONE, GREETING, are, end_of, served};
+//! A connection whose writer takes nothing, and how often the longest requests call their streams.
+use crate::rows::{FLAGS, GO, GONE, GREETING, end_of, served};
 use crate::spelling::{joined, spell_all, spelled};
 use fa_io::faulty::Piecewise;
 use fa_session::SessionEnd;
 use fa_types::MemBlocks;
-use linked_list_allocator::LocalHeap;
 use std::alloc::{AllocError, Global};
 use std::test::Fail;
 
@@ -12,22 +11,6 @@ use std::test::Fail;
 const REQUESTS: &str = "25609513 0001 0001 0000000000000001 0000000000000200 00000200 11x512
     25609513 0000 0000 0000000000000002 0000000000000200 00000400
     25609513 0000 0002 0000000000000003 0000000000000000 00000000";
-
-/// The replies to it.
-const REPLIES: &str = "67446698 00000000 0000000000000001
-    67446698 00000000 0000000000000002 11x512 00x512";
-
-/// The replies where there is no memory for the WRITE.
-const WRITE_REFUSED: &str = "67446698 0000000c 0000000000000001
-    67446698 00000000 0000000000000002 00x1024";
-
-/// The replies where there is no memory for the READ.
-const READ_REFUSED: &str = "67446698 00000000 0000000000000001
-    67446698 0000000c 0000000000000002";
-
-/// The replies where there is no memory for either.
-const BOTH_REFUSED: &str = "67446698 0000000c 0000000000000001
-    67446698 0000000c 0000000000000002";
 
 fn client(alloc: Global) -> Result<Vec<u8>, Fail> {
     joined(alloc, &[FLAGS, GO, REQUESTS])
@@ -46,77 +29,6 @@ fn a_writer_that_takes_nothing(rt: HostRuntime) -> Result<(), Fail> {
     let said = client(rt.alloc())?;
     ensure!(ends_at_once(rt.alloc(), &said));
     Ok(())
-}
-
-/// How a session in a heap of so many bytes ends, and what it writes.
-fn served_in(alloc: Global, said: &[u8], heap_bytes: usize) -> Result<(SessionEnd, Vec<u8>), Fail> {
-    let heap = LocalHeap::new(alloc, heap_bytes)?;
-    let mut store = MemBlocks::new(alloc, 64 * 512)?;
-    let mut reader = Piecewise::new(said, 100);
-    let mut writer = Vec::new(alloc);
-    let ended = end_of(&heap, &mut reader, &mut writer, &mut store);
-    Ok((ended, writer))
-}
-
-/// Where memory was refused.
-#[derive(Clone, Copy, PartialEq, Eq)]
-enum Came {
-    InNegotiation,
-    OfRequests,
-    Nowhere,
-    /// The client was told what it should not be told.
-    Wrong,
-}
-
-/// Where memory was refused, by how a session ended and what it wrote. It begins with this.
-fn came_of(alloc: Global, ended: SessionEnd, taken: &[u8], begun: &[u8]) -> Result<Came, Fail> {
-    if ended == SessionEnd::NoMemory && begun.starts_with(taken) {
-        return Ok(Came::InNegotiation);
-    }
-    let replies = taken.strip_prefix(begun).unwrap_or(&[]);
-    if ended != SessionEnd::Disconnected {
-        return Ok(Came::Wrong);
-    }
-    if are(alloc, replies, REPLIES)? {
-        return Ok(Came::Nowhere);
-    }
-    for text in [WRITE_REFUSED, READ_REFUSED, BOTH_REFUSED] {
-        if are(alloc, replies, text)? {
-            return Ok(Came::OfRequests);
-        }
-    }
-    Ok(Came::Wrong)
-}
-
-/// Where memory is refused in a heap of so many bytes.
-fn came_in(alloc: Global, said: &[u8], begun: &[u8], heap_bytes: usize) -> Result<Came, Fail> {
-    let (ended, written) = served_in(alloc, said, heap_bytes)?;
-    came_of(alloc, ended, &written, begun)
-}
-
-/// Each place where memory is refused is met more than once.
-fn meets_each(alloc: Global, said: &[u8], begun: &[u8]) -> Result<(), Fail> {
-    let mut in_negotiation = 0u32;
-    let mut of_requests = 0u32;
-    let mut whole = 0u32;
-    for room in 0..200usize {
-        let came = came_in(alloc, said, begun, room * 16)?;
-        ensure!(came != Came::Wrong, at room);
-        in_negotiation = in_negotiation.saturating_add(u32::from(came == Came::InNegotiation));
-        of_requests = of_requests.saturating_add(u32::from(came == Came::OfRequests));
-        whole = whole.saturating_add(u32::from(came == Came::Nowhere));
-    }
-    ensure!(in_negotiation > 1 && of_requests > 1 && whole > 1);
-    Ok(())
-}
-
-// The session's memory is a heap that grows by little from run to run, so that each of its
-// allocations is the first that doesn't fit in some run.
-#[test]
-fn each_allocation_fails(rt: HostRuntime) -> Result<(), Fail> {
-    let said = client(rt.alloc())?;
-    let begun = joined(rt.alloc(), &[GREETING, GONE])?;
-    meets_each(rt.alloc(), &said, &begun)
 }
 
 /// What a client says, with data amid it.

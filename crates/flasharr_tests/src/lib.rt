@@ -28,10 +28,6 @@ mod commands;
 #[cfg(test)]
 mod fails;
 #[cfg(test)]
-mod formats;
-#[cfg(test)]
-mod image;
-#[cfg(test)]
 mod io;
 #[cfg(test)]
 mod maps;

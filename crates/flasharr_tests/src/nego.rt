@@ -1,50 +1,10 @@
-//! Why a negotiation closes, what it keeps where memory is refused, and how far it hears a piece that goes on behind an item. The
-//! export is `disk`, of 32,768 bytes.
+//! What a negotiation keeps where memory is refused, and how far it hears a piece that goes on behind an item. The export is `disk`, of
+//! 32,768 bytes.
 use crate::spelling::spelled;
-use fa_nego::{CloseCause, Fed, Nego};
+use fa_nego::{Fed, Nego};
 use linked_list_allocator::LocalHeap;
-use std::alloc::{AllocError, Global};
+use std::alloc::Global;
 use std::test::Fail;
-
-/// How many bytes of the input a negotiation that has just begun hears up to its end.
-fn heard(alloc: Global, nego: &mut Nego, input: &[u8]) -> Result<usize, AllocError> {
-    let mut rest = input;
-    for _ in 0..3 {
-        let fed = nego.feed(alloc, rest)?;
-        rest = &rest[fed.used.min(rest.len())..];
-    }
-    Ok(input.len().saturating_sub(rest.len()))
-}
-
-/// Whether a negotiation closes for this cause, and leaves the last byte of the input.
-fn closes_for(alloc: Global, input: &[u8], cause: CloseCause) -> Result<bool, AllocError> {
-    let mut nego = Nego::new(alloc, "disk", 32768);
-    let heard = heard(alloc, &mut nego, input)?;
-    Ok(heard.saturating_add(1) == input.len() && nego.close_cause() == Some(cause))
-}
-
-#[test]
-fn closes_for_each_cause(rt: HostRuntime) -> Result<(), Fail> {
-    let cases: [(&[u8], CloseCause); 4] = [
-        (b"\x00\x00\x00\x04I", CloseCause::UnknownFlag),
-        (
-            b"\x00\x00\x00\x03IHAVEOPS\x00\x00\x00\x07\x00\x00\x00\x06\x00",
-            CloseCause::WrongMagic,
-        ),
-        (
-            b"\x00\x00\x00\x03IHAVEOPT\x00\x00\x00\x07\x00\x01\x00\x01\x00",
-            CloseCause::TooLong,
-        ),
-        (
-            b"\x00\x00\x00\x03IHAVEOPT\x00\x00\x00\x01\x00\x00\x00\x04dusk\x00",
-            CloseCause::UnknownName,
-        ),
-    ];
-    for (input, cause) in cases {
-        ensure!(closes_for(rt.alloc(), input, cause)?, at input.len());
-    }
-    Ok(())
-}
 
 /// Feeds a piece with a small heap, and again with a large one where the small one refuses, which it
 /// tells.

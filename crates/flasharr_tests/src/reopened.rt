@@ -7,16 +7,17 @@ ghost use Rattle.fa_tag.specs.SlotGrammar.{IsTag, IsPayloadOf, slot_2};
 
 use fa_image::{FileImage, Image};
 use fa_tag::{Opened, Tag, open, seal};
-use fa_types::{Geometry, Slot, TAG_BYTES};
+use fa_types::{Die, Geometry, Kind, Page, Seq, Slot, TAG_BYTES};
 use std::alloc::{AllocError, Global};
 use std::fs::File;
-use std::io;
-use std::path::Path;
+use std::path::{Path, PathBuf};
 use std::rt::Files;
+use std::test::Fail;
+use std::{env, fs, io, process};
 
 /// Seals a page into a slot of a new image at the path, opens the image again, reads the slot and opens
 /// it.
-pub fn sealed_and_opened<R: Files<File = File> + AllocGlobal>(
+fn sealed_and_opened<R: Files<File = File> + AllocGlobal>(
     rt: &R,
     path: Path<'_>,
     geometry: Geometry,
@@ -49,7 +50,7 @@ fn sealed(alloc: Global, tag: Tag, payload: &[u8]) -> Result<Vec<u8>, AllocError
 }
 
 /// Leaves the bytes in a slot of a new image at the path, opens the image again and reads the slot.
-pub fn left_and_opened<R: Files<File = File> + AllocGlobal>(
+fn left_and_opened<R: Files<File = File> + AllocGlobal>(
     rt: &R,
     path: Path<'_>,
     geometry: Geometry,
@@ -95,4 +96,39 @@ fn read(alloc: Global, image: &mut FileImage, slot: Slot) -> io::Result<Vec<u8>>
         return Err(io::Error::from(io::ErrorKind::Other));
     }
     Ok(bytes)
+}
+
+/// A path of this run alone.
+fn path_of(rt: &HostRuntime) -> Result<PathBuf, Fail> {
+    let name = format!(in rt.alloc(); "flasharr_tests_{}", process::id(rt.process()))?;
+    Ok(env::temp_dir(rt)?.join(rt.alloc(), name.as_str())?)
+}
+
+/// Whether a page that is left in an image at the path is there when the file is opened again.
+fn is_opened_again(rt: &HostRuntime, path: &PathBuf) -> io::Result<bool> {
+    let Ok(geometry) = Geometry::new(4, 0, 16, 8, 512, 64) else {
+        return Ok(false);
+    };
+    let payload = [0x24; 512];
+    if 17 >= geometry.blocks * geometry.slots || payload.len() != geometry.page_bytes as usize {
+        return Ok(false);
+    }
+    let tag = Tag {
+        page: Page(5),
+        seq: Seq(3),
+        kind: Kind::Data,
+        die: Die(2),
+        slot: Slot(17),
+    };
+    let (image, opened) = sealed_and_opened(rt, path.as_path(), geometry, tag, &payload)?;
+    Ok(opened == Opened::Good(tag) && image.syncs() == 0 && image.faults() == 0)
+}
+
+#[test]
+fn a_sealed_page_is_opened_again(rt: HostRuntime) -> Result<(), Fail> {
+    let path = path_of(&rt)?;
+    let is_opened = is_opened_again(&rt, &path)?;
+    fs::remove_file(&rt, path.as_str())?;
+    ensure!(is_opened);
+    Ok(())
 }

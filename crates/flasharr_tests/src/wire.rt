@@ -1,10 +1,8 @@
-//! Connections whose streams and memory fail.
-use crate::rows::{FLAGS, GO, GONE, GREETING, are, end_of, served};
+//! Connections whose streams fail, and one call for a reply with its data.
+use crate::rows::{FLAGS, GO, GONE, GREETING, served};
 use crate::spelling::joined;
 use fa_io::faulty::{Failing, Piecewise};
 use fa_session::SessionEnd;
-use fa_types::MemBlocks;
-use linked_list_allocator::LocalHeap;
 use std::alloc::Global;
 use std::test::Fail;
 
@@ -91,55 +89,5 @@ fn a_reply_and_its_data_by_one_call(rt: HostRuntime) -> Result<(), Fail> {
     let read = "25609513 0000 0000 0000000000000001 0000000000000000 00008000";
     let said = joined(rt.alloc(), &[FLAGS, GO, read])?;
     ensure!(is_said_by(rt.alloc(), &said, 18 + 52 + 16 + 32_768, 3));
-    Ok(())
-}
-
-/// How a session in a heap of so many bytes ends, and what it writes.
-fn answered_in(
-    alloc: Global,
-    said: &[u8],
-    heap_bytes: usize,
-) -> Result<(SessionEnd, Vec<u8>), Fail> {
-    let heap = LocalHeap::new(alloc, heap_bytes)?;
-    let mut store = MemBlocks::new(alloc, 1_000_000)?;
-    let mut reader = said;
-    let mut writer = Vec::new(alloc);
-    let ended = end_of(&heap, &mut reader, &mut writer, &mut store);
-    Ok((ended, writer))
-}
-
-/// Whether a WRITE is done in a heap of so many bytes. If it is not, it has to be refused, and the READ behind it
-/// answered.
-fn is_done_in(alloc: Global, said: &[u8], heap_bytes: usize) -> Result<bool, Fail> {
-    let (ended, told) = answered_in(alloc, said, heap_bytes)?;
-    let replies = told.get(70..).unwrap_or(&[]);
-    let is_done = are(alloc, replies, WRITTEN)?;
-    let is_right = is_done || are(alloc, replies, REFUSED)?;
-    ensure!(ended == SessionEnd::InputEnded && is_right, at heap_bytes);
-    Ok(is_done)
-}
-
-/// The replies to a WRITE that is done and to the READ of its last byte and the next.
-const WRITTEN: &str = "67446698 00000000 0000000000000001 67446698 00000000 0000000000000002 1100";
-
-/// The replies where there is no memory for the WRITE.
-const REFUSED: &str = "67446698 0000000c 0000000000000001 67446698 00000000 0000000000000002 0000";
-
-// The memory for a WRITE grows three times as its data comes. Wherever that is refused the rest of the
-// data is dropped, and the next request is answered.
-#[test]
-fn each_growth_fails(rt: HostRuntime) -> Result<(), Fail> {
-    let write = "25609513 0000 0001 0000000000000001 0000000000000000 000493e0 11x300000";
-    let read = "25609513 0000 0000 0000000000000002 00000000000493df 00000002";
-    let said = joined(rt.alloc(), &[FLAGS, GO, write, read])?;
-    let (mut refusals, mut whole) = (0u32, 0u32);
-    for room in 1..40usize {
-        if is_done_in(rt.alloc(), &said, room * 20_000)? {
-            whole = whole.saturating_add(1);
-        } else {
-            refusals = refusals.saturating_add(1);
-        }
-    }
-    ensure!(refusals > 10 && whole > 1);
     Ok(())
 }
