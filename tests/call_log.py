@@ -62,7 +62,7 @@ class CallLog:
         self.put(REFUSED, self.number(REFUSED) | 1 << die)
 
     def shut(self, *, reads=0, programs=0, enough=NEVER):
-        """Shuts the gate: from now on reads of slots of these dies, and programs of those, are held until so many have begun."""
+        """Shuts the gate: from now on reads of slots of these dies, and programs of those, are held until `enough` calls have begun."""
         for which, number in (BEGUN, 0), (HELD_READS, reads), (HELD_PROGRAMS, programs), (ENOUGH, enough), (IS_SHUT, 1):
             self.put(which, number)
 

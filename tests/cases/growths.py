@@ -1,5 +1,5 @@
 """A session over the store of one thread, each of whose requests for memory is refused in turn, and no other; and one of which all are refused
-that are of more than so many bytes. In the negotiation the session ends for want of memory, behind a beginning of what it says otherwise;
+that are of more than a number of bytes. In the negotiation the session ends for want of memory, behind a beginning of what it says otherwise;
 behind that a request is told that there is no memory, and the session goes on.
 """
 import struct
@@ -121,7 +121,7 @@ def growths_talk(name):
 
 
 def full_talk(row, images, sizes, refusals, least):
-    """Each request for more than so many bytes is refused. `least` tells how often a session ends in the negotiation, has a request refused, and is
+    """Each request for more than a number of bytes is refused. `least` tells how often a session ends in the negotiation, has a request refused, and is
     whole, at least."""
     _, client, server, last = row
     said, head = spelled(" ".join(client)), spelled(" ".join(server[:2]))

@@ -22,7 +22,7 @@ FRONT, BEHIND = b"batch\ne", b"nd\nrounds 0\nend"
 
 
 def short_output(command, text, room):
-    """What a command prints to a file that takes so many bytes, what it says on standard error, and its status. The system refuses to write
+    """What a command prints to a file that takes `room` bytes, what it says on standard error, and its status. The system refuses to write
     behind these bytes, and the signal that it sends is ignored."""
     with tempfile.TemporaryFile() as out:
         words = {"stdin": subprocess.PIPE, "stdout": out, "stderr": subprocess.PIPE, "restore_signals": False}

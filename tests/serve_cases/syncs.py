@@ -87,7 +87,7 @@ TINY = Geometry(dies=2, blocks=4, slots=4, pages=8)
 
 
 def formatted_in_part(die, calls):
-    """The bytes of a die's image behind so many of these calls."""
+    """The bytes of a die's image behind the first `calls` of them."""
     block = TINY.slots * TINY.slot_bytes
     header = header_bytes(die, (TINY.dies, TINY.spares, TINY.blocks, TINY.slots, TINY.pages), ARRAY, mask=3)
     erased = ERASED * (block * min(calls, TINY.blocks)) + bytes(block * max(0, TINY.blocks - calls))

@@ -34,12 +34,12 @@ class Watched:
         return self.log.number(ERASES)
 
     def await_begun(self, count):
-        """Waits until so many calls that are held have begun."""
+        """Waits until `count` calls that are held have begun."""
         in_time = wait_until(lambda: self.log.number(BEGUN) >= count, LIMIT)
         ensure(in_time, f"late: {self.log.number(BEGUN)} of {count} calls have begun")
 
     def await_programs(self, count):
-        """Waits until so many programs have ended."""
+        """Waits until `count` programs have ended."""
         in_time = wait_until(lambda: self.log.number(PROGRAMS) >= count, LIMIT)
         ensure(in_time, f"late: {self.log.number(PROGRAMS)} of {count} programs have ended")
 
