@@ -17,7 +17,7 @@ pub const MAX_PAGES: usize = 1024;
 
 /// A page of a batch, and the index at which its holders end in the list of all holders. They begin
 /// where those of the entry before it end.
-#[derive(Clone, Copy, Debug)]
+#[derive(Clone, Copy)]
 struct HeldPage {
     page: Page,
     end: usize,
@@ -26,7 +26,7 @@ struct HeldPage {
 /// The pages of a batch in the order in which they were given, each with its holders. Contracts see
 /// the list of these. Finding a page takes as many steps as the logarithm of their number. Pages that
 /// are added in rising order take no memory but that of two lists.
-#[derive(Debug, Drop)]
+#[derive(Drop)]
 pub struct Batch<A: Allocator = Global> {
     entries: Vec<HeldPage, A>,
     // The holders of each entry, in the order of the entries.
@@ -38,7 +38,7 @@ pub struct Batch<A: Allocator = Global> {
 }
 
 /// Why a batch is not sound.
-#[derive(Clone, Copy, Debug, PartialEq, Eq)]
+#[derive(Clone, Copy, PartialEq, Eq)]
 pub enum Unsound {
     /// No die holds the page.
     NoHolder(Page),

@@ -10,7 +10,7 @@ use std::alloc::{AllocError, Allocator, Global};
 
 /// A run of rounds in which a die serves no read: from the first to the last one, none where the last
 /// one is below the first.
-#[derive(Clone, Copy, Debug, PartialEq, Eq)]
+#[derive(Clone, Copy, PartialEq, Eq)]
 pub struct Run {
     /// The die.
     pub die: Die,
@@ -22,7 +22,7 @@ pub struct Run {
 
 /// A current round, and for each die the rounds in which it is closed, as spans: what it answers takes
 /// a look at each span of the die and at no single round.
-#[derive(Debug, Drop)]
+#[derive(Drop)]
 pub struct Closed<A: Allocator = Global> {
     current: u64,
     // The spans of each die, by its number.

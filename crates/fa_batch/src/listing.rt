@@ -5,7 +5,7 @@ use std::alloc::{AllocError, Allocator, Global};
 use std::marker::Model;
 
 /// Things in the order in which they were given. Contracts see their list.
-#[derive(Debug, Drop)]
+#[derive(Drop)]
 pub struct Listing<T, A: Allocator = Global> {
     things: Vec<T, A>,
 }

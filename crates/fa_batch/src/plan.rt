@@ -4,7 +4,7 @@ use fa_types::{Die, Page, Round};
 use std::alloc::{Allocator, Global};
 
 /// One read of a plan: the page is read from the die in the round.
-#[derive(Clone, Copy, Debug, PartialEq, Eq)]
+#[derive(Clone, Copy, PartialEq, Eq)]
 pub struct Place {
     /// The page that is read.
     pub page: Page,
@@ -23,7 +23,7 @@ pub type Shortage<A = Global> = Listing<Page, A>;
 
 /// A plan for a batch of reads, with the number of rounds that it claims: from the current round up to
 /// the last one in which it reads, and 0 where it reads nothing.
-#[derive(Debug, Drop)]
+#[derive(Drop)]
 pub struct Plan<A: Allocator = Global> {
     /// The number of rounds.
     pub rounds: u64,

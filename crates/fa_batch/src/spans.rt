@@ -9,14 +9,14 @@ use std::collections::VecDeque;
 use std::marker::Model;
 
 /// The rounds from a first to a last one.
-#[derive(Clone, Copy, Debug, PartialEq, Eq)]
+#[derive(Clone, Copy, PartialEq, Eq)]
 pub struct Span {
     pub first: u64,
     pub last: u64,
 }
 
 /// Spans of rounds in rising order, no two of which touch. Contracts see their list.
-#[derive(Debug, Drop)]
+#[derive(Drop)]
 pub struct Spans<A: Allocator = Global> {
     spans: VecDeque<Span, A>,
 }

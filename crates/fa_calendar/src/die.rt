@@ -23,7 +23,7 @@ const MAX_ENTRIES: u64 = 1_048_576;
 
 /// The closed rounds of a die as spans, no two of which touch, its window, and how many rounds are closed.
 /// There is room for as many spans as rounds, so that no round takes memory to be opened.
-#[derive(Debug, Drop)]
+#[derive(Drop)]
 pub struct DieCalendar<A: Allocator = Global> {
     spans: VecDeque<Span, A>,
     window: Option<Window>,

@@ -28,7 +28,7 @@ pub enum Refusal {
 }
 
 /// The verdict of a check.
-#[derive(Clone, Copy, Debug, PartialEq, Eq)]
+#[derive(Clone, Copy, PartialEq, Eq)]
 pub enum Verdict {
     /// The plan has so many rounds, and no plan has fewer.
     Least(u64),

@@ -9,7 +9,7 @@ use crate::request::{Command, FUA, NO_HOLE, Request};
 const MAX_LENGTH: u32 = 33_554_432;
 
 /// What is decided of a request before the store is asked.
-#[derive(Clone, Copy, Debug, PartialEq, Eq)]
+#[derive(Clone, Copy, PartialEq, Eq)]
 pub enum Decision {
     /// The client ends the connection. There is no reply.
     Disconnect,

@@ -11,7 +11,7 @@ pub const REPLY_BYTES: usize = 16;
 const REPLY_MAGIC: u32 = 0x6744_6698;
 
 /// What a reply says of its request. NBD protocol text, "Error values".
-#[derive(Clone, Copy, Debug, PartialEq, Eq)]
+#[derive(Clone, Copy, PartialEq, Eq)]
 pub enum ReplyCode {
     /// 0: it was done.
     Success,

@@ -39,7 +39,7 @@ pub enum Command {
 }
 
 /// The fields of a request. NBD protocol text, "Request message".
-#[derive(Clone, Copy, Debug, PartialEq, Eq)]
+#[derive(Clone, Copy, PartialEq, Eq)]
 pub struct Request {
     /// The command's flags. Bit 0 is FUA, and bit 1 is NO_HOLE.
     pub flags: u16,

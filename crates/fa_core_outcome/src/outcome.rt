@@ -3,7 +3,7 @@ use fa_image::ImageFault;
 use fa_tag::Opened;
 
 /// How a job of a die ended.
-#[derive(Clone, Copy, Debug, PartialEq, Eq)]
+#[derive(Clone, Copy, PartialEq, Eq)]
 pub enum Outcome {
     /// A slot was read, and this is what stands in it. Its payload is in the buffer beside the outcome.
     Read(Opened),

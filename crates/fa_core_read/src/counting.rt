@@ -10,7 +10,7 @@ const LAST_ROUND: u64 = 1 << 56;
 const MAX_PAGES: u64 = 1 << 32;
 
 /// What the plans of batches came to.
-#[derive(Clone, Copy, Debug, PartialEq, Eq)]
+#[derive(Clone, Copy, PartialEq, Eq)]
 pub struct PlanCounts {
     /// Batches that were planned.
     pub batches: u64,

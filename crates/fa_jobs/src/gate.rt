@@ -2,7 +2,7 @@
 use fa_types::Die;
 
 /// A call of an image.
-#[derive(Clone, Copy, Debug, PartialEq, Eq)]
+#[derive(Clone, Copy, PartialEq, Eq)]
 pub enum ImageCallKind {
     /// A slot is read.
     ReadSlot,
@@ -28,7 +28,7 @@ pub trait Gate {
 }
 
 /// A gate that is always open.
-#[derive(Clone, Copy, Debug)]
+#[derive(Clone, Copy)]
 pub struct Open;
 
 impl Gate for Open {

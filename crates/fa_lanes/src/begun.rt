@@ -13,7 +13,7 @@ use crate::tail::Padding;
 use std::simd::prelude::*;
 
 /// A message whose first whole blocks were hashed. What stands behind them is still open.
-#[derive(Clone, Copy, Debug)]
+#[derive(Clone, Copy)]
 pub struct Begun {
     hash: [u32; 8],
     bytes: u64,

@@ -1,7 +1,7 @@
 //! What a page map shows of a slot and of a block.
 
 /// The state of a slot.
-#[derive(Clone, Copy, Debug, PartialEq, Eq)]
+#[derive(Clone, Copy, PartialEq, Eq)]
 pub enum SlotState {
     /// Nothing was written there since the last erase of its block.
     Erased,
@@ -14,7 +14,7 @@ pub enum SlotState {
 }
 
 /// How many slots of a block are in each state.
-#[derive(Clone, Copy, Debug, PartialEq, Eq)]
+#[derive(Clone, Copy, PartialEq, Eq)]
 pub struct BlockCounts {
     /// Erased slots.
     pub erased: u32,

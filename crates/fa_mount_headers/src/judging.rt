@@ -15,7 +15,7 @@ use fa_types::{Copies, Geometry};
 use std::alloc::{AllocError, Allocator, Global};
 
 /// How a die stands, by the header of its image. The number is the image's, from 0 in the list of images.
-#[derive(Clone, Copy, Debug, PartialEq, Eq)]
+#[derive(Clone, Copy, PartialEq, Eq)]
 pub enum Standing {
     /// It has no image.
     Missing,
@@ -29,7 +29,7 @@ pub enum Standing {
 }
 
 /// What the headers of images say of their array.
-#[derive(Debug, Drop)]
+#[derive(Drop)]
 pub struct Judged<A: Allocator = Global> {
     /// The geometry of the array, of each header and of each image.
     pub geometry: Geometry,

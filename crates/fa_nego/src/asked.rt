@@ -6,7 +6,7 @@ ghost use Rattle.fa_nego.specs.Heard.{AreKinds};
 use byteorder::{BigEndian, ByteOrder};
 
 /// What an INFO or GO asks for, as its bytes.
-#[derive(Clone, Copy, Debug)]
+#[derive(Clone, Copy)]
 pub struct Query<'a> {
     pub name: &'a [u8],
     /// The kinds of information, two bytes each.

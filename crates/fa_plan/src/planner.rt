@@ -22,7 +22,7 @@ use fa_types::{Die, Rounds};
 use std::alloc::{AllocError, Allocator, Global};
 
 /// A plan that no plan beats, with what shows it.
-#[derive(Debug, Drop)]
+#[derive(Drop)]
 pub struct Planned<A: Allocator = Global> {
     /// The number of rounds.
     pub rounds: u64,

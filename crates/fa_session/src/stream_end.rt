@@ -6,7 +6,7 @@ ghost use Rattle.fa_session.specs.declared.stream_end.HearEnd.TheVariants.{Unrea
 use fa_io::{ReadEnd, SendFailed};
 
 /// Why an exchange came to no end.
-#[derive(Clone, Copy, Debug)]
+#[derive(Clone, Copy)]
 pub(crate) enum StreamEnd {
     /// Not all bytes of the client came.
     Unread(ReadEnd),
@@ -31,7 +31,7 @@ impl From<SendFailed> for StreamEnd {
 }
 
 /// Why a piece of a handshake was not heard and answered.
-#[derive(Clone, Copy, Debug)]
+#[derive(Clone, Copy)]
 pub(crate) enum HearEnd {
     /// No byte of the client came.
     Unread(ReadEnd),

@@ -13,7 +13,7 @@ use std::alloc::{AllocError, Allocator, Global};
 pub const MAX_FAULTS: usize = 64;
 
 /// Why a die went out.
-#[derive(Clone, Copy, Debug, PartialEq, Eq)]
+#[derive(Clone, Copy, PartialEq, Eq)]
 pub enum Cause {
     /// Causes 1 to 6: its image refused a call, by the number of the call.
     Image(ImageFault),
@@ -36,7 +36,7 @@ impl Cause {
 }
 
 /// A die went out.
-#[derive(Clone, Copy, Debug, PartialEq, Eq)]
+#[derive(Clone, Copy, PartialEq, Eq)]
 pub struct Fault {
     /// The die.
     pub die: Die,

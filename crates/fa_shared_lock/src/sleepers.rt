@@ -13,7 +13,7 @@ use std::mem::replace;
 const MANY_OTHERS: u32 = 3;
 
 /// What somebody waits for.
-#[derive(Clone, Copy, Debug, PartialEq, Eq)]
+#[derive(Clone, Copy, PartialEq, Eq)]
 pub enum Awaits {
     /// Each page of this batch is answered, or it is torn.
     Batch(BatchId),
@@ -40,7 +40,7 @@ struct Sleeper {
 }
 
 /// A set of seats.
-#[derive(Clone, Copy, Debug)]
+#[derive(Clone, Copy)]
 pub struct SeatSet {
     // Whether a seat is in it, by its number.
     words: [u64; 4],

@@ -4,7 +4,7 @@ use fa_shared_steps::{Stage, Wish};
 use std::alloc::Allocator;
 
 /// The kinds of stages that a turn leads from and to.
-#[derive(Clone, Copy, Debug, PartialEq, Eq)]
+#[derive(Clone, Copy, PartialEq, Eq)]
 pub(crate) enum Kind {
     Prepares,
     Asks,

@@ -6,7 +6,7 @@ ghost use Rattle.fa_shared_steps.specs.Tasks.{begin_of, bytes_from as range_from
 use crate::range::Range;
 
 /// A request of a block store. Offsets and lengths are in bytes.
-#[derive(Clone, Copy, Debug, PartialEq, Eq)]
+#[derive(Clone, Copy, PartialEq, Eq)]
 pub enum Request {
     /// The bytes of a range.
     Read {
@@ -49,7 +49,7 @@ pub enum Request {
 }
 
 /// What is written into a range.
-#[derive(Clone, Copy, Debug, PartialEq, Eq)]
+#[derive(Clone, Copy, PartialEq, Eq)]
 pub enum Fill {
     /// The bytes that come with the request.
     Bytes,
@@ -60,7 +60,7 @@ pub enum Fill {
 }
 
 /// What a request comes to: pages are read, or pages are written, and a flush is made.
-#[derive(Clone, Copy, Debug, PartialEq, Eq)]
+#[derive(Clone, Copy, PartialEq, Eq)]
 pub struct Task {
     /// The bytes that are read or written.
     pub range: Range,

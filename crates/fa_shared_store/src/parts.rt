@@ -35,7 +35,7 @@ struct Part<A: Allocator = Global> {
 }
 
 /// How the parts of a request stand behind their turns.
-#[derive(Clone, Copy, Debug)]
+#[derive(Clone, Copy)]
 struct Stand {
     /// How many have something to prepare.
     prepares: usize,

@@ -18,7 +18,7 @@ use std::alloc::Allocator;
 use std::sync::ledger::Ledger;
 
 /// What came of giving windows.
-#[derive(Clone, Copy, Debug, PartialEq, Eq)]
+#[derive(Clone, Copy, PartialEq, Eq)]
 pub(crate) enum Windows {
     /// No die wanted one.
     Unwanted,

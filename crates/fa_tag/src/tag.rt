@@ -15,7 +15,7 @@ use fa_types::{Die, Kind, Page, Seq, Slot, TAG_BYTES};
 pub(crate) const DIGEST_BYTES: usize = 32;
 
 /// What a slot says of itself.
-#[derive(Clone, Copy, Debug, PartialEq, Eq)]
+#[derive(Clone, Copy, PartialEq, Eq)]
 pub struct Tag {
     /// The page that the payload is, below 1,048,576.
     pub page: Page,
@@ -30,7 +30,7 @@ pub struct Tag {
 }
 
 /// What a slot's bytes are.
-#[derive(Clone, Copy, Debug, PartialEq, Eq)]
+#[derive(Clone, Copy, PartialEq, Eq)]
 pub enum Opened {
     /// Every byte is `ff`: nothing was written since the block was erased.
     Erased,

@@ -19,7 +19,7 @@ pub(crate) const MAX_RUNS: usize = 4096;
 pub(crate) const MAX_CLOSED_ROUND: u64 = 1_000_000;
 
 /// What a batch text says, and where it ends.
-#[derive(Debug, Drop)]
+#[derive(Drop)]
 pub struct BatchText<'a, A: Allocator = Global> {
     /// The pages in the order of their lines. They need not be sound.
     pub batch: Batch<A>,
@@ -32,7 +32,7 @@ pub struct BatchText<'a, A: Allocator = Global> {
 }
 
 /// What a line of a batch text says, behind the first.
-#[derive(Debug, Drop)]
+#[derive(Drop)]
 enum BatchLine<A: Allocator> {
     Page(Page, Vec<Die, A>),
     Closed(Run),

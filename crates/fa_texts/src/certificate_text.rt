@@ -18,7 +18,7 @@ use std::alloc::{AllocError, Allocator, Global};
 const MAX_CERTIFICATE_ROUND: u64 = 2_000_000;
 
 /// What a certificate text says.
-#[derive(Debug, Drop)]
+#[derive(Drop)]
 pub struct Certificate<A: Allocator = Global> {
     /// The plan, with the rounds that it claims.
     pub plan: Plan<A>,
@@ -27,7 +27,7 @@ pub struct Certificate<A: Allocator = Global> {
 }
 
 /// What a line of a certificate text says, behind the first.
-#[derive(Debug, Drop)]
+#[derive(Drop)]
 enum CertificateLine<A: Allocator> {
     Place(Place),
     Short(Shortage<A>),

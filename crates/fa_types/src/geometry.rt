@@ -7,7 +7,7 @@ use thiserror::Error;
 
 /// How many dies, blocks, slots and pages an array has. Only [`Geometry::new`] judges numbers from
 /// outside; a value is always within the limits.
-#[derive(Clone, Copy, Debug, PartialEq, Eq)]
+#[derive(Clone, Copy, PartialEq, Eq)]
 pub struct Geometry {
     /// Dies, spares among them: 2 to 64.
     pub dies: u32,

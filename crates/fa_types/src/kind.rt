@@ -1,7 +1,7 @@
 //! What a written page is.
 
 /// What a write made of its page.
-#[derive(Clone, Copy, Debug, PartialEq, Eq)]
+#[derive(Clone, Copy, PartialEq, Eq)]
 pub enum Kind {
     /// The page has bytes.
     Data,

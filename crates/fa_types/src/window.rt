@@ -2,7 +2,7 @@
 use crate::numbers::Round;
 
 /// The rounds of a die that are kept for its collector.
-#[derive(Clone, Copy, Debug, PartialEq, Eq)]
+#[derive(Clone, Copy, PartialEq, Eq)]
 pub struct Window {
     /// The first round.
     pub first: Round,

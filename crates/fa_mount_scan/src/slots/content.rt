@@ -9,7 +9,7 @@ use std::alloc::{Allocator, Global};
 use std::marker::Model;
 
 /// What was found in a slot of a die.
-#[derive(Clone, Copy, Debug, PartialEq, Eq)]
+#[derive(Clone, Copy, PartialEq, Eq)]
 pub enum SlotContent {
     /// Nothing was written there since the last erase of its block.
     Erased,
@@ -25,7 +25,7 @@ pub enum SlotContent {
 }
 
 /// What was found in the slots of a die, in their order. Contracts see the list of it.
-#[derive(Debug, Drop)]
+#[derive(Drop)]
 pub struct DieContents<A: Allocator = Global> {
     slots: Vec<SlotContent, A>,
 }
