@@ -38,7 +38,7 @@ pub struct Batch<A: Allocator = Global> {
 }
 
 /// Why a batch is not sound.
-#[derive(Clone, Copy, PartialEq, Eq)]
+#[derive(Clone, Copy)]
 pub enum Unsound {
     /// No die holds the page.
     NoHolder(Page),

@@ -10,7 +10,7 @@ use std::alloc::{AllocError, Allocator, Global};
 
 /// A run of rounds in which a die serves no read: from the first to the last one, none where the last
 /// one is below the first.
-#[derive(Clone, Copy, PartialEq, Eq)]
+#[derive(Clone, Copy)]
 pub struct Run {
     /// The die.
     pub die: Die,

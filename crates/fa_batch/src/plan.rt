@@ -4,7 +4,7 @@ use fa_types::{Die, Page, Round};
 use std::alloc::{Allocator, Global};
 
 /// One read of a plan: the page is read from the die in the round.
-#[derive(Clone, Copy, PartialEq, Eq)]
+#[derive(Clone, Copy)]
 pub struct Place {
     /// The page that is read.
     pub page: Page,

@@ -39,7 +39,7 @@ pub enum Command {
 }
 
 /// The fields of a request. NBD protocol text, "Request message".
-#[derive(Clone, Copy, PartialEq, Eq)]
+#[derive(Clone, Copy)]
 pub struct Request {
     /// The command's flags. Bit 0 is FUA, and bit 1 is NO_HOLE.
     pub flags: u16,
@@ -71,7 +71,7 @@ impl Request {
 }
 
 /// The bytes do not begin as a request does.
-#[derive(Clone, Copy, Debug, PartialEq, Eq, Error)]
+#[derive(Clone, Copy, Debug, Error)]
 #[error("wrong magic")]
 pub struct WrongMagic;
 

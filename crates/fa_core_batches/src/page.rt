@@ -15,7 +15,7 @@ pub type Lists<A> = HashMap<u64, BatchList<A>, BuildHasherDefault<FoldHasher>, A
 pub type Pages<A> = HashMap<(u64, u64), BatchPage<A>, BuildHasherDefault<FoldHasher>, A>;
 
 /// How a page of a batch stands.
-#[derive(Clone, Copy, PartialEq, Eq)]
+#[derive(Clone, Copy)]
 pub enum PageState {
     /// It has an answer.
     Answered,

@@ -10,7 +10,7 @@ const LAST_ROUND: u64 = 1 << 56;
 const MAX_PAGES: u64 = 1 << 32;
 
 /// What the plans of batches came to.
-#[derive(Clone, Copy, PartialEq, Eq)]
+#[derive(Clone, Copy)]
 pub struct PlanCounts {
     /// Batches that were planned.
     pub batches: u64,

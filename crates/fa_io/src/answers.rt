@@ -28,7 +28,7 @@ const TOOK_NOTHING: CallFault = CallFault {
 };
 
 /// What one answer of a reader to a buffer with room means.
-#[derive(Clone, Copy, PartialEq, Eq)]
+#[derive(Clone, Copy)]
 pub(crate) enum ReadMeaning {
     /// So many bytes came, at least one.
     Bytes(usize),
@@ -41,7 +41,7 @@ pub(crate) enum ReadMeaning {
 }
 
 /// What one answer of a writer to some bytes means.
-#[derive(Clone, Copy, PartialEq, Eq)]
+#[derive(Clone, Copy)]
 pub(crate) enum WriteMeaning {
     /// So many bytes were taken, at least one.
     Bytes(usize),

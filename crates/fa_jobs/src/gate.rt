@@ -2,7 +2,7 @@
 use fa_types::Die;
 
 /// A call of an image.
-#[derive(Clone, Copy, PartialEq, Eq)]
+#[derive(Clone, Copy)]
 pub enum ImageCallKind {
     /// A slot is read.
     ReadSlot,

@@ -2,7 +2,7 @@
 use fa_types::{Page, Seq};
 
 /// An entry of the history.
-#[derive(Clone, Copy, PartialEq, Eq)]
+#[derive(Clone, Copy)]
 pub enum HistoryEntry {
     /// A page was given this sequence number.
     Commit {
@@ -25,7 +25,7 @@ pub enum HistoryEntry {
 }
 
 /// What became of one more copy of a page.
-#[derive(Clone, Copy, PartialEq, Eq)]
+#[derive(Clone, Copy)]
 pub enum Copied {
     /// It is current.
     Current,
@@ -34,7 +34,7 @@ pub enum Copied {
 }
 
 /// A flush that was begun.
-#[derive(Clone, Copy, PartialEq, Eq)]
+#[derive(Clone, Copy)]
 pub struct Flush {
     /// How many were begun, with this one.
     pub number: u64,
@@ -43,7 +43,7 @@ pub struct Flush {
 }
 
 /// How a flush stands.
-#[derive(Clone, Copy, PartialEq, Eq)]
+#[derive(Clone, Copy)]
 pub enum FlushState {
     /// A die that was live when it began has not ended a sync taken since.
     Waiting,
@@ -54,7 +54,7 @@ pub enum FlushState {
 }
 
 /// How a batch stands.
-#[derive(Clone, Copy, PartialEq, Eq)]
+#[derive(Clone, Copy)]
 pub enum ReadState {
     /// Each page has an answer, or a read that is booked or in flight.
     Waiting,

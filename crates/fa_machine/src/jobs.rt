@@ -4,7 +4,7 @@ use crate::places::Version;
 use fa_types::{Page, Slot};
 
 /// The job that a die is at, without the bytes that it moves.
-#[derive(Clone, Copy, PartialEq, Eq)]
+#[derive(Clone, Copy)]
 pub enum Flight {
     /// Its header is written.
     Header {
@@ -57,7 +57,7 @@ pub enum Flight {
 }
 
 /// The kind of a job.
-#[derive(Clone, Copy, PartialEq, Eq)]
+#[derive(Clone, Copy)]
 pub enum JobKind {
     /// A booked read.
     Read,
@@ -74,7 +74,7 @@ pub enum JobKind {
 }
 
 /// What a collector does next on a die.
-#[derive(Clone, Copy, PartialEq, Eq)]
+#[derive(Clone, Copy)]
 pub enum CollectorStep {
     /// It moves the copy in this slot.
     MoveSlot(Slot),

@@ -12,7 +12,7 @@ pub struct Version {
 }
 
 /// The state of a slot that is not erased.
-#[derive(Clone, Copy, PartialEq, Eq)]
+#[derive(Clone, Copy)]
 pub enum Used {
     /// It is kept for a copy that is not current yet, programmed or not.
     Reserved,
@@ -28,7 +28,7 @@ pub enum Used {
 }
 
 /// A round of a die that is booked for a read.
-#[derive(Clone, Copy, PartialEq, Eq)]
+#[derive(Clone, Copy)]
 pub struct Booking {
     /// The batch that booked it.
     pub batch: BatchId,
@@ -39,7 +39,7 @@ pub struct Booking {
 }
 
 /// A slot that is kept for one copy of a page.
-#[derive(Clone, Copy, PartialEq, Eq)]
+#[derive(Clone, Copy)]
 pub struct Target {
     /// The die.
     pub die: Die,
@@ -50,7 +50,7 @@ pub struct Target {
 }
 
 /// One more copy of a page, under way to a die that does not hold it.
-#[derive(Clone, Copy, PartialEq, Eq)]
+#[derive(Clone, Copy)]
 pub struct Copying {
     /// The page.
     pub page: Page,

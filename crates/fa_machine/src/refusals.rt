@@ -5,7 +5,7 @@ use fa_types::Page;
 use thiserror::Error;
 
 /// A page was not claimed.
-#[derive(Clone, Copy, Debug, PartialEq, Eq, Error)]
+#[derive(Clone, Copy, Debug, Error)]
 pub enum ClaimRefused {
     /// 1: the page is claimed.
     #[error("the page is claimed")]
@@ -16,7 +16,7 @@ pub enum ClaimRefused {
 }
 
 /// No number and no slots were reserved.
-#[derive(Clone, Copy, Debug, PartialEq, Eq, Error)]
+#[derive(Clone, Copy, Debug, Error)]
 pub enum ReserveRefused {
     /// 1: too few live dies have room.
     #[error("too few dies have room")]
@@ -33,7 +33,7 @@ pub enum ReserveRefused {
 }
 
 /// What is reserved was not committed.
-#[derive(Clone, Copy, Debug, PartialEq, Eq, Error)]
+#[derive(Clone, Copy, Debug, Error)]
 pub enum CommitRefused {
     /// 1: a copy on a live die is not programmed yet.
     #[error("a program is pending")]
@@ -44,7 +44,7 @@ pub enum CommitRefused {
 }
 
 /// What is reserved was not given up.
-#[derive(Clone, Copy, Debug, PartialEq, Eq, Error)]
+#[derive(Clone, Copy, Debug, Error)]
 pub enum AbandonRefused {
     /// 1: a program of it is in flight.
     #[error("a program is in flight")]
@@ -55,7 +55,7 @@ pub enum AbandonRefused {
 }
 
 /// A batch was not admitted, or not planned anew.
-#[derive(Clone, Copy, Debug, PartialEq, Eq, Error)]
+#[derive(Clone, Copy, Debug, Error)]
 pub enum AdmitRefused {
     /// 1: this page, the first in the list, was written and no live die holds it.
     #[error("a page is lost")]
@@ -86,7 +86,7 @@ pub enum WindowRefused {
 }
 
 /// The round did not rise.
-#[derive(Clone, Copy, Debug, PartialEq, Eq, Error)]
+#[derive(Clone, Copy, Debug, Error)]
 pub enum AdvanceRefused {
     /// 1: a read or a collector's step of this round has not ended.
     #[error("a job of this round is pending")]
@@ -100,7 +100,7 @@ pub enum AdvanceRefused {
 }
 
 /// A die was not brought in.
-#[derive(Clone, Copy, Debug, PartialEq, Eq, Error)]
+#[derive(Clone, Copy, Debug, Error)]
 pub enum SpareRefused {
     /// 1: it is no spare, or was brought in before.
     #[error("the die is no spare")]
@@ -108,7 +108,7 @@ pub enum SpareRefused {
 }
 
 /// No slot was reserved for one more copy.
-#[derive(Clone, Copy, Debug, PartialEq, Eq, Error)]
+#[derive(Clone, Copy, Debug, Error)]
 pub enum ReserveCopyRefused {
     /// 1: the page is not thin, or has another number.
     #[error("the page wants no such copy")]
@@ -125,7 +125,7 @@ pub enum ReserveCopyRefused {
 }
 
 /// A copy did not become current.
-#[derive(Clone, Copy, Debug, PartialEq, Eq, Error)]
+#[derive(Clone, Copy, Debug, Error)]
 pub enum CommitCopyRefused {
     /// 1: it is not programmed yet.
     #[error("the copy is pending")]
@@ -136,7 +136,7 @@ pub enum CommitCopyRefused {
 }
 
 /// No flush was begun.
-#[derive(Clone, Copy, Debug, PartialEq, Eq, Error)]
+#[derive(Clone, Copy, Debug, Error)]
 pub enum FlushRefused {
     /// 1: no number of a flush is left.
     #[error("no flush is left")]

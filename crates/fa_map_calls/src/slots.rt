@@ -1,7 +1,7 @@
 //! What a page map shows of a slot and of a block.
 
 /// The state of a slot.
-#[derive(Clone, Copy, PartialEq, Eq)]
+#[derive(Clone, Copy)]
 pub enum SlotState {
     /// Nothing was written there since the last erase of its block.
     Erased,

@@ -21,7 +21,7 @@ use std::alloc::Allocator;
 use thiserror::Error;
 
 /// Why an array was not closed: the first that applies.
-#[derive(Clone, Copy, Debug, PartialEq, Eq, Error)]
+#[derive(Clone, Copy, Debug, Error)]
 pub enum CloseFault {
     /// Fault 1: a job, a claim, a batch or a copy of the array is open.
     #[error("busy")]

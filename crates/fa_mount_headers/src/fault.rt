@@ -8,7 +8,7 @@ use thiserror::Error;
 
 /// Why images are not mounted: the first that applies, in the order 7 for headers, 1, 2 for the numbers of
 /// arrays, 3, 4, 2 for masks, 5, 6, then 7 and 6 for slots; 8 at any point.
-#[derive(Clone, Copy, Debug, PartialEq, Eq, Error)]
+#[derive(Clone, Copy, Debug, Error)]
 pub enum MountFault {
     /// Fault 1: the bytes of an image's header are those of no header. Such an image is left aside where
     /// an unclean array is mounted.
@@ -59,7 +59,7 @@ impl MountFault {
 }
 
 /// A fault, with what an admin has to look for.
-#[derive(Clone, Copy, Debug, PartialEq, Eq, Error)]
+#[derive(Clone, Copy, Debug, Error)]
 #[error("{fault}")]
 pub struct MountRefused {
     /// Why the images are not mounted.
@@ -86,7 +86,7 @@ impl MountRefused {
 }
 
 /// An image that refused a call while it was formatted.
-#[derive(Clone, Copy, Debug, PartialEq, Eq, Error)]
+#[derive(Clone, Copy, Debug, Error)]
 #[error("image {image}: {fault}")]
 pub struct FormatFault {
     /// Which image it is, from 0 in the list of images.

@@ -9,7 +9,7 @@ use fa_types::{Geometry, HEADER_BYTES};
 use std::alloc::{AllocError, Allocator};
 
 /// What came of reading an image's header.
-#[derive(Clone, Copy, PartialEq, Eq)]
+#[derive(Clone, Copy)]
 pub enum HeaderFound {
     /// It was not read.
     Unread,
@@ -20,7 +20,7 @@ pub enum HeaderFound {
 }
 
 /// What is known of an image before its slots are read.
-#[derive(Clone, Copy, PartialEq, Eq)]
+#[derive(Clone, Copy)]
 pub struct Found {
     /// The geometry that the image was made for.
     pub geometry: Geometry,

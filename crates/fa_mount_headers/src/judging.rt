@@ -15,7 +15,7 @@ use fa_types::{Copies, Geometry};
 use std::alloc::{AllocError, Allocator, Global};
 
 /// How a die stands, by the header of its image. The number is the image's, from 0 in the list of images.
-#[derive(Clone, Copy, PartialEq, Eq)]
+#[derive(Clone, Copy)]
 pub enum Standing {
     /// It has no image.
     Missing,

@@ -26,7 +26,7 @@ pub struct Mounted<M: Map + Drop, A: Allocator = Global> {
 }
 
 /// The numbers of an array.
-#[derive(Clone, Copy, PartialEq, Eq)]
+#[derive(Clone, Copy)]
 pub struct Report {
     /// All dies of the geometry.
     pub dies: u32,

@@ -2,7 +2,7 @@
 use crate::step::{CloseCause, Step};
 
 /// Which item of the client comes next.
-#[derive(Clone, Copy, PartialEq, Eq)]
+#[derive(Clone, Copy)]
 pub enum Phase {
     /// The client's flags.
     Flags,

@@ -2,7 +2,7 @@
 use std::alloc::{Allocator, Global};
 
 /// How the negotiation stands.
-#[derive(Clone, Copy, PartialEq, Eq)]
+#[derive(Clone, Copy)]
 pub enum Step {
     /// More bytes are needed.
     More,
@@ -15,7 +15,7 @@ pub enum Step {
 }
 
 /// Why the server closes the connection.
-#[derive(Clone, Copy, PartialEq, Eq)]
+#[derive(Clone, Copy)]
 pub enum CloseCause {
     /// Cause 1: a client flag other than bits 0 and 1.
     UnknownFlag,

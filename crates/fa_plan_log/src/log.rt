@@ -21,7 +21,7 @@ const MAX_SPARE: usize = 256;
 const FEWEST_PAGES: usize = 2;
 
 /// How many plans were kept, and how many were not.
-#[derive(Clone, Copy, PartialEq, Eq)]
+#[derive(Clone, Copy)]
 pub struct LogCounts {
     /// Plans that were put into the queue.
     pub kept: u64,

@@ -7,7 +7,7 @@ use std::process::{ExitCode, Termination};
 
 /// The status with which the program ends. Only this crate makes one, so a `main` that ends with one
 /// ends as the program's run did.
-#[derive(Clone, Copy, PartialEq, Eq)]
+#[derive(Clone, Copy)]
 pub struct Status {
     number: u8,
 }

@@ -8,7 +8,7 @@ use hex::FromHexError;
 use std::alloc::{AllocError, Allocator};
 
 /// Why a text spells no bytes.
-#[derive(Clone, Copy, PartialEq, Eq)]
+#[derive(Clone, Copy)]
 pub enum TextFault {
     /// The first line, from 1, with another character than a digit or a space, or with an odd
     /// number of digits.

@@ -7,7 +7,7 @@ use crate::stream_end::{HearEnd, StreamEnd};
 use fa_io::{ReadEnd, SendFailed};
 
 /// How a connection ended.
-#[derive(Clone, Copy, PartialEq, Eq)]
+#[derive(Clone, Copy)]
 pub enum SessionEnd {
     /// End 1: the client disconnected.
     Disconnected,

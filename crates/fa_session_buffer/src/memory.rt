@@ -17,7 +17,7 @@ const STEP: usize = 1 << 16;
 const FEW: usize = 4096;
 
 /// What came of the data of a WRITE.
-#[derive(Clone, Copy, PartialEq, Eq)]
+#[derive(Clone, Copy)]
 pub enum Received {
     /// It stands at the front of the memory.
     Whole,

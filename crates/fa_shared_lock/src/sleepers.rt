@@ -13,7 +13,7 @@ use std::mem::replace;
 const MANY_OTHERS: u32 = 3;
 
 /// What somebody waits for.
-#[derive(Clone, Copy, PartialEq, Eq)]
+#[derive(Clone, Copy)]
 pub enum Awaits {
     /// Each page of this batch is answered, or it is torn.
     Batch(BatchId),

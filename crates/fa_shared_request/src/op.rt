@@ -21,7 +21,7 @@ pub type Lent<A = Global> = Vec<(Page, Vec<u8, A>), A>;
 const MAX_LENT: usize = 16;
 
 /// What a turn of a request came to.
-#[derive(Clone, Copy, PartialEq, Eq)]
+#[derive(Clone, Copy)]
 pub enum Turn {
     /// The next turn may be made at once.
     More,

@@ -6,7 +6,7 @@ ghost use Rattle.fa_shared_steps.specs.Tasks.{begin_of, bytes_from as range_from
 use crate::range::Range;
 
 /// A request of a block store. Offsets and lengths are in bytes.
-#[derive(Clone, Copy, PartialEq, Eq)]
+#[derive(Clone, Copy)]
 pub enum Request {
     /// The bytes of a range.
     Read {
@@ -60,7 +60,7 @@ pub enum Fill {
 }
 
 /// What a request comes to: pages are read, or pages are written, and a flush is made.
-#[derive(Clone, Copy, PartialEq, Eq)]
+#[derive(Clone, Copy)]
 pub struct Task {
     /// The bytes that are read or written.
     pub range: Range,

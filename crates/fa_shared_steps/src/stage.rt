@@ -8,7 +8,7 @@ use fa_types::{BlockFault, Page};
 use std::alloc::{Allocator, Global};
 
 /// A page that is claimed, with its claim.
-#[derive(Clone, Copy, PartialEq, Eq)]
+#[derive(Clone, Copy)]
 pub struct PageClaim {
     /// The page.
     pub page: Page,
@@ -17,7 +17,7 @@ pub struct PageClaim {
 }
 
 /// What a batch is read for.
-#[derive(Clone, Copy, PartialEq, Eq)]
+#[derive(Clone, Copy)]
 pub enum Purpose {
     /// For the answer of a read, which goes on at this page.
     Answer(u64),

@@ -36,7 +36,7 @@ struct ThinPage {
 }
 
 /// What came of giving the next thin page one more copy.
-#[derive(Clone, Copy, PartialEq, Eq)]
+#[derive(Clone, Copy)]
 pub(crate) enum Rebuilt {
     /// No thin page has a place to go.
     Nothing,

@@ -22,7 +22,7 @@ const FORMAT_2: u32 = 2;
 const MAX_EPOCH: u64 = 1 << 62;
 
 /// What an image says of itself and of its array.
-#[derive(Clone, Copy, PartialEq, Eq)]
+#[derive(Clone, Copy)]
 pub struct Header {
     /// Which die of the array the image is.
     pub die: Die,

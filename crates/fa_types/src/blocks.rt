@@ -7,7 +7,7 @@ use std::alloc::Allocator;
 use thiserror::Error;
 
 /// Why a block store refused a call.
-#[derive(Clone, Copy, Debug, PartialEq, Eq, Error)]
+#[derive(Clone, Copy, Debug, Error)]
 pub enum BlockFault {
     /// Fault 1: the range meets a page whose last copy is gone, or no die is live.
     #[error("lost")]

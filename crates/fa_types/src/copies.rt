@@ -6,7 +6,7 @@ use crate::{Geometry, GeometryFault};
 
 /// How many copies of each page an array is to keep, each on a die of its own. Only [`Copies::new`]
 /// judges a number from outside; a value is always 2 or 3.
-#[derive(Clone, Copy, PartialEq, Eq)]
+#[derive(Clone, Copy)]
 pub struct Copies {
     /// Copies of a page: 2 or 3.
     pub number: u32,

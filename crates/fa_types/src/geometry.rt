@@ -25,7 +25,7 @@ pub struct Geometry {
 }
 
 /// What is outside its limits.
-#[derive(Clone, Copy, Debug, PartialEq, Eq, Error)]
+#[derive(Clone, Copy, Debug, Error)]
 pub enum GeometryFault {
     /// Fault 1: not 2 to 64 dies, or more than all but two of them spare.
     #[error("dies or spares outside their limits")]

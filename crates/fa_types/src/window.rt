@@ -2,7 +2,7 @@
 use crate::numbers::Round;
 
 /// The rounds of a die that are kept for its collector.
-#[derive(Clone, Copy, PartialEq, Eq)]
+#[derive(Clone, Copy)]
 pub struct Window {
     /// The first round.
     pub first: Round,

@@ -9,7 +9,7 @@ use std::alloc::{Allocator, Global};
 use std::marker::Model;
 
 /// What was found in a slot of a die.
-#[derive(Clone, Copy, PartialEq, Eq)]
+#[derive(Clone, Copy)]
 pub enum SlotContent {
     /// Nothing was written there since the last erase of its block.
     Erased,
