@@ -21,7 +21,7 @@ impl<M: Map, A: Allocator + Clone> Array<M, A> {
         ensures number { number_of self.new ≡ number_of self.old }
         ensures whole { IsWhole M.view self.new }
     {
-        let answer = fa_core_flush::flush_begin(&mut self.state);
+        let answer = fa_core_upkeep::flush_begin(&mut self.state);
         an_event_keeps();
         answer
     }
@@ -30,7 +30,7 @@ impl<M: Map, A: Allocator + Clone> Array<M, A> {
     pub fn flush_state(&self, flush: &Flush) -> FlushState
         ensures { result ≡ rule_state (state_of M.view self.now) flush.now }
     {
-        fa_core_flush::flush_state(&self.state, flush)
+        fa_core_upkeep::flush_state(&self.state, flush)
     }
 
     /// The history is taken into its base, and none is left.
@@ -40,7 +40,7 @@ impl<M: Map, A: Allocator + Clone> Array<M, A> {
         ensures number { number_of self.new ≡ number_of self.old }
         ensures whole { IsWhole M.view self.new }
     {
-        fa_core_flush::fold(&mut self.state);
+        fa_core_upkeep::fold(&mut self.state);
         an_event_keeps();
     }
 }

@@ -19,7 +19,7 @@ use fa_core_read::PlanCounts;
 use fa_machine::{BatchId, Block, ClaimId, HistoryEntry, JobKind, Version};
 use fa_map_calls::Map;
 use fa_mirror::Placing;
-use fa_plan_log::LogCounts;
+use fa_plan::LogCounts;
 use fa_types::{Die, Geometry, Page, Round, Seq, Slot};
 use std::alloc::Allocator;
 
@@ -174,7 +174,7 @@ impl<M: Map, A: Allocator + Clone> Array<M, A> {
     pub fn history_full(&self) -> bool
         ensures { result ≡ rule_full (state_of M.view self.now) }
     {
-        fa_core_flush::history_full(&self.state)
+        fa_core_upkeep::history_full(&self.state)
     }
 
     /// How many Commits and how many Starts there were since mounting; of 2^64 and more, 2^64 - 1 are told.
@@ -182,42 +182,42 @@ impl<M: Map, A: Allocator + Clone> Array<M, A> {
         ensures commits { result.0 ≡ capped (rule_counts (state_of M.view self.now)).0 }
         ensures starts { result.1 ≡ capped (rule_counts (state_of M.view self.now)).1 }
     {
-        fa_core_flush::counts(&self.state)
+        fa_core_upkeep::counts(&self.state)
     }
 
     /// Whether the claim is open.
     pub fn claim_open(&self, claim: ClaimId) -> bool
         ensures { result ≡ rule_claim (state_of M.view self.now) claim.0 }
     {
-        fa_core_flush::claim_open(&self.state, claim)
+        fa_core_upkeep::claim_open(&self.state, claim)
     }
 
     /// Whether something is reserved under the claim.
     pub fn is_reserved(&self, claim: ClaimId) -> bool
         ensures { result ≡ rule_reserved (state_of M.view self.now) claim.0 }
     {
-        fa_core_flush::is_reserved(&self.state, claim)
+        fa_core_upkeep::is_reserved(&self.state, claim)
     }
 
     /// Whether the batch is open.
     pub fn batch_open(&self, batch: BatchId) -> bool
         ensures { result ≡ rule_batch (state_of M.view self.now) batch.0 }
     {
-        fa_core_flush::batch_open(&self.state, batch)
+        fa_core_upkeep::batch_open(&self.state, batch)
     }
 
     /// Whether a copy is under way.
     pub fn copy_open(&self) -> bool
         ensures { result ≡ rule_copy (state_of M.view self.now) }
     {
-        fa_core_flush::copy_open(&self.state)
+        fa_core_upkeep::copy_open(&self.state)
     }
 
     /// Whether a job, a claim, a batch or a copy is open.
     pub fn is_busy(&self) -> bool
         ensures { result ≡ rule_busy (state_of M.view self.now) }
     {
-        fa_core_flush::is_busy(&self.state)
+        fa_core_upkeep::is_busy(&self.state)
     }
 
     /// Whether a Take of the die would hand out a job, or drop a booking. Where it says no, a Take answers nothing and changes nothing,
@@ -265,6 +265,6 @@ impl<M: Map, A: Allocator + Clone> Array<M, A> {
     pub fn job_kind(&self, die: Die) -> Option<JobKind>
         ensures { result ≡ rule_job (state_of M.view self.now) die.0 }
     {
-        fa_core_flush::job_kind(&self.state, die)
+        fa_core_upkeep::job_kind(&self.state, die)
     }
 }

@@ -16,8 +16,7 @@ use fa_core_read::Admitted;
 use fa_laws::invariants::{an_event_counts, an_event_keeps};
 use fa_machine::{AdmitRefused, BatchId, ReadState};
 use fa_map_calls::Map;
-use fa_plan::Planned;
-use fa_plan_log::PlanNote;
+use fa_plan::{PlanNote, Planned};
 use fa_types::Page;
 use std::alloc::{AllocError, Allocator};
 

@@ -1,8 +1,7 @@
 //! What batches are planned with.
 use crate::counting::PlanCounts;
 use fa_batch::Batch;
-use fa_plan::{Planned, Workspace};
-use fa_plan_log::{LogCounts, PlanLog, PlanNote};
+use fa_plan::{LogCounts, PlanLog, PlanNote, Planned, Workspace};
 use fa_types::Rounds;
 use std::alloc::{Allocator, Global};
 

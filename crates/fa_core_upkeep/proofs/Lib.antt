@@ -1,4 +1,5 @@
 mod Copied
+mod Dies
 mod Passed
 mod Placed
 mod Settled

@@ -1,6 +1,14 @@
-pub mod Unsynced
-pub mod Whole
+pub mod AllThere
+pub mod Among
+pub mod Behind
 pub mod Cut
 pub mod Flushed
-pub mod Outlasts
 pub mod Headers
+pub mod HeadersLeft
+pub mod Images
+pub mod Left
+pub mod Life
+pub mod Outlasts
+pub mod Read
+pub mod Unsynced
+pub mod Whole

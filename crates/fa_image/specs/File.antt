@@ -3,7 +3,7 @@ use Rattle.std.specs.Prelude.{ℕ, ◌+◌, ◌-◌, ◌*◌, true, List, ◌++�
 use Rattle.std.specs.List.{concat}
 use Rattle.fa_types.specs.Store.{bytes_at}
 use Rattle.fa_types.specs.declared.geometry.Geometry.{Geometry}
-use Rattle.fa_image_history.specs.Contents.{Contents, after_read, after_write, after_failure, after_sync}
+use Rattle.fa_ghost.specs.Contents.{Contents, after_read, after_write, after_failure, after_sync}
 use Rattle.fa_image.specs.Cut.{cut}
 use Rattle.fa_image.specs.Image.{ImageState, slot_bytes, slot_count}
 use Rattle.fa_image.specs.Image.{ImageCall, ReadingSlot, Programming, Erasing, ReadingHeader, WritingHeader, Syncing}

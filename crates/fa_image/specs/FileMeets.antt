@@ -9,7 +9,7 @@ use Rattle.std.proofs.Math.Seq.{take-append-add}
 use Rattle.fa_types.specs.Store.{with_bytes, bytes_at}
 use Rattle.fa_types.specs.MemoryMeets.{length-bytes_at}
 use Rattle.fa_types.specs.declared.geometry.Geometry.{Geometry}
-use Rattle.fa_image_history.specs.Contents.{Contents, fitted, next_left}
+use Rattle.fa_ghost.specs.Contents.{Contents, fitted, next_left}
 use Rattle.fa_image.specs.Cut.{cut, AreSlots-cut}
 use Rattle.fa_image.specs.File.{slots_in, state_in, slot_offset, file_bytes, after_call}
 use Rattle.fa_image.specs.FileMade.{file_view, file_is_honest, FileMade}

@@ -1,14 +1,13 @@
 //! An image in a file.
 ghost use Rattle.std.specs.Prelude.{◌≡◌, ◌+◌, ◌*◌, ◌≤◌, length, replicate};
-ghost use Rattle.fa_image_history.specs.Contents.{Contents};
+ghost use Rattle.fa_ghost.specs.Contents.{Contents};
 ghost use Rattle.fa_image.specs.File.{file_bytes as bytes_of_file};
 
 use crate::fault::{ImageFault, refuse};
 use crate::image::Image;
 use crate::shape::{file_bytes, slot_bytes, slot_offset};
-use fa_ghost::History;
-use fa_image_history::{
-    FileContents, note_failed, note_kept, note_read, note_synced, note_written,
+use fa_ghost::{
+    FileContents, History, note_failed, note_kept, note_read, note_synced, note_written,
 };
 use fa_types::{Geometry, HEADER_BYTES, Slot};
 use std::alloc::{AllocError, Global};

@@ -27,13 +27,13 @@ use Rattle.fa_mount.proofs.Mounted.{may_begin}
 use Rattle.fa_mount.specs.Begins.{AreSpares, IsGreatestNumber, MayBegin}
 use Rattle.fa_mount.specs.MountsArray.{MountsArray}
 use Rattle.fa_mount_scan.proofs.Filling.{read_die_below}
-use Rattle.fa_mount_laws.proofs.HonestSlots.{mounted_there}
+use Rattle.fa_mount_scan.proofs.HonestSlots.{mounted_there}
 use Rattle.fa_mount_scan.proofs.LastWrites.{found_on}
-use Rattle.fa_mount_laws.proofs.MountedFacts.{held_found, live_found, used_within, written_held}
-use Rattle.fa_mount_laws.proofs.MountedWorlds.{is_beginning}
+use Rattle.fa_mount_scan.proofs.MountedFacts.{held_found, live_found, used_within, written_held}
+use Rattle.fa_mount_scan.proofs.MountedWorlds.{is_beginning}
 use Rattle.fa_mount_scan.proofs.OnlyReading.{die_only_read}
 use Rattle.fa_mount_scan.proofs.Readable.{are_readable}
-use Rattle.fa_mount_laws.proofs.SlotCells.{copy_bytes, found_cell}
+use Rattle.fa_mount_scan.proofs.SlotCells.{copy_bytes, found_cell}
 use Rattle.fa_mount_scan.specs.Content.{slots_on}
 use Rattle.fa_mount_scan.specs.ContentCells.{IsCellOf}
 use Rattle.fa_mount_scan.specs.ContentReading.{HasOutcome, ReadsAt, image_read}

@@ -25,7 +25,7 @@ use Rattle.fa_mount.proofs.Worlds.{mounted_world}
 use Rattle.fa_mount.specs.Closing.{IsClosedClean}
 use Rattle.fa_mount.specs.MountsArray.{MountsArray}
 use Rattle.fa_mount_scan.proofs.Filling.{read_die_below}
-use Rattle.fa_mount_laws.proofs.HonestSlots.{mounted_there}
+use Rattle.fa_mount_scan.proofs.HonestSlots.{mounted_there}
 use Rattle.fa_mount_scan.proofs.OnlyReading.{die_only_read}
 use Rattle.fa_mount_scan.specs.Content.{slots_on}
 use Rattle.fa_mount_scan.specs.ContentCells.{IsCellOf}

@@ -6,8 +6,8 @@ use Rattle.fa_machine.specs.State.{is_live}
 use Rattle.fa_machine.specs.World.{World, plain_page}
 use Rattle.fa_machine.specs.declared.places.Version.{Version}
 use Rattle.fa_mount_scan.proofs.LastWrites.{found_on}
-use Rattle.fa_mount_laws.proofs.MountedFacts.{held_found, live_found, used_within}
-use Rattle.fa_mount_laws.proofs.SlotCells.{copy_is_sealed}
+use Rattle.fa_mount_scan.proofs.MountedFacts.{held_found, live_found, used_within}
+use Rattle.fa_mount_scan.proofs.SlotCells.{copy_is_sealed}
 use Rattle.fa_mount_scan.specs.Content.{HasCopy, IsLastOf, IsLastWrite}
 use Rattle.fa_mount_scan.specs.ContentCells.{IsCellOf}
 use Rattle.fa_mount_scan.specs.MountedWorld.{CopiesAgree, IsFirstPlain, IsMountedWorld, SlotBytes}

@@ -8,11 +8,11 @@ use Rattle.fa_machine.specs.Reading.{zeros}
 use Rattle.fa_machine.specs.State.{MapState, is_live}
 use Rattle.fa_machine.specs.World.{World, plain_page}
 use Rattle.fa_machine.specs.declared.places.Version.{Version}
-use Rattle.fa_mount_laws.proofs.Cells.{one_cell}
+use Rattle.fa_mount_scan.proofs.Cells.{one_cell}
 use Rattle.fa_mount_scan.proofs.Filling.{slots_of_found}
 use Rattle.fa_mount_scan.proofs.LastWrites.{found_on}
-use Rattle.fa_mount_laws.proofs.MountedFacts.{held_found, live_found, read_live, used_within}
-use Rattle.fa_mount_laws.proofs.SlotCells.{copy_is_sealed}
+use Rattle.fa_mount_scan.proofs.MountedFacts.{held_found, live_found, read_live, used_within}
+use Rattle.fa_mount_scan.proofs.SlotCells.{copy_is_sealed}
 use Rattle.fa_mount_scan.specs.Content.{HasCopy, IsLastOf, IsLastWrite}
 use Rattle.fa_mount_scan.specs.MountedWorld.{CopiesAgree, HoldMap, HoldsPayload, IsFirstPlain, IsMountedWorld, SlotBytes}
 use Rattle.fa_types.specs.declared.geometry.Geometry.{Geometry}

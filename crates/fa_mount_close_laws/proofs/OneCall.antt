@@ -8,7 +8,7 @@ use Rattle.fa_machine.specs.State.{MapState}
 use Rattle.fa_machine.specs.World.{Accepted, Calls, DieImage, ErasesBlock, Gave, GaveCell, JobCall, ProgramsSlot, ReadsSlot, Refused}
 use Rattle.fa_machine.specs.World.{Syncs, WritesHeader, with_cell}
 use Rattle.fa_mount_close_laws.proofs.AnyCell.{any_cell}
-use Rattle.fa_mount_laws.proofs.Cells.{one_cell}
+use Rattle.fa_mount_scan.proofs.Cells.{one_cell}
 use Rattle.fa_mount_scan.specs.ContentCells.{IsCellOf, tag_of}
 use Rattle.fa_core_outcome.specs.Outcomes.{cell_of}
 use Rattle.fa_tag.specs.HeaderGrammar.{header_bytes}

@@ -1,10 +1,15 @@
 pub mod ByDie
+pub mod Cells
 pub mod ContentsRead
 pub mod Filling
 pub mod FoundMounted
 pub mod GivenNumbers
+pub mod HonestSlots
 pub mod LastWrites
 pub mod Merging
+pub mod MountedFacts
+pub mod MountedWorlds
+pub mod OneMap
 pub mod OnlyReading
 pub mod Outcomes
 pub mod PagesGiven
@@ -14,5 +19,6 @@ pub mod Readable
 pub mod Settling
 pub mod SideBySide
 pub mod SideOutcomes
+pub mod SlotCells
 pub mod SlotsScanned
 pub mod Tallying

@@ -1,6 +1,7 @@
 //! The images of an array before it runs: what their slots hold, and the array that they are.
 #![tactic(auto)]
 
+pub mod laws;
 mod mounted;
 mod pages;
 mod recovering;

@@ -1,4 +1,5 @@
 pub mod Bounds
+pub mod Copied
 pub mod Handing
 pub mod Laid
 pub mod Making

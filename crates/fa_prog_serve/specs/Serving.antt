@@ -3,8 +3,8 @@ use Rattle.std.specs.Prelude.{◌⊎◌, ℕ, List, [], ◌∷◌, ◌++◌, cod
 use Rattle.fa_mount_headers.specs.declared.fault.MountFault.{MountFault}
 use Rattle.fa_mount.specs.declared.closing.CloseFault.{CloseFault}
 use Rattle.fa_shared.specs.declared.faults.Fault.{Fault}
-use Rattle.fa_prog_array.specs.Ending.{closed_line, closed_status, fault_lines}
-use Rattle.fa_prog_inspect.specs.Array.{mount_line}
+use Rattle.fa_prog_images.specs.Ending.{closed_line, closed_status, fault_lines}
+use Rattle.fa_prog_images.specs.Array.{mount_line}
 use Rattle.fa_prog_host.specs.Printing.{Prints, TellsNoMemory}
 use Rattle.fa_prog_host.specs.SettingsRefused.{RefusesSettings}
 

@@ -2,8 +2,8 @@
 ghost use Rattle.fa_prog_serve.specs.Serving.{TellsEnd};
 
 use fa_mount::CloseFault;
-use fa_prog_array::{end_text, status_of};
 use fa_prog_host::printing::{print, refuse_for_memory};
+use fa_prog_images::{end_text, status_of};
 use fa_shared::Fault;
 use std::alloc::{AllocError, Global};
 use std::io::Write;

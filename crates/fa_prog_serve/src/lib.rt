@@ -11,6 +11,7 @@ mod ready;
 mod serve;
 mod serving;
 mod sessions;
+mod side_by_side;
 mod site;
 mod stop_line;
 mod stop_waiter;

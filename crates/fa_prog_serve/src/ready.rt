@@ -10,7 +10,7 @@ use crate::tasks::{Tasks, tasks_of};
 use fa_map_calls::Map;
 use fa_mount_headers::Standing;
 use fa_prog_clients::Networked;
-use fa_prog_lost::Losses;
+use fa_prog_watch::Losses;
 use fa_shared::Shared;
 use std::alloc::{AllocError, Allocator, Global};
 use std::net::{SocketAddrV4, TcpListener};

@@ -15,14 +15,14 @@ use fa_map::PageMap;
 use fa_map_calls::Map;
 use fa_mount::{CloseFault, MountedArray};
 use fa_mount_headers::{MountFault, Standing};
-use fa_prog_array::{close, mount, refuse_mount};
 use fa_prog_host::printing::{DONE, REFUSED, print, refuse_for_memory};
 use fa_prog_host::{
     NotOpened, OpenImages, Opening, open_images, refuse_settings, settings_at, tell,
 };
-use fa_prog_inspect::explain;
-use fa_prog_lost::{keep_lost_at_end, open_lost, remove_if_empty, tell_not_kept};
-use fa_prog_watch::{PlanFile, open_plans};
+use fa_prog_images::{close, explain, mount, refuse_mount};
+use fa_prog_watch::{
+    PlanFile, keep_lost_at_end, open_lost, open_plans, remove_if_empty, tell_not_kept,
+};
 use fa_settings::{PlansFile, Settings, Terms};
 use fa_shared::{Fault, Shared};
 use std::alloc::{AllocError, Allocator, Global};

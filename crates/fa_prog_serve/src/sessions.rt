@@ -2,10 +2,9 @@
 use crate::listening::Listening;
 use fa_image::Image;
 use fa_map_calls::Map;
-use fa_prog_census::CountingGate;
 use fa_prog_clients::{ConnectionMemory, Networked, Service, serve_clients};
 use fa_prog_counts::CountingStore;
-use fa_prog_lost::TellingStore;
+use fa_prog_watch::{CountingGate, TellingStore};
 use fa_shared::Shared;
 use fa_shared_lock::{Hands, Seat};
 use fa_shared_store::ArrayBlocks;

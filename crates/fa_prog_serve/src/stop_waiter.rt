@@ -1,8 +1,8 @@
 //! Who waits for the stop while clients are served, and then sends them away.
 use crate::listening::Listening;
+use crate::side_by_side::Starter;
 use crate::stop_line::wait_for_stop;
 use fa_prog_clients::{Networked, stop_accepting};
-use fa_threads::Starter;
 use std::io::Read;
 use std::net::{TcpListener, TcpStream};
 use std::time::Duration;

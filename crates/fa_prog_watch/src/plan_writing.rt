@@ -1,7 +1,7 @@
 //! Who writes the file of plans.
 use crate::plan_file::PlanFile;
 use fa_map_calls::Map;
-use fa_plan_log::{PlanEntry, PlanNote};
+use fa_plan::{PlanEntry, PlanNote};
 use fa_prog_clients::Networked;
 use fa_prog_counts::PlanFileCounts;
 use fa_shared::Shared;

@@ -1,11 +1,12 @@
 //! What is told of the array while it is served.
+use crate::losses::Losses;
+use crate::pages::{PAGES_A_HOLD, is_lost};
 use crate::slow_calls::SlowCalls;
 use fa_core::Array;
 use fa_map_calls::Map;
 use fa_prog_clients::Networked;
 use fa_prog_counts::Counts;
 use fa_prog_host::tell;
-use fa_prog_lost::{Losses, PAGES_A_HOLD, is_lost};
 use fa_shared::{Cause, Fault, Shared};
 use fa_types::{Die, Page};
 use log::kv::Source;

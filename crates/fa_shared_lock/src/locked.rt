@@ -10,7 +10,7 @@ use crate::seat::Seat;
 use crate::sleepers::{Awaits, SeatSet, Sleepers};
 use fa_core::{Answer, Array, Call, Planned};
 use fa_map_calls::Map;
-use fa_plan_log::PlanNote;
+use fa_plan::PlanNote;
 use fa_types::Page;
 use std::alloc::{Allocator, Global};
 use std::marker::Model;

@@ -11,7 +11,7 @@ use crate::jobs::work_off;
 use fa_image::Image;
 use fa_machine::WindowRefused;
 use fa_map_calls::Map;
-use fa_shared_die_events::window;
+use fa_shared::window;
 use fa_solo_job::Inner;
 use fa_types::{Die, Round};
 use std::alloc::Allocator;

@@ -10,7 +10,7 @@ use fa_core::Array;
 use fa_image::Image;
 use fa_machine::{BatchId, ReadState};
 use fa_map_calls::Map;
-use fa_shared_die_events::{advance, bring_in_spare};
+use fa_shared::{advance, bring_in_spare};
 use fa_solo_job::{Inner, run_next};
 use fa_types::Die;
 use std::alloc::Allocator;

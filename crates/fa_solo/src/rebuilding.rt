@@ -19,7 +19,7 @@ use fa_core_read::Admitted;
 use fa_image::Image;
 use fa_machine::{AdmitRefused, BatchId, CommitCopyRefused, Copied, ReadState, ReserveCopyRefused};
 use fa_map_calls::Map;
-use fa_shared_die_events::{commit_copy, reserve_copy};
+use fa_shared::{commit_copy, reserve_copy};
 use fa_shared_events::{admit, end_batch};
 use fa_shared_lock::Locked;
 use fa_solo_job::Inner;

@@ -17,7 +17,7 @@ use Rattle.fa_solo_job.specs.declared.inner.Inner.{Inner}
 use Rattle.fa_types.specs.declared.numbers.Round.{Round}
 use Rattle.fa_shared_lock.proofs.Holds.{join_rest, rest_same}
 use Rattle.fa_shared_lock.specs.Rest.{Folded, Folds, HadRoom, LeavesRest}
-use Rattle.fa_shared_die_events.specs.Spares.{BringsIn, HasNone, Lowest, WantsNone}
+use Rattle.fa_shared.specs.Spares.{BringsIn, HasNone, Lowest, WantsNone}
 
 module _ {I : Type 0} (made : I → ImageCall → ImageAnswer → I → Type 0) (array : List ℕ) (dies : List Standing) (seat : ℕ) where
   pub goes_more : (P : Act → Type 0) (a b c : House I) → Goes made array dies seat P a b → Goes made array dies seat P b c

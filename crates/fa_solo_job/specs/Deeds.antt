@@ -17,7 +17,7 @@ use Rattle.fa_mount.specs.Standings.{place_on}
 use Rattle.fa_solo_job.specs.House.{House}
 use Rattle.fa_core_dispatch.specs.Fits.{IsJobFor}
 use Rattle.fa_jobs.specs.Made.{Ran}
-use Rattle.fa_shared_die_events.specs.Spares.{wants_spare}
+use Rattle.fa_shared.specs.Spares.{wants_spare}
 
 -- The events that are made for dies whatever is asked: a Take that gives no job, windows, rounds that pass, and the history's Fold.
 abbrev pub IsForDies : Act → Type 0

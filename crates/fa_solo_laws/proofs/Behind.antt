@@ -28,7 +28,7 @@ use Rattle.fa_machine.specs.World.{World}
 use Rattle.fa_types.specs.Store.{HasCause, IsMet}
 use Rattle.fa_types.specs.declared.blocks.BlockFault.{BlockFault}
 use Rattle.fa_types.specs.declared.blocks.BlockFault.TheVariants.{Lost, NoMemory as OutOfMemory, NoRoom, Spent}
-use Rattle.fa_shared_die_events.specs.Spares.{live_below, wants_spare}
+use Rattle.fa_shared.specs.Spares.{live_below, wants_spare}
 use Rattle.std.proofs.Common.{List, None, Ok, Err, Option, Result, Some, [], ap, arith, eq-eqb, eqb-true, inl, inr, refl, subst, sym, true, ℕ}
 use Rattle.std.proofs.Common.{◌++◌, ◌-◌, ◌^◌, ◌∙◌, ◌∷◌, ◌≡◌, ◌≤◌, ◌⊎◌}
 use Rattle.std.proofs.lemmas.Bool.{and_parts, cases_Bool, false≢true, leb-true, lt-ltb, ltb-true, or_cases, or_left, or_right}

@@ -5,7 +5,7 @@ use Rattle.fa_machine.specs.Step.{SpareIn}
 use Rattle.fa_machine.specs.declared.answers.ReadState.{ReadState}
 use Rattle.fa_shared_lock.specs.Locked.{LockedState}
 use Rattle.fa_workers.specs.Rebuilding.{AfterBatch, Moved, Rebuilds}
-use Rattle.fa_shared_die_events.specs.Spares.{BringsIn, HasNone, Lowest, WantsNone}
+use Rattle.fa_shared.specs.Spares.{BringsIn, HasNone, Lowest, WantsNone}
 use Rattle.fa_workers.specs.declared.rebuild_stage.RebuildStage.{RebuildStage}
 use Rattle.fa_workers.specs.declared.rebuild_stage.RebuildStage.TheVariants.{Looking}
 use Rattle.fa_workers.specs.declared.rebuild_stage.ThinPage.{ThinPage}

@@ -8,8 +8,7 @@ ghost use Rattle.fa_workers.specs.Windows.{GivesWindow, GivesWindows};
 
 use fa_core::Array;
 use fa_map_calls::Map;
-use fa_shared::Shared;
-use fa_shared_die_events::window;
+use fa_shared::{Shared, window};
 use fa_shared_lock::{Awaits, Locked, Seat};
 use fa_types::Die;
 use std::alloc::Allocator;

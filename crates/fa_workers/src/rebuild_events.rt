@@ -9,7 +9,7 @@ use crate::rebuild_stage::{RebuildStage, ThinPage};
 use fa_core::Admitted;
 use fa_machine::{AdmitRefused, BatchId, CommitCopyRefused, Copied, ReadState, ReserveCopyRefused};
 use fa_map_calls::Map;
-use fa_shared_die_events::{bring_in_spare, commit_copy, reserve_copy};
+use fa_shared::{bring_in_spare, commit_copy, reserve_copy};
 use fa_shared_events::{admit, end_batch};
 use fa_shared_lock::{Locked, Seat};
 use fa_tag::Payload;

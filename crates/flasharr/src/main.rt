@@ -1,7 +1,12 @@
-//! The program: its arguments, its input and its output go to the library, and it ends with the status that comes of them.
+//! The program: its arguments, its input and its output go to `start`, and it ends with the status that comes of them.
 #![tactic(auto)]
 
-use fa_prog::Status;
+mod command;
+mod conversation;
+mod laws;
+mod program;
+
+use crate::program::Status;
 use std::io::IsTerminal;
 use std::net::{TcpListener, TcpStream};
 use std::{env, io};
@@ -10,7 +15,7 @@ fn main(rt: HostRuntime) -> Status {
     let watched = rt.stderr().is_terminal();
     // The proof of a call over this runtime's sockets wants their types among those of the caller.
     let _sockets: Option<(TcpListener, TcpStream)> = None;
-    fa_prog::start(
+    program::start(
         &rt,
         rt.alloc(),
         watched,

@@ -3,6 +3,10 @@ ghost use Rattle.std.specs.Prelude.{◌≡◌, IfOk};
 ghost use Rattle.std.specs.FinMap.{empty, len};
 ghost use Rattle.fa_core.specs.Array.{IsWhole};
 
+use crate::array_lines::over_array;
+use crate::lab::Lab;
+use crate::script::Script;
+use crate::shape::{Shape, array_over};
 use crate::store::over_store;
 use fa_core::Array;
 use fa_map_calls::Map;
@@ -10,7 +14,6 @@ use fa_mount::MountedArray;
 use fa_mount_headers::MountRefused;
 use fa_solo::Parts;
 use flasharr_lab_array::show_mounted;
-use flasharr_lab_lines::{Lab, Script, Shape, array_over, over_array};
 use flasharr_lab_parts::{DieImage, Heap, Images, Yard, show_unmounted};
 use std::alloc::AllocError;
 use std::io::BufRead;

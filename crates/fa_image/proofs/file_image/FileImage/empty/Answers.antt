@@ -3,7 +3,7 @@ use Rattle.std.proofs.Common.{◌≡◌, ◌∙◌, ap, ℕ, ◌+◌, ◌*◌, L
 use Rattle.std.proofs.lemmas.List.{take-replicate, drop-replicate, take_all, length-replicate}
 use Rattle.fa_types.specs.declared.geometry.Geometry.{Geometry}
 use Rattle.fa_types.specs.Store.{bytes_at}
-use Rattle.fa_image_history.specs.Contents.{Contents}
+use Rattle.fa_ghost.specs.Contents.{Contents}
 use Rattle.fa_image.specs.Cut.{cut}
 use Rattle.fa_image.specs.Cuts.{cut-replicate}
 use Rattle.fa_image.specs.File.{state_in, of_zeros, file_bytes}

@@ -1,2 +1,0 @@
-pub mod Life
-pub mod Behind

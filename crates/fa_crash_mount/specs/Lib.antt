@@ -1,4 +1,0 @@
-pub mod HeadersLeft
-pub mod Left
-pub mod Read
-pub mod Whole

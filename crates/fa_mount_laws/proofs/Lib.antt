@@ -1,6 +1,0 @@
-pub mod Cells
-pub mod HonestSlots
-pub mod MountedFacts
-pub mod MountedWorlds
-pub mod OneMap
-pub mod SlotCells

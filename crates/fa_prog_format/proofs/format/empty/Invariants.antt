@@ -1,5 +1,0 @@
-use Rattle.std.proofs.Common.{[]}
-use Rattle.fa_prog_format.proofs.format.empty.Given as goal
-
-abbrev pub ghost-empty : goal.ghost-empty
-ghost-empty g a = []

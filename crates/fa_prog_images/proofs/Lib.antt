@@ -1,0 +1,8 @@
+pub mod ByTerms
+pub mod DumpLines
+pub mod Formatting
+pub mod Inner
+pub mod Mounted
+pub mod Rows
+pub mod Sends
+pub mod Told

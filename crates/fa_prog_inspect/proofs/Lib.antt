@@ -1,3 +1,0 @@
-pub mod ByTerms
-pub mod Inner
-pub mod Told

@@ -1,2 +1,0 @@
-pub mod Array
-pub mod Mount

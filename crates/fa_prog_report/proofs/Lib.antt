@@ -1,3 +1,0 @@
-pub mod DumpLines
-pub mod Rows
-pub mod Sends

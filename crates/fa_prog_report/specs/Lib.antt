@@ -1,3 +1,0 @@
-pub mod Documents
-pub mod Lines
-pub mod Table

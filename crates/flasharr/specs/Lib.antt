@@ -1,0 +1,5 @@
+pub mod Conversation
+pub mod Output
+pub mod Program
+pub mod Right
+pub mod TalkArray
