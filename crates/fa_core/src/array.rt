@@ -8,7 +8,8 @@ ghost use Rattle.fa_machine.specs.declared.places.Version.{Version};
 ghost use Rattle.fa_set.specs.Members.{bound_of, members};
 
 use fa_core_read::Planner;
-use fa_core_state::{State, begin};
+use fa_core_state::State;
+use fa_core_upkeep::begin;
 use fa_map_calls::Map;
 use fa_set::NumberSet;
 use fa_tag::Payload;

@@ -8,7 +8,7 @@ use Rattle.fa_core_batches.specs.declared.page.BatchList.{BatchList}
 use Rattle.fa_core_batches.specs.declared.page.BatchPage.{BatchPage}
 use Rattle.fa_core_batches.specs.declared.page.PageState.{PageState}
 use Rattle.fa_core_batches.specs.declared.page.PageState.TheVariants.{Answered, Booked, InFlight, Torn}
-use Rattle.fa_core_tables.proofs.ClaimTables.{get_table, map_of, same_map_of, there}
+use Rattle.fa_machine.proofs.NumberTables.{get_table, map_of, same_map_of, there}
 use Rattle.fa_machine.proofs.Maps.{get-insert_other, get-insert_same, get-remove_other, get-remove_same, has_some}
 use Rattle.fa_machine.specs.Maps.{is_one_of}
 use Rattle.fa_machine.specs.State.{OpenBatch}

@@ -8,7 +8,7 @@ use Rattle.fa_core_batches.specs.Whole.{IsList, IsWhole}
 use Rattle.fa_core_batches.specs.declared.page.BatchList.{BatchList}
 use Rattle.fa_core_batches.specs.declared.page.BatchPage.{BatchPage}
 use Rattle.fa_core_batches.specs.declared.page.PageState.{PageState}
-use Rattle.fa_core_tables.proofs.ClaimTables.{found_is, same_map_of}
+use Rattle.fa_machine.proofs.NumberTables.{found_is, same_map_of}
 use Rattle.fa_machine.proofs.Maps.{found_changed, nat_same}
 use Rattle.fa_machine.specs.Maps.{is_one_of}
 use Rattle.fa_machine.specs.Step.{is_distinct}

@@ -1,4 +1,4 @@
 pub mod Below
 pub mod Fitted
 pub mod Numbers
-mod Tracked
+pub mod Tracked

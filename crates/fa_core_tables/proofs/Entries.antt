@@ -1,7 +1,7 @@
 -- The claims that the entries of a table stand for.
 use Rattle.fa_core_tables.specs.Claims.{claim_of, claims_in, reservation_of}
 use Rattle.fa_core_tables.specs.declared.targets.Reservation.{Reservation}
-use Rattle.fa_core_tables.proofs.ClaimTables.{get_table, same_map_of, there}
+use Rattle.fa_machine.proofs.NumberTables.{get_table, same_map_of, there}
 use Rattle.fa_machine.proofs.Maps.{get-change, has_some, nat_same}
 use Rattle.fa_machine.proofs.Values.{any_value, some_value}
 use Rattle.fa_machine.specs.Maps.{change}

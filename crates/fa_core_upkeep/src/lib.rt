@@ -1,7 +1,9 @@
 //! The events of the collector, of the round and of the rebuilder, over the array's state: a die's window, a round that passes, a spare
-//! that comes in, one more copy of a thin page, and flushes. Besides, the fold of the history, and the looks that tell conditions.
+//! that comes in, one more copy of a thin page, and flushes. Besides, the fold of the history, the
+//! looks that tell conditions, and the state as it begins over what was mounted.
 #![tactic(auto)]
 
+mod beginning;
 mod copying;
 mod flushing;
 mod history;
@@ -12,6 +14,7 @@ mod spares;
 mod syncs;
 mod windows;
 
+pub use beginning::begin;
 pub use copying::reserve_copy;
 pub use flushing::flush_begin;
 pub use history::{counts, fold, history_full};

@@ -1,4 +1,4 @@
-use Rattle.fa_core_tables.proofs.ClaimTables.{none_in, no_entries}
+use Rattle.fa_machine.proofs.NumberTables.{none_in, no_entries}
 use Rattle.fa_core_batches.specs.Pages.{batch_in}
 use Rattle.fa_core_batches.proofs.batches.Batches.is_empty.Goals as goal
 

@@ -1,4 +1,4 @@
-use Rattle.fa_core_tables.proofs.ClaimTables.{inserted}
+use Rattle.fa_machine.proofs.NumberTables.{inserted}
 use Rattle.fa_core_tables.specs.Claims.{claim_of}
 use Rattle.std.proofs.Common.{refl, Some, None}
 use Rattle.fa_core_tables.proofs.claims.Claims.claim.Goals as goal

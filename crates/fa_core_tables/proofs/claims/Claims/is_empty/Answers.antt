@@ -1,4 +1,4 @@
-use Rattle.fa_core_tables.proofs.ClaimTables.{none_in, no_entries}
+use Rattle.fa_machine.proofs.NumberTables.{none_in, no_entries}
 use Rattle.fa_core_tables.specs.Claims.{claim_of}
 use Rattle.fa_core_tables.proofs.claims.Claims.is_empty.Goals as goal
 

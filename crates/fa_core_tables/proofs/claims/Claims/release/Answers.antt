@@ -1,4 +1,4 @@
-use Rattle.fa_core_tables.proofs.ClaimTables.{removed}
+use Rattle.fa_machine.proofs.NumberTables.{removed}
 use Rattle.fa_core_tables.specs.Claims.{claim_of}
 use Rattle.std.proofs.Common.{refl, None}
 use Rattle.fa_core_tables.proofs.claims.Claims.release.Goals as goal

@@ -1,4 +1,4 @@
-use Rattle.fa_core_tables.proofs.ClaimTables.{inserted}
+use Rattle.fa_machine.proofs.NumberTables.{inserted}
 use Rattle.fa_core_tables.specs.Claims.{claim_of}
 use Rattle.std.proofs.Common.{ap, refl, sym, ◌∙◌, Some}
 use Rattle.fa_core_tables.proofs.Entries.{open_at, page_at}

@@ -8,10 +8,9 @@ ghost use Rattle.fa_set.specs.Members.{bound_of, members};
 ghost use Rattle.fa_core_state.specs.Core.{core_of};
 ghost use Rattle.fa_core_state.specs.Fitted.{IsFitted};
 
-use crate::live::mark_live;
-use crate::state::State;
 use fa_core_batches::Batches;
 use fa_core_bookings::Bookings;
+use fa_core_state::{State, mark_live};
 use fa_core_tables::{ByDie, Claims, Log, Waiting};
 use fa_map_calls::Map;
 use fa_set::NumberSet;

@@ -3,7 +3,7 @@ use Rattle.fa_machine.specs.State.{CalendarState}
 use Rattle.fa_machine.specs.Maps.{is_one_of}
 use Rattle.std.proofs.Common.{ap, arith, length, rules, subst, sym, ◌∙◌, ◌≤◌}
 use Rattle.std.proofs.lemmas.Bool.{false≢true}
-use Rattle.fa_core_state.proofs.mounting.begin.Goals as goal
+use Rattle.fa_core_upkeep.proofs.beginning.begin.Goals as goal
 
 pub returns-clause-fitted : goal.returns-clause-fitted
 returns-clause-fitted g c = record {
