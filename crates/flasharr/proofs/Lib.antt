@@ -1,4 +1,0 @@
-pub mod Limits
-pub mod Said
-pub mod Seen
-pub mod Told
