@@ -14,9 +14,9 @@ use Rattle.std.proofs.Math.Bool.{or-false}
 use Rattle.std.proofs.Math.Seq.{split_at, get_or-append_seam}
 use Rattle.fa_types.specs.declared.numbers.Die.{Die}
 use Rattle.fa_types.specs.declared.numbers.Page.{Page}
-use Rattle.fa_batch.specs.declared.batch.Unsound.{Unsound}
-use Rattle.fa_batch.specs.declared.batch.Unsound.TheVariants.{NoHolder, Twice}
-use Rattle.fa_batch.specs.Batch.{Entry, AreFine, IsFirstWrong, holds, is_among, times_named, with_holder}
+use Rattle.fa_batch_terms.specs.declared.unsound.Unsound.{Unsound}
+use Rattle.fa_batch_terms.specs.declared.unsound.Unsound.TheVariants.{NoHolder, Twice}
+use Rattle.fa_batch_terms.specs.Batch.{Entry, AreFine, IsFirstWrong, holds, is_among, times_named, with_holder}
 use Rattle.fa_batch.specs.Index.{entry_index}
 use Rattle.fa_batch.proofs.Counting.{count_by-cons, count-from-any, count-before, once-push}
 use Rattle.fa_batch.proofs.Indexed.{position-at}

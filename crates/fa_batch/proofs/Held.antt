@@ -6,7 +6,7 @@ use Rattle.std.proofs.lemmas.List.{drop_at, drop-append-le, take-append-le, leng
 use Rattle.fa_types.specs.declared.numbers.Die.{Die}
 use Rattle.fa_types.specs.declared.numbers.Page.{Page}
 use Rattle.fa_batch.specs.declared.batch.HeldPage.{HeldPage}
-use Rattle.fa_batch.specs.Batch.{Entry, with_holder}
+use Rattle.fa_batch_terms.specs.Batch.{Entry, with_holder}
 use Rattle.fa_batch.specs.Index.{begin_from, entries_from, entries_of, AreEndsFrom, pages_of, entry_index}
 
 module _ {X : Type 0} where

@@ -11,7 +11,7 @@ use Rattle.std.proofs.lemmas.List.Quantifiers.{position-Some}
 use Rattle.std.proofs.lemmas.List.Sums.{count_by_more_yes, fails_before_first, prefix_len-le-length, sum_by-take-le}
 use Rattle.std.proofs.lemmas.Bool.Decides.{nat_tests}
 use Rattle.fa_types.specs.declared.numbers.Die.{Die}
-use Rattle.fa_batch.specs.Batch.{Entry, times_named}
+use Rattle.fa_batch_terms.specs.Batch.{Entry, times_named}
 use Rattle.fa_batch.specs.Index.{entry_index, index_among, AreRising, IsIndexOf}
 use Rattle.fa_batch.proofs.Counting.{count-from-any}
 

@@ -7,7 +7,7 @@ use Rattle.std.proofs.lemmas.List.{take_all, take_at, take-append-le, length-map
 use Rattle.fa_types.specs.declared.numbers.Die.{Die}
 use Rattle.fa_types.specs.declared.numbers.Page.{Page}
 use Rattle.fa_batch.specs.declared.batch.HeldPage.{HeldPage}
-use Rattle.fa_batch.specs.Batch.{Entry}
+use Rattle.fa_batch_terms.specs.Batch.{Entry}
 use Rattle.fa_batch.specs.Index.{entries_of, index_among, pages_of, AreEndsFrom, AreRising, IsIndexOf, IsIndexed}
 use Rattle.fa_batch.proofs.Held.{pushed}
 use Rattle.fa_batch.proofs.Indexed.{index-again, index-push, index-rise}

@@ -11,7 +11,7 @@ use Rattle.std.proofs.lemmas.Cmp.{ranked}
 use Rattle.std.proofs.lemmas.List.{take_all, length-map, length_push, get_or-map, get_or_append_left, get_or_at}
 use Rattle.fa_types.specs.declared.numbers.Die.{Die}
 use Rattle.fa_batch.specs.declared.batch.HeldPage.{HeldPage}
-use Rattle.fa_batch.specs.Batch.{Entry}
+use Rattle.fa_batch_terms.specs.Batch.{Entry}
 use Rattle.fa_batch.specs.Index.{entries_of, entry_index, index_among, pages_of, AreRising}
 use Rattle.fa_batch.proofs.Held.{entry_from, index-batch, same_length}
 use Rattle.fa_batch.proofs.Indexed.{among-rising, position_first, position_nowhere}

@@ -5,7 +5,7 @@ use Rattle.std.specs.BTreeMap.{BTreeMap, get}
 use Rattle.std.specs.Ordering.{nat_cmp}
 use Rattle.fa_types.specs.declared.numbers.Die.{Die}
 use Rattle.fa_batch.specs.declared.batch.HeldPage.{HeldPage}
-use Rattle.fa_batch.specs.Batch.{Entry}
+use Rattle.fa_batch_terms.specs.Batch.{Entry}
 
 -- the entries of these pages, of which the first one's holders begin at an index of the list of all holders
 abbrev pub entries_from : ℕ → List HeldPage → List Die → List Entry

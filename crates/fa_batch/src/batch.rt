@@ -5,8 +5,9 @@ ghost use Rattle.std.specs.Option.{option_copied, option_map, option_map_or};
 ghost use Rattle.std.specs.List.{find};
 ghost use Rattle.fa_batch.specs.declared.batch.HeldPage.{HeldPage};
 ghost use Rattle.fa_batch.specs.Index.{begin_from, index_among, pages_of, AreRising};
-ghost use Rattle.fa_batch.specs.Batch.{AreFine, IsFirstWrong, is_among, with_holder};
+ghost use Rattle.fa_batch_terms.specs.Batch.{AreFine, IsFirstWrong, is_among, with_holder};
 
+use fa_batch_terms::Unsound;
 use fa_types::{Die, Page};
 use std::alloc::{AllocError, Allocator, Global};
 use std::collections::BTreeMap;
@@ -37,18 +38,9 @@ pub struct Batch<A: Allocator = Global> {
     first: BTreeMap<u64, usize, A>,
 }
 
-/// Why a batch is not sound.
-#[derive(Clone, Copy)]
-pub enum Unsound {
-    /// No die holds the page.
-    NoHolder(Page),
-    /// The page was named before.
-    Twice(Page),
-}
-
 impl<A: Allocator> Model for Batch<A> {
     ghost use Rattle.std.specs.Prelude.{List};
-    ghost use Rattle.fa_batch.specs.Batch.{Entry};
+    ghost use Rattle.fa_batch_terms.specs.Batch.{Entry};
 
     ghost Value = { List Entry };
 
@@ -98,7 +90,7 @@ impl<A: Allocator + Copy> Batch<A> {
 }
 
 impl<A: Allocator> Batch<A> {
-    ghost use Rattle.fa_batch.specs.Batch.{IsSound, times_named};
+    ghost use Rattle.fa_batch_terms.specs.Batch.{IsSound, times_named};
     ghost use Rattle.fa_batch.specs.Index.{entry_index};
 
     /// Adds a die at the end of the last entry's holders. Out of memory, the batch stays as it was.

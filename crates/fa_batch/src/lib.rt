@@ -8,8 +8,8 @@ mod listing;
 mod plan;
 mod spans;
 
-pub use batch::{Batch, MAX_PAGES, Unsound};
+pub use batch::{Batch, MAX_PAGES};
 pub use closed::{Closed, Run, end_soon};
 pub use listing::Listing;
-pub use plan::{Place, Places, Plan, Shortage};
+pub use plan::{Places, Plan, Shortage};
 pub use spans::{Span, Spans, count_covered, covers, index_from, nth_uncovered};

@@ -1,18 +1,8 @@
 //! A plan: which die reads each page of a batch, and in which round.
 use crate::listing::Listing;
-use fa_types::{Die, Page, Round};
+use fa_batch_terms::Place;
+use fa_types::Page;
 use std::alloc::{Allocator, Global};
-
-/// One read of a plan: the page is read from the die in the round.
-#[derive(Clone, Copy)]
-pub struct Place {
-    /// The page that is read.
-    pub page: Page,
-    /// The die that reads it.
-    pub die: Die,
-    /// The round in which it does.
-    pub round: Round,
-}
 
 /// The places of a plan, in any order.
 pub type Places<A = Global> = Listing<Place, A>;

@@ -3,8 +3,8 @@ use Rattle.std.specs.Prelude.{◌≡◌, ◌≢◌, ℕ, ◌<◌, ◌≤◌, Boo
 use Rattle.std.specs.List.{list_any}
 use Rattle.fa_types.specs.declared.numbers.Die.{Die}
 use Rattle.fa_types.specs.declared.numbers.Page.{Page}
-use Rattle.fa_batch.specs.declared.batch.Unsound.{Unsound}
-use Rattle.fa_batch.specs.declared.batch.Unsound.TheVariants.{NoHolder, Twice}
+use Rattle.fa_batch_terms.specs.declared.unsound.Unsound.{Unsound}
+use Rattle.fa_batch_terms.specs.declared.unsound.Unsound.TheVariants.{NoHolder, Twice}
 
 -- a page of a batch, and the dies that hold it
 pub record Entry : Type 0 where

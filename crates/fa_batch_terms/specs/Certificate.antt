@@ -3,9 +3,9 @@ use Rattle.std.specs.Prelude.{◌≡◌, ℕ, zero, suc, ◌<◌, ◌≤◌, Boo
 use Rattle.std.specs.List.{list_any, sum_by}
 use Rattle.fa_types.specs.Open.{open_among}
 use Rattle.fa_types.specs.declared.numbers.Page.{Page}
-use Rattle.fa_batch.specs.Batch.{Entry, holds, times_named}
-use Rattle.fa_batch.specs.Plan.{IsPlan, rounds_of}
-use Rattle.fa_batch.specs.declared.plan.Place.{Place}
+use Rattle.fa_batch_terms.specs.Batch.{Entry, holds, times_named}
+use Rattle.fa_batch_terms.specs.Plan.{IsPlan, rounds_of}
+use Rattle.fa_batch_terms.specs.declared.place.Place.{Place}
 
 -- so many rounds are least: some plan has them, and no plan has fewer
 pub record IsLeast (batch : List Entry) (current : ℕ) (closed : ℕ → ℕ → Bool) (rounds : ℕ) : Type 0 where

@@ -2,8 +2,8 @@
 -- and a round. It is given as the list of its places.
 use Rattle.std.specs.Prelude.{◌≡◌, ℕ, ◌+◌, ◌-◌, ◌≤◌, max, Bool, ◌&&◌, ◌==◌, nat_lt, IsTrue, List, [], ◌∷◌, count_by, All}
 use Rattle.fa_types.specs.Open.{IsOpen, open_among}
-use Rattle.fa_batch.specs.Batch.{Entry, holds}
-use Rattle.fa_batch.specs.declared.plan.Place.{Place}
+use Rattle.fa_batch_terms.specs.Batch.{Entry, holds}
+use Rattle.fa_batch_terms.specs.declared.place.Place.{Place}
 
 -- in how many places a plan puts a page
 abbrev pub times_placed : List Place → ℕ → ℕ

@@ -8,10 +8,10 @@ use Rattle.std.proofs.lemmas.Bool.Decides.{nat_tests}
 use Rattle.std.proofs.lemmas.List.Folds.{list_any_more}
 use Rattle.std.proofs.lemmas.List.Sums.{count_by_more_yes}
 use Rattle.fa_types.specs.Open.{rounds_that}
-use Rattle.fa_batch.specs.declared.plan.Place.{Place}
+use Rattle.fa_batch_terms.specs.declared.place.Place.{Place}
 use Rattle.fa_calendar.specs.DieState.{DieState, HasRoom, IsRoomy}
 use Rattle.fa_calendar.specs.Dies.{closed_by, no_rounds, room_by, window_by, is_at, is_one, AllHaveRoom, KeepsDies}
-use Rattle.fa_batch.specs.Plan.{AreApart}
+use Rattle.fa_batch_terms.specs.Plan.{AreApart}
 use Rattle.fa_batch.specs.Runs.{is_covered, is_from}
 use Rattle.fa_batch.proofs.Counting.{count_by-cons, count-from-any}
 use Rattle.fa_calendar.proofs.Totals.{has_room}

@@ -6,7 +6,7 @@ use Rattle.std.proofs.lemmas.Bool.{cases_eq, cases_lt, and_from, and_left, and_p
 use Rattle.std.proofs.lemmas.List.{get_or_default, get_or-set_same, get_or-set_other, length-set}
 use Rattle.std.proofs.Math.Bool.{and-true}
 use Rattle.fa_types.specs.Open.{rounds_that, max_closed, FewClosed, IsOpen}
-use Rattle.fa_batch.specs.declared.plan.Place.{Place}
+use Rattle.fa_batch_terms.specs.declared.place.Place.{Place}
 use Rattle.fa_types.specs.declared.window.Window.{Window}
 use Rattle.fa_batch.specs.Runs.{is_covered, is_from}
 use Rattle.fa_batch.proofs.Covered.{before, outside}

@@ -2,7 +2,7 @@
 use Rattle.std.specs.Prelude.{◌≡◌, ℕ, Bool, not, ◌&&◌, ◌||◌, List, Option}
 use Rattle.fa_types.specs.Windows.{is_in_window}
 use Rattle.fa_types.specs.declared.window.Window.{Window}
-use Rattle.fa_batch.specs.declared.plan.Place.{Place}
+use Rattle.fa_batch_terms.specs.declared.place.Place.{Place}
 use Rattle.fa_calendar.specs.declared.calendar.Calendar.{Calendar}
 use Rattle.fa_calendar.specs.Dies.{booked_by, window_by, is_at}
 

@@ -5,7 +5,7 @@ use Rattle.std.specs.List.{list_any}
 use Rattle.fa_types.specs.Open.{rounds_that, max_closed, FewClosed}
 use Rattle.fa_types.specs.Windows.{is_in_window}
 use Rattle.fa_types.specs.declared.window.Window.{Window}
-use Rattle.fa_batch.specs.declared.plan.Place.{Place}
+use Rattle.fa_batch_terms.specs.declared.place.Place.{Place}
 use Rattle.fa_batch.specs.Runs.{is_covered}
 use Rattle.fa_set.specs.Members.{Numbers}
 use Rattle.fa_calendar.specs.DieState.{DieState, HasRoom}

@@ -1,8 +1,9 @@
 //! The calendar of all dies.
-ghost use Rattle.std.specs.Prelude.{◌≡◌, ℕ, ◌+◌, ◌-◌, ◌^◌, ◌<◌, ◌≤◌, ◌||◌, ◌&&◌, ◌==◌, not, nat_lt, if◌then◌else◌, Bool, true, false, List, IfOk, IsOk, OnOk, OnErr, IsErrOf, IsTrue, Some, None};
+ghost use Rattle.std.specs.Prelude.{◌≡◌, ℕ, ◌+◌, ◌-◌, ◌^◌, ◌<◌, ◌≤◌, ◌||◌, ◌&&◌, ◌==◌, not, nat_lt, if◌then◌else◌, Bool, true, false};
+ghost use Rattle.std.specs.Prelude.{List, IfOk, IsOk, OnOk, OnErr, IsErrOf, IsTrue, Some, None};
 ghost use Rattle.std.specs.List.{AllByRecursion};
 ghost use Rattle.fa_types.specs.Open.{rounds_that, max_closed, FewClosed, IsOpen};
-ghost use Rattle.fa_batch.specs.Plan.{AreApart};
+ghost use Rattle.fa_batch_terms.specs.Plan.{AreApart};
 ghost use Rattle.fa_calendar.specs.Dies.{AreIdle, IsCalendar, is_at};
 ghost use Rattle.fa_types.specs.Windows.{AreEntries, IsFirstWindow, IsFull};
 ghost use Rattle.fa_calendar.specs.Windows.{left_window};
@@ -13,7 +14,8 @@ use crate::dies::{
     book_all, enter_all, open_all, open_dies, open_one, pass_all, restore_all, spans_without,
 };
 use crate::refused::CalendarRefused;
-use fa_batch::{Closed, Place};
+use fa_batch::Closed;
+use fa_batch_terms::Place;
 use fa_types::{Die, Round, Rounds, Window};
 use std::alloc::{AllocError, Allocator, Global};
 
@@ -50,7 +52,8 @@ impl<A: Allocator + Copy> Calendar<A> {
 }
 
 impl<A: Allocator> Calendar<A> {
-    ghost use Rattle.fa_calendar.specs.Calendar.{current_of, is_booked, window_of, is_closed, is_closed_without, is_closed_with, IsUnchanged};
+    ghost use Rattle.fa_calendar.specs.Calendar.{current_of, is_booked, window_of, is_closed, is_closed_without, is_closed_with};
+    ghost use Rattle.fa_calendar.specs.Calendar.{IsUnchanged};
 
     /// Releases the booked places `old` and books `new`, which are open once `old` is free, no two the
     /// same. Refused, the calendar is as it was.

@@ -1,5 +1,6 @@
 //! The calendar of one die.
-ghost use Rattle.std.specs.Prelude.{◌≡◌, ℕ, ◌+◌, ◌-◌, ◌^◌, ◌<◌, ◌≤◌, ◌==◌, ◌&&◌, ◌||◌, Bool, true, false, not, [], OnOk, OnErr, IfOk, IsOk, IsErrOf, IsTrue, Some, None};
+ghost use Rattle.std.specs.Prelude.{◌≡◌, ℕ, ◌+◌, ◌-◌, ◌^◌, ◌<◌, ◌≤◌, ◌==◌, ◌&&◌, ◌||◌, Bool, true, false, not, [], OnOk, OnErr, IfOk};
+ghost use Rattle.std.specs.Prelude.{IsOk, IsErrOf, IsTrue, Some, None};
 ghost use Rattle.std.specs.VecDeque.{deque_len, deque_capacity};
 ghost use Rattle.fa_types.specs.Open.{rounds_that, max_closed};
 ghost use Rattle.fa_batch.specs.Runs.{is_covered, is_from, IsNthFree};
@@ -12,7 +13,8 @@ ghost use Rattle.fa_calendar.specs.Windows.{left_window};
 use crate::gap::first_gap;
 use crate::merging::{pass, put_in, take_out};
 use crate::refused::CalendarRefused;
-use fa_batch::{Place, Span, Spans, count_covered, covers, nth_uncovered};
+use fa_batch::{Span, Spans, count_covered, covers, nth_uncovered};
+use fa_batch_terms::Place;
 use fa_types::{Round, Window};
 use std::alloc::{AllocError, Allocator, Global};
 use std::collections::VecDeque;

@@ -9,7 +9,7 @@ use Rattle.std.proofs.lemmas.List.Quantifiers.{position-Some}
 use Rattle.std.proofs.lemmas.Option.{slice_get-get_or}
 use Rattle.std.proofs.Math.Bool.{or-false, or-true}
 use Rattle.fa_types.specs.declared.numbers.Die.{Die}
-use Rattle.fa_batch.specs.Batch.{Entry, holds, is_among, times_named}
+use Rattle.fa_batch_terms.specs.Batch.{Entry, holds, is_among, times_named}
 use Rattle.fa_batch.specs.Index.{entry_index}
 use Rattle.fa_cert.specs.Marks.{AreMarks}
 use Rattle.fa_batch.proofs.Counting.{count-from-any}

@@ -6,8 +6,8 @@ use Rattle.std.proofs.lemmas.Bool.{cases_eq, cases_lt, ne_eqb}
 use Rattle.std.proofs.lemmas.List.{get_or_past}
 use Rattle.fa_types.specs.Open.{open_among}
 use Rattle.fa_types.specs.declared.numbers.Page.{Page}
-use Rattle.fa_batch.specs.Batch.{Entry}
-use Rattle.fa_batch.specs.Certificate.{AreNamed, AreTheHolders, ShowsNoFewer, holds_any, open_places}
+use Rattle.fa_batch_terms.specs.Batch.{Entry}
+use Rattle.fa_batch_terms.specs.Certificate.{AreNamed, AreTheHolders, ShowsNoFewer, holds_any, open_places}
 use Rattle.fa_cert_places.specs.OpenCounts.{marked}
 use Rattle.fa_batch.proofs.Counting.{count_by-cons}
 

@@ -12,11 +12,11 @@ use Rattle.std.proofs.lemmas.List.{take_more, get_or-take, get_or-set_same, get_
 use Rattle.std.proofs.lemmas.List.Elements.{All-more, All-pop, All-weaker, recursion_from_All}
 use Rattle.std.proofs.lemmas.List.Folds.{list_any_more}
 use Rattle.fa_types.specs.declared.numbers.Page.{Page}
-use Rattle.fa_batch.specs.declared.plan.Place.{Place}
-use Rattle.fa_batch.specs.Batch.{Entry, holds, times_named}
-use Rattle.fa_batch.specs.Certificate.{AreNamed}
+use Rattle.fa_batch_terms.specs.declared.place.Place.{Place}
+use Rattle.fa_batch_terms.specs.Batch.{Entry, holds, times_named}
+use Rattle.fa_batch_terms.specs.Certificate.{AreNamed}
 use Rattle.fa_cert.specs.Marks.{AreMarks}
-use Rattle.fa_batch.specs.Plan.{ArePlaced, ArePlacedOnce, AreHeld, AreApart, rounds_of}
+use Rattle.fa_batch_terms.specs.Plan.{ArePlaced, ArePlacedOnce, AreHeld, AreApart, rounds_of}
 use Rattle.fa_batch.proofs.Counting.{AllByRecursion-weaker, count_by-none, any-from-count, count-from-any, once-push, twice-push, once-whole}
 
 cond-or : (b c : Bool) → cond b true c ≡ (c || b)

@@ -1,8 +1,8 @@
 -- Tables of marks: of dies by their numbers, and of the entries of a batch by their indices.
 use Rattle.std.specs.Prelude.{◌≡◌, ℕ, ◌<◌, Bool, false, List, length, slice_index_or}
 use Rattle.fa_types.specs.declared.numbers.Page.{Page}
-use Rattle.fa_batch.specs.Batch.{Entry}
-use Rattle.fa_batch.specs.Certificate.{holds_any}
+use Rattle.fa_batch_terms.specs.Batch.{Entry}
+use Rattle.fa_batch_terms.specs.Certificate.{holds_any}
 
 -- a table marks the dies that hold any of the pages
 pub record AreHoldersMarked (batch : List Entry) (pages : List Page) (marks : List Bool) : Type 0 where

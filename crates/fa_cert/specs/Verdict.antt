@@ -2,15 +2,15 @@
 use Rattle.std.specs.Prelude.{◌≡◌, ℕ, Bool, List, ◌++◌, codes}
 use Rattle.std.specs.Fmt.{decimal}
 use Rattle.fa_types.specs.declared.numbers.Page.{Page}
-use Rattle.fa_batch.specs.declared.plan.Place.{Place}
+use Rattle.fa_batch_terms.specs.declared.place.Place.{Place}
 use Rattle.fa_cert.specs.declared.verdict.Refusal.{Refusal}
 use Rattle.fa_cert.specs.declared.verdict.Refusal.TheVariants.{PageMissing, PageTwice, NotAHolder, RoundClosed, PlaceTwice}
 use Rattle.fa_cert.specs.declared.verdict.Refusal.TheVariants.{LastRound, ShortagePage, NotShort}
 use Rattle.fa_cert.specs.declared.verdict.Verdict.{Verdict}
 use Rattle.fa_cert.specs.declared.verdict.Verdict.TheVariants.{Least, Refused}
-use Rattle.fa_batch.specs.Batch.{Entry}
-use Rattle.fa_batch.specs.Plan.{IsPlan, ArePlaced, ArePlacedOnce, AreHeld, AreOpen, AreApart, rounds_of}
-use Rattle.fa_batch.specs.Certificate.{IsCertificate, AreNamed, ShowsNoFewer}
+use Rattle.fa_batch_terms.specs.Batch.{Entry}
+use Rattle.fa_batch_terms.specs.Plan.{IsPlan, ArePlaced, ArePlacedOnce, AreHeld, AreOpen, AreApart, rounds_of}
+use Rattle.fa_batch_terms.specs.Certificate.{IsCertificate, AreNamed, ShowsNoFewer}
 
 module _ (batch : List Entry) (current : ℕ) (closed : ℕ → ℕ → Bool) (rounds : ℕ) (places : List Place) (pages : List Page) where
   -- which fact of a certificate fails; all that come before it hold

@@ -1,9 +1,9 @@
 //! Laws of the definitions, each the contract of a function with no code.
 ghost use Rattle.std.specs.Prelude.{ℕ, Bool, List};
 ghost use Rattle.fa_types.specs.declared.numbers.Page.{Page};
-ghost use Rattle.fa_batch.specs.declared.plan.Place.{Place};
-ghost use Rattle.fa_batch.specs.Batch.{Entry};
-ghost use Rattle.fa_batch.specs.Certificate.{IsCertificate, IsLeast};
+ghost use Rattle.fa_batch_terms.specs.declared.place.Place.{Place};
+ghost use Rattle.fa_batch_terms.specs.Batch.{Entry};
+ghost use Rattle.fa_batch_terms.specs.Certificate.{IsCertificate, IsLeast};
 
 /// What has a certificate is least: a plan of fewer rounds would put the pages of the shortage into
 /// fewer open places than there are pages.

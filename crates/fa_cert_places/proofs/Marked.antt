@@ -3,7 +3,7 @@ use Rattle.std.proofs.Common.{◌≡◌, ℕ, zero, suc, ◌+◌, ◌≤◌, Boo
 use Rattle.std.proofs.lemmas.List.Sums.{sum_by-cons}
 use Rattle.std.proofs.lemmas.Bool.{cond-true, cond-false}
 use Rattle.fa_types.specs.Open.{open_among}
-use Rattle.fa_batch.specs.Certificate.{open_places}
+use Rattle.fa_batch_terms.specs.Certificate.{open_places}
 use Rattle.fa_cert_places.specs.OpenCounts.{marked}
 
 pub marked-none : (marks : List Bool) → marked marks 0 ≡ []

@@ -2,7 +2,7 @@
 #![tactic(auto)]
 
 ghost use Rattle.std.specs.Prelude.{◌≡◌, ◌+◌, ◌<◌, ◌↔◌, ◌^◌, IsTrue};
-ghost use Rattle.fa_batch.specs.Certificate.{open_places};
+ghost use Rattle.fa_batch_terms.specs.Certificate.{open_places};
 ghost use Rattle.fa_cert_places.specs.OpenCounts.{AreOpenCounts, marked};
 
 use fa_types::{Die, Rounds};

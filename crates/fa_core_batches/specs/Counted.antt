@@ -1,6 +1,7 @@
 -- How many pages of a batch stand in some way, which each list of a batch knows.
 use Rattle.std.specs.Option.{option_map_or}
-use Rattle.std.specs.Prelude.{◌≡◌, ℕ, ◌+◌, ◌-◌, ◌==◌, ◌≤◌, Bool, false, if◌then◌else◌, List, Option, Some, cond, count_by, not, option_map, vec_capacity}
+use Rattle.std.specs.Prelude.{◌≡◌, ℕ, ◌+◌, ◌-◌, ◌==◌, ◌≤◌, Bool, false, if◌then◌else◌, List, Option, Some, cond, count_by, not}
+use Rattle.std.specs.Prelude.{option_map, vec_capacity}
 use Rattle.fa_core_batches.specs.Pages.{Lists, Pages, is_answered, is_torn, list_at, numbers_of, page_at}
 use Rattle.fa_core_batches.specs.declared.page.BatchList.{BatchList}
 use Rattle.fa_core_batches.specs.declared.page.PageState.{PageState}

@@ -1,5 +1,5 @@
 -- The calendar's part of the state where places are given up and others booked.
-use Rattle.fa_batch.specs.declared.plan.Place.{Place}
+use Rattle.fa_batch_terms.specs.declared.place.Place.{Place}
 use Rattle.fa_core_bookings.proofs.Booked.{same_bookings, some_flipped}
 use Rattle.fa_core_bookings.specs.Found.{booked_is, get_booked, window_is}
 use Rattle.fa_core_bookings.proofs.Placed.{get_over, over_some}

@@ -1,5 +1,5 @@
 -- Places that get bookings, one after the other.
-use Rattle.fa_batch.specs.declared.plan.Place.{Place}
+use Rattle.fa_batch_terms.specs.declared.place.Place.{Place}
 use Rattle.fa_core_bookings.proofs.Booked.{here_tied}
 use Rattle.fa_core_bookings.specs.Places.{booked_over, booking_of}
 use Rattle.fa_calendar.specs.Dies.{is_at, is_one}

@@ -1,6 +1,6 @@
 -- The bookings of a calendar where places are given up and others booked.
 use Rattle.std.specs.Prelude.{ℕ, List, Option, Some, not, fold, false, if◌then◌else◌}
-use Rattle.fa_batch.specs.declared.plan.Place.{Place}
+use Rattle.fa_batch_terms.specs.declared.place.Place.{Place}
 use Rattle.fa_calendar.specs.Dies.{is_at, is_one}
 use Rattle.fa_machine.specs.Maps.{keep}
 use Rattle.fa_machine.specs.State.{CalendarState}

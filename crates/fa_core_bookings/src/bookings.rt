@@ -3,7 +3,7 @@ ghost use Rattle.std.specs.Prelude.{◌≡◌, ℕ, ◌+◌, ◌-◌, ◌^◌, �
 ghost use Rattle.std.specs.Prelude.{IfOk, IsOk, IsTrue, OnErr, OnOk, IsErrOf, None};
 ghost use Rattle.std.specs.FinMap.{contains_key, empty, get, insert, remove, len};
 ghost use Rattle.std.specs.List.{AllByRecursion};
-ghost use Rattle.fa_batch.specs.Plan.{AreApart};
+ghost use Rattle.fa_batch_terms.specs.Plan.{AreApart};
 ghost use Rattle.fa_core_bookings.specs.Booked.{AreBooked};
 ghost use Rattle.fa_core_bookings.specs.Places.{without_places};
 ghost use Rattle.fa_calendar.specs.Calendar.{is_booked};
@@ -15,7 +15,8 @@ ghost use Rattle.fa_types.specs.Windows.{IsFirstWindow, IsFull};
 
 use crate::places::{book_all, take_out_all};
 use crate::table::{BookedRounds, forget_current, forget_die, put, take_out};
-use fa_batch::{Closed, Place};
+use fa_batch::Closed;
+use fa_batch_terms::Place;
 use fa_calendar::{Calendar, CalendarRefused};
 use fa_machine::{BatchId, Booking};
 use fa_types::{Die, Page, Round, Rounds, Window};

@@ -6,7 +6,7 @@ ghost use Rattle.fa_core_bookings.specs.Places.{booked_over};
 ghost use Rattle.fa_calendar.specs.Dies.{is_at};
 
 use crate::table::{BookedRounds, put, take_out};
-use fa_batch::Place;
+use fa_batch_terms::Place;
 use fa_machine::{BatchId, Booking};
 use std::alloc::Allocator;
 

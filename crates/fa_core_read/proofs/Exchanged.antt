@@ -1,5 +1,5 @@
 -- What a calendar has where a plan was booked in place of another.
-use Rattle.fa_batch.specs.declared.plan.Place.{Place}
+use Rattle.fa_batch_terms.specs.declared.place.Place.{Place}
 use Rattle.fa_core_batches.specs.declared.page.PageState.{PageState}
 use Rattle.fa_core_batches.specs.declared.page.PageState.TheVariants.{Answered, Booked, InFlight, Torn}
 use Rattle.fa_core_bookings.proofs.Placed.{get_over, here_is}

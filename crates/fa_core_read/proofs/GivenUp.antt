@@ -1,5 +1,5 @@
 -- Places that are given up one by one.
-use Rattle.fa_batch.specs.declared.plan.Place.{Place}
+use Rattle.fa_batch_terms.specs.declared.place.Place.{Place}
 use Rattle.fa_core_bookings.specs.Places.{without_places}
 use Rattle.fa_calendar.specs.Dies.{is_at, is_one}
 use Rattle.fa_machine.proofs.Maps.{get-keep, passed, place_cmp_total, place_same, place_tied}

@@ -1,6 +1,6 @@
 -- The last of some places that passes a test, as folds over plans take it.
 use Rattle.fa_batch.proofs.Counting.{count_by-cons}
-use Rattle.fa_batch.specs.declared.plan.Place.{Place}
+use Rattle.fa_batch_terms.specs.declared.place.Place.{Place}
 use Rattle.fa_machine.proofs.Lists.{counted_none}
 use Rattle.fa_machine.specs.Among.{Among}
 use Rattle.std.proofs.Common.{Bool, List, Option, Some, [], ap, arith, cond, false, inl, inr, refl, sym, true, ◌+◌}

@@ -1,5 +1,5 @@
 -- How pages stand once places are booked for them.
-use Rattle.fa_batch.specs.declared.plan.Place.{Place}
+use Rattle.fa_batch_terms.specs.declared.place.Place.{Place}
 use Rattle.fa_core_batches.specs.declared.page.PageState.{PageState}
 use Rattle.fa_core_batches.specs.declared.page.PageState.TheVariants.{Answered, Booked, InFlight, Torn}
 use Rattle.fa_core_batches.specs.Pages.{is_answered}

@@ -1,7 +1,7 @@
 -- A certificate against a calendar is one against the array's closed rounds, since holders are live.
-use Rattle.fa_batch.specs.Batch.{holds}
-use Rattle.fa_batch.specs.Certificate.{IsCertificate}
-use Rattle.fa_batch.specs.Plan.{AreFirstRounds}
+use Rattle.fa_batch_terms.specs.Batch.{holds}
+use Rattle.fa_batch_terms.specs.Certificate.{IsCertificate}
+use Rattle.fa_batch_terms.specs.Plan.{AreFirstRounds}
 use Rattle.fa_machine.specs.Reading.{IsPlanned, Planned, entries_for}
 use Rattle.fa_machine.specs.Rounds.{is_closed, is_taken}
 use Rattle.fa_machine.specs.State.{CalendarState, MapState}

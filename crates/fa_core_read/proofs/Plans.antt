@@ -1,7 +1,7 @@
 -- What a plan of some pages on their holders says of its places.
-use Rattle.fa_batch.specs.Batch.{Entry, holds, is_among}
-use Rattle.fa_batch.specs.Plan.{IsPlan, times_placed}
-use Rattle.fa_batch.specs.declared.plan.Place.{Place}
+use Rattle.fa_batch_terms.specs.Batch.{Entry, holds, is_among}
+use Rattle.fa_batch_terms.specs.Plan.{IsPlan, times_placed}
+use Rattle.fa_batch_terms.specs.declared.place.Place.{Place}
 use Rattle.fa_machine.proofs.Lists.{all_from_among, among-map-intro}
 use Rattle.fa_machine.specs.Among.{Among}
 use Rattle.fa_machine.specs.Copies.{holders}

@@ -1,5 +1,5 @@
 -- Calendars without places of a batch.
-use Rattle.fa_batch.specs.declared.plan.Place.{Place}
+use Rattle.fa_batch_terms.specs.declared.place.Place.{Place}
 use Rattle.fa_core_batches.specs.Batches.{state_of}
 use Rattle.fa_core_batches.specs.declared.batches.Batches.{Batches}
 use Rattle.fa_core_bookings.specs.Places.{without_places}

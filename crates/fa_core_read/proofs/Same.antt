@@ -1,9 +1,9 @@
 -- What a certificate says rests on the rounds of holders alone, from the current one on. So it holds of any two tests of closed
 -- rounds that agree there.
-use Rattle.fa_batch.specs.Batch.{Entry, holds}
-use Rattle.fa_batch.specs.Certificate.{AreTheHolders, IsCertificate, ShowsNoFewer, holds_any, open_places}
-use Rattle.fa_batch.specs.Plan.{AreFirstRounds, AreHeld, AreOpen}
-use Rattle.fa_batch.specs.declared.plan.Place.{Place}
+use Rattle.fa_batch_terms.specs.Batch.{Entry, holds}
+use Rattle.fa_batch_terms.specs.Certificate.{AreTheHolders, IsCertificate, ShowsNoFewer, holds_any, open_places}
+use Rattle.fa_batch_terms.specs.Plan.{AreFirstRounds, AreHeld, AreOpen}
+use Rattle.fa_batch_terms.specs.declared.place.Place.{Place}
 use Rattle.fa_machine.proofs.Lists.{counted_none}
 use Rattle.fa_machine.specs.Among.{Among}
 use Rattle.fa_types.specs.Open.{open_among, rounds_that}

@@ -1,7 +1,7 @@
 -- How the pages of a batch stand as it is opened, and once a plan of it is booked.
 use Rattle.std.specs.Prelude.{ℕ, ◌==◌, List, Option, Some, None, fold, if◌then◌else◌}
 use Rattle.std.specs.FinMap.{empty, get}
-use Rattle.fa_batch.specs.declared.plan.Place.{Place}
+use Rattle.fa_batch_terms.specs.declared.place.Place.{Place}
 use Rattle.fa_core_batches.specs.declared.page.PageState.{PageState}
 use Rattle.fa_core_batches.specs.declared.page.PageState.TheVariants.{Answered, Booked, Torn}
 use Rattle.fa_machine.specs.Maps.{insert_all, is_one_of}

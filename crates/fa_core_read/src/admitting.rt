@@ -2,7 +2,7 @@
 ghost use Rattle.std.specs.Prelude.{◌≡◌, ℕ, ◌<◌, ◌≤◌, length, find, map, true, false, IfOk, IsErrOf, None, OnErr, OnOk};
 ghost use Rattle.std.specs.FinMap.{contains_key, insert, remove};
 ghost use Rattle.std.specs.List.{All};
-ghost use Rattle.fa_batch.specs.Plan.{IsPlan};
+ghost use Rattle.fa_batch_terms.specs.Plan.{IsPlan};
 ghost use Rattle.fa_core_batches.specs.Batches.{batches_of, next_of, state_of};
 ghost use Rattle.fa_core_batches.specs.Pages.{opened};
 ghost use Rattle.fa_core_bookings.specs.Bookings.{calendar_of};
@@ -20,7 +20,7 @@ ghost use Rattle.fa_types.specs.Windows.{IsFull};
 use crate::booking::{book, open};
 use crate::planner::Planner;
 use crate::planning::{is_late, plan_written};
-use fa_batch::Place;
+use fa_batch_terms::Place;
 use fa_calendar::CalendarRefused;
 use fa_core_read_pages::first_lost;
 use fa_core_state::State;

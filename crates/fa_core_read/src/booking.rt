@@ -4,7 +4,7 @@ ghost use Rattle.std.specs.Prelude.{if◌then◌else◌, is_some, [], map, repli
 ghost use Rattle.std.specs.Prelude.{IfOk, OnOk, OnErr, IsErrOf, Some};
 ghost use Rattle.std.specs.FinMap.{contains_key, empty, insert, remove};
 ghost use Rattle.std.specs.List.{All, AllByRecursion};
-ghost use Rattle.fa_batch.specs.Plan.{AreApart, ArePlacedOnce, times_placed};
+ghost use Rattle.fa_batch_terms.specs.Plan.{AreApart, ArePlacedOnce, times_placed};
 ghost use Rattle.fa_core_batches.specs.Batches.{batches_of, bytes_of, next_of, room_of, state_of};
 ghost use Rattle.fa_core_batches.specs.Pages.{opened};
 ghost use Rattle.fa_core_bookings.specs.Bookings.{calendar_of};
@@ -20,7 +20,7 @@ ghost use Rattle.fa_core_state.specs.Fitted.{IsFitted};
 ghost use Rattle.fa_types.specs.Open.{FewClosed, IsOpen};
 ghost use Rattle.fa_types.specs.Windows.{IsFull};
 
-use fa_batch::Place;
+use fa_batch_terms::Place;
 use fa_calendar::CalendarRefused;
 use fa_core_batches::{Batches, PageState};
 use fa_core_read_pages::has_data;

@@ -12,7 +12,7 @@ ghost use Rattle.fa_core_read_pages.specs.Left.{places_among};
 ghost use Rattle.fa_core_state.specs.Core.{core_of};
 ghost use Rattle.fa_core_state.specs.Fitted.{IsFitted};
 
-use fa_batch::Place;
+use fa_batch_terms::Place;
 use fa_core_batches::{Batches, PageState};
 use fa_core_bookings::Bookings;
 use fa_core_read_pages::place_in;

@@ -1,9 +1,10 @@
 //! Batches that are planned anew.
-ghost use Rattle.std.specs.Prelude.{◌≡◌, ◌<◌, ◌≤◌, ◌&&◌, IfOk, IsErrOf, ℕ, find, is_some, length, map, option_map, false, true, None, OnErr, OnOk};
+ghost use Rattle.std.specs.Prelude.{◌≡◌, ◌<◌, ◌≤◌, ◌&&◌, IfOk, IsErrOf, ℕ, find, is_some, length, map, option_map, false, true, None};
+ghost use Rattle.std.specs.Prelude.{OnErr, OnOk};
 ghost use Rattle.std.specs.FinMap.{contains_key};
 ghost use Rattle.std.specs.List.{All, AllByRecursion};
 ghost use Rattle.fa_batch.specs.Closed.{current_of, is_closed};
-ghost use Rattle.fa_batch.specs.Plan.{IsPlan};
+ghost use Rattle.fa_batch_terms.specs.Plan.{IsPlan};
 ghost use Rattle.fa_core_batches.specs.Batches.{batches_of, next_of, state_of};
 ghost use Rattle.fa_core_batches.specs.Pages.{opened};
 ghost use Rattle.fa_core_bookings.specs.Bookings.{calendar_of};
@@ -23,7 +24,8 @@ ghost use Rattle.fa_types.specs.Windows.{IsFull};
 use crate::booking::book;
 use crate::planner::Planner;
 use crate::planning::is_late;
-use fa_batch::{Batch, Closed, Place};
+use fa_batch::{Batch, Closed};
+use fa_batch_terms::Place;
 use fa_calendar::CalendarRefused;
 use fa_core_batches::Batches;
 use fa_core_read_pages::{booked_places, is_left, is_lost, list_left};

@@ -1,6 +1,6 @@
 -- Which pages of a batch are left to be read, and which of its places are booked, by how its pages stand.
 use Rattle.std.specs.Prelude.{ℕ, Bool, true, false, List, Option, Some, None, filter, filter_map}
-use Rattle.fa_batch.specs.declared.plan.Place.{Place}
+use Rattle.fa_batch_terms.specs.declared.place.Place.{Place}
 use Rattle.fa_core_batches.specs.declared.page.PageState.{PageState}
 use Rattle.fa_core_batches.specs.declared.page.PageState.TheVariants.{Booked, Torn}
 

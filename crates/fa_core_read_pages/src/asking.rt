@@ -8,7 +8,8 @@ ghost use Rattle.fa_machine.specs.Reading.{entries_for, has_data as rule_has_dat
 ghost use Rattle.fa_core_read_pages.specs.Left.{is_left as rule_left, left_among, place_in as rule_place, places_among};
 
 use crate::holding::add_page;
-use fa_batch::{Batch, Place};
+use fa_batch::Batch;
+use fa_batch_terms::Place;
 use fa_core_batches::{Batches, PageState};
 use fa_machine::BatchId;
 use fa_map_calls::Map;

@@ -20,8 +20,8 @@ module _ {A : Type 0} where
   AskedAmong t seat bytes before (turn ∷ turns) after =
       (middle : Moment A) × TurnsAmong t seat bytes before turn middle × AskedAmong t seat bytes middle turns after
 
-  -- The request has not begun its flush: it may have just begun itself, or have committed pages. It is none that reads for an answer: such a
-  -- request ends with no flush.
+  -- The request has not begun its flush: it may have just begun itself, or have committed pages. It is none that reads for an answer: such
+  -- a request ends with no flush.
   abbrev pub IsBeforeFlush : Stage A → Type 0
   IsBeforeFlush (Listing (Answer page)) = ⊥
   IsBeforeFlush (Asking (Answer page) pages) = ⊥

@@ -27,8 +27,8 @@ use Rattle.fa_mount_scan.specs.MountedWorld.{IsMountedWorld, SlotBytes}
 abbrev pub is_named : List Seen → ℕ → Bool
 is_named seen die = is_in (mask_in (greatest_epoch seen) seen) die
 
--- Images with these headers, and with these bytes in the slots of each die, are those of an array of which each die's header tells this: the
--- newest header is among them, and the slots of each die that it names have these cells.
+-- Images with these headers, and with these bytes in the slots of each die, are those of an array of which each die's header tells this:
+-- the newest header is among them, and the slots of each die that it names have these cells.
 pub record AreThere (first : World) (told : ℕ → HeaderTells) (cells : ℕ → ℕ → Cell) (seen : List Seen) (bytes : SlotBytes) : Type 0 where
   pub epochs : (x : Seen) → Among x seen → x.header.epoch ≡ (told x.header.die.0).epoch
   pub masks : (x : Seen) → Among x seen → x.header.mask ≡ (told x.header.die.0).live
@@ -40,7 +40,8 @@ pub record AreThere (first : World) (told : ℕ → HeaderTells) (cells : ℕ �
 -- a die that holds a page, and whose image is there, is named and stands as live
 abbrev pub HoldersStand : World → List Seen → Type 0
 HoldersStand w seen = (page : ℕ) (x : Seen) → Among x seen → holds_page w.core.page_map page x.header.die.0 ≡ true
-    → (is_named seen x.header.die.0 ≡ true) × (index : ℕ) × (standing_of (mask_in (greatest_epoch seen) seen) seen x.header.die.0 ≡ Live index)
+    → (is_named seen x.header.die.0 ≡ true)
+    × (index : ℕ) × (standing_of (mask_in (greatest_epoch seen) seen) seen x.header.die.0 ≡ Live index)
 
 -- No page was lost: each that was written as the array was mounted has a holder, whose image is there.
 abbrev pub HaveHolders : World → World → List Seen → Type 0
@@ -55,10 +56,10 @@ pub record IsLiveSeen (seen : List Seen) (die : ℕ) : Type 0 where
   pub named : is_named seen die ≡ true
   pub plain : x.header.spare ≡ false
 
--- What was recovered of such images is such as runs begin with. A page that was promised, of which the image of a holder is there, has at least
--- the number that was promised, with the bytes that were reserved for the number that it has.
-pub record BeginsAgain (first w : World) (told : ℕ → HeaderTells) (u : Unsynced) (seen : List Seen) (bytes : SlotBytes) (is_spare : ℕ → Bool)
-    (core : Core) : Type 0 where
+-- What was recovered of such images is such as runs begin with. A page that was promised, of which the image of a holder is there, has at
+-- least the number that was promised, with the bytes that were reserved for the number that it has.
+pub record BeginsAgain (first w : World) (told : ℕ → HeaderTells) (u : Unsynced) (seen : List Seen) (bytes : SlotBytes)
+    (is_spare : ℕ → Bool) (core : Core) : Type 0 where
   pub next : World
   pub state : next.core ≡ core
   pub unwritten : (die : ℕ) → (next.images die).header ≡ None
@@ -84,8 +85,8 @@ pub record AreImagesLeft (first : World) (told : ℕ → HeaderTells) (cells : �
   pub marked : (x : Seen) → Among x seen → heads x.header.die.0 ≡ None → contains_key first.core.spares x.header.die.0 ≡ true
       → x.header.spare ≡ true
 
--- Images with these headers and bytes are those of an array that was closed in this world, with all its live dies: these have one header, which
--- names them, no mark of a spare, and what the world has in their slots. All other headers are older.
+-- Images with these headers and bytes are those of an array that was closed in this world, with all its live dies: these have one header,
+-- which names them, no mark of a spare, and what the world has in their slots. All other headers are older.
 pub record AreImagesClosed (first w : World) (told : ℕ → HeaderTells) (seen : List Seen) (bytes : SlotBytes) : Type 0 where
   pub there : AreThere first told (λ die slot. (w.images die).seen slot) seen bytes
   pub alike : AreToldAlike told
@@ -96,8 +97,8 @@ pub record AreImagesClosed (first w : World) (told : ℕ → HeaderTells) (seen 
   pub plain : (x : Seen) → Among x seen → is_live w.core.page_map x.header.die.0 ≡ true → x.header.spare ≡ false
   pub some : (x : Seen) × Among x seen × (is_live w.core.page_map x.header.die.0 ≡ true)
 
--- A life begins with the array that was recovered, with what its images hold and what their headers tell; and of each page that was promised
--- before the same is promised in it.
+-- A life begins with the array that was recovered, with what its images hold and what their headers tell; and of each page that was
+-- promised before the same is promised in it.
 pub record BeginsLife (first w : World) (told : ℕ → HeaderTells) (u : Unsynced) (seen : List Seen) (bytes : SlotBytes) (is_spare : ℕ → Bool)
     (core : Core) : Type 0 where
   pub begins : BeginsAgain first w told u seen bytes is_spare core

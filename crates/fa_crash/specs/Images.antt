@@ -8,7 +8,8 @@ use Rattle.fa_tag.specs.SlotGrammar.{IsErased}
 
 -- A refused write leaves in each slot that it names what stood there, what was asked for, or bytes that are neither erased nor a good slot.
 pub record WriteWhole {I : Type 0} (view : I → ImageState) (made : I → ImageCall → ImageAnswer → I → Type 0) : Type 0 where
-  pub programs : (before after : I) (slot : ℕ) (bytes : List ℕ) (fault : ImageFault) → made before (Programming slot bytes) (Refused fault) after
+  pub programs : (before after : I) (slot : ℕ) (bytes : List ℕ) (fault : ImageFault)
+      → made before (Programming slot bytes) (Refused fault) after
       → (slot_at slot (view after) ≡ slot_at slot (view before)) ⊎ (slot_at slot (view after) ≡ bytes)
       ⊎ IsCellOf (slot_at slot (view after)) Broken
   pub erases : (before after : I) (block slot : ℕ) (fault : ImageFault) → made before (Erasing block) (Refused fault) after

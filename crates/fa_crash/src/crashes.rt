@@ -142,9 +142,8 @@ pub fn what_a_cut_leaves_are_first_headers_again()
     a_copy_stays_with_its_die();
 }
 
-/// Behind each cut, the newest of the headers name no dies but those of the array. So it is again in the next life, where each die that they
-/// name is live or a spare. No others are live in any world of the run,
-/// and a die that holds a page is live.
+/// Behind each cut, the newest of the headers name no dies but those of the array. So it is again in the next life, where each die that
+/// they name is live or a spare. No others are live in any world of the run, and a die that holds a page is live.
 pub fn the_newest_headers_name_dies_of_the_array()
     ensures ours { (first w : World) (told : ℕ → HeaderTells) (happenings : List Happening) (u : Unsynced) (cells : ℕ → ℕ → Cell)
         (heads : ℕ → Option HeaderTells) (top die : ℕ) → IsBeginning first → AreFirstHeaders first told → NameOurs first told

@@ -15,9 +15,9 @@ ghost use Rattle.fa_mount_close_laws.specs.Drives.{AreHonest, AreImages, Drive, 
 use fa_image::Image;
 use fa_laws::steps::the_geometry_is_kept;
 
-/// What drives an array over images that write whole is a run of which the laws of crashes speak, with the same events. It leads to the array's
-/// state, and to a world that sees what stands in the slots at the end. Where a flush was begun and is answered as synced, each page is promised
-/// with the number that it had as the flush began. The images return what was written.
+/// What drives an array over images that write whole is a run of which the laws of crashes speak, with the same events. It leads to the
+/// array's state, and to a world that sees what stands in the slots at the end. Where a flush was begun and is answered as synced, each
+/// page is promised with the number that it had as the flush began. The images return what was written.
 pub fn what_drives_whole_images_is_a_whole_run<I: Image>()
     ensures run { (first : World) (array : List ℕ) (images : ℕ → Option I) (drives : List Drive) (last : Driven I) → IsBeginning first
         → AreImages I.view first images → Drives I.made array (beginning first.core images) drives last → AreHonest I.honest last.images

@@ -44,9 +44,9 @@ pub fn a_formatted_array_begins_a_life()
     a_formatted_array_is_such_a_beginning();
 }
 
-/// What [`fa_mount::recover`] gives of images that are there is such as runs begin with, and each page that was promised outlasts: of images
-/// that have what a cut left in the slots of those dies that the newest header names, where these are dies of the array, each holder stands as
-/// live, and no page was lost of which no holder's image is there. The images were synced before they were read.
+/// What [`fa_mount::recover`] gives of images that are there is such as runs begin with, and each page that was promised outlasts: of
+/// images that have what a cut left in the slots of those dies that the newest header names, where these are dies of the array, each holder
+/// stands as live, and no page was lost of which no holder's image is there. The images were synced before they were read.
 pub fn what_is_there_begins_again<I: Image, A>()
     ensures { (first w : World) (told : ℕ → HeaderTells) (happenings : List Happening) (u : Unsynced) (cells : ℕ → ℕ → Cell)
         (heads : ℕ → Option HeaderTells) (copies : ℕ) (before after : List I) (array : List ℕ) (dies : List Standing) (core : Core)
@@ -67,10 +67,11 @@ pub fn what_is_there_begins_again<I: Image, A>()
     a_promised_page_is_promised_again();
 }
 
-/// What [`fa_mount::recover`] gives behind a crash begins a life again. Its images are what the cut left, the newest header among them, and no
-/// page was lost of which no holder's image is there. Then the runs of the next life begin with nothing unsynced, where the images were synced
-/// before they were read; all that the laws of crashes ask of a beginning holds of it; and each page that was promised has at least its number,
-/// with the bytes of the number that it has, and is promised again. So nothing that was flushed in one life is lost in a later one.
+/// What [`fa_mount::recover`] gives behind a crash begins a life again. Its images are what the cut left, the newest header among them, and
+/// no page was lost of which no holder's image is there. Then the runs of the next life begin with nothing unsynced, where the images were
+/// synced before they were read; all that the laws of crashes ask of a beginning holds of it; and each page that was promised has at least
+/// its number, with the bytes of the number that it has, and is promised again. So nothing that was flushed in one life is lost in a later
+/// one.
 pub fn what_is_recovered_begins_a_life<I: Image, A>()
     ensures { (first w : World) (told : ℕ → HeaderTells) (u : Unsynced) (cells : ℕ → ℕ → Cell) (heads : ℕ → Option HeaderTells) (copies : ℕ)
         (before after : List I) (array : List ℕ) (dies : List Standing) (core : Core) → IsLife first told w u → IsCut w u cells heads

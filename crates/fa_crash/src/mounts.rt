@@ -47,8 +47,8 @@ pub fn a_promised_page_outlasts_a_crash()
     what_was_found_is_what_is_seen();
 }
 
-/// The same of images that were mounted, as an array that may be unclean or not, where those that were mounted as live have what the cut left
-/// on dies of the array, and return what was written.
+/// The same of images that were mounted, as an array that may be unclean or not, where those that were mounted as live have what the cut
+/// left on dies of the array, and return what was written.
 pub fn a_promised_page_is_mounted_again<I: Image, A>()
     ensures { (first w : World) (u : Unsynced) (page number die : ℕ) (cells : ℕ → ℕ → Cell) (heads : ℕ → Option HeaderTells) (copies : ℕ)
         (unclean : Bool) (before after : List I) (array : List ℕ) (epoch : ℕ) (clean : Bool) (dies : List Standing) (m : MapState)
@@ -79,8 +79,8 @@ pub fn a_promised_page_is_mounted_from_a_holder<I: Image, A>()
     the_mask_has_the_holders();
 }
 
-/// What is mounted of a cut is again such as runs begin with, where each page that was written as the array was mounted has a holder that is
-/// mounted as live: the copies that are held agree, and each good cell is of the page's last write, with its bytes, or of an older one.
+/// What is mounted of a cut is again such as runs begin with, where each page that was written as the array was mounted has a holder that
+/// is mounted as live: the copies that are held agree, and each good cell is of the page's last write, with its bytes, or of an older one.
 pub fn what_is_mounted_is_such_a_beginning_again()
     ensures agree { (first w : World) (happenings : List Happening) (u : Unsynced) (cells : ℕ → ℕ → Cell) (heads : ℕ → Option HeaderTells)
         (bytes : SlotBytes) (is_spare : ℕ → Bool) (m : MapState) → IsBeginning first → AreOfLast first

@@ -22,10 +22,10 @@ use fa_laws::steps::{
 };
 use fa_sound::sound::{a_beginning_is_sound, a_step_keeps_sound};
 
-/// A flush of the store of one thread that is accepted, or any other call with a flush, promises each page with the number that it has as the
-/// call ends, and so with what was written before it and what it wrote itself. Over any world that the array and its images are of as the call
-/// begins, it is a run to one that they are of as it ends; where its refused writes are whole, the pages are promised behind it. The
-/// images return what was written, and no two dies have one image.
+/// A flush of the store of one thread that is accepted, or any other call with a flush, promises each page with the number that it has as
+/// the call ends, and so with what was written before it and what it wrote itself. Over any world that the array and its images are of as
+/// the call begins, it is a run to one that they are of as it ends; where its refused writes are whole, the pages are promised behind it.
+/// The images return what was written, and no two dies have one image.
 pub fn a_flush_of_the_store_promises_each_page<L, M, I: Image, A>()
     ensures { (old new : Inner L M I A) (task : Task) (bytes : List ℕ) (first w : World) (earlier : List Happening) (u : Unsynced)
         → IsBeginning first → AreOfLast first → RunWhole first (nothing_unsynced first) earlier w u → IsWorldOf I.view old w

@@ -4,8 +4,8 @@ ghost use Rattle.std.specs.Prelude.{◌≡◌, ◌≤◌, length, take};
 use std::alloc::Allocator;
 use std::mem::swap;
 
-/// The buffer has the first of the slot's bytes, as many as it has bytes itself. Where it has memory for a whole slot, as buffers of batches
-/// have, the two change places and nothing is copied. What `slot` has then is in no clause.
+/// The buffer has the first of the slot's bytes, as many as it has bytes itself. Where it has memory for a whole slot, as buffers of
+/// batches have, the two change places and nothing is copied. What `slot` has then is in no clause.
 pub fn hand_over<A: Allocator>(slot: &mut Vec<u8, A>, buffer: &mut Vec<u8, A>)
     requires { length buffer.old.items ≤ length slot.old.items }
     ensures buffer { buffer.new.items ≡ take (length buffer.old.items) slot.old.items }

@@ -18,8 +18,8 @@ use fa_machine::Flight;
 use fa_types::Die;
 use std::alloc::Allocator;
 
-/// Makes the calls of a job on its die's image, one or two, each with the gate before it and behind it, and tells how the job ended.
-/// It takes no memory: `scratch` has a slot's bytes, and `buffer` a page's, which are what a read gave where the outcome is one. The two may
+/// Makes the calls of a job on its die's image, one or two, each with the gate before it and behind it, and tells how the job ended. It
+/// takes no memory: `scratch` has a slot's bytes, and `buffer` a page's, which are what a read gave where the outcome is one. The two may
 /// have changed places then.
 pub fn run_job<I: Image, G: Gate, A: Allocator, B: Allocator>(
     die: Die,

@@ -1,6 +1,6 @@
 -- What each event does to the bookings, and that a batch has its answers once its bookings have passed.
-use Rattle.fa_batch.specs.Plan.{rounds_of}
-use Rattle.fa_batch.specs.declared.plan.Place.{Place}
+use Rattle.fa_batch_terms.specs.Plan.{rounds_of}
+use Rattle.fa_batch_terms.specs.declared.place.Place.{Place}
 use Rattle.fa_laws.proofs.Finishing.{passed_some}
 use Rattle.fa_machine.proofs.Maps.{get-keep, get-place_other, place_cmp_total, place_same}
 use Rattle.fa_machine.specs.Among.{Among}

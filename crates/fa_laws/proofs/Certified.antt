@@ -1,8 +1,8 @@
 -- A certificate that is worked out: tests that compute, and what follows where they pass.
-use Rattle.fa_batch.specs.Batch.{Entry, holds, is_among, times_named}
-use Rattle.fa_batch.specs.Certificate.{AreTheHolders, IsShortage, holds_any, open_places}
-use Rattle.fa_batch.specs.Plan.{AreFirstRounds, IsPlan, is_earlier_page, times_placed}
-use Rattle.fa_batch.specs.declared.plan.Place.{Place}
+use Rattle.fa_batch_terms.specs.Batch.{Entry, holds, is_among, times_named}
+use Rattle.fa_batch_terms.specs.Certificate.{AreTheHolders, IsShortage, holds_any, open_places}
+use Rattle.fa_batch_terms.specs.Plan.{AreFirstRounds, IsPlan, is_earlier_page, times_placed}
+use Rattle.fa_batch_terms.specs.declared.place.Place.{Place}
 use Rattle.fa_types.specs.Open.{IsOpen, open_among}
 use Rattle.fa_types.specs.declared.numbers.Die.{Die}
 use Rattle.fa_types.specs.declared.numbers.Page.{Page}

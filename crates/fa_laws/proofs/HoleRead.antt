@@ -1,8 +1,8 @@
 -- A batch with a hole, a read whose page is moved before it is taken, and a flush: each state by its lists.
 use Rattle.fa_laws.proofs.HoleWritten as written
-use Rattle.fa_batch.specs.Batch.{Entry}
-use Rattle.fa_batch.specs.Certificate.{IsCertificate}
-use Rattle.fa_batch.specs.Plan.{AreFirstRounds}
+use Rattle.fa_batch_terms.specs.Batch.{Entry}
+use Rattle.fa_batch_terms.specs.Certificate.{IsCertificate}
+use Rattle.fa_batch_terms.specs.Plan.{AreFirstRounds}
 use Rattle.fa_laws.proofs.Certified.{three_holders, worked_first, worked_plan, worked_shortage}
 use Rattle.fa_laws.proofs.Collects.{begins_flush, ends_move, ends_sync, flush_begun, looks_at_flush, move_done, move_taken, sync_done, takes_move}
 use Rattle.fa_laws.proofs.Collects.{takes_window, windowed}

@@ -1,8 +1,8 @@
 -- The torn batch is planned anew and answered, worked: each state by its lists.
 use Rattle.fa_laws.proofs.TornBatch as torn
-use Rattle.fa_batch.specs.Batch.{Entry}
-use Rattle.fa_batch.specs.Certificate.{IsCertificate}
-use Rattle.fa_batch.specs.Plan.{AreFirstRounds}
+use Rattle.fa_batch_terms.specs.Batch.{Entry}
+use Rattle.fa_batch_terms.specs.Certificate.{IsCertificate}
+use Rattle.fa_batch_terms.specs.Plan.{AreFirstRounds}
 use Rattle.fa_laws.proofs.Certified.{three_holders, worked_first, worked_plan, worked_shortage}
 use Rattle.fa_laws.proofs.Making.{called}
 use Rattle.fa_laws.proofs.Planning.{closed_in, copies_same, entries_in, left_in, released_in, replanned_in, replans}

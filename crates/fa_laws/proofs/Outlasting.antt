@@ -1,5 +1,5 @@
 -- The end of a job changes the slots of its own die alone.
-use Rattle.fa_batch.specs.Batch.{holds}
+use Rattle.fa_batch_terms.specs.Batch.{holds}
 use Rattle.fa_laws.proofs.Finishing.{passed_all}
 use Rattle.fa_machine.proofs.Lists.{among-range}
 use Rattle.fa_machine.proofs.Maps.{get-keep, get-place_other, get-remove_other, place_cmp_total, place_same}

@@ -1,8 +1,8 @@
 -- Admission, planning anew and the end of a batch, of states that are told by lists.
-use Rattle.fa_batch.specs.Batch.{Entry}
-use Rattle.fa_batch.specs.Certificate.{IsCertificate}
-use Rattle.fa_batch.specs.Plan.{AreFirstRounds}
-use Rattle.fa_batch.specs.declared.plan.Place.{Place}
+use Rattle.fa_batch_terms.specs.Batch.{Entry}
+use Rattle.fa_batch_terms.specs.Certificate.{IsCertificate}
+use Rattle.fa_batch_terms.specs.Plan.{AreFirstRounds}
+use Rattle.fa_batch_terms.specs.declared.place.Place.{Place}
 use Rattle.fa_laws.proofs.Listed.{empty_listed, insert_listed, inserts_listed, keep_listed, remove_listed}
 use Rattle.fa_machine.proofs.Maps.{nat_same, place_cmp_total, place_same}
 use Rattle.fa_laws.proofs.Table.{Ordered, Table, core_of, in_order, is_ordered}

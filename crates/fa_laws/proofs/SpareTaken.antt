@@ -1,8 +1,8 @@
 -- A spare takes the copy of the lost die, a write is given up, and the page is read from the spare, worked: each state by its lists.
 use Rattle.fa_laws.proofs.DieLost as lost
-use Rattle.fa_batch.specs.Batch.{Entry}
-use Rattle.fa_batch.specs.Certificate.{AreTheHolders, IsCertificate}
-use Rattle.fa_batch.specs.Plan.{AreFirstRounds}
+use Rattle.fa_batch_terms.specs.Batch.{Entry}
+use Rattle.fa_batch_terms.specs.Certificate.{AreTheHolders, IsCertificate}
+use Rattle.fa_batch_terms.specs.Plan.{AreFirstRounds}
 use Rattle.fa_laws.proofs.Certified.{three_holders, worked_first, worked_plan, worked_shortage}
 use Rattle.fa_laws.proofs.Collects.{takes_window, windowed}
 use Rattle.fa_laws.proofs.Making.{called, calls}

@@ -1,6 +1,6 @@
 -- A current copy stays with its die until its page is written again.
 use Rattle.fa_laws.proofs.Endings.{HasOutcome}
-use Rattle.fa_batch.specs.Batch.{holds}
+use Rattle.fa_batch_terms.specs.Batch.{holds}
 use Rattle.fa_laws.proofs.Claiming.{room_erased}
 use Rattle.fa_laws.proofs.Committing.{reserved_owned}
 use Rattle.fa_laws.proofs.Finishing.{passed_all}

@@ -1,7 +1,7 @@
 -- The batch of eight pages until die 1 is out, worked: each state by its lists.
-use Rattle.fa_batch.specs.Batch.{Entry}
-use Rattle.fa_batch.specs.Certificate.{AreTheHolders, IsCertificate}
-use Rattle.fa_batch.specs.Plan.{AreFirstRounds}
+use Rattle.fa_batch_terms.specs.Batch.{Entry}
+use Rattle.fa_batch_terms.specs.Certificate.{AreTheHolders, IsCertificate}
+use Rattle.fa_batch_terms.specs.Plan.{AreFirstRounds}
 use Rattle.fa_laws.proofs.Certified.{three_holders, worked_first, worked_plan, worked_shortage}
 use Rattle.fa_laws.proofs.Listed.{empty_listed}
 use Rattle.fa_laws.proofs.Making.{called}

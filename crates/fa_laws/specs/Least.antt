@@ -1,6 +1,6 @@
 -- What an accepted plan has to be: one of so few rounds as any, and shown to be so.
 use Rattle.std.specs.Prelude.{ℕ, List, Ok}
-use Rattle.fa_batch.specs.Certificate.{IsCertificate, IsLeast}
+use Rattle.fa_batch_terms.specs.Certificate.{IsCertificate, IsLeast}
 use Rattle.fa_machine.specs.Reading.{Planned, entries_for, to_read, left_of, released}
 use Rattle.fa_machine.specs.Rounds.{is_closed}
 use Rattle.fa_machine.specs.State.{Core, MapState, CalendarState}

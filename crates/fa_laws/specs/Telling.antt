@@ -1,7 +1,7 @@
 -- Words for what happens in the chains of events.
 use Rattle.std.specs.Prelude.{ℕ, List, [], ◌∷◌, map, Ok, Some, true, false}
 use Rattle.fa_types.specs.declared.numbers.Page.{Page}
-use Rattle.fa_batch.specs.declared.plan.Place.{Place}
+use Rattle.fa_batch_terms.specs.declared.place.Place.{Place}
 use Rattle.fa_machine.specs.declared.jobs.Flight.TheVariants.{Header, Program, Read, Sync}
 use Rattle.fa_machine.specs.declared.places.Version.{Version}
 use Rattle.fa_machine.specs.Cells.{Sealed, DidProgram, DidRead, DidSync, DidWriteHeader}

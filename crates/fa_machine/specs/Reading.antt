@@ -8,10 +8,10 @@ use Rattle.std.specs.FinMap.{empty, insert, remove, contains_key, get, values}
 use Rattle.fa_types.specs.Open.{FewClosed}
 use Rattle.fa_types.specs.Windows.{IsFull}
 use Rattle.fa_types.specs.declared.numbers.Page.{Page}
-use Rattle.fa_batch.specs.Batch.{Entry}
-use Rattle.fa_batch.specs.Certificate.{IsCertificate}
-use Rattle.fa_batch.specs.Plan.{AreFirstRounds}
-use Rattle.fa_batch.specs.declared.plan.Place.{Place}
+use Rattle.fa_batch_terms.specs.Batch.{Entry}
+use Rattle.fa_batch_terms.specs.Certificate.{IsCertificate}
+use Rattle.fa_batch_terms.specs.Plan.{AreFirstRounds}
+use Rattle.fa_batch_terms.specs.declared.place.Place.{Place}
 use Rattle.fa_machine.specs.declared.answers.ReadState.{ReadState}
 use Rattle.fa_machine.specs.declared.answers.ReadState.TheVariants.{Waiting, Torn, Ready}
 use Rattle.fa_machine.specs.declared.ids.BatchId.{BatchId}

@@ -4,7 +4,7 @@ use Rattle.std.specs.List.{list_any}
 use Rattle.std.specs.FinMap.{get, contains_key}
 use Rattle.fa_types.specs.Open.{rounds_that, max_closed}
 use Rattle.fa_types.specs.Windows.{is_in_window}
-use Rattle.fa_batch.specs.declared.plan.Place.{Place}
+use Rattle.fa_batch_terms.specs.declared.place.Place.{Place}
 use Rattle.fa_machine.specs.State.{MapState, CalendarState, is_live}
 
 -- A round of a die is closed where it is booked or in the die's window. That is all that a calendar knows.

@@ -1,5 +1,6 @@
 -- What the tables of a page map keep.
-use Rattle.std.specs.Prelude.{◌≡◌, ℕ, ◌+◌, ◌*◌, ◌/◌, ◌<◌, ◌==◌, ◌&&◌, not, nat_le, nat_lt, Bool, true, false, if◌then◌else◌, List, Option, Some, None, is_some, length, slice_index_or, slice_set, find, count_by}
+use Rattle.std.specs.Prelude.{◌≡◌, ℕ, ◌+◌, ◌*◌, ◌/◌, ◌<◌, ◌==◌, ◌&&◌, not, nat_le, nat_lt, Bool, true, false, if◌then◌else◌, List, Option}
+use Rattle.std.specs.Prelude.{Some, None, is_some, length, slice_index_or, slice_set, find, count_by}
 use Rattle.std.specs.List.{range_with_len}
 use Rattle.fa_types.specs.declared.geometry.Geometry.{Geometry}
 use Rattle.fa_machine.specs.Maps.{below}

@@ -1,7 +1,10 @@
 //! The tables of a page map: the entry of each slot, the counts of each block, and the chains of copies.
-ghost use Rattle.std.specs.Prelude.{◌≡◌, ℕ, ◌+◌, ◌*◌, ◌/◌, ◌-◌, ◌^◌, ◌<◌, ◌≤◌, ◌==◌, ◌&&◌, true, false, nat_lt, if◌then◌else◌, length, slice_set, replicate, find, min, IfOk, None, Some};
-ghost use Rattle.fa_map.specs.Chains.{AreInside, AreSeconds, AreWritten, IsInside, IsNext, IsSeam, entry_at, entry_of, follower, link_from, target};
-ghost use Rattle.fa_map.specs.Entries.{AreTables, AreTallied, copies_in, count_of, erased_entry, is_current_entry, is_erased_entry, may_take, one_if, retired};
+ghost use Rattle.std.specs.Prelude.{◌≡◌, ℕ, ◌+◌, ◌*◌, ◌/◌, ◌-◌, ◌^◌, ◌<◌, ◌≤◌, ◌==◌, ◌&&◌, true, false, nat_lt, if◌then◌else◌, length};
+ghost use Rattle.std.specs.Prelude.{slice_set, replicate, find, min, IfOk, None, Some};
+ghost use Rattle.fa_map.specs.Chains.{AreInside, AreSeconds, AreWritten, IsInside, IsNext, IsSeam, entry_at, entry_of, follower};
+ghost use Rattle.fa_map.specs.Chains.{link_from, target};
+ghost use Rattle.fa_map.specs.Entries.{AreTables, AreTallied, copies_in, count_of, erased_entry, is_current_entry, is_erased_entry};
+ghost use Rattle.fa_map.specs.Entries.{may_take, one_if, retired};
 ghost use Rattle.fa_map.specs.Few.{IsCounted, IsCounted-prop};
 ghost use Rattle.fa_map_calls.specs.Blocks.{IsGreatest};
 ghost use Rattle.fa_map.specs.Found.{IsFound, IsFound-prop};

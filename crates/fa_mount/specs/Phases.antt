@@ -1,5 +1,6 @@
 -- One call of each die of a mask, the dies rising, up to the first that refuses.
-use Rattle.std.specs.Prelude.{◌≡◌, ℕ, ◌==◌, ◌&&◌, nat_lt, Bool, true, false, if◌then◌else◌, List, Some, Result, Ok, Err, length, slice_get, slice_set}
+use Rattle.std.specs.Prelude.{◌≡◌, ℕ, ◌==◌, ◌&&◌, nat_lt, Bool, true, false, if◌then◌else◌, List, Some, Result, Ok, Err, length}
+use Rattle.std.specs.Prelude.{slice_get, slice_set}
 use Rattle.fa_mount_headers.specs.declared.judging.Standing.{Standing}
 use Rattle.fa_mount_headers.specs.Rules.{is_in}
 use Rattle.fa_image.specs.Image.{ImageCall, ImageAnswer, Done, Refused}

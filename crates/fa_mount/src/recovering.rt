@@ -17,14 +17,14 @@ use fa_types::Copies;
 use std::alloc::Allocator;
 use std::thread::Threads;
 
-/// The array that images are, as [`crate::mount`] with `unclean` gives it, but refused where a die is not there that may have what no other one
-/// has. Older epochs and missing marks of a clean close are no refusal, and images without a header that no die of the mask needs are left
-/// aside. Where the images were synced before, nothing that was flushed is lost in what is recovered. Nothing is written.
+/// The array that images are, as [`crate::mount`] with `unclean` gives it, but refused where a die is not there that may have what no other
+/// one has. Older epochs and missing marks of a clean close are no refusal, and images without a header that no die of the mask needs are
+/// left aside. Where the images were synced before, nothing that was flushed is lost in what is recovered. Nothing is written.
 ///
-/// The refusals are those of [`crate::mount`] with `unclean`, and beside them, in this order: 5 where no image has a header of a die of the greatest
-/// epoch's mask, with that die; 7 where a read of the slots of a die of the mask is refused, with the die and its image; 5 where a die of the mask
-/// has the mark of a spare and was used, with the die and its image; and 5 where as many dies are neither in the mask nor unused spares as each
-/// page has copies, or more, with no die.
+/// The refusals are those of [`crate::mount`] with `unclean`, and beside them, in this order: 5 where no image has a header of a die of the
+/// greatest epoch's mask, with that die; 7 where a read of the slots of a die of the mask is refused, with the die and its image; 5 where a
+/// die of the mask has the mark of a spare and was used, with the die and its image; and 5 where as many dies are neither in the mask nor
+/// unused spares as each page has copies, or more, with no die.
 pub fn recover<I: Image, A: Allocator + Copy>(
     alloc: A,
     images: &mut [I],

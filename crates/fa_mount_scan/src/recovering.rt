@@ -13,10 +13,10 @@ use fa_types::Copies;
 use std::alloc::Allocator;
 use std::thread::Threads;
 
-/// As [`crate::scan_found`] with `unclean`, but refused where a die is not there that may have what no other one has: fault 5 where no image has
-/// a header of a die of the greatest epoch's mask, where such a die has the mark of a spare and was used, and where as many dies are out, which
-/// are neither in that mask nor unused spares, as each page has copies, or more; fault 7 where a read of the slots of a die of the mask is
-/// refused.
+/// As [`crate::scan_found`] with `unclean`, but refused where a die is not there that may have what no other one has: fault 5 where no
+/// image has a header of a die of the greatest epoch's mask, where such a die has the mark of a spare and was used, and where as many dies
+/// are out, which are neither in that mask nor unused spares, as each page has copies, or more; fault 7 where a read of the slots of a die
+/// of the mask is refused.
 pub fn recover_found<I: Image, A: Allocator + Copy>(
     alloc: A,
     images: &mut [I],

@@ -1,5 +1,6 @@
 //! Slots as a list of their states, which is searched from its beginning.
-ghost use Rattle.std.specs.Prelude.{◌≡◌, ℕ, ◌+◌, ◌*◌, ◌/◌, ◌-◌, ◌<◌, ◌≤◌, ◌==◌, ◌&&◌, ◌||◌, not, nat_le, nat_lt, length, if◌then◌else◌, option_map, find, count_by, is_none, None, Some};
+ghost use Rattle.std.specs.Prelude.{◌≡◌, ℕ, ◌+◌, ◌*◌, ◌/◌, ◌-◌, ◌<◌, ◌≤◌, ◌==◌, ◌&&◌, ◌||◌, not, nat_le, nat_lt, length, if◌then◌else◌};
+ghost use Rattle.std.specs.Prelude.{option_map, find, count_by, is_none, None, Some};
 ghost use Rattle.std.specs.List.{range_with_len};
 ghost use Rattle.fa_machine.specs.Copies.{is_held_slot, is_reserved_slot, is_stale_slot};
 ghost use Rattle.fa_machine.specs.Maps.{below};

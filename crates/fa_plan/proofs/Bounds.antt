@@ -1,7 +1,7 @@
 -- Dies have enough open places in time, since few of their rounds are closed.
 use Rattle.std.proofs.Common.{◌≡◌, ℕ, zero, suc, ◌+◌, ◌-◌, ◌≤◌, Bool, true, false, cond, not, List, refl, ap, arith}
 use Rattle.fa_types.specs.Open.{rounds_that, open_among, FewClosed}
-use Rattle.fa_batch.specs.Certificate.{open_places}
+use Rattle.fa_batch_terms.specs.Certificate.{open_places}
 use Rattle.fa_cert_places.specs.OpenCounts.{marked}
 use Rattle.fa_cert_places.proofs.Marked.{places-yes, places-grow}
 use Rattle.fa_batch.proofs.Windows.{rounds_that-join}

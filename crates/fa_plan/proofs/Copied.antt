@@ -3,7 +3,7 @@ use Rattle.std.proofs.Common.{◌≡◌, ℕ, zero, suc, ◌<◌, List, [], ◌�
 use Rattle.std.specs.List.{slice_get}
 use Rattle.fa_types.specs.declared.numbers.Die.{Die}
 use Rattle.fa_types.specs.declared.numbers.Page.{Page}
-use Rattle.fa_batch.specs.Batch.{Entry}
+use Rattle.fa_batch_terms.specs.Batch.{Entry}
 
 -- The entries up to one are those before it, and itself.
 pub copied_more : (batch : List Entry) (i : ℕ) (page : Page) (holders : List Die) → i < length batch

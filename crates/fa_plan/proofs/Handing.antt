@@ -5,7 +5,7 @@ use Rattle.std.proofs.lemmas.List.{get_or_append_left, get_or-set_same, get_or-s
 use Rattle.std.proofs.Math.Seq.{get_or-append_seam}
 use Rattle.std.proofs.lemmas.List.Sums.{sum_by-set, sum_by_push}
 use Rattle.fa_types.specs.declared.numbers.Die.{Die}
-use Rattle.fa_batch.specs.Batch.{Entry}
+use Rattle.fa_batch_terms.specs.Batch.{Entry}
 use Rattle.fa_plan_search.specs.declared.walk.Tables.{Tables}
 use Rattle.fa_plan_search.specs.declared.walk.Walk.{Walk}
 use Rattle.fa_plan.specs.Giving.{AreGiven, AreReaders, IsHandingOn}

@@ -5,8 +5,8 @@ use Rattle.std.proofs.lemmas.List.{get_or-map, length-map}
 use Rattle.std.proofs.lemmas.List.Sums.{count_by-le-length}
 use Rattle.fa_types.specs.declared.numbers.Die.{Die}
 use Rattle.fa_types.specs.declared.numbers.Page.{Page}
-use Rattle.fa_batch.specs.Batch.{Entry, IsSound, times_named}
-use Rattle.fa_batch.specs.Certificate.{AreNamed, ShowsNoFewer}
+use Rattle.fa_batch_terms.specs.Batch.{Entry, IsSound, times_named}
+use Rattle.fa_batch_terms.specs.Certificate.{AreNamed, ShowsNoFewer}
 use Rattle.fa_batch.proofs.Counting.{get_or-replicate_default}
 use Rattle.fa_plan.specs.declared.planner.Progress.{Progress}
 use Rattle.fa_plan_search.specs.declared.walk.Tables.{Tables}

@@ -9,10 +9,10 @@ use Rattle.fa_types.specs.Open.{IsNthOpen, IsOpen, FewClosed, open_among, rounds
 use Rattle.fa_types.specs.declared.numbers.Die.{Die}
 use Rattle.fa_types.specs.declared.numbers.Page.{Page}
 use Rattle.fa_types.specs.declared.numbers.Round.{Round}
-use Rattle.fa_batch.specs.Batch.{Entry, holds, is_among, times_named}
-use Rattle.fa_batch.specs.Certificate.{AreTheHolders, IsCertificate, IsShortage, ShowsNoFewer, holds_any, open_places}
-use Rattle.fa_batch.specs.Plan.{AreFirstRounds, is_earlier_page, rounds_of, times_placed}
-use Rattle.fa_batch.specs.declared.plan.Place.{Place}
+use Rattle.fa_batch_terms.specs.Batch.{Entry, holds, is_among, times_named}
+use Rattle.fa_batch_terms.specs.Certificate.{AreTheHolders, IsCertificate, IsShortage, ShowsNoFewer, holds_any, open_places}
+use Rattle.fa_batch_terms.specs.Plan.{AreFirstRounds, is_earlier_page, rounds_of, times_placed}
+use Rattle.fa_batch_terms.specs.declared.place.Place.{Place}
 use Rattle.fa_batch.proofs.Counting.{count_by-cons}
 use Rattle.fa_batch.proofs.Windows.{rounds_that-join}
 use Rattle.fa_plan_search.specs.Pages.{pages_of}

@@ -11,10 +11,10 @@ use Rattle.std.proofs.lemmas.List.Sums.{sum_by_more_le}
 use Rattle.fa_types.specs.Open.{open_among}
 use Rattle.fa_types.specs.declared.numbers.Die.{Die}
 use Rattle.fa_types.specs.declared.numbers.Page.{Page}
-use Rattle.fa_batch.specs.Batch.{Entry, IsSound, holds, times_named}
-use Rattle.fa_batch.specs.Certificate.{IsCertificate, ShowsNoFewer}
-use Rattle.fa_batch.specs.Plan.{AreFirstRounds, IsPlan, rounds_of, times_placed}
-use Rattle.fa_batch.specs.declared.plan.Place.{Place}
+use Rattle.fa_batch_terms.specs.Batch.{Entry, IsSound, holds, times_named}
+use Rattle.fa_batch_terms.specs.Certificate.{IsCertificate, ShowsNoFewer}
+use Rattle.fa_batch_terms.specs.Plan.{AreFirstRounds, IsPlan, rounds_of, times_placed}
+use Rattle.fa_batch_terms.specs.declared.place.Place.{Place}
 use Rattle.fa_batch.proofs.Counting.{AllByRecursion-weaker, count_by-cons, count-from-any}
 use Rattle.fa_cert.proofs.Shortages.{no_fewer}
 use Rattle.fa_plan.specs.declared.layout.Seat.{Seat}

@@ -1,7 +1,7 @@
 -- How many rounds a batch takes at least, by the open places of dies.
 use Rattle.std.specs.Prelude.{◌≡◌, ℕ, ◌+◌, ◌-◌, ◌<◌, ◌≤◌, Bool, true, false, List, length, slice_index_or}
-use Rattle.fa_batch.specs.Batch.{Entry}
-use Rattle.fa_batch.specs.Certificate.{AreTheHolders, open_places}
+use Rattle.fa_batch_terms.specs.Batch.{Entry}
+use Rattle.fa_batch_terms.specs.Certificate.{AreTheHolders, open_places}
 use Rattle.fa_cert_places.specs.OpenCounts.{marked}
 use Rattle.fa_plan_search.specs.Pages.{pages_of}
 

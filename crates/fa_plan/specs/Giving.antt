@@ -1,7 +1,7 @@
 -- The pages that were given dies, and how one page more is given a die.
 use Rattle.std.specs.Prelude.{◌≡◌, ℕ, ◌+◌, ◌<◌, ◌≤◌, true, ◌==◌, if◌then◌else◌, List, length, slice_index}
 use Rattle.fa_types.specs.declared.numbers.Die.{Die}
-use Rattle.fa_batch.specs.Batch.{Entry}
+use Rattle.fa_batch_terms.specs.Batch.{Entry}
 use Rattle.fa_plan_search.specs.declared.walk.Tables.{Tables}
 use Rattle.fa_plan_search.specs.declared.walk.Walk.{Walk}
 use Rattle.fa_plan_search.specs.Reading.{AreLoads, can_read, die_of, load_of}

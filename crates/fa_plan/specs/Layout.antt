@@ -1,8 +1,8 @@
 -- The reads of a batch with their dies, laid into rounds.
 use Rattle.std.specs.Prelude.{◌≡◌, ℕ, ◌+◌, ◌<◌, ◌≤◌, Bool, ◌==◌, List, length, map, count_by, All, slice_index_or}
 use Rattle.fa_types.specs.Open.{IsNthOpen}
-use Rattle.fa_batch.specs.Plan.{AreApart, is_earlier_page}
-use Rattle.fa_batch.specs.declared.plan.Place.{Place}
+use Rattle.fa_batch_terms.specs.Plan.{AreApart, is_earlier_page}
+use Rattle.fa_batch_terms.specs.declared.place.Place.{Place}
 use Rattle.fa_plan.specs.declared.layout.Seat.{Seat}
 
 -- the page and the die of a place

@@ -1,9 +1,9 @@
 -- What contracts see of plans that are kept.
 use Rattle.std.specs.Prelude.{◌≡◌, ℕ, ◌+◌, ◌-◌, ◌^◌, min, List}
 use Rattle.fa_types.specs.declared.numbers.Page.{Page}
-use Rattle.fa_batch.specs.Batch.{Entry}
-use Rattle.fa_batch.specs.declared.plan.Place.{Place}
-use Rattle.fa_batch.specs.Certificate.{IsCertificate}
+use Rattle.fa_batch_terms.specs.Batch.{Entry}
+use Rattle.fa_batch_terms.specs.declared.place.Place.{Place}
+use Rattle.fa_batch_terms.specs.Certificate.{IsCertificate}
 use Rattle.fa_batch.specs.Closed.{current_of, is_closed}
 use Rattle.fa_batch.specs.Runs.{any_closes}
 use Rattle.fa_plan.specs.declared.entry.PlanEntry.{PlanEntry}

@@ -1,8 +1,8 @@
 -- A plan in the making: the first pages have dies, within a number of rounds that no plan goes below.
 use Rattle.std.specs.Prelude.{◌≡◌, ℕ, ◌+◌, ◌-◌, ◌*◌, ◌≤◌, Bool, List, length, map}
 use Rattle.fa_types.specs.declared.numbers.Die.{Die}
-use Rattle.fa_batch.specs.Batch.{Entry}
-use Rattle.fa_batch.specs.Certificate.{ShowsNoFewer}
+use Rattle.fa_batch_terms.specs.Batch.{Entry}
+use Rattle.fa_batch_terms.specs.Certificate.{ShowsNoFewer}
 use Rattle.fa_plan.specs.declared.layout.Seat.{Seat}
 use Rattle.fa_plan.specs.declared.planner.Progress.{Progress}
 use Rattle.fa_plan.specs.Bound.{IsSimpleBound}

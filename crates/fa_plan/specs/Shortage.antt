@@ -1,8 +1,8 @@
 -- How many rounds pages need.
 use Rattle.std.specs.Prelude.{ℕ, ◌+◌, ◌<◌, ◌≤◌, Bool, List, length}
 use Rattle.fa_types.specs.declared.numbers.Page.{Page}
-use Rattle.fa_batch.specs.Batch.{Entry}
-use Rattle.fa_batch.specs.Certificate.{AreTheHolders, ShowsNoFewer, open_places}
+use Rattle.fa_batch_terms.specs.Batch.{Entry}
+use Rattle.fa_batch_terms.specs.Certificate.{AreTheHolders, ShowsNoFewer, open_places}
 
 -- whoever lists the dies that hold any of the pages finds too few open places, or enough
 abbrev pub AreTooFew : List Entry → ℕ → (ℕ → ℕ → Bool) → ℕ → List Page → Type 0

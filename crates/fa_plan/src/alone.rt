@@ -1,15 +1,16 @@
 //! The plan of a batch of one page, which takes no table of dies: a READ of one page is planned so.
 ghost use Rattle.std.specs.Prelude.{◌≡◌, ℕ, ◌+◌, ◌*◌, ◌-◌, ◌<◌, ◌≤◌, ◌^◌, length, IfOk};
-ghost use Rattle.fa_batch.specs.Batch.{IsSound};
-ghost use Rattle.fa_batch.specs.Certificate.{IsCertificate};
-ghost use Rattle.fa_batch.specs.Plan.{AreFirstRounds};
+ghost use Rattle.fa_batch_terms.specs.Batch.{IsSound};
+ghost use Rattle.fa_batch_terms.specs.Certificate.{IsCertificate};
+ghost use Rattle.fa_batch_terms.specs.Plan.{AreFirstRounds};
 ghost use Rattle.fa_plan_search.specs.Pages.{pages_of};
 ghost use Rattle.fa_plan.specs.Alone.{IsOpenFirst};
 ghost use Rattle.fa_plan.specs.Bound.{IsSimpleBound};
 
 use crate::planner::Planned;
 use crate::workspace::Workspace;
-use fa_batch::{Batch, Place, Plan};
+use fa_batch::{Batch, Plan};
+use fa_batch_terms::Place;
 use fa_plan_search::all_pages;
 use fa_types::{Die, Round, Rounds};
 use std::alloc::{AllocError, Allocator};

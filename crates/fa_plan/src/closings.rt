@@ -3,8 +3,8 @@ use fa_batch::Run;
 use fa_types::{Die, Round, Rounds};
 use std::alloc::{AllocError, Allocator};
 
-/// The closed ones of so many rounds from the current one, of the first so many dies, as runs in the place of those that were there; the current
-/// round is told as 1. The error is out of memory.
+/// The closed ones of so many rounds from the current one, of the first so many dies, as runs in the place of those that were there; the
+/// current round is told as 1. The error is out of memory.
 pub(crate) fn closings<R: Rounds, A: Allocator>(
     runs: &mut Vec<Run, A>,
     calendar: &R,

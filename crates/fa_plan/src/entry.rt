@@ -2,8 +2,8 @@
 use fa_batch::{Batch, Closed, Plan, Run, Shortage};
 use std::alloc::{Allocator, Global};
 
-/// A plan of a batch, with the rounds of dies that were closed and what shows that no plan has fewer rounds. Its rounds are told from 1 on, the
-/// round in which it was made.
+/// A plan of a batch, with the rounds of dies that were closed and what shows that no plan has fewer rounds. Its rounds are told from 1 on,
+/// the round in which it was made.
 #[derive(Drop)]
 pub struct PlanEntry<A: Allocator = Global> {
     /// The pages, each with the dies that hold it.

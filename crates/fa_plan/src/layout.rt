@@ -2,7 +2,8 @@
 ghost use Rattle.std.specs.Prelude.{◌≡◌, ◌≤◌, ◌^◌, [], length, IfOk};
 ghost use Rattle.fa_plan.specs.Layout.{AreRising, IsLaidOut};
 
-use fa_batch::{Place, Places};
+use fa_batch::Places;
+use fa_batch_terms::Place;
 use fa_types::{Die, Page, Rounds};
 use std::alloc::{AllocError, Allocator};
 

@@ -29,8 +29,8 @@ pub struct LogCounts {
     pub dropped: u64,
 }
 
-/// A queue of plans. Each n-th batch of at least two pages comes into it. One that finds no room is counted, and nobody waits for it. What stands in it is in no
-/// clause: who takes a plan has it checked.
+/// A queue of plans. Each n-th batch of at least two pages comes into it. One that finds no room is counted, and nobody waits for it. What
+/// stands in it is in no clause: who takes a plan has it checked.
 #[derive(Drop)]
 pub struct PlanLog<A: Allocator = Global> {
     every: u64,
@@ -70,8 +70,8 @@ impl<A: Allocator + Copy> PlanLog<A> {
         }
     }
 
-    /// The plan that was just made of a batch, if it is to be kept: over a calendar in which none of it is booked yet. It is put into the queue by
-    /// [`PlanLog::keep`].
+    /// The plan that was just made of a batch, if it is to be kept: over a calendar in which none of it is booked yet. It is put into the
+    /// queue by [`PlanLog::keep`].
     pub fn note<R: Rounds>(
         &mut self,
         alloc: A,

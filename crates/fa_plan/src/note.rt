@@ -5,13 +5,14 @@ ghost use Rattle.fa_plan.specs.Notes.{IsAccepted, batch_of, place_from, places_o
 use crate::closings::closings;
 use crate::entry::PlanEntry;
 use crate::planner::Planned;
-use fa_batch::{Batch, Closed, Place, Places, Plan, Run, Shortage, end_soon};
+use fa_batch::{Batch, Closed, Places, Plan, Run, Shortage, end_soon};
+use fa_batch_terms::Place;
 use fa_cert::{Verdict, check};
 use fa_types::{Page, Round, Rounds};
 use std::alloc::{AllocError, Allocator, Global};
 
-/// A plan with its batch and what shows that it is least, in rounds of its own: the round in which it was made is told as 1. Nothing of it is
-/// checked yet.
+/// A plan with its batch and what shows that it is least, in rounds of its own: the round in which it was made is told as 1. Nothing of it
+/// is checked yet.
 #[derive(Drop)]
 pub struct PlanNote<A: Allocator = Global> {
     batch: Batch<A>,
@@ -34,8 +35,8 @@ impl<A: Allocator + Copy> PlanNote<A> {
         }
     }
 
-    /// The plan that was just made of this batch comes in the place of the one that stood here, in its memory: over a calendar of so many dies in
-    /// which none of it is booked yet. The error is out of memory.
+    /// The plan that was just made of this batch comes in the place of the one that stood here, in its memory: over a calendar of so many
+    /// dies in which none of it is booked yet. The error is out of memory.
     pub fn set<R: Rounds>(
         &mut self,
         batch: &Batch<A>,

@@ -1,8 +1,8 @@
 //! The plan of a batch of reads.
 ghost use Rattle.std.specs.Prelude.{◌≡◌, ℕ, ◌+◌, ◌-◌, ◌*◌, ◌<◌, ◌≤◌, ◌^◌, length, List, IfOk, OnOk};
-ghost use Rattle.fa_batch.specs.Batch.{IsSound};
-ghost use Rattle.fa_batch.specs.Certificate.{IsCertificate};
-ghost use Rattle.fa_batch.specs.Plan.{AreFirstRounds};
+ghost use Rattle.fa_batch_terms.specs.Batch.{IsSound};
+ghost use Rattle.fa_batch_terms.specs.Certificate.{IsCertificate};
+ghost use Rattle.fa_batch_terms.specs.Plan.{AreFirstRounds};
 ghost use Rattle.std.specs.List.Sorted.{IsPermutation};
 ghost use Rattle.fa_plan.specs.declared.layout.Seat.{Seat};
 ghost use Rattle.fa_plan_search.specs.Pages.{pages_of};

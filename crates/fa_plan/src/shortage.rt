@@ -1,7 +1,7 @@
 //! The pages that show that no plan has fewer rounds.
 ghost use Rattle.std.specs.Prelude.{◌<◌, ◌≤◌, ◌^◌, length};
-ghost use Rattle.fa_batch.specs.Batch.{AreFine};
-ghost use Rattle.fa_batch.specs.Certificate.{AreNamed};
+ghost use Rattle.fa_batch_terms.specs.Batch.{AreFine};
+ghost use Rattle.fa_batch_terms.specs.Certificate.{AreNamed};
 ghost use Rattle.fa_plan.specs.Shortage.{AreTooFew, IsRaised};
 
 use crate::bound::first_enough;

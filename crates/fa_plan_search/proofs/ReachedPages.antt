@@ -6,7 +6,7 @@ use Rattle.std.proofs.lemmas.List.Elements.{All-push}
 use Rattle.std.proofs.lemmas.List.Sums.{sum_by_push, sum_by_more, sum_by-take-le, count_by_more_yes, count_by_more_no}
 use Rattle.fa_types.specs.declared.numbers.Die.{Die}
 use Rattle.fa_types.specs.declared.numbers.Page.{Page}
-use Rattle.fa_batch.specs.Batch.{Entry, times_named}
+use Rattle.fa_batch_terms.specs.Batch.{Entry, times_named}
 use Rattle.fa_plan_search.specs.declared.walk.Walk.{Walk}
 use Rattle.fa_plan_search.specs.Reading.{no_die, no_entry}
 use Rattle.fa_plan_search.specs.Search.{has_reached}

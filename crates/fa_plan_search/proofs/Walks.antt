@@ -7,7 +7,7 @@ use Rattle.std.proofs.lemmas.List.Sums.{sum_by-set, count_by-le-length}
 use Rattle.std.proofs.lemmas.List.Folds.{list_any_at, list_any_more, sum_by-replicate}
 use Rattle.std.proofs.lemmas.Option.{slice_get-get_or}
 use Rattle.fa_types.specs.declared.numbers.Die.{Die}
-use Rattle.fa_batch.specs.Batch.{Entry, is_among}
+use Rattle.fa_batch_terms.specs.Batch.{Entry, is_among}
 use Rattle.fa_batch.proofs.Counting.{count_by-two-le}
 use Rattle.fa_batch.proofs.Counting.{get_or-replicate_default}
 use Rattle.fa_plan_search.specs.declared.walk.Walk.{Walk}

@@ -2,7 +2,7 @@
 use Rattle.std.specs.Prelude.{◌≡◌, ℕ, ◌+◌, ◌<◌, ◌≤◌, ◌==◌, List, length, map, count_by, All, slice_index_or, take}
 use Rattle.fa_types.specs.declared.numbers.Die.{Die}
 use Rattle.fa_types.specs.declared.numbers.Page.{Page}
-use Rattle.fa_batch.specs.Batch.{Entry, times_named}
+use Rattle.fa_batch_terms.specs.Batch.{Entry, times_named}
 use Rattle.fa_plan_search.specs.declared.walk.Walk.{Walk}
 use Rattle.fa_plan_search.specs.Reading.{no_entry}
 use Rattle.fa_plan_search.specs.Search.{IsReached, has_reached}

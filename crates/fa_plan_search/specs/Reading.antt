@@ -2,7 +2,7 @@
 -- stand in a list in the pages' order.
 use Rattle.std.specs.Prelude.{◌≡◌, ℕ, ◌<◌, Bool, ◌==◌, List, [], count_by, slice_index, slice_index_or}
 use Rattle.fa_types.specs.declared.numbers.Die.{Die}
-use Rattle.fa_batch.specs.Batch.{Entry, is_among}
+use Rattle.fa_batch_terms.specs.Batch.{Entry, is_among}
 
 -- what is read past the end of a batch, and of dies
 abbrev pub no_entry : Entry

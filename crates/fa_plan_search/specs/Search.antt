@@ -3,7 +3,7 @@
 use Rattle.std.specs.Prelude.{◌≡◌, ℕ, ◌+◌, ◌<◌, ◌≤◌, Bool, true, false, List, length, count_by}
 use Rattle.std.specs.Prelude.{slice_index, slice_index_or, slice_set, Option, IfSome, IfNone}
 use Rattle.fa_types.specs.declared.numbers.Die.{Die}
-use Rattle.fa_batch.specs.Batch.{Entry}
+use Rattle.fa_batch_terms.specs.Batch.{Entry}
 use Rattle.fa_plan_search.specs.declared.walk.Tables.{Tables}
 use Rattle.fa_plan_search.specs.declared.walk.Walk.{Walk}
 use Rattle.fa_plan_search.specs.Reading.{AreLoads, can_read, die_of, load_of}

@@ -3,7 +3,8 @@
 ghost use Rattle.std.specs.Prelude.{◌≡◌, ◌+◌, ◌<◌, ◌≤◌, ◌^◌, true, false, length, IfSome};
 ghost use Rattle.std.specs.Prelude.{IfNone, ℕ, replicate};
 ghost use Rattle.fa_plan_search.specs.Reading.{AreLoads, die_of};
-ghost use Rattle.fa_plan_search.specs.Search.{HasFound, HasGoneOn, IsAtItsEnd, IsFollowed, IsReached, IsSearching, IsWalk, has_reached, with_die};
+ghost use Rattle.fa_plan_search.specs.Search.{HasFound, HasGoneOn, IsAtItsEnd, IsFollowed, IsReached, IsSearching, IsWalk, has_reached};
+ghost use Rattle.fa_plan_search.specs.Search.{with_die};
 
 use fa_batch::Batch;
 use fa_types::Die;

@@ -1,5 +1,4 @@
 //! How many pages and slots of an array are in which state. They are counted in many holds of the array's lock, each of bounded time.
-use crate::pages::PAGES_A_HOLD;
 use fa_core::Array;
 use fa_machine::Block;
 use fa_map_calls::Map;
@@ -11,8 +10,11 @@ use std::alloc::{AllocError, Global};
 use std::sync::ledger::Ledger;
 use std::time::{Duration, Instant};
 
+/// How many pages are counted in one hold of the lock.
+const PAGES_A_COUNT: u64 = 1024;
+
 /// How many blocks of a die are.
-const BLOCKS_A_HOLD: u32 = 1024;
+const BLOCKS_A_COUNT: u32 = 1024;
 
 /// A census is taken anew once it is so many times as old as the time that it took.
 const REST: u32 = 100;
@@ -77,8 +79,8 @@ fn count_pages<R: Networked, L: Ledger, M: Map + Drop>(
 ) -> Result<(), AllocError> {
     counted.clear();
     let pages = shared.lock(rt).array().geometry().pages;
-    for hold in 0..pages / PAGES_A_HOLD + 1 {
-        let first = hold.saturating_mul(PAGES_A_HOLD);
+    for hold in 0..pages / PAGES_A_COUNT + 1 {
+        let first = hold.saturating_mul(PAGES_A_COUNT);
         count_some(shared.lock(rt).array(), first, counted)?;
     }
     Ok(())
@@ -92,7 +94,7 @@ fn count_some<M: Map>(
 ) -> Result<(), AllocError> {
     let map = array.page_map();
     let wanted = u64::from(array.copies().min(map.live_dies()));
-    let end = first.saturating_add(PAGES_A_HOLD);
+    let end = first.saturating_add(PAGES_A_COUNT);
     for number in first..end.min(map.geometry().pages) {
         let page = Page(number);
         if map.version(page).is_some() {
@@ -128,8 +130,8 @@ fn slots_of<R: Networked, L: Ledger, M: Map + Drop>(
         stale: 0,
     };
     let blocks = shared.lock(rt).array().geometry().blocks;
-    for hold in 0..blocks / BLOCKS_A_HOLD + 1 {
-        let first = hold.saturating_mul(BLOCKS_A_HOLD);
+    for hold in 0..blocks / BLOCKS_A_COUNT + 1 {
+        let first = hold.saturating_mul(BLOCKS_A_COUNT);
         count_blocks(shared.lock(rt).array(), die, first, &mut counts);
     }
     counts
@@ -141,7 +143,7 @@ fn count_blocks<M: Map>(array: &Array<M>, die: Die, first: u32, counts: &mut Slo
         return;
     }
     let map = array.page_map();
-    let end = first.saturating_add(BLOCKS_A_HOLD);
+    let end = first.saturating_add(BLOCKS_A_COUNT);
     for block in first..end.min(map.geometry().blocks) {
         let found = map.counts(die, Block(block));
         counts.erased = counts.erased.saturating_add(u64::from(found.erased));

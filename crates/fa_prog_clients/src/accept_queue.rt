@@ -93,7 +93,8 @@ pub struct AcceptQueue {
 }
 
 impl AcceptQueue {
-    /// An open accept queue for this number of sessions, which are numbered from 0. It takes all its memory now. The error is out of memory.
+    /// An open accept queue for this number of sessions, which are numbered from 0. It takes all its memory now. The error is out of
+    /// memory.
     pub fn new(alloc: Global, sessions: usize) -> Result<AcceptQueue, AllocError> {
         let mut served = Vec::with_capacity(alloc, sessions)?;
         for _ in 0..sessions {

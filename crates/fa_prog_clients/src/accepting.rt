@@ -13,8 +13,8 @@ const WAIT_SECONDS: u64 = 5;
 const REST_MILLISECONDS: u64 = 100;
 
 /// Accepts clients one by one until the accept queue is closed: it looks at the queue before it begins, and each time that the listener has
-/// given it a client or an error. One for whom no session is free within five seconds is sent away, and that is told on standard error, as is the first of some
-/// errors in a row.
+/// given it a client or an error. One for whom no session is free within five seconds is sent away, and that is told on standard error, as
+/// is the first of some errors in a row.
 pub fn accept_clients<R: Networked>(rt: &R, listener: &TcpListener, accept_queue: &AcceptQueue) {
     if accept_queue.is_closing(rt) {
         return;

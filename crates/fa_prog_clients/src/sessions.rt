@@ -14,7 +14,8 @@ use std::net::{SocketAddr, TcpStream};
 /// How a session serves clients.
 #[derive(Clone, Copy)]
 pub struct Service<'a> {
-    /// The session's number, from 0 and below the number of sessions that the accept queue is for. No two sessions of an accept queue share it.
+    /// The session's number, from 0 and below the number of sessions that the accept queue is for. No two sessions of an accept queue share
+    /// it.
     pub number: usize,
     /// The export's name. A name that is too long for the protocol is served to nobody: each client is closed at once.
     pub name: &'a str,

@@ -31,8 +31,8 @@ pub record AreOpened (geometry : Geometry) (count : ℕ) (terms : Terms) (syncs 
   pub shape : AllByRecursion (λ image. image.geometry ≡ geometry) images
   pub synced : syncs ≡ true → AllByRecursion (WasSynced terms) images
 
--- Why images were not opened: one was not, or was not synced, where it is not left aside; or pages were lost, and nobody who looked at that says
--- that the array may be taken.
+-- Why images were not opened: one was not, or was not synced, where it is not left aside; or pages were lost, and nobody who looked at that
+-- says that the array may be taken.
 abbrev pub IsNotOpened : Terms → NotOpened → Type 0
 IsNotOpened terms Image = terms ≢ Unclean
 IsNotOpened terms PagesLost = terms ≡ Whole

@@ -67,9 +67,10 @@ pub struct Opening {
     pub watched: bool,
 }
 
-/// Opens the images of the settings in the file of this path. One that cannot be opened is told on standard error; where the terms leave it aside the others are taken
-/// without it, and else that is the answer. So is an image whose sync is refused, unless images may be missing. A file whose length is not that
-/// of an image is told too. Where the images of all dies have to be there none is opened while the file of lost pages is.
+/// Opens the images of the settings in the file of this path. One that cannot be opened is told on standard error; where the terms leave it
+/// aside the others are taken without it, and else that is the answer. So is an image whose sync is refused, unless images may be missing.
+/// A file whose length is not that of an image is told too. Where the images of all dies have to be there none is opened while the file of
+/// lost pages is.
 pub fn open_images<'a, R: Host, A: Allocator>(
     rt: &'a R,
     settings: &'a Settings<A>,

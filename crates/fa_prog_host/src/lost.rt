@@ -1,5 +1,5 @@
-//! The file that tells which pages of an array were lost. It lies beside the settings, with `.lost` behind their path. A file with nothing in it tells
-//! of no page.
+//! The file that tells which pages of an array were lost. It lies beside the settings, with `.lost` behind their path. A file with nothing
+//! in it tells of no page.
 ghost use Rattle.std.specs.Prelude.{◌≡◌, IfErr};
 ghost use Rattle.fa_prog_host.specs.Opened.{IsNotOpened};
 
@@ -16,8 +16,8 @@ pub fn lost_path(global: Global, path: &str) -> Result<String, AllocError> {
     format!(in global; "{path}.lost")
 }
 
-/// Whether the array may be one of which no page is known to be lost, where the images of all its dies have to be there. What speaks against it is
-/// told on standard error.
+/// Whether the array may be one of which no page is known to be lost, where the images of all its dies have to be there. What speaks
+/// against it is told on standard error.
 pub(crate) fn none_lost<R: Host>(rt: &R, settings: &str, terms: Terms) -> Result<(), NotOpened>
     ensures { IfErr result (IsNotOpened terms) }
 {

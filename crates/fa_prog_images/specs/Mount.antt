@@ -42,7 +42,8 @@ module _ {I : Type 0} (view : I → ImageState) (made : I → ImageCall → Imag
       ⊎ ((founds : List Found) × IsReadOf view made before after founds
       × IsExpected settings.geometry settings.array (leaves_aside terms) founds (Err refusal))
 
-  -- why they are not mounted by their headers and slots: it is as without these terms, or the images of all dies have to be there, and are not
+  -- why they are not mounted by their headers and slots: it is as without these terms, or the images of all dies have to be there, and are
+  -- not
   abbrev pub RefusesByTerms : List I → List I → MountRefused → Type 0
   RefusesByTerms before after refusal =
       RefusesMount Global view made settings.copies.number (leaves_aside terms) before after refusal

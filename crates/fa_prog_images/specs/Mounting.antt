@@ -30,7 +30,8 @@ module _ {I : Type 0} (view : I → ImageState) (made : I → ImageCall → Imag
     pub whole : terms ≡ Whole → (recovery_refusal settings.copies.number mounts.mounts.headers.founds ≡ None)
         × (slots_refusal settings.copies.number mounts.mounts.judged.mask mounts.mounts.judged.dies.items mounts.mounts.outcomes ≡ None)
 
-  -- why they are not mounted by their headers and slots: it is as without these terms, or the images of all dies have to be there, and are not
+  -- why they are not mounted by their headers and slots: it is as without these terms, or the images of all dies have to be there, and are
+  -- not
   abbrev pub RefusesByTerms : List I → List I → MountRefused → Type 0
   RefusesByTerms before after refusal =
       RefusesArray Global view made settings.copies.number (leaves_aside terms) before after refusal

@@ -2,7 +2,8 @@
 ghost use Rattle.std.specs.Prelude.{◌≡◌, ◌⊎◌, ◌<◌, [], length, IfOk, IfErr, OnOk, Some, None, string_bytes};
 ghost use Rattle.std.specs.List.{AllByRecursion};
 ghost use Rattle.fa_image.specs.FileMade.{file_view};
-ghost use Rattle.fa_prog_images.specs.Formatting.{CameOf, FormatsSpare, HasImages, IsEmptied, IsFailure, IsFailureAt, TellsFormat, TellsFormatted};
+ghost use Rattle.fa_prog_images.specs.Formatting.{CameOf, FormatsSpare, HasImages, IsEmptied, IsFailure, IsFailureAt, TellsFormat};
+ghost use Rattle.fa_prog_images.specs.Formatting.{TellsFormatted};
 ghost use Rattle.fa_prog_images.specs.Formatting.{failure_of as failure_by, formatted_line, image_line};
 ghost use Rattle.fa_prog_host.specs.Printing.{TellsNoMemory};
 

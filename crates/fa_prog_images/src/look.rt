@@ -1,7 +1,8 @@
 //! The commands `check` and `dump`, which look at the images of an array.
 ghost use Rattle.std.specs.Prelude.{◌≡◌, List, Ok, map, string_bytes, IfOk, IfErr, MatchResult};
 ghost use Rattle.fa_image.specs.FileMade.{file_view, FileMade};
-ghost use Rattle.fa_prog_images.specs.Array.{IsTold, IsLines, IsDocument, IsDocumentWith, IsNotTold, TellsLook, TellsArray, mount_line as line_of, not_told_of};
+ghost use Rattle.fa_prog_images.specs.Array.{IsTold, IsLines, IsDocument, IsDocumentWith, IsNotTold, TellsLook, TellsArray};
+ghost use Rattle.fa_prog_images.specs.Array.{mount_line as line_of, not_told_of};
 ghost use Rattle.fa_mount_headers.specs.Expected.{IsExpected};
 ghost use Rattle.fa_mount_headers.specs.Found.{AreFound, IsReadOf};
 ghost use Rattle.fa_settings.specs.Terms.{leaves_aside};

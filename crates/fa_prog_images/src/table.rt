@@ -1,6 +1,7 @@
 //! The table of the dies of an array.
 ghost use Rattle.std.specs.Prelude.{◌≡◌, ◌<◌, ℕ, length, map, string_bytes, option_map, option_and_then, IfOk};
-ghost use Rattle.fa_prog_images.specs.Table.{AreRowsFrom, IsRow, good_header as good, header_of as header_in, image_of as image_at, path_at, slots_on, slots_read as counts_read, standing_of as standing_in, state_text};
+ghost use Rattle.fa_prog_images.specs.Table.{AreRowsFrom, IsRow, good_header as good, header_of as header_in, image_of as image_at};
+ghost use Rattle.fa_prog_images.specs.Table.{path_at, slots_on, slots_read as counts_read, standing_of as standing_in, state_text};
 
 use fa_machine::Block;
 use fa_map_calls::Map;

@@ -3,9 +3,10 @@ use crate::plan::ServePlan;
 use fa_map_calls::Map;
 use fa_mount::place_of;
 use fa_mount_headers::Standing;
+use fa_prog_census::Subject;
 use fa_prog_clients::AcceptQueue;
 use fa_prog_counts::Counts;
-use fa_prog_watch::{Losses, Subject};
+use fa_prog_watch::Losses;
 use fa_settings::Settings;
 use fa_shared::Shared;
 use std::alloc::{AllocError, Allocator, Global};
@@ -14,30 +15,30 @@ use std::sync::ledger::Ledger;
 
 /// What the threads of a server share beside the array.
 #[derive(Drop)]
-pub(crate) struct Listening<'a> {
+pub struct Listening<'a> {
     /// Where clients connect.
-    pub(crate) listener: &'a TcpListener,
+    pub listener: &'a TcpListener,
     /// Where others may ask how the array is.
-    pub(crate) looks: Option<&'a TcpListener>,
+    pub looks: Option<&'a TcpListener>,
     /// Where clients wait for a session.
-    pub(crate) accept_queue: AcceptQueue,
+    pub accept_queue: AcceptQueue,
     /// What is counted.
-    pub(crate) counts: Counts,
+    pub counts: Counts,
     /// Which pages were lost.
-    pub(crate) losses: Losses<'a>,
+    pub losses: Losses<'a>,
     /// What the dies' images are called, by the dies' numbers.
-    pub(crate) paths: Vec<&'a str>,
+    pub paths: Vec<&'a str>,
     /// The paths of those that there are.
     image_paths: Vec<Option<&'a str>>,
     /// How many copies each page is to have.
-    pub(crate) copies: u32,
+    pub copies: u32,
     /// How many rounds a collector's window has.
-    pub(crate) window_rounds: u64,
+    pub window_rounds: u64,
 }
 
 impl<'a> Listening<'a> {
     /// What is looked at of this array, which is served so.
-    pub(crate) fn subject<'b, L: Ledger, M: Map + Drop>(
+    pub fn subject<'b, L: Ledger, M: Map + Drop>(
         &'b self,
         shared: &'b Shared<L, M>,
     ) -> Subject<'b, L, M> {
@@ -51,7 +52,7 @@ impl<'a> Listening<'a> {
 }
 
 /// What the threads share for an array whose dies stand so, with what is known of its lost pages. The error is out of memory.
-pub(crate) fn listening_of<'a, A: Allocator>(
+pub fn listening_of<'a, A: Allocator>(
     global: Global,
     dies: &[Standing],
     losses: Losses<'a>,

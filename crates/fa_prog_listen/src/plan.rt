@@ -5,42 +5,42 @@ use std::net::TcpListener;
 
 /// Which array is to be served, and where.
 #[derive(Drop)]
-pub(crate) struct ServePlan<'a, A: Allocator> {
+pub struct ServePlan<'a, A: Allocator> {
     /// Where clients connect.
-    pub(crate) listener: &'a TcpListener,
+    pub listener: &'a TcpListener,
     /// Where others may ask how the array is.
-    pub(crate) looks: Option<&'a TcpListener>,
-    pub(crate) settings: &'a Settings<A>,
+    pub looks: Option<&'a TcpListener>,
+    pub settings: &'a Settings<A>,
     /// The path of the settings.
-    pub(crate) path: &'a str,
+    pub path: &'a str,
     /// The places of the images among the settings' paths, in the order in which they were opened.
-    pub(crate) places: &'a [usize],
+    pub places: &'a [usize],
     /// Clients that come and go are told on standard error.
-    pub(crate) verbose: bool,
+    pub verbose: bool,
     /// The plan of each n-th batch is kept for who writes it.
-    pub(crate) plans_every: Option<u64>,
+    pub plans_every: Option<u64>,
 }
 
 /// What the threads of a server are told of its settings.
 #[derive(Clone, Copy)]
-pub(crate) struct ThreadPlan<'a> {
+pub struct ThreadPlan<'a> {
     /// The export's name.
-    pub(crate) export: &'a str,
+    pub export: &'a str,
     /// How many clients are served at once.
-    pub(crate) sessions: usize,
+    pub sessions: usize,
     /// How many bytes a page has.
-    pub(crate) page_bytes: u32,
+    pub page_bytes: u32,
     /// How many copies each page is to have.
-    pub(crate) copies: u32,
+    pub copies: u32,
     /// Clients that come and go are told on standard error.
-    pub(crate) verbose: bool,
+    pub verbose: bool,
     /// Others may ask how the array is.
-    pub(crate) has_looks: bool,
+    pub has_looks: bool,
 }
 
 impl<'a, A: Allocator> ServePlan<'a, A> {
     /// What the threads are told.
-    pub(crate) fn threads(&self) -> ThreadPlan<'a> {
+    pub fn threads(&self) -> ThreadPlan<'a> {
         let settings = self.settings;
         ThreadPlan {
             export: settings.export.as_str(),

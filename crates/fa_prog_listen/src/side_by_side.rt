@@ -1,4 +1,5 @@
-//! Tasks that are done side by side, each in a thread of its own. Nothing here names an array, so that what is proved of threads unfolds none.
+//! Tasks that are done side by side, each in a thread of its own. Nothing here names an array, so that what is proved of threads unfolds
+//! none.
 ghost use Rattle.std.specs.Thread.{IsSend, IsSync};
 
 use std::sync::Wait;
@@ -24,8 +25,8 @@ pub trait Starter<R> {
 }
 
 /// Does all tasks side by side. The first ones, as many as `endless` says, are told to stop once all others have ended. A task that gets no
-/// thread is done here, behind the word to give up. What is left of the tasks comes in no order. None where memory is refused, before anything was
-/// begun.
+/// thread is done here, behind the word to give up. What is left of the tasks comes in no order. None where memory is refused, before
+/// anything was begun.
 pub fn work_side_by_side<
     R: AllocGlobal + Threads + Wait + Sync,
     T: Send + Drop,
@@ -76,7 +77,8 @@ impl<D: Drop> Work<D> {
     }
 }
 
-/// Waits for the works behind the endless ones, tells these to stop, and waits for them. What is left goes to a list, which has room for it.
+/// Waits for the works behind the endless ones, tells these to stop, and waits for them. What is left goes to a list, which has room for
+/// it.
 fn end_all<R: Threads + Wait, T, D: Drop, W: Workplace<R, T, D>>(
     rt: &R,
     place: &W,

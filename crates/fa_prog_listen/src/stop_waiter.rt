@@ -15,17 +15,17 @@ const WAKE_SECONDS: u64 = 1;
 
 /// Who starts the threads of a server.
 #[derive(Drop)]
-pub(crate) struct StopWaiter<'a, N: Read> {
-    pub(crate) listening: &'a Listening<'a>,
+pub struct StopWaiter<'a, N: Read> {
+    pub listening: &'a Listening<'a>,
     /// What says when the server is to end.
-    pub(crate) input: &'a mut N,
+    pub input: &'a mut N,
     /// Each thread could be started, and so clients were served.
-    pub(crate) is_served: bool,
+    pub is_served: bool,
 }
 
 impl<'a, R: Networked, N: Read> Starter<R> for StopWaiter<'a, N> {
-    /// Lets clients be served until the input says stop, and then sends them away. Where a thread could not be started, which has closed the
-    /// queue, no client is waited for.
+    /// Lets clients be served until the input says stop, and then sends them away. Where a thread could not be started, which has closed
+    /// the queue, no client is waited for.
     fn meanwhile(&mut self, rt: &R) {
         let accept_queue = &self.listening.accept_queue;
         self.is_served = !accept_queue.is_closing(rt);

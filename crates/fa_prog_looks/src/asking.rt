@@ -36,8 +36,8 @@ pub struct Ask<'a> {
     pub watch: bool,
 }
 
-/// The command `status`: prints how the array is of the server at this address, once, or each second until the server gives no answer. Where
-/// it gives none, a line is printed for it, with status 1, and the reason is told on standard error.
+/// The command `status`: prints how the array is of the server at this address, once, or each second until the server gives no answer.
+/// Where it gives none, a line is printed for it, with status 1, and the reason is told on standard error.
 pub fn run_status<R: LooksHost, W: Write>(rt: &R, ask: Ask<'_>, output: &mut W) -> u8
     ensures { TellsStatus ask.entry.watch (W.contents output.old) (W.contents output.new) result }
 {
@@ -77,7 +77,8 @@ fn tell_once<R: LooksHost, W: Write>(rt: &R, address: &str, before: &[u8], outpu
     }
 }
 
-/// What is printed of the answer of the server at an address, behind these bytes. The error is the system's, or tells that the answer is none.
+/// What is printed of the answer of the server at an address, behind these bytes. The error is the system's, or tells that the answer is
+/// none.
 fn answer_at<R: LooksHost>(rt: &R, address: &str, before: &[u8]) -> io::Result<Vec<u8>> {
     let mut stream = TcpStream::connect(rt, address)?;
     let mut answer = Vec::new(rt.alloc());

@@ -5,8 +5,8 @@ use std::random::RandomSource;
 use std::sync::Wait;
 use std::time::Clock;
 
-/// What a thread has whom others ask, or that asks: sockets, the memory of the process, a clock, standard error, random numbers, and leave to
-/// wait.
+/// What a thread has whom others ask, or that asks: sockets, the memory of the process, a clock, standard error, random numbers, and leave
+/// to wait.
 pub trait LooksHost: Net<Listener = TcpListener, Stream = TcpStream>
     + AllocGlobal
     + Clock

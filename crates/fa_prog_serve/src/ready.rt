@@ -1,19 +1,13 @@
 //! All that a server needs before its first client.
-ghost use Rattle.std.specs.Prelude.{◌≡◌, List, ℕ, IfOk, string_bytes};
-ghost use Rattle.fa_prog_serve.specs.Serving.{address_line};
-
 use crate::images_at_work::{ImagesAtWork, images_at_work};
-use crate::listening::{Listening, listening_of};
-use crate::plan::ServePlan;
-use crate::serve::Held;
 use crate::tasks::{Tasks, tasks_of};
 use fa_map_calls::Map;
 use fa_mount_headers::Standing;
 use fa_prog_clients::Networked;
+use fa_prog_listen::{Held, Listening, ServePlan, listening_of};
 use fa_prog_watch::Losses;
 use fa_shared::Shared;
-use std::alloc::{AllocError, Allocator, Global};
-use std::net::{SocketAddrV4, TcpListener};
+use std::alloc::{AllocError, Allocator};
 use std::sync::ledger::Ledger;
 
 /// What was made for a server.
@@ -51,29 +45,4 @@ pub(crate) fn ready_of<'a, R: Networked, L: Ledger, M: Map + Drop, I: Drop, A: A
         images,
         tasks,
     })
-}
-
-/// The line that tells where clients can connect: at the listener's address, or where it does not tell, at this one.
-pub(crate) fn listening_text(
-    global: Global,
-    listener: &TcpListener,
-    listen: SocketAddrV4,
-) -> Result<String, AllocError>
-    ensures { IfOk result (λ text. (address : List ℕ) × (string_bytes text ≡ address_line address)) }
-{
-    match listener.local_addr() {
-        Ok(address) => line_of(global, &address.to_string(global)?),
-        Err(_) => line_of(global, &listen.to_string(global)?),
-    }
-}
-
-/// The line of an address.
-fn line_of(global: Global, address: &str) -> Result<String, AllocError>
-    ensures { IfOk result (λ text. string_bytes text ≡ address_line address.now) }
-{
-    let mut out = String::new(global);
-    out.push_str("listening ")?;
-    out.push_str(address)?;
-    out.push('\n')?;
-    Ok(out)
 }

@@ -2,32 +2,28 @@
 ghost use Rattle.std.specs.Prelude.{◌≡◌, IfSome, None};
 ghost use Rattle.fa_core.specs.Array.{IsWhole};
 ghost use Rattle.fa_map.specs.PageView.{page_view};
-ghost use Rattle.fa_prog_serve.specs.Serving.{Listens, TellsEnd, TellsOn, TellsServe};
+ghost use Rattle.fa_prog_serve.specs.Serving.{Listens, TellsOn, TellsServe};
 
-use crate::closing::print_end;
-use crate::host::ServerHost;
-use crate::plan::ServePlan;
-use crate::ready::{listening_text, ready_of};
-use crate::serving::{Ended, serve_ready};
-use fa_core::Array;
+use crate::ready::ready_of;
+use crate::serving::serve_ready;
 use fa_image::Image;
 use fa_map::PageMap;
 use fa_map_calls::Map;
-use fa_mount::{CloseFault, MountedArray};
+use fa_mount::MountedArray;
 use fa_mount_headers::{MountFault, Standing};
 use fa_prog_host::printing::{DONE, REFUSED, print, refuse_for_memory};
 use fa_prog_host::{
     NotOpened, OpenImages, Opening, open_images, refuse_settings, settings_at, tell,
 };
-use fa_prog_images::{close, explain, mount, refuse_mount};
-use fa_prog_watch::{
-    PlanFile, keep_lost_at_end, open_lost, open_plans, remove_if_empty, tell_not_kept,
+use fa_prog_images::{explain, mount, refuse_mount};
+use fa_prog_listen::{
+    Ended, Held, Listeners, ServePlan, ServerHost, bind_looks, end_served, listening_text,
+    open_beside, share,
 };
 use fa_settings::{PlansFile, Settings, Terms};
 use fa_shared::{Fault, Shared};
-use std::alloc::{AllocError, Allocator, Global};
-use std::fs::File;
-use std::io::{self, Read, Write};
+use std::alloc::{AllocError, Allocator};
+use std::io::{Read, Write};
 use std::marker::Brand;
 use std::net::TcpListener;
 use std::sync::ledger::{Blank, Ledger};
@@ -112,47 +108,6 @@ fn listen_for_looks<R: ServerHost, N: Read, W: Write, A: Allocator>(
     }
 }
 
-/// Where others may ask how the array is, if that is wanted. It is told on standard error, and so is the error, which is the system's.
-fn bind_looks<R: ServerHost>(rt: &R, status: Option<&str>) -> io::Result<Option<TcpListener>> {
-    let Some(address) = status else {
-        return Ok(None);
-    };
-    match TcpListener::bind(rt, address) {
-        Ok(listener) => {
-            match listener.local_addr() {
-                Ok(address) => tell(rt, format_args!("status at http://{address}/")),
-                Err(_) => tell(rt, format_args!("status at http://{address}/")),
-            }
-            Ok(Some(listener))
-        }
-        Err(refused) => {
-            tell(
-                rt,
-                format_args!(
-                    "{address}: {refused}: choose another address for --status, or end who has this one"
-                ),
-            );
-            Err(refused)
-        }
-    }
-}
-
-/// Where a server listens.
-#[derive(Clone, Copy)]
-pub struct Listeners<'a> {
-    /// For clients.
-    pub clients: &'a TcpListener,
-    /// For those who ask how the array is.
-    pub looks: Option<&'a TcpListener>,
-}
-
-impl<'a> Listeners<'a> {
-    /// These listeners.
-    fn new(clients: &'a TcpListener, looks: Option<&'a TcpListener>) -> Listeners<'a> {
-        Listeners { clients, looks }
-    }
-}
-
 /// Serves the array of these settings over the images that they name.
 fn open<R: ServerHost, N: Read, W: Write, A: Allocator>(
     rt: &R,
@@ -172,7 +127,7 @@ fn open<R: ServerHost, N: Read, W: Write, A: Allocator>(
     match open_images(rt, settings, serve.settings, opening) {
         Ok(OpenImages { images, places }) => {
             let places = places.as_slice();
-            match open_beside(rt, serve) {
+            match open_beside(rt, serve.settings, serve.plans) {
                 Some((lost, plans)) => {
                     let held = Held {
                         images,
@@ -188,31 +143,6 @@ fn open<R: ServerHost, N: Read, W: Write, A: Allocator>(
         Err(NotOpened::PagesLost) => refuse_mount(MountFault::Unclean, output),
         Err(NotOpened::NoMemory) => refuse_for_memory(output),
     }
-}
-
-/// Opens the file of lost pages and the file of plans, where there is to be one. None where either is refused, which is told.
-fn open_beside<R: ServerHost>(rt: &R, serve: Serve<'_>) -> Option<(File, Option<PlanFile>)> {
-    match open_lost(rt, serve.settings) {
-        Ok(lost) => match serve.plans {
-            None => Some((lost, None)),
-            Some(plans) => Some((lost, Some(open_plans(rt, plans.path)?))),
-        },
-        Err(refused) => {
-            tell_not_kept(rt, serve.settings, &refused);
-            None
-        }
-    }
-}
-
-/// The files that a server has open.
-#[derive(Drop)]
-pub struct Held<I: Drop> {
-    /// The images.
-    pub images: Vec<I>,
-    /// The file of lost pages.
-    pub lost: File,
-    /// The file of plans, where they are written.
-    pub plans: Option<PlanFile>,
 }
 
 /// Serves the array of these images to those who connect to the listeners. The images are at these places of the settings' paths.
@@ -291,34 +221,6 @@ fn serve_mounted<
     }
 }
 
-/// An array to be shared over a ledger of 257 parts that nothing else names. The plan of each n-th batch is kept for who writes it, where that is
-/// wanted. None where memory is refused.
-fn share<L: Ledger, M: Map + Drop>(
-    alloc: Global,
-    blank: Blank,
-    array: Array<M>,
-    plans_every: Option<u64>,
-) -> Option<Shared<L, M>>
-    requires name { blank.name ≡ L.name }
-    requires parts { (blank.parts ≡ L.parts) × (blank.parts ≡ 257) }
-    requires whole { IsWhole M.view array }
-{
-    Shared::<L, M>::new(alloc, blank, keeping(alloc, array, plans_every)).ok()
-}
-
-/// The array, which keeps the plan of each n-th batch for who writes it, where that is wanted.
-fn keeping<M: Map + Drop>(alloc: Global, array: Array<M>, plans_every: Option<u64>) -> Array<M>
-    requires { IsWhole M.view array }
-    ensures { IsWhole M.view result }
-{
-    let Some(every) = plans_every else {
-        return array;
-    };
-    let mut array = array;
-    array.log_plans(alloc, every);
-    array
-}
-
 /// Serves a shared array, and closes it.
 fn serve_over<
     L: Ledger + Send,
@@ -342,7 +244,7 @@ fn serve_over<
 {
     let served = serve_lent(rt, &shared, dies.as_slice(), held, plan, input, output);
     match served {
-        Some((ended, faults)) => end(rt, plan.path, shared, dies, ended, faults, output),
+        Some((ended, faults)) => end_served(rt, plan.path, shared, dies, ended, faults, output),
         None => refuse_for_memory(output),
     }
 }
@@ -379,55 +281,4 @@ fn serve_lent<
     let _ = print(output, DONE, line.as_bytes());
     let ended = serve_ready(rt, shared, ready, input);
     Some((ended, shared.faults(rt, rt.alloc())))
-}
-
-/// Closes an array that was served, and tells how.
-fn end<R: ServerHost, L: Ledger, M: Map + Drop, I: Image + Drop, W: Write>(
-    rt: &R,
-    path: &str,
-    shared: Shared<L, M>,
-    dies: Vec<Standing>,
-    ended: Result<Ended<I>, AllocError>,
-    faults: Result<Vec<Fault>, AllocError>,
-    output: &mut W,
-) -> u8
-    ensures { TellsEnd (W.contents output.old) (W.contents output.new) result }
-{
-    let mounted = MountedArray {
-        array: shared.into_array(),
-        dies,
-    };
-    end_lent(rt, path, &mounted, ended, faults, output)
-}
-
-/// The same of an array that is lent.
-fn end_lent<R: ServerHost, M: Map + Drop, I: Image + Drop, W: Write>(
-    rt: &R,
-    path: &str,
-    mounted: &MountedArray<M>,
-    ended: Result<Ended<I>, AllocError>,
-    faults: Result<Vec<Fault>, AllocError>,
-    output: &mut W,
-) -> u8
-    requires { IsWhole M.view mounted.now.array }
-    ensures { TellsEnd (W.contents output.old) (W.contents output.new) result }
-{
-    let Ok(Ended { images, is_served }) = ended else {
-        return refuse_for_memory(output);
-    };
-    let mut images = images;
-    let closed = close(mounted, images.as_mut_slice());
-    note_lost(rt, path, closed);
-    remove_if_empty(rt, path);
-    match faults {
-        Ok(faults) if is_served => print_end(rt.alloc(), faults, closed, output),
-        _ => refuse_for_memory(output),
-    }
-}
-
-/// Has a page in the file of lost pages that closing found to be lost.
-fn note_lost<R: ServerHost>(rt: &R, path: &str, closed: Result<u64, CloseFault>) {
-    if let Err(CloseFault::Lost(page)) = closed {
-        keep_lost_at_end(rt, path, page);
-    }
 }

@@ -1,18 +1,15 @@
 //! The threads of a server.
 ghost use Rattle.std.specs.Prelude.{◌≡◌};
 
-use crate::host::ServerHost;
 use crate::images_at_work::{ImagesAtWork, images_again};
-use crate::listening::Listening;
 use crate::ready::Ready;
-use crate::side_by_side::work_side_by_side;
 use crate::site::Site;
-use crate::stop_waiter::StopWaiter;
 use crate::tasks::Tasks;
 use fa_image::Image;
 use fa_map_calls::Map;
 use fa_prog_clients::Networked;
 use fa_prog_host::tell;
+use fa_prog_listen::{Ended, Listening, ServerHost, StopWaiter, work_side_by_side};
 use fa_shared::Shared;
 use fa_shared_lock::Seat;
 use fa_workers::ImageTable;
@@ -27,15 +24,6 @@ struct Back<L: Ledger> {
     seats: Vec<Seat<L>>,
     /// Each thread could be started.
     is_served: bool,
-}
-
-/// What is left of a server that has ended.
-#[derive(Drop)]
-pub(crate) struct Ended<I: Drop> {
-    /// The images, in the order in which they were opened.
-    pub(crate) images: Vec<I>,
-    /// Each thread could be started, and so clients were served.
-    pub(crate) is_served: bool,
 }
 
 /// Serves clients until the input says stop, ends all threads, and gathers their seats. The error is out of memory.

@@ -1,10 +1,11 @@
 //! A session of the server over the array: it serves one client after another, and works for the dies while their requests wait.
-use crate::listening::Listening;
 use fa_image::Image;
 use fa_map_calls::Map;
+use fa_prog_census::CountingGate;
 use fa_prog_clients::{ConnectionMemory, Networked, Service, serve_clients};
 use fa_prog_counts::CountingStore;
-use fa_prog_watch::{CountingGate, TellingStore};
+use fa_prog_listen::Listening;
+use fa_prog_watch::TellingStore;
 use fa_shared::Shared;
 use fa_shared_lock::{Hands, Seat};
 use fa_shared_store::ArrayBlocks;
@@ -42,8 +43,8 @@ impl<'a, L: Ledger> Session<'a, L> {
     }
 }
 
-/// Serves an array to one client after another until the accept queue is closed, and hands the session's seat back. It blocks its thread: while its
-/// clients' requests wait it makes jobs of the dies whose images are in this table.
+/// Serves an array to one client after another until the accept queue is closed, and hands the session's seat back. It blocks its thread:
+/// while its clients' requests wait it makes jobs of the dies whose images are in this table.
 pub(crate) fn serve_array<R: Networked, L: Ledger, M: Map + Drop, I: Image + Drop>(
     rt: &R,
     listening: &Listening<'_>,

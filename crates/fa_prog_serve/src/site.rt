@@ -1,15 +1,15 @@
 //! A shared array as the threads of a server see it, and what they do.
 use crate::die_workers::{collect, rebuild, work_die};
-use crate::listening::Listening;
 use crate::sessions::serve_array;
-use crate::side_by_side::Workplace;
 use crate::tasks::Task;
 use fa_core::Array;
 use fa_image::Image;
 use fa_map_calls::Map;
+use fa_prog_census::Looking;
 use fa_prog_clients::{Networked, accept_clients};
+use fa_prog_listen::{Listening, Workplace};
 use fa_prog_looks::{LooksHost, serve_looks};
-use fa_prog_watch::{Looking, watch, write_plans};
+use fa_prog_watch::{watch, write_plans};
 use fa_shared::Shared;
 use fa_shared_lock::Seat;
 use fa_types::Die;

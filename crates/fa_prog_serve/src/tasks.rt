@@ -1,10 +1,11 @@
 //! What the threads of a server are to do.
 use crate::die_workers::{DieTask, die_task};
-use crate::plan::ThreadPlan;
 use crate::sessions::Session;
 use fa_map_calls::Map;
+use fa_prog_census::Looker;
 use fa_prog_clients::{Networked, Service};
-use fa_prog_watch::{Looker, PlanFile, Sight, sight_of};
+use fa_prog_listen::ThreadPlan;
+use fa_prog_watch::{PlanFile, Sight, sight_of};
 use fa_shared::Shared;
 use fa_shared_lock::Seat;
 use fa_types::Die;
@@ -43,8 +44,8 @@ pub(crate) struct Tasks<'a, L: Ledger> {
     pub(crate) seats: Vec<Seat<L>>,
 }
 
-/// A task for each of these dies, for the collector, the rebuilder and the watch, for the one who writes plans, if there is one, for each session,
-/// for the one who answers those who look, if there is one, and for the one who accepts. The error is out of memory, or of seats.
+/// A task for each of these dies, for the collector, the rebuilder and the watch, for the one who writes plans, if there is one, for each
+/// session, for the one who answers those who look, if there is one, and for the one who accepts. The error is out of memory, or of seats.
 pub(crate) fn tasks_of<'a, R: Networked, L: Ledger, M: Map + Drop>(
     rt: &R,
     shared: &Shared<L, M>,

@@ -11,9 +11,9 @@ use Rattle.fa_mount_headers.specs.declared.judging.Standing.{Standing}
 use Rattle.fa_prog_images.specs.Mounting.{MountsSettings}
 use Rattle.fa_prog_host.specs.Opened.{AreOpened}
 use Rattle.fa_mount.specs.declared.closing.CloseFault.{CloseFault}
-use Rattle.flasharr.specs.Conversation.{Converses}
-use Rattle.flasharr.specs.Right.{IsRight}
-use Rattle.flasharr.specs.TalkArray.{TellsClient, TellsMounted}
+use Rattle.fa_prog_talk.specs.Conversation.{Converses}
+use Rattle.fa_prog_talk.specs.Right.{IsRight}
+use Rattle.fa_prog_talk.specs.TalkArray.{TellsClient, TellsMounted}
 use Rattle.fa_prog_text.specs.Talk.{known}
 use Rattle.fa_session.specs.declared.session_end.SessionEnd.{SessionEnd}
 use Rattle.fa_settings.specs.declared.settings.Settings.{Settings}

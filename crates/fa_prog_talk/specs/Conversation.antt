@@ -7,7 +7,7 @@ use Rattle.fa_machine.specs.State.{Core}
 use Rattle.fa_mount.specs.declared.closing.CloseFault.{CloseFault}
 use Rattle.fa_mount_headers.specs.declared.judging.Standing.{Standing}
 use Rattle.fa_prog_images.specs.Ending.{ClosesOver}
-use Rattle.flasharr.specs.declared.conversation.Said.{Said}
+use Rattle.fa_prog_talk.specs.declared.conversation.Said.{Said}
 use Rattle.fa_prog_text.specs.Talk.{known}
 use Rattle.fa_session.specs.Session.{Session}
 use Rattle.fa_session.specs.declared.session_end.SessionEnd.{SessionEnd}
@@ -15,8 +15,8 @@ use Rattle.fa_shared.specs.Faults.{faults_of}
 use Rattle.fa_shared.specs.declared.faults.Fault.{Fault}
 use Rattle.fa_solo.specs.Stores.{StoreMakes, StoreState}
 
--- The store over an array that was mounted of these images, before its first call: it has the array's state and the images, and it is as large
--- as the array.
+-- The store over an array that was mounted of these images, before its first call: it has the array's state and the images, and it is as
+-- large as the array.
 pub record BeginsOver {L M I : Type 0} (array : List ℕ) (dies : List Standing) (core : Core) (images : List I) (store : StoreState L M I Global)
     : Type 0 where
   pub core_is : store.inner.locked.core ≡ core
@@ -27,9 +27,9 @@ pub record BeginsOver {L M I : Type 0} (array : List ℕ) (dies : List Standing)
   pub page_bytes : store.page_bytes ≡ core.page_map.geometry.page_bytes
 
 module _ {I : Type 0} (view : I → ImageState) (honest : I → Bool) (made : I → ImageCall → ImageAnswer → I → Type 0) (L M : Type 0) where
-  -- From an array that was mounted, with its images as they are then, to what the server has said and how the connection ended, to the faults that
-  -- took dies out meanwhile, and to how the array was closed, and its images as that leaves them. The calls of the store are those that the
-  -- client's bytes ask for, and each was made of the array and of the images of its dies.
+  -- From an array that was mounted, with its images as they are then, to what the server has said and how the connection ended, to the
+  -- faults that took dies out meanwhile, and to how the array was closed, and its images as that leaves them. The calls of the store are
+  -- those that the client's bytes ask for, and each was made of the array and of the images of its dies.
   pub record Converses (export bytes : List ℕ) (array : List ℕ) (dies : List Standing) (core : Core) (mounted : List I) (written : List ℕ)
       (end : SessionEnd) (faults : List Fault) (closed : Result ℕ CloseFault) : Type 0 where
     pub left : List ℕ

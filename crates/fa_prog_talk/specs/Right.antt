@@ -20,10 +20,10 @@ use Rattle.fa_solo_laws.specs.Standing.{IsWorldOf}
 use Rattle.fa_types.specs.Store.{Meets}
 
 module _ {I : Type 0} (view : I → ImageState) (honest : I → Bool) (made : I → ImageCall → ImageAnswer → I → Type 0) {L M : Type 0} where
-  -- A world stands for the array as it was mounted, and its plain array is what stood in the slots of the images then. Another one stands for the
-  -- array at the end, and sees what stands in the slots of the images then. The connection is one over a store that nobody else calls: its
-  -- content is the one plain array as it begins and the other as it ends, and the lost pages are those of the two worlds. Or a call of the store
-  -- was given up.
+  -- A world stands for the array as it was mounted, and its plain array is what stood in the slots of the images then. Another one stands
+  -- for the array at the end, and sees what stands in the slots of the images then. The connection is one over a store that nobody else
+  -- calls: its content is the one plain array as it begins and the other as it ends, and the lost pages are those of the two worlds. Or a
+  -- call of the store was given up.
   pub record AnswersRight (export : List ℕ) (streams : Streams) (end : SessionEnd) (dies : List Standing) (core : Core) (mounted : List I)
       (first last : StoreState L M I Global) (session : Session (StoreMakes made) export first.bytes streams first last end) : Type 0 where
     pub before : World

@@ -20,8 +20,8 @@ use Rattle.fa_prog_host.specs.declared.images.NotOpened.{NotOpened}
 use Rattle.fa_prog_host.specs.Printing.{Prints, TellsNoMemory}
 use Rattle.fa_prog_host.specs.SettingsRefused.{RefusesSettings}
 use Rattle.fa_prog_images.specs.Array.{fault_of, mount_line}
-use Rattle.flasharr.specs.Conversation.{Converses}
-use Rattle.flasharr.specs.Right.{IsRight}
+use Rattle.fa_prog_talk.specs.Conversation.{Converses}
+use Rattle.fa_prog_talk.specs.Right.{IsRight}
 use Rattle.fa_prog_text.specs.HexLines.{bytes_of_text}
 use Rattle.fa_prog_text.specs.Output.{RunsOver}
 use Rattle.fa_prog_text.specs.Talk.{RefusesText, known, talk_text}
@@ -50,8 +50,8 @@ TellsMounted view honest made L M export bytes array dies core mounted old new s
     × TellsSaid written end faults closed old new status)
     ⊎ TellsNoMemory old new status
 
--- The numbers of the settings with which an array is served: a window has 1 to 64 rounds, and the export's name is no longer than the protocol
--- lets it be.
+-- The numbers of the settings with which an array is served: a window has 1 to 64 rounds, and the export's name is no longer than the
+-- protocol lets it be.
 abbrev pub MayBeServed : {A : Type 0} → Settings A → Type 0
 MayBeServed settings = (1 ≤ settings.window_rounds) × (settings.window_rounds ≤ 64) × (length (string_bytes settings.export) ≤ 4096)
 
@@ -82,8 +82,8 @@ module _ (L M : Type 0) {A : Type 0} (settings : Settings A) (terms : Terms) whe
     pub right : IsRight file_view file_is_honest FileMade (string_bytes settings.export) (known bytes converses.left [] written) end dies core
         mounted converses.first converses.last converses.session
 
-  -- What is printed where a client says these bytes: why the images are not mounted, or what came of the conversation. Or memory was refused
-  -- before it began.
+  -- What is printed where a client says these bytes: why the images are not mounted, or what came of the conversation. Or memory was
+  -- refused before it began.
   abbrev pub TellsClient : List ℕ → Option (List ℕ) → Option (List ℕ) → ℕ → Type 0
   TellsClient bytes old new status =
       ((fault : MountFault) × IsNotMounted fault × Prints (mount_line fault) 1 old new status)
@@ -97,8 +97,8 @@ module _ (L M : Type 0) {A : Type 0} (settings : Settings A) (terms : Terms) whe
       RefusesText text old new status
       ⊎ ((bytes : List ℕ) × (bytes_of_text text ≡ Ok bytes) × TellsClient bytes old new status)
 
--- What the command does. Where there are no settings it reads nothing of the input, and where the input is not read to its end, or spells no
--- bytes, it has opened no image.
+-- What the command does. Where there are no settings it reads nothing of the input, and where the input is not read to its end, or spells
+-- no bytes, it has opened no image.
 abbrev pub RunsTalkArray : Type 0 → Terms → Streams → ℕ → Type 0
 RunsTalkArray A terms s status =
     (Reads s [] × (RefusesSettings A s.held_before s.held_after status ⊎ TellsNoMemory s.held_before s.held_after status))

@@ -5,7 +5,8 @@ ghost use Rattle.fa_core.specs.Array.{IsWhole, number_of, state_of};
 ghost use Rattle.fa_io.specs.Streams.{between};
 ghost use Rattle.fa_map.specs.declared.page_map.PageMap.{PageMap as PageTables};
 ghost use Rattle.fa_prog_host.specs.Opened.{AreOpened};
-ghost use Rattle.flasharr.specs.TalkArray.{MayBeServed, RunsTalkArray, TellsClient, TellsLines, TellsMounted, TellsSaid, said_text as text_of};
+ghost use Rattle.fa_prog_talk.specs.TalkArray.{MayBeServed, RunsTalkArray, TellsClient, TellsLines, TellsMounted, TellsSaid};
+ghost use Rattle.fa_prog_talk.specs.TalkArray.{said_text as text_of};
 ghost use Rattle.fa_prog_text.specs.Output.{RunsOver};
 ghost use Rattle.fa_shared.specs.declared.faults.Fault.{Fault};
 

@@ -3,8 +3,8 @@ ghost use Rattle.std.specs.Prelude.{◌≡◌, ◌≤◌, ℕ, List, IfOk, lengt
 ghost use Rattle.fa_core.specs.Array.{IsWhole, number_of, state_of};
 ghost use Rattle.fa_machine.specs.State.{Core};
 ghost use Rattle.fa_mount_headers.specs.declared.judging.Standing.{Standing};
-ghost use Rattle.flasharr.specs.Conversation.{BeginsOver, HasSaid};
-ghost use Rattle.flasharr.specs.TalkArray.{MayBeServed};
+ghost use Rattle.fa_prog_talk.specs.Conversation.{BeginsOver, HasSaid};
+ghost use Rattle.fa_prog_talk.specs.TalkArray.{MayBeServed};
 ghost use Rattle.fa_solo.specs.Stores.{seen_of};
 
 use fa_image::Image;

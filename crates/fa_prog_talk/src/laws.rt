@@ -6,8 +6,8 @@ ghost use Rattle.fa_mount.specs.MountsArray.{MountsArray};
 ghost use Rattle.fa_mount.specs.declared.closing.CloseFault.{CloseFault};
 ghost use Rattle.fa_mount_headers.specs.Found.{AreOnlyRead};
 ghost use Rattle.fa_mount_headers.specs.declared.judging.Standing.{Standing};
-ghost use Rattle.flasharr.specs.Conversation.{Converses};
-ghost use Rattle.flasharr.specs.Right.{IsRight};
+ghost use Rattle.fa_prog_talk.specs.Conversation.{Converses};
+ghost use Rattle.fa_prog_talk.specs.Right.{IsRight};
 ghost use Rattle.fa_prog_text.specs.Talk.{known};
 ghost use Rattle.fa_session.specs.declared.session_end.SessionEnd.{SessionEnd};
 ghost use Rattle.fa_shared.specs.declared.faults.Fault.{Fault};
@@ -18,9 +18,9 @@ use fa_solo_laws::sessions::a_session_of_the_store_meets;
 use fa_types::MemBlocks;
 use std::alloc::Global;
 
-/// A client of an array that was mounted is answered as by a plain store whose bytes are what stood in the slots of its images, from the first
-/// byte to the last. Or a call of the store was given up: its request took 2^64 - 1 turns, and was refused as lost, or a copy of a page was looked
-/// at as often in vain. The images return what was written, and the current copies of one page agree as they are mounted.
+/// A client of an array that was mounted is answered as by a plain store whose bytes are what stood in the slots of its images, from the
+/// first byte to the last. Or a call of the store was given up: its request took 2^64 - 1 turns, and was refused as lost, or a copy of a
+/// page was looked at as often in vain. The images return what was written, and the current copies of one page agree as they are mounted.
 pub fn a_conversation_is_right<L, M, I: Image>()
     ensures { (copies : ℕ) (unclean : Bool) (before mounted : List I) (array : List ℕ) (dies : List Standing) (core : Core)
         (export bytes written : List ℕ) (end : SessionEnd) (faults : List Fault) (closed : Result ℕ CloseFault)

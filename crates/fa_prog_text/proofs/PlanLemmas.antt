@@ -3,14 +3,14 @@ use Rattle.std.proofs.Common.{◌≡◌, ◌≢◌, ℕ, ◌+◌, inl, inr, List
 use Rattle.std.proofs.Math.Path.{fun_ext}
 use Rattle.std.proofs.lemmas.List.{append-nil, length-map, map-append}
 use Rattle.fa_types.specs.declared.numbers.Page.{Page}
-use Rattle.fa_batch.specs.declared.plan.Place.{Place}
+use Rattle.fa_batch_terms.specs.declared.place.Place.{Place}
 use Rattle.fa_texts.specs.declared.batch_text.BatchText.{BatchText}
-use Rattle.fa_batch.specs.Batch.{AreFine}
+use Rattle.fa_batch_terms.specs.Batch.{AreFine}
 use Rattle.fa_texts.specs.BatchText.{IsBatchText, IsRead, StartsWithBatch}
-use Rattle.fa_batch.specs.Certificate.{IsCertificate}
+use Rattle.fa_batch_terms.specs.Certificate.{IsCertificate}
 use Rattle.fa_texts.specs.CertificateText.{IsPrinted}
 use Rattle.fa_batch.specs.Closed.{current_of, is_closed}
-use Rattle.fa_batch.specs.Plan.{AreFirstRounds}
+use Rattle.fa_batch_terms.specs.Plan.{AreFirstRounds}
 use Rattle.fa_batch.specs.Runs.{any_closes}
 use Rattle.fa_texts.specs.Text.{Begins, GoesWrong, IsFirstWrongLine, words_by_line, words_of}
 use Rattle.fa_io.specs.Lines.{lines_of}

@@ -7,7 +7,7 @@ ghost use Rattle.fa_prog_text.specs.Plan.{IsPlanFault, IsPlanText, RunsPlan, Tel
 use crate::input::read_input;
 use crate::output::refuse_input;
 use crate::verify::{Judged, told};
-use fa_batch::Unsound;
+use fa_batch_terms::Unsound;
 use fa_prog_host::printing::{DONE, FAULTY, print, refuse_for_memory};
 use fa_texts::{TextError, read_batch};
 use std::alloc::{AllocError, Allocator};

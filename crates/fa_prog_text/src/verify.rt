@@ -7,7 +7,7 @@ ghost use Rattle.fa_prog_text.specs.Verify.{AreSomeTexts, IsJudged, TellsVerify,
 
 use crate::input::read_input;
 use crate::output::refuse_input;
-use fa_batch::Unsound;
+use fa_batch_terms::Unsound;
 use fa_cert::{Verdict, check};
 use fa_prog_host::printing::{DONE, FAULTY, REFUSED, print, refuse_for_memory};
 use fa_texts::{TextError, read_batch, read_certificate};

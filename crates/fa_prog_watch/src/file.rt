@@ -7,7 +7,8 @@ use std::fs::{self, File, OpenFile, OpenOptions};
 use std::io::{self, Eprint, Write};
 use std::path::Path;
 
-/// Opens the file of lost pages beside the settings of this path, to add lines to it, and has its name on its disk. Where it is not there it is made.
+/// Opens the file of lost pages beside the settings of this path, to add lines to it, and has its name on its disk. Where it is not there
+/// it is made.
 pub fn open_lost<R: Host>(rt: &R, settings: &str) -> io::Result<File> {
     let path = lost_path(rt.alloc(), settings)?;
     let file = OpenOptions::new()

@@ -34,7 +34,8 @@ struct Looked {
 }
 
 impl<'a> Losses<'a> {
-    /// What is known of an array of this epoch as nobody works for it yet, beside the settings of this path, with its open file of lost pages.
+    /// What is known of an array of this epoch as nobody works for it yet, beside the settings of this path, with its open file of lost
+    /// pages.
     pub fn new(settings: &'a str, epoch: u64, file: File) -> Losses<'a> {
         Losses {
             settings,
@@ -46,8 +47,8 @@ impl<'a> Losses<'a> {
         }
     }
 
-    /// Looks at the pages of the array, if a die went out since that was done last, and has those that were lost in the file. True where that
-    /// was done, or was not wanted.
+    /// Looks at the pages of the array, if a die went out since that was done last, and has those that were lost in the file. True where
+    /// that was done, or was not wanted.
     pub fn keep<R: Networked, L: Ledger, M: Map + Drop>(
         &self,
         rt: &R,

@@ -17,8 +17,8 @@ pub struct PlanFile {
     is_told: bool,
 }
 
-/// Opens the file of plans of this path, to add entries to it. Where it is not there it is made. An entry that is torn at its end, as behind a
-/// server that was killed, is taken off. None where that is refused, or the file is none of plans. What happens is told.
+/// Opens the file of plans of this path, to add entries to it. Where it is not there it is made. An entry that is torn at its end, as
+/// behind a server that was killed, is taken off. None where that is refused, or the file is none of plans. What happens is told.
 pub fn open_plans<R: Host>(rt: &R, path: &str) -> Option<PlanFile> {
     match open(rt, path) {
         Ok(Some(file)) => Some(file),

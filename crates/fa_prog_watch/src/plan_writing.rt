@@ -29,8 +29,8 @@ struct Pages {
     all: String,
 }
 
-/// Writes the plans that wait into their file until the array is to end and none waits any more. Each is checked before, and one that the check
-/// refuses is not written. It blocks its thread.
+/// Writes the plans that wait into their file until the array is to end and none waits any more. Each is checked before, and one that the
+/// check refuses is not written. It blocks its thread.
 pub fn write_plans<R: Networked, L: Ledger, M: Map + Drop>(
     rt: &R,
     shared: &Shared<L, M>,
@@ -98,8 +98,8 @@ fn write<R: Networked>(
     }
 }
 
-/// Prints these plans, as far as each is accepted and fits, and answers how many they are. The others are counted. Those that are used come to the
-/// used ones.
+/// Prints these plans, as far as each is accepted and fits, and answers how many they are. The others are counted. Those that are used come
+/// to the used ones.
 fn print(
     global: Global,
     counts: &PlanFileCounts,

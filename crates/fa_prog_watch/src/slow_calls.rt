@@ -29,8 +29,8 @@ impl SlowCalls {
     /// None was seen yet.
     pub(crate) const NONE: SlowCalls = SlowCalls { calls: [None; 64] };
 
-    /// Looks at the calls that are under way. Of one that lasts long it is told for how long, and once on standard error. The paths are those
-    /// of the dies' images.
+    /// Looks at the calls that are under way. Of one that lasts long it is told for how long, and once on standard error. The paths are
+    /// those of the dies' images.
     pub(crate) fn look<R: Networked>(&mut self, rt: &R, counts: &Counts, paths: &[&str]) {
         for number in 0..64u8 {
             let place = usize::from(number);

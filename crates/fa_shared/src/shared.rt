@@ -19,8 +19,8 @@ const REQUEST_SLEEP: u64 = 100;
 
 const WORKER_SLEEP: u64 = 1000;
 
-/// How often somebody tries to take the lock before sleeping for it. Holds are short: most end within these tries, and a sleep and a wake cost
-/// more than they do.
+/// How often somebody tries to take the lock before sleeping for it. Holds are short: most end within these tries, and a sleep and a wake
+/// cost more than they do.
 const TRIES: u32 = 100;
 
 /// An array that threads share, with the faults that took its dies out. Nobody holds its lock but for one event, or for two that belong
@@ -34,8 +34,8 @@ pub struct Shared<L: Ledger, M: Map + Drop, A: Allocator + Copy = Global> {
 }
 
 impl<L: Ledger, M: Map + Drop, A: Allocator + Copy> Shared<L, M, A> {
-    /// An array to be shared, with a ledger of 257 parts that nothing else names. The book begins with the Commits that were made before. Where
-    /// memory is refused, or so many Commits were made that a count of 64 bits does not tell them, the array is handed back.
+    /// An array to be shared, with a ledger of 257 parts that nothing else names. The book begins with the Commits that were made before.
+    /// Where memory is refused, or so many Commits were made that a count of 64 bits does not tell them, the array is handed back.
     pub fn new(alloc: A, blank: Blank, array: Array<M, A>) -> Result<Shared<L, M, A>, Array<M, A>>
         requires name { blank.name ≡ L.name }
         requires parts { (blank.parts ≡ L.parts) × (blank.parts ≡ 257) }

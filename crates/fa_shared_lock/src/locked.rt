@@ -257,8 +257,8 @@ impl<L: Ledger, M: Map + Drop, A: Allocator + Copy> Locked<L, M, A> {
         Ok(self.array.counts().0)
     }
 
-    /// Whether many who make jobs of dies sleep, so that whoever is awake is to take those of all dies. It is a matter of speed alone, and in no
-    /// clause.
+    /// Whether many who make jobs of dies sleep, so that whoever is awake is to take those of all dies. It is a matter of speed alone, and
+    /// in no clause.
     pub fn do_many_help(&self) -> bool {
         self.sleepers.do_many_help()
     }

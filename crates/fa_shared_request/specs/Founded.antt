@@ -23,8 +23,8 @@ abbrev pub may_collect : MapState → Bool
 may_collect m = list_any (may_free m) (dies_of m)
 
 module _ {A : Type 0} where
-  -- A batch that is read is ended as it is ready, and planned anew where it is torn. A write is refused for want of room where nothing can be
-  -- collected.
+  -- A batch that is read is ended as it is ready, and planned anew where it is torn. A write is refused for want of room where nothing can
+  -- be collected.
   abbrev pub IsFounded : Core → Stage A → Act → Stage A → Type 0
   IsFounded core (Reading purpose batch) (EndBatch b answers) next = results core b ≡ Ready
   IsFounded core (Reading purpose batch) (Replan b answer) next = results core b ≡ Torn

@@ -6,7 +6,8 @@ use Rattle.fa_machine.specs.Step.{Act, Step, is_page, Claim, Release, Reserve, R
 use Rattle.fa_machine.specs.Step.{Admit, Replan, EndBatch, FlushBegin, FlushState, Fold}
 use Rattle.fa_shared_lock.specs.Accounts.{commits_in}
 use Rattle.fa_shared_request.specs.Founded.{IsBarred, IsFounded}
-use Rattle.fa_shared_steps.specs.Stages.{AfterAdmit, AfterPlanned, AfterReserve, IsSorting, after_abandon, after_begin, after_claim, after_commit, after_release}
+use Rattle.fa_shared_steps.specs.Stages.{AfterAdmit, AfterPlanned, AfterReserve, IsSorting, after_abandon, after_begin, after_claim}
+use Rattle.fa_shared_steps.specs.Stages.{after_commit, after_release}
 use Rattle.fa_shared_steps.specs.Stages.{after_state, stopped}
 use Rattle.fa_shared_steps.specs.declared.request.Task.{Task}
 use Rattle.fa_shared_steps.specs.declared.stage.Stage.{Stage}
@@ -55,8 +56,8 @@ module _ {A : Type 0} where
   Strays old stage next = ⊥
 
 module _ {L A : Type 0} where
-  -- A turn with a seat: the request waits; or it makes its event; or it makes it after a Fold, where the history is full; or no event can be
-  -- made. The seat's Commits rise by those of the event. The event is founded in the state that it meets, and where none can be made a
+  -- A turn with a seat: the request waits; or it makes its event; or it makes it after a Fold, where the history is full; or no event can
+  -- be made. The seat's Commits rise by those of the event. The event is founded in the state that it meets, and where none can be made a
   -- condition of it does not hold.
   pub data Turned (t : Task) (before after : Seat L) (old : Core) (stage : Stage A) (new : Core) (next : Stage A) : Type 0 where
     Rested : new ≡ old → commits_with after ≡ commits_with before → next ≡ stage → Turned t before after old stage new next

@@ -3,7 +3,8 @@ use Rattle.std.specs.Prelude.{◌≡◌, ◌⊎◌, Bool, true, false, Some}
 use Rattle.fa_machine.specs.Reading.{is_late}
 use Rattle.fa_machine.specs.State.{Core}
 use Rattle.fa_shared_steps.specs.declared.stage.Stage.{Stage}
-use Rattle.fa_shared_steps.specs.declared.stage.Stage.TheVariants.{Asking, Reading, Claiming, Reserving, Committing, Abandoning, Releasing, Flushing}
+use Rattle.fa_shared_steps.specs.declared.stage.Stage.TheVariants.{Asking, Reading, Claiming, Reserving, Committing, Abandoning}
+use Rattle.fa_shared_steps.specs.declared.stage.Stage.TheVariants.{Releasing, Flushing}
 use Rattle.fa_types.specs.declared.blocks.BlockFault.{BlockFault}
 use Rattle.fa_types.specs.declared.blocks.BlockFault.TheVariants.{NoMemory, Spent}
 

@@ -157,15 +157,15 @@ impl<A: Allocator + Copy, B: Allocator> Op<A, B> {
         self.lent.len() > MAX_LENT
     }
 
-    /// Whether the bytes of a page are to be hashed next. [`Op::next_content`] gives them, and [`Op::prepare_with`] takes what is made of them.
-    /// Which call is made then is a matter of speed alone, so what is answered is in no clause.
+    /// Whether the bytes of a page are to be hashed next. [`Op::next_content`] gives them, and [`Op::prepare_with`] takes what is made of
+    /// them. Which call is made then is a matter of speed alone, so what is answered is in no clause.
     pub fn has_content(&self) -> bool {
         matches!(&self.stage, Stage::Filling(_, _)) && self.task.fill == Some(Fill::Bytes)
     }
 
-    /// The bytes of a page that are to be hashed next, in memory of their own, for whoever hashes those of several requests side by side. The
-    /// bytes that are passed are those of a write. None where there are no such bytes, or for want of memory. What is given is in no clause:
-    /// [`Op::prepare_with`] looks at it.
+    /// The bytes of a page that are to be hashed next, in memory of their own, for whoever hashes those of several requests side by side.
+    /// The bytes that are passed are those of a write. None where there are no such bytes, or for want of memory. What is given is in no
+    /// clause: [`Op::prepare_with`] looks at it.
     pub fn next_content(&self, bytes: &[u8]) -> Option<Vec<u8, A>> {
         match &self.stage {
             Stage::Filling(held, _) if self.task.fill == Some(Fill::Bytes) => {
@@ -178,8 +178,8 @@ impl<A: Allocator + Copy, B: Allocator> Op<A, B> {
         }
     }
 
-    /// Does what [`Op::prepare`] does, with a payload that was made of what [`Op::next_content`] gave. Where the page's bytes are others, or no
-    /// bytes are to be hashed, the payload is dropped, and all is made as there.
+    /// Does what [`Op::prepare`] does, with a payload that was made of what [`Op::next_content`] gave. Where the page's bytes are others,
+    /// or no bytes are to be hashed, the payload is dropped, and all is made as there.
     pub fn prepare_with(&mut self, bytes: &[u8], payload: Payload<A>)
         ensures prepared { Prepares (task_in self.old) bytes.now (stage_of self.old) (answer_of self.old) (stage_of self.new)
             (answer_of self.new) }
@@ -230,8 +230,8 @@ impl<A: Allocator + Copy, B: Allocator> Op<A, B> {
         matches!(&self.stage, Stage::Reserving(_, _))
     }
 
-    /// Whether it is about to reserve copies of a page, and a die has no room that one of these would go to. What is told is a matter of speed alone,
-    /// and in no clause.
+    /// Whether it is about to reserve copies of a page, and a die has no room that one of these would go to. What is told is a matter of
+    /// speed alone, and in no clause.
     pub fn lacks_home<L: Ledger, M: Map + Drop>(&self, locked: &Locked<L, M, A>) -> bool {
         match &self.stage {
             Stage::Reserving(held, _) => room::lacks_home(locked.array(), held.page),
@@ -239,8 +239,8 @@ impl<A: Allocator + Copy, B: Allocator> Op<A, B> {
         }
     }
 
-    /// Whether such a die gets room before long, so that it is better to wait than to write the copy to another die, where its program is to be
-    /// synced. What is told is a matter of speed alone, and in no clause.
+    /// Whether such a die gets room before long, so that it is better to wait than to write the copy to another die, where its program is
+    /// to be synced. What is told is a matter of speed alone, and in no clause.
     pub fn may_wait_for_home<L: Ledger, M: Map + Drop>(&self, locked: &Locked<L, M, A>) -> bool {
         match &self.stage {
             Stage::Reserving(held, _) => room::may_wait_for_home(locked.array(), held.page),
@@ -268,8 +268,8 @@ impl<A: Allocator + Copy, B: Allocator> Op<A, B> {
         };
     }
 
-    /// What it waits for, where its last turn came to [`Turn::Wait`]: its batch, the programs of its claim, its flush, or any change. A batch
-    /// that is to be planned anew waits for other requests. What is answered settles who is woken when, and is in no clause.
+    /// What it waits for, where its last turn came to [`Turn::Wait`]: its batch, the programs of its claim, its flush, or any change. A
+    /// batch that is to be planned anew waits for other requests. What is answered settles who is woken when, and is in no clause.
     pub fn awaits<L: Ledger, M: Map + Drop>(&self, locked: &Locked<L, M, A>) -> Awaits {
         match &self.stage {
             Stage::Reading(_, batch) => match locked.array().results(*batch) {

@@ -8,7 +8,8 @@ use Rattle.fa_machine.specs.declared.ids.ClaimId.{ClaimId}
 use Rattle.fa_machine.specs.declared.refusals.AbandonRefused.{AbandonRefused}
 use Rattle.fa_machine.specs.declared.refusals.AbandonRefused.TheVariants.{Pending as AbandonPending, Programmed}
 use Rattle.fa_machine.specs.declared.refusals.AdmitRefused.{AdmitRefused}
-use Rattle.fa_machine.specs.declared.refusals.AdmitRefused.TheVariants.{Lost as PageLost, CalendarFull, Spent as RoundsSpent, NoMemory as AdmitNoMemory}
+use Rattle.fa_machine.specs.declared.refusals.AdmitRefused.TheVariants.{Lost as PageLost, CalendarFull, Spent as RoundsSpent}
+use Rattle.fa_machine.specs.declared.refusals.AdmitRefused.TheVariants.{NoMemory as AdmitNoMemory}
 use Rattle.fa_machine.specs.declared.refusals.ClaimRefused.{ClaimRefused}
 use Rattle.fa_machine.specs.declared.refusals.ClaimRefused.TheVariants.{Claimed, NoMemory as ClaimNoMemory}
 use Rattle.fa_machine.specs.declared.refusals.CommitRefused.{CommitRefused}
@@ -16,7 +17,8 @@ use Rattle.fa_machine.specs.declared.refusals.CommitRefused.TheVariants.{Pending
 use Rattle.fa_machine.specs.declared.refusals.FlushRefused.{FlushRefused}
 use Rattle.fa_machine.specs.declared.refusals.FlushRefused.TheVariants.{Spent as FlushesSpent}
 use Rattle.fa_machine.specs.declared.refusals.ReserveRefused.{ReserveRefused}
-use Rattle.fa_machine.specs.declared.refusals.ReserveRefused.TheVariants.{NoRoom as ReserveNoRoom, NoDie as ReserveNoDie, Spent as NumbersSpent}
+use Rattle.fa_machine.specs.declared.refusals.ReserveRefused.TheVariants.{NoRoom as ReserveNoRoom, NoDie as ReserveNoDie}
+use Rattle.fa_machine.specs.declared.refusals.ReserveRefused.TheVariants.{Spent as NumbersSpent}
 use Rattle.fa_machine.specs.declared.refusals.ReserveRefused.TheVariants.{NoMemory as ReserveNoMemory}
 use Rattle.fa_shared_steps.specs.Ranges.{covers, first_page, past_page}
 use Rattle.fa_shared_steps.specs.declared.request.Fill.{Fill}

@@ -1,8 +1,10 @@
 //! How a request goes on, by what the array answered.
 ghost use Rattle.std.specs.Prelude.{◌≡◌, true, false, Err};
 ghost use Rattle.fa_shared_steps.specs.Ranges.{IsRange};
-ghost use Rattle.fa_shared_steps.specs.Stages.{AfterReserve, after_abandon, after_begin, after_claim, after_commit, after_release, after_state, beginning};
-ghost use Rattle.fa_shared_steps.specs.Stages.{after_pages as rule_after, from_page as rule_from, opened as rule_opened, stopped as rule_stopped, with_fewer as rule_fewer};
+ghost use Rattle.fa_shared_steps.specs.Stages.{AfterReserve, after_abandon, after_begin, after_claim, after_commit, after_release};
+ghost use Rattle.fa_shared_steps.specs.Stages.{after_state, beginning};
+ghost use Rattle.fa_shared_steps.specs.Stages.{after_pages as rule_after, from_page as rule_from, opened as rule_opened};
+ghost use Rattle.fa_shared_steps.specs.Stages.{stopped as rule_stopped, with_fewer as rule_fewer};
 ghost use Rattle.fa_shared_steps.specs.declared.stage.Stage.TheVariants.{Reserving};
 
 use crate::request::Task;

@@ -1,6 +1,8 @@
 //! What a request makes while no lock is held: lists of pages, and what pages are to hold.
-ghost use Rattle.std.specs.Prelude.{◌≡◌, ◌+◌, ◌-◌, ◌*◌, ◌^◌, ◌≤◌, ◌∷◌, [], ◌&&◌, true, false, if◌then◌else◌, length, nat_le, map, IfOk, IfSome, IfNone};
-ghost use Rattle.fa_shared_steps.specs.Prepared.{IsFilled, IsListed, IsMerged, SortsPage, content as rule_content, has_content as rule_has, until as rule_until};
+ghost use Rattle.std.specs.Prelude.{◌≡◌, ◌+◌, ◌-◌, ◌*◌, ◌^◌, ◌≤◌, ◌∷◌, [], ◌&&◌, true, false, if◌then◌else◌, length, nat_le, map, IfOk};
+ghost use Rattle.std.specs.Prelude.{IfSome, IfNone};
+ghost use Rattle.fa_shared_steps.specs.Prepared.{IsFilled, IsListed, IsMerged, SortsPage, content as rule_content};
+ghost use Rattle.fa_shared_steps.specs.Prepared.{has_content as rule_has, until as rule_until};
 ghost use Rattle.fa_shared_steps.specs.Prepared.{has_part as rule_part, pages_between};
 ghost use Rattle.fa_shared_steps.specs.Ranges.{IsRange, begins_at};
 ghost use Rattle.fa_types.specs.Store.{with_bytes};

@@ -13,7 +13,8 @@ pub struct Range {
 }
 
 impl Range {
-    ghost use Rattle.fa_shared_steps.specs.Ranges.{IsRange, covers as rule_covers, begins_at as rule_begins, bytes_in as rule_in, first_page as rule_first, past_page as rule_past};
+    ghost use Rattle.fa_shared_steps.specs.Ranges.{IsRange, covers as rule_covers, begins_at as rule_begins, bytes_in as rule_in};
+    ghost use Rattle.fa_shared_steps.specs.Ranges.{first_page as rule_first, past_page as rule_past};
 
     /// The first page with a byte of the range. Of no bytes, the page that they would be in.
     pub fn first_page(&self) -> u64

@@ -311,9 +311,9 @@ fn next_for(stand: Stand) -> Turn {
     }
 }
 
-/// What parts wait for: what dies do for one that waits for that, or else what others hold up. It is the one behind which as many parts have a page to
-/// hash as are hashed side by side, if so many wait: dies make programs in the order in which they were reserved, and before that there is little
-/// to do.
+/// What parts wait for: what dies do for one that waits for that, or else what others hold up. It is the one behind which as many parts
+/// have a page to hash as are hashed side by side, if so many wait: dies make programs in the order in which they were reserved, and before
+/// that there is little to do.
 fn awaits_of<L: Ledger, M: Map + Drop, A: Allocator + Copy>(
     parts: &[Part<A>],
     locked: &Locked<L, M, A>,

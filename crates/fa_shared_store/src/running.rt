@@ -174,8 +174,8 @@ pub(crate) fn finish<
     unreachable!()
 }
 
-/// Makes turns of a request that was prepared. One that has ended makes none, unless it has many buffers to give back: a few wait for the next
-/// read, so that a read of a page or two takes the lock no time more for them.
+/// Makes turns of a request that was prepared. One that has ended makes none, unless it has many buffers to give back: a few wait for the
+/// next read, so that a read of a page or two takes the lock no time more for them.
 fn go_on<
     R: Wait + Clock,
     L: Ledger,
@@ -258,8 +258,8 @@ pub(crate) fn turn_on<R: Wait, L: Ledger, M: Map + Drop, A: Allocator + Copy, B:
     turn_further(rt, op, locked, seat)
 }
 
-/// Makes turns of a request while each leads to the next. It waits before it reserves where a die gets room before long that its page's copy
-/// belongs on.
+/// Makes turns of a request while each leads to the next. It waits before it reserves where a die gets room before long that its page's
+/// copy belongs on.
 fn turn_further<R: Wait, L: Ledger, M: Map + Drop, A: Allocator + Copy, B: Allocator>(
     rt: &R,
     op: &mut Op<A, B>,

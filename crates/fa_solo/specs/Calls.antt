@@ -62,8 +62,8 @@ module _ {L M I A : Type 0} (made : I → ImageCall → ImageAnswer → I → Ty
     Made : (op next : OpView A) → task_in op ≡ task → stage_of op ≡ beginning task → answer_of op ≡ []
         → (runs : RunsOn made bytes old op new next) → EndsBy answer runs.turns next → MakesRequest task bytes answer old new
 
-  -- A call: spares that are brought in before it, the request, and what is for the array's order behind it. Nothing is where there was no room.
-  -- Else that goes on until nothing is left to be done, or something stops it.
+  -- A call: spares that are brought in before it, the request, and what is for the array's order behind it. Nothing is where there was no
+  -- room. Else that goes on until nothing is left to be done, or something stops it.
   pub record MakesWhole (task : Task) (bytes : List ℕ) (answer : Answer) (old new : Inner L M I A) : Type 0 where
     pub begun : Inner L M I A
     pub done : Inner L M I A

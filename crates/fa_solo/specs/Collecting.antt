@@ -26,7 +26,8 @@ of_window (Ok first) = Given
 of_window (Err HasOne) = Given
 of_window (Err refused) = Refused refused
 
--- Where none wanted one the array is as it was. Where dies have windows one was asked for, and where one was refused that stops the array's order.
+-- Where none wanted one the array is as it was. Where dies have windows one was asked for, and where one was refused that stops the array's
+-- order.
 module _ {L M I A : Type 0} (made : I → ImageCall → ImageAnswer → I → Type 0) (unwanted : Core → Type 0) where
   abbrev pub Gives : Windows → Inner L M I A → Inner L M I A → Type 0
   Gives Unwanted old new = (new.locked.core ≡ old.locked.core) × unwanted old.locked.core

@@ -30,7 +30,8 @@ of_refusal Gone = Tried
 of_refusal refused = Stopped
 
 module _ {L M I A : Type 0} (made : I → ImageCall → ImageAnswer → I → Type 0) where
-  -- There is no thin page that has a place to go; or one was read; or something stopped this, or a copy was looked at in vain 2^64 - 1 times.
+  -- There is no thin page that has a place to go; or one was read; or something stopped this, or a copy was looked at in vain 2^64 - 1
+  -- times.
   abbrev pub Rebuilds : Rebuilt → Inner L M I A → Inner L M I A → Type 0
   Rebuilds Nothing old new = (new ≡ old) × (next_thin old.locked.core.copies old.locked.core.page_map ≡ None)
   Rebuilds Tried old new = TidiesBy made 1 old new

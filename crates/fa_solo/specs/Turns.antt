@@ -68,8 +68,8 @@ module _ {L M I A : Type 0} where
   abbrev pub asking_of : Inner L M I A → OpView A → Asking L I A
   asking_of inner op = record { house = house_of inner; seat = inner.seat; stage = stage_of op; answer = answer_of op }
 
-  -- A request went on so, with these bytes. The Commits of the seat keep up with its pages, and nothing else of the array under its lock has
-  -- changed.
+  -- A request went on so, with these bytes. The Commits of the seat keep up with its pages, and nothing else of the array under its lock
+  -- has changed.
   pub record RunsOn (made : I → ImageCall → ImageAnswer → I → Type 0) (bytes : List ℕ) (inner : Inner L M I A) (op : OpView A) (new : Inner L M I A)
       (next : OpView A) : Type 0 where
     pub turns : ℕ

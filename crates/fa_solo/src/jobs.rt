@@ -16,8 +16,8 @@ use fa_types::Die;
 use std::alloc::Allocator;
 use std::sync::ledger::Ledger;
 
-/// Makes a job of each die that has one, and behind these the round passes, if the batch awaits a later one and if it may. Where no die had a
-/// job it passes too if one is awaited for a step of a collector. Whether anything was done.
+/// Makes a job of each die that has one, and behind these the round passes, if the batch awaits a later one and if it may. Where no die had
+/// a job it passes too if one is awaited for a step of a collector. Whether anything was done.
 pub(crate) fn work<L: Ledger, M: Map + Drop, I: Image, A: Allocator + Copy>(
     inner: &mut Inner<L, M, I, A>,
     batch: Option<BatchId>,

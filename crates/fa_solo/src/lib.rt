@@ -1,4 +1,5 @@
-//! The store that an array is to one thread that is alone with it, and that makes all work of its dies, its collector and its rebuilder itself.
+//! The store that an array is to one thread that is alone with it, and that makes all work of its dies, its collector and its rebuilder
+//! itself.
 #![tactic(auto)]
 
 mod collecting;

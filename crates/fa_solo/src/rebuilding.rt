@@ -46,8 +46,8 @@ pub(crate) enum Rebuilt {
     Stopped,
 }
 
-/// Brings in a spare where one is wanted, collects until no live die wants a window, and makes copies until no page is thin that has a place
-/// to go. A refusal ends this, and the jobs that are left are made then. A copy that was begun is seen through.
+/// Brings in a spare where one is wanted, collects until no live die wants a window, and makes copies until no page is thin that has a
+/// place to go. A refusal ends this, and the jobs that are left are made then. A copy that was begun is seen through.
 pub(crate) fn tidy<L: Ledger, M: Map + Drop, I: Image, A: Allocator + Copy>(
     inner: &mut Inner<L, M, I, A>,
 )

@@ -1,5 +1,6 @@
 //! Requests, from their beginning to their end.
-ghost use Rattle.std.specs.Prelude.{◌≡◌, ◌+◌, ◌-◌, ◌^◌, ◌≤◌, ℕ, IsTrue, List, [], length, is_ok, true, false, IfOk, IfErr, IfSome, Some, None};
+ghost use Rattle.std.specs.Prelude.{◌≡◌, ◌+◌, ◌-◌, ◌^◌, ◌≤◌, ℕ, IsTrue, List, [], length, is_ok, true, false, IfOk, IfErr, IfSome, Some};
+ghost use Rattle.std.specs.Prelude.{None};
 ghost use Rattle.fa_shared_request.specs.Counts.{IsMade};
 ghost use Rattle.fa_core.specs.Array.{state_of};
 ghost use Rattle.fa_machine.specs.Reading.{is_late as rule_late};
@@ -144,8 +145,8 @@ fn step<L: Ledger, M: Map + Drop, I: Image, A: Allocator + Copy, B: Allocator>(
     }
 }
 
-/// Has dies collected that have no room, where the request is about to reserve and its page's copies belong on such a die. Where that gives none the
-/// request reserves at once.
+/// Has dies collected that have no room, where the request is about to reserve and its page's copies belong on such a die. Where that gives
+/// none the request reserves at once.
 fn wait_for_home<L: Ledger, M: Map + Drop, I: Image, A: Allocator + Copy, B: Allocator>(
     inner: &mut Inner<L, M, I, A>,
     op: &Op<A, B>,
@@ -203,8 +204,8 @@ fn turn<L: Ledger, M: Map + Drop, I: Image, A: Allocator + Copy, B: Allocator>(
     op.turn(&mut inner.locked, &mut inner.seat)
 }
 
-/// Makes what there is to be done for dies, where the request may have to wait. Where there is nothing, and it wants room, dies without room
-/// are collected.
+/// Makes what there is to be done for dies, where the request may have to wait. Where there is nothing, and it wants room, dies without
+/// room are collected.
 fn pass_time<L: Ledger, M: Map + Drop, I: Image, A: Allocator + Copy, B: Allocator>(
     inner: &mut Inner<L, M, I, A>,
     op: &mut Op<A, B>,

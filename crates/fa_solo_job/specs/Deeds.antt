@@ -32,13 +32,14 @@ abbrev pub IsForRequests : Act → Type 0
 IsForRequests (SpareIn die answer) = Unit {0}
 IsForRequests act = IsForDies act
 
--- What is made while a request waits. While a flush is waited for no spare is brought in, as that would be a die that the flush did not ask.
+-- What is made while a request waits. While a flush is waited for no spare is brought in, as that would be a die that the flush did not
+-- ask.
 abbrev pub IsMeanwhile : Bool → Act → Type 0
 IsMeanwhile true act = IsForDies act
 IsMeanwhile false act = IsForRequests act
 
--- All those, and what is refused while a thin page is to get one more copy. A batch is opened by `ReadsPage` and `CopiesPage` alone, each of
--- which ends it. A slot is reserved for one more copy by `CopiesPage` alone, and such a copy ends in `Settles` alone.
+-- All those, and what is refused while a thin page is to get one more copy. A batch is opened by `ReadsPage` and `CopiesPage` alone, each
+-- of which ends it. A slot is reserved for one more copy by `CopiesPage` alone, and such a copy ends in `Settles` alone.
 abbrev pub IsForOrder : Act → Type 0
 IsForOrder (Admit (page ∷ []) (Err refused)) = Unit {0}
 IsForOrder (ReserveCopy page seq payload (Err refused)) = Unit {0}
@@ -49,15 +50,15 @@ abbrev pub windows_by : Act → ℕ
 windows_by (Window die rounds answer) = 1
 windows_by act = 0
 
--- What a later round is awaited for: the reads of a batch that has not all of its answers; or a collector's step, where a live die has a window
--- that has not passed, and a block to collect.
+-- What a later round is awaited for: the reads of a batch that has not all of its answers; or a collector's step, where a live die has a
+-- window that has not passed, and a block to collect.
 pub data IsAwaited (core : Core) : Type 0 where
   ForReads : (batch : ℕ) → results core batch ≡ Waiting → IsAwaited core
   ForStep : (die : ℕ) → is_live core.page_map die ≡ true → contains_key core.calendar.windows die ≡ true
       → is_some (victim core.page_map die) ≡ true → IsAwaited core
 
--- What is asked of the array where an event is made of itself. A window is given to a die that wants one, no round passes in vain, a spare comes
--- in where one is wanted, and so while a die is live, and a page is read for a copy of it where it is thin.
+-- What is asked of the array where an event is made of itself. A window is given to a die that wants one, no round passes in vain, a spare
+-- comes in where one is wanted, and so while a die is live, and a page is read for a copy of it where it is thin.
 abbrev pub IsDue : Core → Act → Type 0
 IsDue core (Window die rounds answer) = wants_window core.page_map die ≡ true
 IsDue core (Advance answer) = IsAwaited core

@@ -60,8 +60,8 @@ module _ {I : Type 0} (made : I → ImageCall → ImageAnswer → I → Type 0) 
     pub ends : Step waited.core (EndBatch admitted.batch.0 answers) new.core
     pub images : (asked.images ≡ old.images) × (new.images ≡ waited.images)
 
-  -- A thin page is read by a batch of its own, which ends as it is ready, and a slot is reserved for one more copy of the bytes that the batch gave
-  -- last. The copy has the number that the page has as it is asked for.
+  -- A thin page is read by a batch of its own, which ends as it is ready, and a slot is reserved for one more copy of the bytes that the
+  -- batch gave last. The copy has the number that the page has as it is asked for.
   pub record CopiesPage (old new : House I) : Type 0 where
     pub page : ℕ
     pub version : Version
@@ -120,8 +120,8 @@ module _ {I : Type 0} (made : I → ImageCall → ImageAnswer → I → Type 0) 
   tries_in old new (Reads middle here before reads) = tries_in old middle before + (1 + reads.looks)
   tries_in old new (Copies middle copied here before copies settles) = tries_in old middle before + (1 + looks_of copied new settles)
 
-  -- What stops it. An event is refused. Or a batch is ended that has not all of its answers, as no die had a job and the round was refused to
-  -- pass. Behind that only what is for dies is done.
+  -- What stops it. An event is refused. Or a batch is ended that has not all of its answers, as no die had a job and the round was refused
+  -- to pass. Behind that only what is for dies is done.
   pub data IsHalted (old : House I) (new : House I) : Type 0 where
     Refused : (middle tried : House I) (act : Act) → Orders old middle → IsRefusal act → IsDue middle.core act → Step middle.core act tried.core
         → tried.images ≡ middle.images → Goes made array dies seat IsForDies tried new → IsHalted old new

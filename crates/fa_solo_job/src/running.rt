@@ -80,7 +80,8 @@ fn fold_full<L: Ledger, M: Map + Drop, I: Image, A: Allocator + Copy>(inner: &mu
     make_room(inner.alloc, &mut inner.locked, &mut inner.seat);
 }
 
-/// Takes the next job of a die, if it has one, and makes it on the image at this place. The history has room for it. Whether the die had one.
+/// Takes the next job of a die, if it has one, and makes it on the image at this place. The history has room for it. Whether the die had
+/// one.
 fn run_here<L: Ledger, M: Map + Drop, I: Image, A: Allocator + Copy>(
     inner: &mut Inner<L, M, I, A>,
     die: Die,

@@ -1,9 +1,9 @@
 -- A batch is admitted where none is open: each of its pages is answered or booked, and it takes no more rounds than any plan.
 use Rattle.fa_batch.proofs.Counting.{any-from-count}
-use Rattle.fa_batch.specs.Batch.{Entry, holds, is_among}
-use Rattle.fa_batch.specs.Certificate.{IsCertificate, IsLeast}
-use Rattle.fa_batch.specs.Plan.{ArePlaced, IsPlan, pages_at, rounds_of, times_placed}
-use Rattle.fa_batch.specs.declared.plan.Place.{Place}
+use Rattle.fa_batch_terms.specs.Batch.{Entry, holds, is_among}
+use Rattle.fa_batch_terms.specs.Certificate.{IsCertificate, IsLeast}
+use Rattle.fa_batch_terms.specs.Plan.{ArePlaced, IsPlan, pages_at, rounds_of, times_placed}
+use Rattle.fa_batch_terms.specs.declared.place.Place.{Place}
 use Rattle.fa_laws.proofs.Booked.{booked_kept, booking_of, with_places}
 use Rattle.fa_laws.proofs.InTimes.{planned_until}
 use Rattle.fa_machine.proofs.Lists.{among-filter, among-filter-intro, among-map, among-map-intro, among_low, counted_none}

@@ -1,5 +1,5 @@
--- How a request goes on over the array's world while nobody else writes: its own events, what it prepares without one, and what else happens
--- meanwhile.
+-- How a request goes on over the array's world while nobody else writes: its own events, what it prepares without one, and what else
+-- happens meanwhile.
 use Rattle.std.specs.Prelude.{◌≡◌, ℕ, IsTrue, List, [], ◌∷◌, Option, Some, None, Ok}
 use Rattle.fa_solo_laws.specs.Unwritten.{EndsNoBatch, WritesNothing}
 use Rattle.fa_machine.specs.Run.{Happening, Event, Happens, HappensEvent}

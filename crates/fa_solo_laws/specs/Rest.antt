@@ -2,8 +2,8 @@
 use Rattle.std.specs.Prelude.{◌≡◌, ◌⊎◌, ℕ, ◌+◌, ◌-◌, true, false, List, None}
 use Rattle.std.specs.List.{range_with_len}
 use Rattle.std.specs.FinMap.{contains_key, empty, insert, remove}
-use Rattle.fa_batch.specs.Plan.{IsPlan}
-use Rattle.fa_batch.specs.declared.plan.Place.{Place}
+use Rattle.fa_batch_terms.specs.Plan.{IsPlan}
+use Rattle.fa_batch_terms.specs.declared.place.Place.{Place}
 use Rattle.fa_machine.specs.Collecting.{victim}
 use Rattle.fa_machine.specs.Looks.{wants_window}
 use Rattle.fa_machine.specs.Placement.{is_thin}
@@ -35,8 +35,8 @@ range_in core offset len = bytes_from core.page_map.geometry.page_bytes offset l
 abbrev pub pages_of : Range → List ℕ
 pages_of r = range_with_len (first_page r) (past_page r - first_page r)
 
--- These places are a plan of the pages as the calendar stands: each page that has bytes is read once, at a die that holds it and in a round of the
--- die that is open now, and no two are read at one die in one round. Pages that have no bytes are not read.
+-- These places are a plan of the pages as the calendar stands: each page that has bytes is read once, at a die that holds it and in a round
+-- of the die that is open now, and no two are read at one die in one round. Pages that have no bytes are not read.
 abbrev pub IsPlanFor : Core → List ℕ → List Place → Type 0
 IsPlanFor core pages places =
     IsPlan (entries_for core.page_map (to_read core.page_map pages)) core.calendar.round (is_closed core.page_map core.calendar) places

@@ -69,8 +69,8 @@ pub fn a_told_page_while_nothing_is_written()
     what_was_told_is_the_numbers_bytes();
 }
 
-/// While no Commit is accepted a page keeps its number, and what a batch answers for it is told with that number as the batch ends. So one more
-/// copy of the page may be reserved of these bytes.
+/// While no Commit is accepted a page keeps its number, and what a batch answers for it is told with that number as the batch ends. So one
+/// more copy of the page may be reserved of these bytes.
 pub fn what_a_batch_answers_is_told()
     ensures { (w opened last after : World) (pages : List ℕ) (admitted : Admitted) (happenings : List Happening)
         (answer : List (ℕ × List ℕ)) (page : ℕ) (bytes : List ℕ) (version : Version) → IsReached w

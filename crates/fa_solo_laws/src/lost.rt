@@ -11,8 +11,8 @@ ghost use Rattle.fa_machine.specs.declared.places.Copying.{Copying};
 
 use fa_laws::steps::{live_dies_are_kept, numbers_are_kept, spares_are_kept, the_geometry_is_kept};
 
-/// A page that is lost stays lost as long as it is not written, where no copy of it is under way, whatever else happens. So no batch with it
-/// is admitted.
+/// A page that is lost stays lost as long as it is not written, where no copy of it is under way, whatever else happens. So no batch with
+/// it is admitted.
 pub fn a_lost_page_stays_lost()
     ensures lost { (w last : World) (happenings : List Happening) (page : ℕ) → IsReached w → is_lost w.core.page_map page ≡ true
         → ((c : Copying) → w.core.copying ≡ Some c → c.page.0 ≡ page → ⊥) → RunLeaving page w happenings last

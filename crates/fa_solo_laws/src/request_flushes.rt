@@ -15,8 +15,8 @@ use fa_laws::steps::{
     the_last_number_never_falls,
 };
 
-/// What becomes of a request is a run. One with a flush that ends without a fault ends behind a sync of each die that is live as it begins and
-/// as it ends: the die took the sync meanwhile, and ended it.
+/// What becomes of a request is a run. One with a flush that ends without a fault ends behind a sync of each die that is live as it begins
+/// and as it ends: the die took the sync meanwhile, and ended it.
 pub fn a_flush_has_synced<A>()
     ensures run { (t : Task) (seat : ℕ) (bytes : List ℕ) (before after : Moment A) (turns : List Turn)
         → Asked t seat bytes before turns after → Run before.world (happenings_of turns) after.world }

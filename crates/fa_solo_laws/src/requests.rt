@@ -22,9 +22,9 @@ use fa_laws::steps::{
 };
 
 /// A request that nobody else writes meanwhile serves, as a store that is alone does. A read gives the bytes of its range. A write, a zero
-/// or a trim leaves its bytes and nothing else. A flush writes nothing. One that is refused has a cause, and leaves a beginning of its bytes.
-/// What is answered is one of the answers that its call can have. The first request may begin over an array that was just mounted, and where
-/// one ends another may begin, over a world that runs lead to.
+/// or a trim leaves its bytes and nothing else. A flush writes nothing. One that is refused has a cause, and leaves a beginning of its
+/// bytes. What is answered is one of the answers that its call can have. The first request may begin over an array that was just mounted,
+/// and where one ends another may begin, over a world that runs lead to.
 pub fn a_request_serves<A>()
     ensures serves { (request : Request) (seat : ℕ) (bytes : List ℕ) (before after : Moment A) (turns : List Turn) (end : Option BlockFault)
         → HasBegun request before → HasBytes request bytes
@@ -47,8 +47,8 @@ pub fn a_request_serves<A>()
 }
 
 /// No request strays: the conditions of its events hold whenever it makes one. No write ends without a fault where a byte that is not lost
-/// is another one than it wrote, or than it was. None is refused for want of room where a die may be collected, or as spent where no counter
-/// is at its end.
+/// is another one than it wrote, or than it was. None is refused for want of room where a die may be collected, or as spent where no
+/// counter is at its end.
 pub fn wrong_requests_are_none<A>()
     ensures strays { (request : Request) (seat : ℕ) (bytes : List ℕ) (before middle after : Moment A) (turns : List Turn)
         → HasBegun request before → HasBytes request bytes

@@ -1,8 +1,8 @@
 //! In how few rounds a read of the store of one thread is answered.
 
 ghost use Rattle.std.specs.Prelude.{◌≡◌, ◌⊎◌, ℕ, ◌+◌, ◌-◌, ◌≤◌, List, []};
-ghost use Rattle.fa_batch.specs.Plan.{rounds_of};
-ghost use Rattle.fa_batch.specs.declared.plan.Place.{Place};
+ghost use Rattle.fa_batch_terms.specs.Plan.{rounds_of};
+ghost use Rattle.fa_batch_terms.specs.declared.place.Place.{Place};
 ghost use Rattle.fa_laws.specs.Reached.{IsReached};
 ghost use Rattle.fa_machine.specs.State.{Core};
 ghost use Rattle.fa_machine.specs.Step.{Act, Step};
@@ -33,10 +33,10 @@ pub fn the_epoch_counts_dies()
     ensures { (old new : Core) (act : Act) → Step old act new → CountsDies old new }
 {}
 
-/// A read of the store of one thread that is answered raises the round by no more than the rounds of any plan of its pages, each at a die that
-/// holds it, against the calendar as it stood when the call began: so it takes the least number of rounds. The read is of at most 1,024
-/// pages, and no die goes out or comes in meanwhile, so that the epoch stays. As the call begins the array is in a state to which a run
-/// leads; nothing is open, as between any two calls (`nothing_is_open_between_calls`); and the array is at rest: no live die wants a
+/// A read of the store of one thread that is answered raises the round by no more than the rounds of any plan of its pages, each at a die
+/// that holds it, against the calendar as it stood when the call began: so it takes the least number of rounds. The read is of at most
+/// 1,024 pages, and no die goes out or comes in meanwhile, so that the epoch stays. As the call begins the array is in a state to which a
+/// run leads; nothing is open, as between any two calls (`nothing_is_open_between_calls`); and the array is at rest: no live die wants a
 /// window, none that has one has a block to collect, and no page is thin. All that holds again as the call ends.
 pub fn a_read_takes_the_least_rounds<L, M, I: Image, A>()
     ensures rounds { (old new : Inner L M I A) (offset len : ℕ) (given : List ℕ) (places : List Place) (w : World) → IsReached w
@@ -56,8 +56,9 @@ pub fn a_read_takes_the_least_rounds<L, M, I: Image, A>()
     certificate_is_least();
 }
 
-/// The same behind any list of calls, writes and flushes among them, of a store that was over a world as they began, as one is that was just
-/// mounted. The images return what was written, and the array is at rest as the read begins. Or one of the calls before it was given up.
+/// The same behind any list of calls, writes and flushes among them, of a store that was over a world as they began, as one is that was
+/// just mounted. The images return what was written, and the array is at rest as the read begins. Or one of the calls before it was given
+/// up.
 pub fn a_read_behind_calls_takes_the_least_rounds<L, M, I: Image, A>()
     ensures { (start old : StoreState L M I A) (new : Inner L M I A) (w : World) (exchanges : List Exchange) (offset len : ℕ) (given : List ℕ)
         (places : List Place) → IsStoreOf I.view start w → (chain : Chain (StoreMakes I.made) start exchanges old)

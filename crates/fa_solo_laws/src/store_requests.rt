@@ -23,8 +23,8 @@ use fa_laws::steps::{
 
 /// A request of the store of one thread serves, as a store that is alone does: over any world that the store's array and images are of, it
 /// leads to one that they are of then, with its answer. A read that is answered gives the bytes of the plain array, an accepted write
-/// leaves its bytes and nothing else, and a refusal has its cause. Or the request was given up: it took 2^64 - 1 turns and had not ended. It
-/// was refused as lost, and the array and its images are of a world still to which runs lead. The images return what was written, no two
+/// leaves its bytes and nothing else, and a refusal has its cause. Or the request was given up: it took 2^64 - 1 turns and had not ended.
+/// It was refused as lost, and the array and its images are of a world still to which runs lead. The images return what was written, no two
 /// dies have one image, no lost page is being copied, and the request lies within the array.
 pub fn a_request_of_the_store_serves<L, M, I: Image, A>()
     ensures { (old new : Inner L M I A) (request : Request) (bytes : List ℕ) (answer : Answer) (w : World) → IsWorldOf I.view old w → IsCalm w
@@ -43,9 +43,9 @@ pub fn a_request_of_the_store_serves<L, M, I: Image, A>()
 /// of, it leads to one that they are of then, with its answer. A read that is answered gives the bytes of the plain array, and no page of
 /// it was lost; an accepted write leaves its bytes and nothing else; a refusal has its cause as the call ends. That is told of the whole
 /// call, with the spares that are brought in before its request, and with what is done for the array's order behind it. Or its request was
-/// given up: it took 2^64 - 1 turns and had not ended, and was refused as lost. No copy of a page is under way as the call begins, nor as it
-/// ends, unless one was looked at 2^64 - 1 times in vain. The images return what was written, no two dies have one image, and the request
-/// lies within the array.
+/// given up: it took 2^64 - 1 turns and had not ended, and was refused as lost. No copy of a page is under way as the call begins, nor as
+/// it ends, unless one was looked at 2^64 - 1 times in vain. The images return what was written, no two dies have one image, and the
+/// request lies within the array.
 pub fn a_call_of_the_store_meets<L, M, I: Image, A>()
     ensures { (old new : Inner L M I A) (request : Request) (bytes : List ℕ) (answer : Answer) (w : World) → IsWorldOf I.view old w
         → old.locked.core.copying ≡ None → AreApart old.dies.items

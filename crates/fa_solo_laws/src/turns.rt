@@ -10,8 +10,9 @@ ghost use Rattle.fa_shared_steps.specs.declared.stage.Stage.{Stage};
 ghost use Rattle.fa_shared_lock.specs.Seats.{number_of};
 ghost use Rattle.fa_shared_lock.specs.declared.seat.Seat.{Seat};
 
-/// A turn of a request, as `fa_shared_request::Op::turn` tells it, is none, one or two turns of what becomes of the request, over a world with the
-/// array's state: a Fold first, where one was made. The images and the jobs of dies stay. What `fa_shared_request::Op::prepare` makes is a turn too.
+/// A turn of a request, as `fa_shared_request::Op::turn` tells it, is none, one or two turns of what becomes of the request, over a world
+/// with the array's state: a Fold first, where one was made. The images and the jobs of dies stay. What `fa_shared_request::Op::prepare`
+/// makes is a turn too.
 pub fn a_turn_is_asked<L, A>()
     ensures turned { (t : Task) (bytes answer : List ℕ) (before after : Seat L) (w : World) (new : Core) (stage next : Stage A)
         → Turned t before after w.core stage new next

@@ -4,7 +4,7 @@ use Rattle.std.proofs.lemmas.List.{append-nil, map-append}
 use Rattle.std.proofs.lemmas.List.Elements.{All-nil, All-push, All-head, All-tail, All-weaker}
 use Rattle.fa_types.specs.Open.{max_closed}
 use Rattle.fa_batch.specs.declared.closed.Run.{Run}
-use Rattle.fa_batch.specs.Batch.{Entry}
+use Rattle.fa_batch_terms.specs.Batch.{Entry}
 use Rattle.fa_texts.specs.BatchText.{page_line, closed_line, end_line, batch_lines, HasPageLine, HasClosedLine, IsBatchText, StartsWithBatch}
 use Rattle.fa_texts.specs.Text.{Begins}
 use Rattle.fa_texts.proofs.LinesRead.{other_word}

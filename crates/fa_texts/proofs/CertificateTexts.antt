@@ -3,7 +3,7 @@ use Rattle.std.proofs.Common.{◌≡◌, ◌≢◌, ◌⊎◌, ℕ, ◌≤◌, i
 use Rattle.std.proofs.lemmas.List.{append-nil, map-append}
 use Rattle.std.proofs.lemmas.List.Elements.{All-nil, All-push, All-head, All-tail}
 use Rattle.fa_types.specs.declared.numbers.Page.{Page}
-use Rattle.fa_batch.specs.declared.plan.Place.{Place}
+use Rattle.fa_batch_terms.specs.declared.place.Place.{Place}
 use Rattle.fa_texts.specs.BatchText.{end_line}
 use Rattle.fa_texts.specs.CertificateText.{rounds_line, place_line, short_line, short_lines, certificate_lines, HasPlaceLine, HaveShortLine, IsCertificateText, IsSomeCertificate}
 use Rattle.fa_texts.specs.Text.{Begins}

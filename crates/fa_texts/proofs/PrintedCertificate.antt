@@ -7,7 +7,7 @@ use Rattle.std.proofs.lemmas.List.{append-nil}
 use Rattle.std.proofs.lemmas.List.Sorted.{All-permutation, sum_by-IsPermutation}
 use Rattle.std.proofs.lemmas.Map.Keys.{IsStrictlyIncreasing-from_distinct}
 use Rattle.fa_types.specs.declared.numbers.Page.{Page}
-use Rattle.fa_batch.specs.declared.plan.Place.{Place}
+use Rattle.fa_batch_terms.specs.declared.place.Place.{Place}
 use Rattle.fa_texts.specs.CertificateText.{certificate_lines, HasCertificateText, HasPlaceLine, IsCertificateText, IsPrinted}
 use Rattle.fa_texts.specs.Text.{words_by_line}
 use Rattle.fa_batch.proofs.Counting.{count_by-cons}

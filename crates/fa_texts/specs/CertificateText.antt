@@ -3,7 +3,7 @@ use Rattle.std.specs.Prelude.{◌≡◌, ◌≢◌, ℕ, ◌≤◌, ◌==◌, Li
 use Rattle.std.specs.Fmt.{decimal}
 use Rattle.std.specs.List.Sorted.{IsStrictlyIncreasing, IsNonDecreasing, IsPermutation}
 use Rattle.fa_types.specs.declared.numbers.Page.{Page}
-use Rattle.fa_batch.specs.declared.plan.Place.{Place}
+use Rattle.fa_batch_terms.specs.declared.place.Place.{Place}
 use Rattle.fa_texts.specs.declared.certificate_text.CertificateLine.{CertificateLine}
 use Rattle.fa_texts.specs.declared.certificate_text.CertificateLine.TheVariants.{Place as PlaceLine, Short, End, Other}
 use Rattle.fa_texts.specs.BatchText.{end_line}

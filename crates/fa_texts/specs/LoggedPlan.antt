@@ -2,8 +2,8 @@
 use Rattle.std.specs.Prelude.{◌≡◌, ℕ, List, ◌++◌}
 use Rattle.fa_types.specs.declared.numbers.Page.{Page}
 use Rattle.fa_batch.specs.declared.closed.Run.{Run}
-use Rattle.fa_batch.specs.declared.plan.Place.{Place}
-use Rattle.fa_batch.specs.Batch.{Entry}
+use Rattle.fa_batch_terms.specs.declared.place.Place.{Place}
+use Rattle.fa_batch_terms.specs.Batch.{Entry}
 use Rattle.fa_texts.specs.BatchText.{batch_lines, IsBatchText}
 use Rattle.fa_texts.specs.CertificateText.{IsCertificateText, IsPrinted}
 use Rattle.fa_texts.specs.Text.{words_by_line}

@@ -1,7 +1,7 @@
 //! The printing of a batch text and of a logged plan, and which batches have a text.
 ghost use Rattle.std.specs.Prelude.{◌≤◌, ◌↔◌, [], ◌∷◌, All, OnOk, IsTrue, map, string_bytes};
 ghost use Rattle.std.specs.List.Sorted.{IsStrictlyIncreasing};
-ghost use Rattle.fa_batch.specs.Batch.{Entry};
+ghost use Rattle.fa_batch_terms.specs.Batch.{Entry};
 ghost use Rattle.fa_texts.specs.BatchText.{HasBatchText, HasClosedLine, HasPageLine, batch_lines, closed_line, page_line};
 ghost use Rattle.fa_texts.specs.LoggedPlan.{PrintsLoggedPlan};
 ghost use Rattle.fa_texts.specs.Text.{PrintsLines};

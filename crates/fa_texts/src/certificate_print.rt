@@ -5,7 +5,8 @@ ghost use Rattle.fa_texts.specs.CertificateText.{IsPrinted, PrintsCertificate, p
 ghost use Rattle.fa_texts.specs.Text.{PrintsLines};
 
 use crate::line_print::{print_three, push_number};
-use fa_batch::{Place, Plan, Shortage};
+use fa_batch::{Plan, Shortage};
+use fa_batch_terms::Place;
 use fa_types::Page;
 use std::alloc::{AllocError, Allocator};
 

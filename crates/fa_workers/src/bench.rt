@@ -44,9 +44,10 @@ struct Place<A: Allocator = Global> {
     memory: Option<JobMemory<A>>,
 }
 
-/// A place for each die of an array. Who takes jobs of several dies in one hold of the array's lock lays them there, and makes one after the
-/// other; whoever comes first makes a job, the die's worker too, so that none waits for the calls of another die's image. So it is with the end of a job that was
-/// made. A die has one job at a time, and its place has the memory for it: where no job of the die is under way, the memory is there.
+/// A place for each die of an array. Who takes jobs of several dies in one hold of the array's lock lays them there, and makes one after
+/// the other; whoever comes first makes a job, the die's worker too, so that none waits for the calls of another die's image. So it is with
+/// the end of a job that was made. A die has one job at a time, and its place has the memory for it: where no job of the die is under way,
+/// the memory is there.
 #[derive(Drop)]
 pub(crate) struct Bench<A: Allocator = Global> {
     // By the numbers of the dies.

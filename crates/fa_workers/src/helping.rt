@@ -32,7 +32,8 @@ const MAX_JOBS: usize = 8;
 /// How many slots are hashed side by side where there are no more jobs.
 const FEW_JOBS: usize = 4;
 
-/// From how many reads on they are hashed side by side, among more than four jobs: eight side by side take about the time of three one by one.
+/// From how many reads on they are hashed side by side, among more than four jobs: eight side by side take about the time of three one by
+/// one.
 const FEW_READS: usize = 4;
 
 /// The same among four jobs and fewer: four side by side take less than the time of two one by one.
@@ -62,9 +63,9 @@ impl<A: Allocator + Copy> HelperMemory<A> {
     }
 }
 
-/// Somebody who makes jobs of dies while a request waits for them: one at a time where the images are slow, so that others make those of the
-/// other dies beside it, and several in a row where they are quick. Jobs of several dies lie on the dies' bench until they are made and until
-/// they are ended, so that no die waits for another's image.
+/// Somebody who makes jobs of dies while a request waits for them: one at a time where the images are slow, so that others make those of
+/// the other dies beside it, and several in a row where they are quick. Jobs of several dies lie on the dies' bench until they are made and
+/// until they are ended, so that no die waits for another's image.
 #[derive(Drop)]
 pub struct Helper<
     'a,
@@ -287,8 +288,8 @@ fn is_quick<R: Clock>(rt: &R, start: Option<Instant>, jobs: usize) -> bool {
     }
 }
 
-/// Takes the next jobs of dies that have one, this many at most, as long as there is memory for one more, and lays them on the bench. A die that
-/// collects is left to its worker, so that no request waits for its moves, unless many who help sleep.
+/// Takes the next jobs of dies that have one, this many at most, as long as there is memory for one more, and lays them on the bench. A die
+/// that collects is left to its worker, so that no request waits for its moves, unless many who help sleep.
 fn take_jobs<R: Wait, L: Ledger, M: Map + Drop, A: Allocator + Copy>(
     rt: &R,
     alloc: A,
@@ -442,8 +443,8 @@ fn open_four_slots<A: Allocator>(made: &[MadeJob<A>]) -> [Opened; MAX_JOBS]
     [first, second, third, fourth, first, first, first, first]
 }
 
-/// What stands for a slot in the memory of this place, or in the first one, where there are fewer: slots of one length alone are hashed side by
-/// side.
+/// What stands for a slot in the memory of this place, or in the first one, where there are fewer: slots of one length alone are hashed
+/// side by side.
 fn slot_in<A: Allocator>(made: &[MadeJob<A>], place: usize) -> &[u8]
     ensures { result.now ≡ bytes_at made.now place }
 {

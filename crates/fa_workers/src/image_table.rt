@@ -9,8 +9,8 @@ use fa_types::Die;
 use std::alloc::{AllocError, Allocator, Global};
 use std::sync::{Mutex, Wait};
 
-/// The images of an array's dies, each behind a lock of its own. A die has one job at a time, and its image is locked for that job alone, so
-/// nobody waits long for an image.
+/// The images of an array's dies, each behind a lock of its own. A die has one job at a time, and its image is locked for that job alone,
+/// so nobody waits long for an image.
 #[derive(Drop)]
 pub struct ImageTable<I: Drop, A: Allocator = Global> {
     // By the numbers of the dies.
@@ -55,8 +55,8 @@ impl<I: Drop, A: Allocator> ImageTable<I, A> {
 }
 
 impl<I: Image + Drop, A: Allocator> ImageTable<I, A> {
-    /// Makes the calls of a job on its die's image, which is locked meanwhile, and tells how the job ended. A read's slot is in the memory's
-    /// scratch behind it and is not opened: it stands as a bad one.
+    /// Makes the calls of a job on its die's image, which is locked meanwhile, and tells how the job ended. A read's slot is in the
+    /// memory's scratch behind it and is not opened: it stands as a bad one.
     pub(crate) fn begin<R: Wait, B: Allocator, G: Gate>(
         &self,
         rt: &R,
@@ -74,8 +74,8 @@ impl<I: Image + Drop, A: Allocator> ImageTable<I, A> {
         }
     }
 
-    /// Makes the calls of a job on its die's image, which is locked meanwhile, and tells how the job ended. Where the die has no image the job
-    /// is refused as the image would refuse it.
+    /// Makes the calls of a job on its die's image, which is locked meanwhile, and tells how the job ended. Where the die has no image the
+    /// job is refused as the image would refuse it.
     pub(crate) fn run<R: Wait, B: Allocator, G: Gate>(
         &self,
         rt: &R,

@@ -14,8 +14,8 @@ use std::time::Clock;
 /// Brings in spares while a die is live, and gives each thin page one more copy, until the array is to end.
 ///
 /// It reads a thin page by a batch of its own, hashes what it read with no lock held, reserves one more copy of the write that it saw
-/// before the read, and waits until that copy is current. A batch that is open as the array is to end is ended at once; a copy that is under way
-/// is seen through. Where it has nothing to do, or memory is refused, it waits for a change.
+/// before the read, and waits until that copy is current. A batch that is open as the array is to end is ended at once; a copy that is
+/// under way is seen through. Where it has nothing to do, or memory is refused, it waits for a change.
 pub fn rebuild_worker<R: Wait + Clock, L: Ledger, M: Map + Drop, A: Allocator + Copy>(
     rt: &R,
     alloc: A,

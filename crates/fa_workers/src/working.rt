@@ -27,10 +27,10 @@ struct Behind<A: Allocator = Global> {
 
 /// Works for a die until the array is to end and the die has nothing to do.
 ///
-/// It takes the die's jobs one by one, makes the calls of each on the image with the array's lock free, and ends it: the end of a job and the
-/// Take of the next are made in one hold of the lock. Where the die has no job it lets the round pass, if it may. Others may take the die's
-/// jobs too: what they have not begun, or have made and not ended, is on the bench, and the worker makes or ends it. Else it waits. It notes why the die went out, if
-/// it did; the worker of a die that is out, or of a spare, waits.
+/// It takes the die's jobs one by one, makes the calls of each on the image with the array's lock free, and ends it: the end of a job and
+/// the Take of the next are made in one hold of the lock. Where the die has no job it lets the round pass, if it may. Others may take the
+/// die's jobs too: what they have not begun, or have made and not ended, is on the bench, and the worker makes or ends it. Else it waits.
+/// It notes why the die went out, if it did; the worker of a die that is out, or of a spare, waits.
 ///
 /// An image of another geometry than the array's refuses each job. A memory that was made for pages of another size ends no job.
 pub fn die_worker<

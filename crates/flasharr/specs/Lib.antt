@@ -1,5 +1,2 @@
-pub mod Conversation
 pub mod Output
 pub mod Program
-pub mod Right
-pub mod TalkArray

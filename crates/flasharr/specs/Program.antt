@@ -4,23 +4,24 @@ use Rattle.clap.specs.Kinds.{IsAmong}
 use Rattle.clap.specs.declared.error.kind.ErrorKind.{ErrorKind}
 use Rattle.fa_io.specs.Streams.{Streams, Reads}
 use Rattle.fa_types.specs.declared.numbers.Die.{Die}
-use Rattle.fa_settings.specs.CommandLine.{Wanted, Formats, Checks, Dumps, Serves, Asks, Plans, Talks, TalksOver, Verifies, VerifiesLog, IsDie, found_instead, wanted_in}
+use Rattle.fa_settings.specs.CommandLine.{Wanted, Formats, Checks, Dumps, Serves, Asks, Plans, Talks, TalksOver, Verifies, VerifiesLog}
+use Rattle.fa_settings.specs.CommandLine.{IsDie, found_instead, wanted_in}
 use Rattle.fa_prog_images.specs.Array.{TellsLook}
 use Rattle.fa_prog_images.specs.Formatting.{TellsFormat}
 use Rattle.fa_prog_host.specs.Printing.{TellsNoMemory}
 use Rattle.fa_prog_images.specs.declared.look.Asked.TheVariants.{Check, Dump}
 use Rattle.fa_prog_serve.specs.Serving.{TellsServe}
 use Rattle.fa_prog_looks.specs.Asking.{TellsStatus}
-use Rattle.flasharr.specs.TalkArray.{RunsTalkArray}
+use Rattle.fa_prog_talk.specs.TalkArray.{RunsTalkArray}
 use Rattle.flasharr.specs.Output.{ShowsUsage, ShowsText}
 use Rattle.fa_prog_text.specs.Plan.{RunsPlan}
 use Rattle.fa_prog_text.specs.Talk.{RunsTalk}
 use Rattle.fa_prog_text.specs.Verify.{RunsVerify}
 use Rattle.fa_prog_text.specs.VerifyLog.{TellsLog}
 
--- What a command does, whose settings are held in memory of a kind. `talk` has a plain store of 64 pages of 512 bytes, and with `--array` the
--- store of the settings' array. The
--- commands `format`, `check`, `dump`, `status` and `verify --log`, and what is no command, read nothing of the input; `serve` reads it until it is to stop.
+-- What a command does, whose settings are held in memory of a kind. `talk` has a plain store of 64 pages of 512 bytes, and with `--array`
+-- the store of the settings' array. The commands `format`, `check`, `dump`, `status` and `verify --log`, and what is no command, read
+-- nothing of the input; `serve` reads it until it is to stop.
 abbrev pub RunsCommand : Type 0 → Option Wanted → Streams → ℕ → Type 0
 RunsCommand A (Some (Formats settings text)) s status =
     Reads s [] × ((die : Option Die) × IsDie text die × TellsFormat A die s.held_before s.held_after status)

@@ -1,9 +1,6 @@
 //! The program: its arguments, its input and its output go to `start`, and it ends with the status that comes of them.
 #![tactic(auto)]
 
-mod command;
-mod conversation;
-mod laws;
 mod program;
 
 use crate::program::Status;

@@ -1,5 +1,5 @@
 //! What the program does with its arguments.
-ghost use Rattle.std.specs.Prelude.{◌≡◌, ◌⊎◌, [], ◌∷◌, drop, map, string_bytes, IfOk, IfErr};
+ghost use Rattle.std.specs.Prelude.{◌≡◌, ◌⊎◌, Option, Some, [], ◌∷◌, drop, map, string_bytes, IfOk, IfErr};
 ghost use Rattle.std.specs.IoError.{error_kind};
 ghost use Rattle.std.specs.Process.{exit_status};
 ghost use Rattle.std.specs.Vec.Iter.{into_iter_items};
@@ -7,16 +7,18 @@ ghost use Rattle.fa_io.specs.Streams.{between};
 ghost use Rattle.clap.specs.Values.{kind_of};
 ghost use Rattle.fa_prog_host.specs.Printing.{TellsNoMemory};
 ghost use Rattle.flasharr.specs.Output.{ShowsUsage, ShowsText, ShowsMistake, RefusesArguments};
-ghost use Rattle.flasharr.specs.Program.{Runs};
+ghost use Rattle.fa_settings.specs.CommandLine.{Wanted, IsWanted};
+ghost use Rattle.flasharr.specs.Program.{Runs, RunsCommand};
 
-use crate::command::run_talk_array;
 use clap::Error;
 use clap::error::ErrorKind as Finding;
 use fa_io::send_all;
 use fa_prog_host::printing::{DONE, FAULTY, print, refuse_for_memory};
 use fa_prog_images::{Asked, Look, run_format, run_look};
+use fa_prog_listen::ServerHost;
 use fa_prog_looks::{Ask, run_status};
-use fa_prog_serve::{Serve, ServerHost, run_serve};
+use fa_prog_serve::{Serve, run_serve};
+use fa_prog_talk::run_talk_array;
 use fa_prog_text::{run_plan, run_talk, run_verify, run_verify_log};
 use fa_settings::{Subcommand, command};
 use std::alloc::{AllocError, Allocator, Global};
@@ -97,7 +99,8 @@ pub fn start<
 /// `serve` mounts the array of the settings and serves it over NBD at their address, in many threads, until the
 /// input has the line `stop`, ends or fails, and then closes it; with `--unclean` or `--recover` also one that was not
 /// closed. It prints where it listens, and at the end the faults that took dies out and how the array was closed. With
-/// `--verbose` it tells on standard error of clients that come and go, and with `--status` it answers by HTTP at another address how the array is.
+/// `--verbose` it tells on standard error of clients that come and go, and with `--status` it answers by HTTP at another address how the
+/// array is.
 ///
 /// `status` asks a server at that address, and prints the answer in lines, once or with `--watch` each second.
 ///
@@ -130,18 +133,29 @@ pub fn run<
         Runs A (map string_bytes arguments.now) streams result }
 {
     match command(rt.alloc(), arguments) {
-        Ok(Some(Subcommand::Format { settings, die })) => {
-            run_format(rt, alloc, settings, die, output)
-        }
-        Ok(
-            Some(
-                Subcommand::Check {
-                    settings,
-                    terms,
-                    json,
-                },
-            ),
-        ) => {
+        Ok(Some(subcommand)) => obey(rt, alloc, watched, subcommand, input, output),
+        Ok(None) => show_usage(output),
+        Err(error) => show_text(rt.alloc(), &error, output),
+    }
+}
+
+/// Runs one command. It stands apart from whoever owns what `clap` found, so that no exit of it drops that.
+fn obey<
+    H: ServerHost + Net<Listener = TcpListener, Stream = TcpStream>,
+    R: Read,
+    W: Write,
+    A: Allocator + Copy,
+>(rt: &H, alloc: A, watched: bool, subcommand: Subcommand<'_>, input: &mut R, output: &mut W) -> u8
+    ensures { let streams = between (R.remaining input.old) (R.remaining input.new) (W.contents output.old) (W.contents output.new) in
+        (wanted : Option Wanted) → IsWanted (Some subcommand.entry) wanted → RunsCommand A wanted streams result }
+{
+    match subcommand {
+        Subcommand::Format { settings, die } => run_format(rt, alloc, settings, die, output),
+        Subcommand::Check {
+            settings,
+            terms,
+            json,
+        } => {
             let asked = Asked::Check;
             let look = Look {
                 asked,
@@ -151,15 +165,11 @@ pub fn run<
             };
             run_look(rt, alloc, settings, look, output)
         }
-        Ok(
-            Some(
-                Subcommand::Dump {
-                    settings,
-                    terms,
-                    json,
-                },
-            ),
-        ) => {
+        Subcommand::Dump {
+            settings,
+            terms,
+            json,
+        } => {
             let asked = Asked::Dump;
             let look = Look {
                 asked,
@@ -169,43 +179,30 @@ pub fn run<
             };
             run_look(rt, alloc, settings, look, output)
         }
-        Ok(
-            Some(
-                Subcommand::Serve {
-                    settings,
-                    terms,
-                    verbose,
-                    status,
-                    plans,
-                },
-            ),
-        ) => {
-            run_serve(
-                rt,
-                alloc,
-                Serve {
-                    settings,
-                    terms,
-                    verbose,
-                    status,
-                    plans,
-                },
-                input,
-                output,
-            )
+        Subcommand::Serve {
+            settings,
+            terms,
+            verbose,
+            status,
+            plans,
+        } => {
+            let serve = Serve {
+                settings,
+                terms,
+                verbose,
+                status,
+                plans,
+            };
+            run_serve(rt, alloc, serve, input, output)
         }
-        Ok(Some(Subcommand::Status { address, watch })) => {
-            run_status(rt, Ask { address, watch }, output)
-        }
-        Ok(Some(Subcommand::Plan)) => run_plan(alloc, input, output),
-        Ok(Some(Subcommand::Talk)) => run_talk(alloc, input, output),
-        Ok(Some(Subcommand::TalkArray { settings, terms })) => {
+        Subcommand::Status { address, watch } => run_status(rt, Ask { address, watch }, output),
+        Subcommand::Plan => run_plan(alloc, input, output),
+        Subcommand::Talk => run_talk(alloc, input, output),
+        Subcommand::TalkArray { settings, terms } => {
             run_talk_array(rt, alloc, settings, terms, input, output)
         }
-        Ok(Some(Subcommand::Verify)) => run_verify(alloc, input, output),
-        Ok(Some(Subcommand::VerifyLog { file })) => run_verify_log(rt, alloc, file, output),
-        Ok(None) => show_usage(output),
-        Err(error) => show_text(rt.alloc(), &error, output),
+        Subcommand::Verify => run_verify(alloc, input, output),
+        Subcommand::VerifyLog { file } => run_verify_log(rt, alloc, file, output),
     }
 }
 

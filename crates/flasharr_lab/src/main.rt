@@ -1,24 +1,13 @@
 //! Makes images, an array over them and what an array does, as the lines of its input ask for it.
 #![tactic(auto)]
 
-mod array_lines;
-mod bare_jobs;
-mod image_lines;
-mod lab;
 mod mounting;
-mod no_array;
 mod owning;
-mod scanning;
-mod script;
-mod shape;
 mod store;
-mod turn;
 
-use crate::lab::Lab;
 use crate::mounting::run_lines;
-use crate::script::Script;
-use crate::turn::FAULTY;
 use fa_image::{FileImage, MemImage};
+use flasharr_lab_lines::{FAULTY, Lab, Script};
 use flasharr_lab_parts::{DieImage, Fused, Yard, new_heap};
 use std::process::ExitCode;
 use std::thread::Threads;

@@ -3,10 +3,6 @@ ghost use Rattle.std.specs.Prelude.{◌≡◌, IfOk};
 ghost use Rattle.std.specs.FinMap.{empty, len};
 ghost use Rattle.fa_core.specs.Array.{IsWhole};
 
-use crate::array_lines::over_array;
-use crate::lab::Lab;
-use crate::script::Script;
-use crate::shape::{Shape, array_over};
 use crate::store::over_store;
 use fa_core::Array;
 use fa_map_calls::Map;
@@ -14,6 +10,7 @@ use fa_mount::MountedArray;
 use fa_mount_headers::MountRefused;
 use fa_solo::Parts;
 use flasharr_lab_array::show_mounted;
+use flasharr_lab_lines::{Lab, Script, Shape, array_over, over_array};
 use flasharr_lab_parts::{DieImage, Heap, Images, Yard, show_unmounted};
 use std::alloc::AllocError;
 use std::io::BufRead;
@@ -147,7 +144,8 @@ fn over_parts<'a, R: BufRead + Drop, M: Map + Drop, I: DieImage>(
     over_array(script, lab, yard, mounted, images)
 }
 
-/// Does what lines ask of a store of the array, until a line is none of a store's. There is none where its windows would have no round, or too many.
+/// Does what lines ask of a store of the array, until a line is none of a store's. There is none where its windows would have no round, or
+/// too many.
 fn with_store<'a, R: BufRead + Drop, M: Map + Drop, I: DieImage>(
     script: &mut Script<R>,
     lab: &mut Lab<'a>,

@@ -2,14 +2,11 @@
 ghost use Rattle.std.specs.Prelude.{◌≡◌, ◌≤◌};
 ghost use Rattle.fa_core.specs.Array.{IsWhole};
 
-use crate::bare_jobs::do_bare;
-use crate::lab::Lab;
-use crate::script::Script;
-use crate::turn::Turn;
 use fa_map_calls::Map;
 use fa_solo::{Parts, Solo};
 use fa_types::Blocks;
 use flasharr_lab_calls::{ask, do_free};
+use flasharr_lab_lines::{Lab, Script, Turn, do_bare};
 use flasharr_lab_parts::{DieImage, Yard};
 use flasharr_lab_words::Wish;
 use std::alloc::Allocator;

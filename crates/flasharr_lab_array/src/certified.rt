@@ -1,10 +1,11 @@
 //! Plans that the array made or would make, with what the checker says of them.
 ghost use Rattle.std.specs.Prelude.{◌-◌, ◌^◌, ◌≤◌};
-ghost use Rattle.fa_batch.specs.Batch.{IsSound};
+ghost use Rattle.fa_batch_terms.specs.Batch.{IsSound};
 ghost use Rattle.fa_core.specs.Array.{IsWhole};
 
 use crate::seen::copy_seen;
-use fa_batch::{Batch, Closed, Place};
+use fa_batch::{Batch, Closed};
+use fa_batch_terms::Place;
 use fa_cert::{Verdict, check};
 use fa_core::{Array, Planned};
 use fa_machine::BatchId;

@@ -54,8 +54,8 @@ fn lend_and_make<'a, M: Map>(
     }
 }
 
-/// Makes an event with what it is lent, and tells its answer. What the answer hands out is given back to the array where its line is timed, as
-/// by who asks for the like again.
+/// Makes an event with what it is lent, and tells its answer. What the answer hands out is given back to the array where its line is timed,
+/// as by who asks for the like again.
 fn make_event<'a, M: Map>(
     array: &mut Array<M, &'a Heap>,
     tools: &mut Tools<'a>,

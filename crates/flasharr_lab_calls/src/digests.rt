@@ -23,8 +23,8 @@ struct Digests {
     begun: Vec<Digest>,
 }
 
-/// Hashes the messages of a text, and tells for each its digest, and its digest where its whole blocks are begun and the rest is its tail. They are
-/// of one length; those of another than the first are left out.
+/// Hashes the messages of a text, and tells for each its digest, and its digest where its whole blocks are begun and the rest is its tail.
+/// They are of one length; those of another than the first are left out.
 pub(crate) fn hash_text(text: &str, tools: &mut Tools<'_>) {
     tools.output.word("digests");
     match messages_of(tools.alloc, text) {

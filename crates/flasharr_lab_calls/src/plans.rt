@@ -1,6 +1,6 @@
 //! Batches of texts that are planned, and the checks of their plans.
 ghost use Rattle.std.specs.Prelude.{◌-◌, ◌^◌, ◌≤◌};
-ghost use Rattle.fa_batch.specs.Batch.{IsSound};
+ghost use Rattle.fa_batch_terms.specs.Batch.{IsSound};
 
 use fa_batch::Batch;
 use fa_cert::{Verdict, check};
@@ -11,7 +11,8 @@ use flasharr_lab_parts::Tools;
 use flasharr_lab_words::Output;
 use std::alloc::{AllocError, Global};
 
-/// Plans the batch of a text, whose lines are parted by `/`, and checks the plan, and tells what came of it. Either the plan is timed or the check.
+/// Plans the batch of a text, whose lines are parted by `/`, and checks the plan, and tells what came of it. Either the plan is timed or
+/// the check.
 pub(crate) fn plan_text(text: &str, tools: &mut Tools<'_>, is_check_timed: bool) {
     match lines_of(tools.alloc, text) {
         Ok(lines) => plan_lines(lines.as_slice(), tools, is_check_timed),

@@ -115,8 +115,8 @@ fn request_of(number: u8, length: u32) -> [u8; 28] {
     bytes
 }
 
-/// Moves the bytes of a load as a session has to: from the client's into a buffer and from there into the store, or out of the store and to where a
-/// writer would put them. False where one of its calls is not made.
+/// Moves the bytes of a load as a session has to: from the client's into a buffer and from there into the store, or out of the store and to
+/// where a writer would put them. False where one of its calls is not made.
 fn copy(alloc: Global, store: &mut MemBlocks, room: &mut [u8], said: &[u8], load: Load) -> bool {
     let bytes = said.get(..load.length as usize).unwrap_or(&[]);
     let Ok(buffer) = Vec::from_slice(alloc, bytes) else {

@@ -16,7 +16,8 @@ use flasharr_lab_words::{MAX_DIES, Order, Output, Wish, Work, die_of, number_at,
 use std::alloc::Allocator;
 use std::io::BufRead;
 
-/// Does what lines ask of an array, up to one by which it is dropped, or one that asks for a store of it: then how many rounds its windows have.
+/// Does what lines ask of an array, up to one by which it is dropped, or one that asks for a store of it: then how many rounds its windows
+/// have.
 pub fn over_array<'a, R: BufRead + Drop, M: Map + Drop, I: DieImage>(
     script: &mut Script<R>,
     lab: &mut Lab<'a>,

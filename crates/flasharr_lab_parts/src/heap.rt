@@ -42,7 +42,8 @@ struct Gate {
 }
 
 impl<B: Allocator> Counted<B> {
-    /// From now on the request of this number is refused, counted from 1, and none where the number is 0; and so is each request of more than
+    /// From now on the request of this number is refused, counted from 1, and none where the number is 0; and so is each request of more
+    /// than
     /// `max_bytes` bytes. The counts begin anew.
     pub fn refuse(&self, due: u64, max_bytes: usize) {
         self.gate.made.set(0);

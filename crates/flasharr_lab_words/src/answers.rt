@@ -1,7 +1,7 @@
 //! What events are answered, in words.
 use crate::content::show_content;
 use crate::output::Output;
-use fa_batch::Place;
+use fa_batch_terms::Place;
 use fa_machine::{
     AdmitRefused, ClaimId, ClaimRefused, CommitCopyRefused, Copied, Flush, FlushRefused, FlushState,
 };

@@ -1,7 +1,7 @@
 //! The calendar of a die with as many entries as there may be. All else of calendars is seen through the events of an array.
 ghost use Rattle.std.specs.Prelude.{◌≡◌};
 
-use fa_batch::Place;
+use fa_batch_terms::Place;
 use fa_calendar::{Calendar, CalendarRefused};
 use fa_types::{Die, Page, Round, Rounds};
 use std::test::Fail;

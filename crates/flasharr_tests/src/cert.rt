@@ -1,5 +1,6 @@
 //! A certificate that no text comes to.
-use fa_batch::{Batch, Closed, Place, Places, Plan, Shortage, end_soon};
+use fa_batch::{Batch, Closed, Places, Plan, Shortage, end_soon};
+use fa_batch_terms::Place;
 use fa_cert::{Refusal, Verdict, check};
 use fa_types::{Die, Page, Round};
 use std::alloc::{AllocError, Global};

@@ -1,5 +1,5 @@
-//! Conversations in pieces of each length, and over streams that are interrupted. Clients that are cut off behind each byte and those with a
-//! wrong magic number stand in tests/cases/cuts.py, and the others in tests/cases/conversations.py.
+//! Conversations in pieces of each length, and over streams that are interrupted. Clients that are cut off behind each byte and those with
+//! a wrong magic number stand in tests/cases/cuts.py, and the others in tests/cases/conversations.py.
 use crate::spelling::joined;
 use fa_io::WriteBoth;
 use fa_io::faulty::{Interrupted, Piecewise};

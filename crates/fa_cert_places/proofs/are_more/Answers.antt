@@ -1,6 +1,6 @@
 use Rattle.std.proofs.Common.{◌≡◌, ◌+◌, ◌-◌, arith, ap}
 use Rattle.std.proofs.lemmas.Bool.{lt-ltb, ltb-true}
-use Rattle.fa_batch.specs.Certificate.{open_places}
+use Rattle.fa_batch_terms.specs.Certificate.{open_places}
 use Rattle.fa_cert_places.specs.OpenCounts.{marked}
 use Rattle.fa_cert_places.proofs.Marked.{marked-none, places-yes, places-no, places-grow}
 use Rattle.fa_cert_places.proofs.are_more.Goals as goal

@@ -1,5 +1,5 @@
 use Rattle.std.proofs.Common.{◌≡◌, ◌+◌}
-use Rattle.fa_batch.specs.Certificate.{open_places}
+use Rattle.fa_batch_terms.specs.Certificate.{open_places}
 use Rattle.fa_cert_places.specs.OpenCounts.{marked}
 use Rattle.fa_cert_places.proofs.are_more.Given as goal
 

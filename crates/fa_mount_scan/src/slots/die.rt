@@ -1,5 +1,6 @@
 //! The slots of one die, read.
-ghost use Rattle.std.specs.Prelude.{◌≡◌, ◌+◌, ◌-◌, ◌*◌, ◌%◌, ◌^◌, ◌<◌, ◌≤◌, All, ℕ, List, Ok, Err, None, Some, IfErr, IfSome, OnOk, length, take, drop, slice_index_or};
+ghost use Rattle.std.specs.Prelude.{◌≡◌, ◌+◌, ◌-◌, ◌*◌, ◌%◌, ◌^◌, ◌<◌, ◌≤◌, All, ℕ, List, Ok, Err, None, Some, IfErr, IfSome, OnOk};
+ghost use Rattle.std.specs.Prelude.{length, take, drop, slice_index_or};
 ghost use Rattle.fa_image.specs.Image.{ReadingSlot, Refused, slot_bytes, slot_count};
 ghost use Rattle.fa_lanes.specs.Lanes.{message};
 ghost use Rattle.fa_mount_scan.specs.ContentReading.{IsContentOf, ReadsDie, ReadsSlots, StopsAfter, StopsReading};

@@ -10,8 +10,8 @@ use fa_mount_headers::{MountFault, MountRefused, Standing, is_in};
 use fa_types::Copies;
 use std::alloc::Allocator;
 
-/// Why what was read of an array's dies keeps it from being recovered, if it does: 7 where a die of the mask refused a read; 5 where a die of
-/// the mask has the mark of a spare and was used; and 5 where as many dies are out as each page has copies, or more.
+/// Why what was read of an array's dies keeps it from being recovered, if it does: 7 where a die of the mask refused a read; 5 where a die
+/// of the mask has the mark of a spare and was used; and 5 where as many dies are out as each page has copies, or more.
 pub(crate) fn slots_refusal<A: Allocator>(
     copies: Copies,
     mask: u64,

@@ -1,7 +1,7 @@
 use Rattle.std.proofs.Common.{◌≡◌, ◌<◌, ◌||◌, false, length, take, get_or, ◌∙◌, arith}
 use Rattle.std.proofs.lemmas.Bool.{or_from}
 use Rattle.std.proofs.lemmas.List.{get_or_default}
-use Rattle.fa_batch.specs.declared.plan.Place.{Place}
+use Rattle.fa_batch_terms.specs.declared.place.Place.{Place}
 use Rattle.fa_calendar.specs.Dies.{closed_by, is_at, is_one}
 use Rattle.fa_calendar.proofs.Places.{among_all, at_part, each_at, next_apart, rounds_that-le, undone, where_at}
 use Rattle.fa_calendar.proofs.dies.book_all.Goals as goal

@@ -2,7 +2,7 @@ use Rattle.std.proofs.Common.{◌∙◌, ◌≡◌, ap, arith, get_or, length, s
 use Rattle.std.proofs.Math.Seq.{take-length}
 use Rattle.std.proofs.lemmas.Bool.{or_from}
 use Rattle.std.specs.FinMap.{contains_key}
-use Rattle.fa_batch.specs.declared.plan.Place.{Place}
+use Rattle.fa_batch_terms.specs.declared.place.Place.{Place}
 use Rattle.fa_calendar.specs.Dies.{is_at, is_one}
 use Rattle.fa_set.specs.Members.{Numbers}
 use Rattle.fa_calendar.proofs.Idle.{elsewhere, not_entered}

@@ -1,6 +1,6 @@
 use Rattle.std.proofs.Common.{◌||◌, get_or, arith}
 use Rattle.std.proofs.lemmas.List.{get_or_default}
-use Rattle.fa_batch.specs.declared.plan.Place.{Place}
+use Rattle.fa_batch_terms.specs.declared.place.Place.{Place}
 use Rattle.fa_calendar.specs.Dies.{closed_by, is_at, is_one}
 use Rattle.fa_calendar.proofs.Places.{among_all, rounds_that-le}
 use Rattle.fa_calendar.proofs.dies.restore_all.Goals as goal

@@ -1,7 +1,7 @@
 use Rattle.std.proofs.Common.{◌≡◌, length, take, arith, refl, subst, ap, ◌∙◌}
 use Rattle.std.proofs.Math.Seq.{take-length}
-use Rattle.fa_batch.specs.declared.plan.Place.{Place}
-use Rattle.fa_batch.specs.Plan.{AreApart}
+use Rattle.fa_batch_terms.specs.declared.place.Place.{Place}
+use Rattle.fa_batch_terms.specs.Plan.{AreApart}
 use Rattle.fa_cert.proofs.Placed.{taken_more, apart_more, not_apart}
 use Rattle.fa_cert.proofs.checker.are_apart.Goals as goal
 

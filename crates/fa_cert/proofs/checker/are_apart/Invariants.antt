@@ -1,7 +1,7 @@
 use Rattle.std.proofs.Common.{◌≡◌, ℕ, take}
 use Rattle.std.specs.List.{list_any}
 use Rattle.std.specs.BTreeSet.{contains}
-use Rattle.fa_batch.specs.Plan.{AreApart}
+use Rattle.fa_batch_terms.specs.Plan.{AreApart}
 use Rattle.fa_cert.proofs.Placed.{place_cmp, is_at_key}
 use Rattle.fa_cert.proofs.checker.are_apart.Given as goal
 

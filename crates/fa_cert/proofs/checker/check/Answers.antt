@@ -1,11 +1,11 @@
 use Rattle.std.proofs.Common.{◌≡◌, ℕ, zero, suc, Bool, List, subst, sym, arith}
 use Rattle.fa_types.specs.declared.numbers.Page.{Page}
-use Rattle.fa_batch.specs.declared.plan.Place.{Place}
+use Rattle.fa_batch_terms.specs.declared.place.Place.{Place}
 use Rattle.fa_cert.specs.declared.verdict.Refusal.{Refusal}
 use Rattle.fa_cert.specs.declared.verdict.Refusal.TheVariants.{PageMissing, PageTwice, NotAHolder, RoundClosed, PlaceTwice, LastRound, ShortagePage, NotShort}
-use Rattle.fa_batch.specs.Batch.{Entry}
-use Rattle.fa_batch.specs.Plan.{IsPlan, rounds_of}
-use Rattle.fa_batch.specs.Certificate.{IsCertificate, ShowsNoFewer, AreNamed}
+use Rattle.fa_batch_terms.specs.Batch.{Entry}
+use Rattle.fa_batch_terms.specs.Plan.{IsPlan, rounds_of}
+use Rattle.fa_batch_terms.specs.Certificate.{IsCertificate, ShowsNoFewer, AreNamed}
 use Rattle.fa_cert.specs.Verdict.{IsRefused}
 use Rattle.fa_batch.proofs.Parts.{where_some}
 use Rattle.fa_cert.proofs.checker.check.Goals as goal

@@ -2,7 +2,7 @@ use Rattle.std.proofs.Common.{◌≡◌, length, take, arith, refl, subst, sym, 
 use Rattle.std.specs.BTreeSet.{contains}
 use Rattle.std.proofs.Math.Seq.{take-length}
 use Rattle.std.proofs.lemmas.Bool.{not-true, not-false}
-use Rattle.fa_batch.specs.Plan.{ArePlacedOnce}
+use Rattle.fa_batch_terms.specs.Plan.{ArePlacedOnce}
 use Rattle.fa_cert.proofs.Placed.{pages_more, page_once_more, page_twice, no_place}
 use Rattle.fa_cert.proofs.checker.come_once.Goals as goal
 

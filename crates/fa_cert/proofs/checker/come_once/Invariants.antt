@@ -1,7 +1,7 @@
 use Rattle.std.proofs.Common.{◌≡◌, ℕ, ◌==◌, take, nat_cmp}
 use Rattle.std.specs.List.{list_any}
 use Rattle.std.specs.BTreeSet.{contains}
-use Rattle.fa_batch.specs.Plan.{ArePlacedOnce}
+use Rattle.fa_batch_terms.specs.Plan.{ArePlacedOnce}
 use Rattle.fa_cert.proofs.checker.come_once.Given as goal
 
 abbrev pub invariant-loop-place : goal.invariant-loop-place

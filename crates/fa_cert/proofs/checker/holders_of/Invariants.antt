@@ -1,5 +1,5 @@
 use Rattle.std.proofs.Common.{◌≡◌, ℕ, false, take, length, slice_index_or}
-use Rattle.fa_batch.specs.Certificate.{holds_any}
+use Rattle.fa_batch_terms.specs.Certificate.{holds_any}
 use Rattle.fa_cert.proofs.checker.holders_of.Given as goal
 
 abbrev pub invariant-loop-page : goal.invariant-loop-page

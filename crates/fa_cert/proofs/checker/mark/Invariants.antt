@@ -1,5 +1,5 @@
 use Rattle.std.proofs.Common.{◌≡◌, ℕ, ◌||◌, false, take, slice_index_or}
-use Rattle.fa_batch.specs.Batch.{is_among}
+use Rattle.fa_batch_terms.specs.Batch.{is_among}
 use Rattle.fa_cert.proofs.checker.mark.Given as goal
 
 abbrev pub invariant-loop-die : goal.invariant-loop-die

@@ -1,6 +1,6 @@
 use Rattle.std.proofs.Common.{◌≡◌, ℕ, ◌==◌, ◌≤◌, false, take, length, slice_index_or}
 use Rattle.std.specs.List.{list_any}
-use Rattle.fa_batch.specs.Certificate.{AreNamed, holds_any}
+use Rattle.fa_batch_terms.specs.Certificate.{AreNamed, holds_any}
 use Rattle.fa_cert.specs.Marks.{AreMarks}
 use Rattle.fa_cert.proofs.checker.named_holders.Given as goal
 

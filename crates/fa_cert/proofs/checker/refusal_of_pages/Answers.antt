@@ -1,6 +1,6 @@
 use Rattle.std.proofs.Common.{take, ap, arith}
 use Rattle.std.proofs.lemmas.Bool.{iff_false}
-use Rattle.fa_batch.specs.Plan.{ArePlaced}
+use Rattle.fa_batch_terms.specs.Plan.{ArePlaced}
 use Rattle.fa_cert.proofs.Placed.{placed_from, placed_to}
 use Rattle.fa_cert.proofs.checker.refusal_of_pages.Given.{Over}
 use Rattle.fa_cert.proofs.checker.refusal_of_pages.Goals as goal

@@ -1,7 +1,7 @@
 use Rattle.std.proofs.Common.{◌≡◌, length, take, arith, subst, ap, ◌∙◌}
 use Rattle.std.proofs.Math.Seq.{take-length}
 use Rattle.std.proofs.lemmas.List.{length-set}
-use Rattle.fa_batch.specs.Plan.{AreApart}
+use Rattle.fa_batch_terms.specs.Plan.{AreApart}
 use Rattle.fa_cert.proofs.Placed.{no_place, rise_more}
 use Rattle.fa_cert.proofs.checker.rise.Goals as goal
 

@@ -1,6 +1,6 @@
 use Rattle.std.proofs.Common.{◌≡◌, ◌<◌, take, length, slice_index_or}
 use Rattle.std.specs.List.{All}
-use Rattle.fa_batch.specs.Plan.{AreApart}
+use Rattle.fa_batch_terms.specs.Plan.{AreApart}
 use Rattle.fa_cert.proofs.checker.rise.Given as goal
 
 abbrev pub invariant-loop-place : goal.invariant-loop-place

@@ -3,9 +3,9 @@ use Rattle.std.proofs.Math.Seq.{take-length}
 use Rattle.std.proofs.lemmas.Bool.{and_parts, not-true}
 use Rattle.std.proofs.lemmas.List.{length-set}
 use Rattle.std.specs.List.{list_any}
-use Rattle.fa_batch.specs.declared.plan.Place.{Place}
+use Rattle.fa_batch_terms.specs.declared.place.Place.{Place}
 use Rattle.fa_cert.specs.Marks.{AreMarks}
-use Rattle.fa_batch.specs.Plan.{ArePlacedOnce, AreHeld}
+use Rattle.fa_batch_terms.specs.Plan.{ArePlacedOnce, AreHeld}
 use Rattle.fa_batch.proofs.Batches.{unnamed_holds}
 use Rattle.fa_cert.proofs.Entries.{holds_there, mark_is, mark_more, mark_none, no_entry, not_named}
 use Rattle.fa_batch.proofs.Counting.{get_or-replicate_default}

@@ -1,7 +1,7 @@
 use Rattle.std.proofs.Common.{◌≡◌, ◌==◌, true, take, length, IsTrue, ◌↔◌}
 use Rattle.std.specs.List.{list_any}
 use Rattle.fa_cert.specs.Marks.{AreMarks}
-use Rattle.fa_batch.specs.Plan.{ArePlacedOnce, AreHeld}
+use Rattle.fa_batch_terms.specs.Plan.{ArePlacedOnce, AreHeld}
 use Rattle.fa_cert.proofs.checker.see_pages.Given as goal
 
 abbrev pub invariant-loop-index : goal.invariant-loop-index

@@ -1,5 +1,5 @@
-use Rattle.fa_batch.specs.Plan.{IsPlan}
-use Rattle.fa_batch.specs.declared.plan.Place.{Place}
+use Rattle.fa_batch_terms.specs.Plan.{IsPlan}
+use Rattle.fa_batch_terms.specs.declared.place.Place.{Place}
 use Rattle.fa_core_batches.specs.Batches.{batches_of}
 use Rattle.fa_core_batches.specs.Pages.{opened}
 use Rattle.fa_core_bookings.specs.Bookings.{calendar_of}

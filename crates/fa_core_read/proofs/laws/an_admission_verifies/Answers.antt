@@ -1,4 +1,4 @@
-use Rattle.fa_batch.specs.Certificate.{IsCertificate}
+use Rattle.fa_batch_terms.specs.Certificate.{IsCertificate}
 use Rattle.fa_core_read.proofs.laws.an_admission_verifies.Goals as goal
 use Rattle.fa_machine.specs.Reading.{entries_for, left_of, released, to_read}
 use Rattle.fa_machine.specs.Rounds.{is_closed}

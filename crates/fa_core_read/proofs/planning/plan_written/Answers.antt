@@ -1,6 +1,6 @@
-use Rattle.fa_batch.specs.Batch.{IsSound}
-use Rattle.fa_batch.specs.Certificate.{IsCertificate}
-use Rattle.fa_batch.specs.Plan.{AreFirstRounds}
+use Rattle.fa_batch_terms.specs.Batch.{IsSound}
+use Rattle.fa_batch_terms.specs.Certificate.{IsCertificate}
+use Rattle.fa_batch_terms.specs.Plan.{AreFirstRounds}
 use Rattle.fa_core_bookings.specs.Bookings.{calendar_of}
 use Rattle.fa_machine.proofs.Lists.{among-filter, none_passes}
 use Rattle.fa_machine.specs.Copies.{is_lost}

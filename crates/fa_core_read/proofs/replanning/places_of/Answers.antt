@@ -3,7 +3,7 @@ use Rattle.fa_core_batches.specs.Pages.{opened}
 use Rattle.fa_core_bookings.specs.Bookings.{calendar_of}
 use Rattle.fa_core_tables.specs.Dies.{by_die}
 use Rattle.fa_core_read.proofs.LeftOf.{left_same}
-use Rattle.fa_batch.specs.declared.plan.Place.{Place}
+use Rattle.fa_batch_terms.specs.declared.place.Place.{Place}
 use Rattle.fa_core_bookings.specs.Places.{without_places}
 use Rattle.fa_machine.specs.Reading.{released}
 use Rattle.fa_core_read.proofs.Answered.{ok_one}

@@ -1,5 +1,5 @@
 use Rattle.fa_batch.proofs.Batches.{with_holder-push}
-use Rattle.fa_batch.specs.Batch.{with_holder}
+use Rattle.fa_batch_terms.specs.Batch.{with_holder}
 use Rattle.fa_machine.specs.Copies.{holders, holds_page}
 use Rattle.fa_core_read_pages.proofs.Chain.{dies_left, fewer_left, left_from, one_taken}
 use Rattle.fa_core_read_pages.proofs.Entries.{dies_again}

@@ -1,4 +1,4 @@
-use Rattle.fa_batch.specs.Batch.{Entry}
+use Rattle.fa_batch_terms.specs.Batch.{Entry}
 use Rattle.fa_machine.specs.Copies.{copy_on, holders}
 use Rattle.fa_core_read_pages.proofs.Chain.{dies_left}
 use Rattle.fa_core_read_pages.proofs.holding.add_page.Given as goal

@@ -1,6 +1,6 @@
-use Rattle.fa_batch.specs.Batch.{Entry}
-use Rattle.fa_batch.specs.Certificate.{IsCertificate, IsLeast}
-use Rattle.fa_batch.specs.declared.plan.Place.{Place}
+use Rattle.fa_batch_terms.specs.Batch.{Entry}
+use Rattle.fa_batch_terms.specs.Certificate.{IsCertificate, IsLeast}
+use Rattle.fa_batch_terms.specs.declared.place.Place.{Place}
 use Rattle.fa_laws.specs.Free.{AreAlike, HasSamePlan, HasSameRounds, is_free_admit, is_free_claim, is_free_copy, is_free_reserve}
 use Rattle.fa_laws.specs.Free.{is_free_window}
 use Rattle.fa_machine.specs.Copies.{is_lost}

@@ -1,6 +1,6 @@
-use Rattle.fa_batch.specs.Batch.{Entry}
-use Rattle.fa_batch.specs.Certificate.{IsCertificate, IsLeast}
-use Rattle.fa_batch.specs.declared.plan.Place.{Place}
+use Rattle.fa_batch_terms.specs.Batch.{Entry}
+use Rattle.fa_batch_terms.specs.Certificate.{IsCertificate, IsLeast}
+use Rattle.fa_batch_terms.specs.declared.place.Place.{Place}
 use Rattle.fa_laws.specs.Least.{IsLeastPlan, PlansLeast}
 use Rattle.fa_machine.specs.Reading.{IsPlanned, Planned}
 use Rattle.fa_machine.specs.State.{CalendarState, Core, MapState}

@@ -1,4 +1,4 @@
-use Rattle.fa_batch.specs.declared.plan.Place.{Place}
+use Rattle.fa_batch_terms.specs.declared.place.Place.{Place}
 use Rattle.fa_laws.proofs.Booked.{opened_live}
 use Rattle.fa_machine.proofs.Lists.{all_from_among}
 use Rattle.fa_machine.specs.Reading.{released}

@@ -1,6 +1,6 @@
 use Rattle.std.proofs.Common.{◌<◌, length, sym, ap, ◌∙◌, subst, arith}
 use Rattle.std.proofs.lemmas.List.{length-map}
-use Rattle.fa_batch.specs.Batch.{Entry}
+use Rattle.fa_batch_terms.specs.Batch.{Entry}
 use Rattle.fa_plan_search.specs.Pages.{pages_of}
 use Rattle.fa_plan.specs.Shortage.{IsRaised}
 use Rattle.fa_plan.proofs.Making.{begun, none_enough, pages_are_named}

@@ -1,5 +1,5 @@
 use Rattle.std.proofs.Common.{sym, ◌∙◌, subst}
-use Rattle.fa_batch.specs.Certificate.{AreNamed}
+use Rattle.fa_batch_terms.specs.Certificate.{AreNamed}
 use Rattle.fa_plan_search.specs.Pages.{AreReached}
 use Rattle.fa_plan.specs.Shortage.{AreTooFew, IsRaised}
 use Rattle.fa_plan.proofs.Making.{given_one, raised, reached_are_few}

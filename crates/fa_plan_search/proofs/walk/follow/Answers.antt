@@ -1,6 +1,6 @@
 use Rattle.std.proofs.Common.{◌≡◌, ℕ, ◌<◌, ◌≤◌, ◌+◌, true, take, rules, arith, get_or, slice_index, sym, ap, ◌∙◌, subst}
 use Rattle.std.proofs.lemmas.List.{take_all}
-use Rattle.fa_batch.specs.Batch.{is_among}
+use Rattle.fa_batch_terms.specs.Batch.{is_among}
 use Rattle.fa_plan_search.specs.Reading.{load_of, no_die}
 use Rattle.fa_plan_search.specs.Search.{IsWalk, AreFull, GoesOn, IsReached, has_reached, with_die}
 use Rattle.fa_plan_search.proofs.Walks.{room_in_order, added_goes_on, added_reached, added_is_walk, added_is_full, then, holders_are, among_at, among_more}

@@ -1,5 +1,5 @@
 use Rattle.std.proofs.Common.{◌≡◌, ℕ, true, take}
-use Rattle.fa_batch.specs.Batch.{is_among}
+use Rattle.fa_batch_terms.specs.Batch.{is_among}
 use Rattle.fa_plan_search.specs.Search.{IsWalk, AreFull, GoesOn, has_reached}
 use Rattle.fa_plan_search.proofs.walk.follow.Given as goal
 

@@ -1,5 +1,5 @@
 use Rattle.std.proofs.Common.{inl, inr}
-use Rattle.flasharr.proofs.command.answer.Goals as goal
+use Rattle.fa_prog_talk.proofs.command.answer.Goals as goal
 
 pub returns-in-Ok : goal.returns-in-Ok
 returns-in-Ok g c = inr (c.in-Ok.bytes.items, c.in-Ok.ensures.bytes, rw c.as_slice.ensures.value at c.open.ensures)

@@ -1,5 +1,5 @@
 use Rattle.std.proofs.Common.{inl}
-use Rattle.flasharr.proofs.command.hear.Goals as goal
+use Rattle.fa_prog_talk.proofs.command.hear.Goals as goal
 
 pub returns-in-Ok : goal.returns-in-Ok
 returns-in-Ok g c =

@@ -2,7 +2,7 @@ use Rattle.std.proofs.Common.{inl, refl, subst}
 use Rattle.fa_mount_headers.specs.declared.fault.MountFault.TheVariants.{ImageFault, Unclean}
 use Rattle.fa_prog_host.specs.Opened.{IsNotOpened}
 use Rattle.fa_prog_host.specs.declared.images.NotOpened.TheVariants.{Image, PagesLost}
-use Rattle.flasharr.proofs.command.open.Goals as goal
+use Rattle.fa_prog_talk.proofs.command.open.Goals as goal
 
 pub returns-in-Err-Image : goal.returns-in-Err-Image
 returns-in-Err-Image g c =

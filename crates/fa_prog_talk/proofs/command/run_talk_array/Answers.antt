@@ -1,7 +1,7 @@
 use Rattle.std.proofs.Common.{inl, inr}
 use Rattle.std.proofs.KnownBytes.{Consumes-nil}
-use Rattle.flasharr.proofs.Limits.{may_be_served}
-use Rattle.flasharr.proofs.command.run_talk_array.Goals as goal
+use Rattle.fa_prog_talk.proofs.Limits.{may_be_served}
+use Rattle.fa_prog_talk.proofs.command.run_talk_array.Goals as goal
 
 pub hear-requires-clause-served : goal.hear-requires-clause-served
 hear-requires-clause-served g c lifetimes outlive = let read = c.in-Ok.ensures.settings in may_be_served read.0 c.in-Ok.settings read.1

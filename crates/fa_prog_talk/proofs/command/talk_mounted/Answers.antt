@@ -1,5 +1,5 @@
 use Rattle.std.proofs.Common.{inl, inr}
-use Rattle.flasharr.proofs.command.talk_mounted.Goals as goal
+use Rattle.fa_prog_talk.proofs.command.talk_mounted.Goals as goal
 
 pub returns-in-Ok : goal.returns-in-Ok
 returns-in-Ok g c =

@@ -1,4 +1,4 @@
-use Rattle.flasharr.proofs.command.talk_mounted.Given as goal
+use Rattle.fa_prog_talk.proofs.command.talk_mounted.Given as goal
 
 -- the ledger is that of the blank
 abbrev pub ghosts-converse : goal.ghosts-converse

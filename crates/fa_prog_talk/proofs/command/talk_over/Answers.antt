@@ -1,7 +1,7 @@
 use Rattle.std.proofs.Common.{inl, inr, refl}
 use Rattle.fa_image.specs.FileMade.{file_view}
-use Rattle.flasharr.proofs.Told.{lent_back, mounted_told}
-use Rattle.flasharr.proofs.command.talk_over.Goals as goal
+use Rattle.fa_prog_talk.proofs.Told.{lent_back, mounted_told}
+use Rattle.fa_prog_talk.proofs.command.talk_over.Goals as goal
 
 pub returns-in-Ok : goal.returns-in-Ok
 returns-in-Ok g c =

@@ -1,7 +1,7 @@
 use Rattle.std.proofs.Common.{◌∙◌, ◌*◌, ap}
 use Rattle.fa_machine.specs.State.{Core}
 use Rattle.fa_solo_job.specs.House.{House}
-use Rattle.flasharr.proofs.conversation.converse.Goals as goal
+use Rattle.fa_prog_talk.proofs.conversation.converse.Goals as goal
 
 pub returns-in-Ok : goal.returns-in-Ok
 returns-in-Ok g c =

@@ -1,12 +1,12 @@
 use Rattle.std.proofs.Common.{◌∙◌, ◌+◌, ◌^◌, ◌≤◌, ap, arith, map, refl, subst}
 use Rattle.std.specs.FinMap.{len}
 use Rattle.fa_machine.specs.State.{Core}
-use Rattle.flasharr.proofs.Said.{closes_by, session_by}
-use Rattle.flasharr.proofs.Seen.{session_seen}
+use Rattle.fa_prog_talk.proofs.Said.{closes_by, session_by}
+use Rattle.fa_prog_talk.proofs.Seen.{session_seen}
 use Rattle.fa_shared.specs.Faults.{faults_of}
 use Rattle.fa_solo.specs.Stores.{StoreMakes, seen_of}
 use Rattle.fa_solo_job.specs.House.{House}
-use Rattle.flasharr.proofs.conversation.served.Goals as goal
+use Rattle.fa_prog_talk.proofs.conversation.served.Goals as goal
 
 pub returns : goal.returns
 returns g c array dies core images begins =

@@ -1,5 +1,5 @@
 use Rattle.std.proofs.Common.{◌∙◌}
-use Rattle.flasharr.proofs.laws.a_conversation_is_right.Goals as goal
+use Rattle.fa_prog_talk.proofs.laws.a_conversation_is_right.Goals as goal
 
 pub returns : goal.returns
 returns g c copies unclean before mounted array dies core export bytes written end faults closed mounts only_read many it agree fair honest =

@@ -1,5 +1,5 @@
-use Rattle.fa_batch.specs.Plan.{rounds_of}
-use Rattle.fa_batch.specs.declared.plan.Place.{Place}
+use Rattle.fa_batch_terms.specs.Plan.{rounds_of}
+use Rattle.fa_batch_terms.specs.declared.place.Place.{Place}
 use Rattle.fa_laws.proofs.InTimes.{reached_timely}
 use Rattle.fa_laws.proofs.Timely.{TimelyCore}
 use Rattle.fa_laws.specs.Reached.{IsReached}

@@ -1,6 +1,6 @@
 use Rattle.std.proofs.Common.{ℕ, ◌∷◌, [], ◌++◌, map, take, string_bytes, sym, ap, ◌∙◌, arith, subst}
 use Rattle.std.proofs.lemmas.List.{map_more, take_all}
-use Rattle.fa_batch.specs.Batch.{Entry}
+use Rattle.fa_batch_terms.specs.Batch.{Entry}
 use Rattle.fa_texts.specs.BatchText.{page_line}
 use Rattle.fa_texts.specs.Text.{PrintsLines}
 use Rattle.fa_texts.proofs.PageEntries.{entry_there, no_entry}

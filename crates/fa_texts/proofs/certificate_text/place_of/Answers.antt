@@ -1,6 +1,6 @@
 use Rattle.std.proofs.Common.{◌≡◌, ◌≢◌, ◌∷◌, codes, sym, subst}
 use Rattle.std.specs.Option.{MatchOption}
-use Rattle.fa_batch.specs.declared.plan.Place.{Place}
+use Rattle.fa_batch_terms.specs.declared.place.Place.{Place}
 use Rattle.fa_texts.specs.CertificateText.{HasPlaceLine, place_line}
 use Rattle.fa_texts.specs.Text.{words_left}
 use Rattle.fa_batch.proofs.Parts.{rest_same}

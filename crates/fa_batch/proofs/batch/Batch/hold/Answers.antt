@@ -1,6 +1,6 @@
 use Rattle.std.proofs.Common.{◌-◌, take, length-set, ap, sym, ◌∙◌, arith, subst}
 use Rattle.fa_batch.specs.declared.batch.HeldPage.{HeldPage}
-use Rattle.fa_batch.specs.Batch.{with_holder}
+use Rattle.fa_batch_terms.specs.Batch.{with_holder}
 use Rattle.fa_batch.specs.Index.{AreRising, IsIndexOf}
 use Rattle.fa_batch.proofs.Held.{one_held, same_length}
 use Rattle.fa_batch.proofs.batch.Batch.hold.Goals as goal

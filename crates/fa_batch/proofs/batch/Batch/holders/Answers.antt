@@ -1,6 +1,6 @@
 use Rattle.std.proofs.Common.{sym, ap, ◌∙◌, ◌==◌}
 use Rattle.std.specs.Option.{option_map}
-use Rattle.fa_batch.specs.Batch.{Entry}
+use Rattle.fa_batch_terms.specs.Batch.{Entry}
 use Rattle.fa_batch.proofs.Indexed.{find-nowhere, found_at}
 use Rattle.fa_batch.proofs.batch.Batch.holders.Goals as goal
 

@@ -1,6 +1,6 @@
 use Rattle.std.proofs.Common.{◌≡◌, ◌≤◌, List, IsTrue, MatchOption, Option, Some, None, is_some, length, Bool, true, false, not, refl, arith}
-use Rattle.fa_batch.specs.declared.batch.Unsound.{Unsound}
-use Rattle.fa_batch.specs.Batch.{Entry, AreFine, IsFirstWrong, IsSound}
+use Rattle.fa_batch_terms.specs.declared.unsound.Unsound.{Unsound}
+use Rattle.fa_batch_terms.specs.Batch.{Entry, AreFine, IsFirstWrong, IsSound}
 use Rattle.fa_batch.proofs.Batches.{not_fine}
 use Rattle.fa_batch.proofs.batch.Batch.is_sound.Goals as goal
 

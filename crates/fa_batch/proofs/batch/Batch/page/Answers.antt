@@ -1,7 +1,7 @@
 use Rattle.std.proofs.Common.{◌≡◌, IfSome, arith, sym, ap, ◌∙◌, subst}
 use Rattle.std.specs.List.{slice_get}
 use Rattle.fa_batch.specs.declared.batch.HeldPage.{HeldPage}
-use Rattle.fa_batch.specs.Batch.{Entry}
+use Rattle.fa_batch_terms.specs.Batch.{Entry}
 use Rattle.fa_batch.proofs.Held.{entry_from, same_length}
 use Rattle.fa_batch.proofs.batch.Batch.page.Goals as goal
 

@@ -1,5 +1,5 @@
 use Rattle.std.proofs.Common.{take}
-use Rattle.fa_batch.specs.Batch.{AreFine}
+use Rattle.fa_batch_terms.specs.Batch.{AreFine}
 use Rattle.fa_batch.proofs.batch.Batch.unsound.Given as goal
 
 abbrev pub invariant-loop-index : goal.invariant-loop-index

@@ -1,5 +1,5 @@
 use Rattle.std.proofs.Common.{ℕ, ◌≡◌, ◌&&◌, ◌||◌, not, nat_eq, [], ◌∷◌, refl, sym, ◌∙◌}
-use Rattle.fa_batch.specs.declared.plan.Place.{Place}
+use Rattle.fa_batch_terms.specs.declared.place.Place.{Place}
 use Rattle.fa_calendar.specs.Dies.{booked_by, closed_by, is_at}
 use Rattle.fa_calendar.proofs.Cases.{one_is}
 use Rattle.fa_calendar.proofs.Sound.{exchanged_sound, exchanged_booked}

@@ -1,0 +1,17 @@
+-- What a server prints of where it listens, and at its end.
+use Rattle.std.specs.Prelude.{◌⊎◌, ℕ, List, [], ◌∷◌, ◌++◌, codes, Option, Result}
+use Rattle.fa_mount.specs.declared.closing.CloseFault.{CloseFault}
+use Rattle.fa_shared.specs.declared.faults.Fault.{Fault}
+use Rattle.fa_prog_images.specs.Ending.{closed_line, closed_status, fault_lines}
+use Rattle.fa_prog_host.specs.Printing.{Prints, TellsNoMemory}
+
+-- where clients can connect
+abbrev pub address_line : List ℕ → List ℕ
+address_line address = codes "listening " ++ address ++ 10 ∷ []
+
+-- What is printed at the end: the faults that were kept, the oldest first, and how the array was closed. Or memory was refused.
+abbrev pub TellsEnd : Option (List ℕ) → Option (List ℕ) → ℕ → Type 0
+TellsEnd old new status =
+    ((faults : List Fault) × (closed : Result ℕ CloseFault)
+    × Prints (fault_lines faults ++ closed_line closed) (closed_status closed) old new status)
+    ⊎ TellsNoMemory old new status

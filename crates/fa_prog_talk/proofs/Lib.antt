@@ -1,0 +1,4 @@
+pub mod Limits
+pub mod Said
+pub mod Seen
+pub mod Told

@@ -1,0 +1,3 @@
+pub mod Conversation
+pub mod Right
+pub mod TalkArray
