@@ -18,7 +18,7 @@ use Rattle.fa_batch_terms.specs.declared.unsound.Unsound.{Unsound}
 use Rattle.fa_batch_terms.specs.declared.unsound.Unsound.TheVariants.{NoHolder, Twice}
 use Rattle.fa_batch_terms.specs.Batch.{Entry, AreFine, IsFirstWrong, holds, is_among, times_named, with_holder}
 use Rattle.fa_batch.specs.Index.{entry_index}
-use Rattle.fa_batch.proofs.Counting.{count_by-cons, count-from-any, count-before, once-push}
+use Rattle.fa_batch_terms.proofs.Counting.{count_by-cons, count-from-any, count-before, once-push}
 use Rattle.fa_batch.proofs.Indexed.{position-at}
 
 nonempty : {X : Type 0} (xs : List X) → xs ≢ [] → 0 < length xs

@@ -13,7 +13,7 @@ use Rattle.std.proofs.lemmas.Bool.Decides.{nat_tests}
 use Rattle.fa_types.specs.declared.numbers.Die.{Die}
 use Rattle.fa_batch_terms.specs.Batch.{Entry, times_named}
 use Rattle.fa_batch.specs.Index.{entry_index, index_among, AreRising, IsIndexOf}
-use Rattle.fa_batch.proofs.Counting.{count-from-any}
+use Rattle.fa_batch_terms.proofs.Counting.{count-from-any}
 
 module _ {X : Type 0} (p : X → Bool) where
   -- the first index that passes, and none past the end
@@ -105,11 +105,6 @@ module _ {X : Type 0} (p : X → Bool) where
 or-nothing : {X : Type 0} (o : Option X) → option_or o None ≡ o
 or-nothing None = refl
 or-nothing (Some x) = refl
-
--- what is not something is nothing
-pub nothing : {X : Type 0} (o : Option X) → is_some o ≡ false → o ≡ None
-nothing None h = refl
-nothing (Some x) h = cc
 
 -- the holders of the entry at the first index of a page
 pub found_at : (batch : List Entry) (page k : ℕ) (holders : List Die) → entry_index batch page ≡ Some k → IfSome (slice_get batch k) (λ e. e.holders ≡ holders)

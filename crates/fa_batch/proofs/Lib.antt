@@ -1,9 +1,5 @@
 pub mod Batches
-pub mod Counting
-pub mod Covered
 pub mod Held
 pub mod Indexed
-pub mod Parts
 pub mod Pushed
 pub mod Rising
-pub mod Windows

@@ -1,3 +1,1 @@
-pub mod Closed
 pub mod Index
-pub mod Runs

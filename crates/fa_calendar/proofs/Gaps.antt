@@ -4,10 +4,10 @@ use Rattle.std.proofs.lemmas.Bool.{and_from, and_left, and_right, cases_lt}
 use Rattle.std.proofs.lemmas.Bool.{lt-leb}
 use Rattle.std.proofs.lemmas.List.Sums.{sum_by_more, sum_by-take-le}
 use Rattle.fa_types.specs.Open.{max_closed}
-use Rattle.fa_batch.specs.declared.spans.Span.{Span}
-use Rattle.fa_batch.specs.Runs.{is_covered, IsIndexFrom}
+use Rattle.fa_closed.specs.declared.spans.Span.{Span}
+use Rattle.fa_closed.specs.Runs.{is_covered, IsIndexFrom}
 use Rattle.fa_calendar.specs.Merging.{total_rounds, AreMerged}
-use Rattle.fa_batch.proofs.Covered.{covered_from, covered_past, rising_pair, rising_at}
+use Rattle.fa_closed.proofs.Covered.{covered_from, covered_past, rising_pair, rising_at}
 use Rattle.fa_calendar.proofs.Merged.{length_fits, merged_rising}
 use Rattle.fa_types.specs.Windows.{are_open}
 

@@ -5,7 +5,7 @@ use Rattle.std.proofs.lemmas.Bool.{and_left, cases_eq, false≢true, ne_eqb, or_
 use Rattle.std.proofs.lemmas.List.{get_or-set_other, get_or-set_same, get_or_default}
 use Rattle.std.specs.FinMap.{contains_key, insert, remove}
 use Rattle.fa_batch_terms.specs.declared.place.Place.{Place}
-use Rattle.fa_batch.specs.Runs.{is_covered}
+use Rattle.fa_closed.specs.Runs.{is_covered}
 use Rattle.fa_set.specs.Members.{Numbers}
 use Rattle.fa_set.proofs.Changed.{inserted_here, inserted_other, removed_other}
 use Rattle.fa_calendar.specs.DieState.{DieState, HasRoom, IsRoomy}

@@ -7,11 +7,11 @@ use Rattle.std.proofs.lemmas.List.{append_assoc, set_split, set_at, take_more, t
 use Rattle.std.proofs.lemmas.List.Folds.{list_any-append}
 use Rattle.std.proofs.lemmas.List.Sums.{sum_by-cons}
 use Rattle.std.proofs.Math.Bool.{or-false, or_assoc}
-use Rattle.fa_batch.specs.declared.spans.Span.{Span}
-use Rattle.fa_batch.specs.Runs.{is_covered, is_from, AreRising, IsIndexFrom}
+use Rattle.fa_closed.specs.declared.spans.Span.{Span}
+use Rattle.fa_closed.specs.Runs.{is_covered, is_from, AreRising, IsIndexFrom}
 use Rattle.fa_calendar.specs.Merging.{total_rounds, AddsRun, AreMerged, DropsRound, PassesRound}
-use Rattle.fa_batch.proofs.Counting.{AllByRecursion-weaker}
-use Rattle.fa_batch.proofs.Covered.{before, behind, covered_from, covered_past, outside}
+use Rattle.fa_batch_terms.proofs.Counting.{AllByRecursion-weaker}
+use Rattle.fa_closed.proofs.Covered.{before, behind, covered_from, covered_past, outside}
 use Rattle.fa_calendar.proofs.Pieces.{split_inside, split_first, split_last, split_only, join_before, join_behind, join_both}
 
 pub merged_rising : (spans : List Span) → AreMerged spans → AreRising spans

@@ -1,7 +1,7 @@
 -- The rounds of one span, of a piece of it, and of spans that are joined.
 use Rattle.std.proofs.Common.{◌≡◌, ℕ, ◌+◌, ◌-◌, ◌<◌, ◌≤◌, false, not, ◌&&◌, ◌||◌, nat_eq, arith}
 use Rattle.std.proofs.lemmas.Bool.Decides.{nat_tests}
-use Rattle.fa_batch.specs.Runs.{is_from}
+use Rattle.fa_closed.specs.Runs.{is_from}
 
 pub split_inside : (f r l x : ℕ) → f < r → r < l → (is_from f (r - 1) x || (is_from (r + 1) l x || false)) ≡ (is_from f l x && not (nat_eq x r))
 split_inside f r l x a b = grind (arith, nat_tests)

@@ -12,8 +12,8 @@ use Rattle.fa_batch_terms.specs.declared.place.Place.{Place}
 use Rattle.fa_calendar.specs.DieState.{DieState, HasRoom, IsRoomy}
 use Rattle.fa_calendar.specs.Dies.{closed_by, no_rounds, room_by, window_by, is_at, is_one, AllHaveRoom, KeepsDies}
 use Rattle.fa_batch_terms.specs.Plan.{AreApart}
-use Rattle.fa_batch.specs.Runs.{is_covered, is_from}
-use Rattle.fa_batch.proofs.Counting.{count_by-cons, count-from-any}
+use Rattle.fa_closed.specs.Runs.{is_covered, is_from}
+use Rattle.fa_batch_terms.proofs.Counting.{count_by-cons, count-from-any}
 use Rattle.fa_calendar.proofs.Totals.{has_room}
 
 -- a test that passes wherever another does passes as often

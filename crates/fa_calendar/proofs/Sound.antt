@@ -8,9 +8,9 @@ use Rattle.std.proofs.Math.Bool.{and-true}
 use Rattle.fa_types.specs.Open.{rounds_that, max_closed, FewClosed, IsOpen}
 use Rattle.fa_batch_terms.specs.declared.place.Place.{Place}
 use Rattle.fa_types.specs.declared.window.Window.{Window}
-use Rattle.fa_batch.specs.Runs.{is_covered, is_from}
-use Rattle.fa_batch.proofs.Covered.{before, outside}
-use Rattle.fa_batch.proofs.Windows.{rounds_that-same, rounds_that-none, rounds_that-join}
+use Rattle.fa_closed.specs.Runs.{is_covered, is_from}
+use Rattle.fa_closed.proofs.Covered.{before, outside}
+use Rattle.fa_closed.proofs.Windows.{rounds_that-same, rounds_that-none, rounds_that-join}
 use Rattle.fa_calendar.specs.DieState.{DieState, HasRoom, IsRoomy}
 use Rattle.fa_calendar.specs.Dies.{booked_by, closed_by, no_rounds, room_by, state_of, taken_by, window_by, is_at, AllHaveRoom, HasRoomFor, IsCalendar, KeepsDies}
 use Rattle.fa_types.specs.Windows.{is_in_window, IsFirstWindow, IsFull}

@@ -4,12 +4,12 @@ use Rattle.std.specs.List.{sum_by}
 use Rattle.std.proofs.lemmas.Bool.{and_parts, cases_Bool, leb-true}
 use Rattle.std.proofs.lemmas.List.Sums.{sum_by-cons}
 use Rattle.fa_types.specs.Open.{rounds_that}
-use Rattle.fa_batch.specs.declared.spans.Span.{Span}
-use Rattle.fa_batch.specs.Runs.{is_covered, is_from}
+use Rattle.fa_closed.specs.declared.spans.Span.{Span}
+use Rattle.fa_closed.specs.Runs.{is_covered, is_from}
 use Rattle.fa_calendar.specs.Merging.{total_rounds, AreMerged}
-use Rattle.fa_batch.proofs.Covered.{covered_sum, overlap_of}
+use Rattle.fa_closed.proofs.Covered.{covered_sum, overlap_of}
 use Rattle.fa_calendar.proofs.Merged.{merged_rising}
-use Rattle.fa_batch.proofs.Windows.{rounds_that-add, rounds_that-from}
+use Rattle.fa_closed.proofs.Windows.{rounds_that-add, rounds_that-from}
 use Rattle.fa_calendar.specs.DieState.{DieState, HasRoom, IsRoomy}
 
 overlaps_fit : (from n : ℕ) (spans : List Span) → sum_by (overlap_of from n) spans ≤ total_rounds spans

@@ -2,8 +2,8 @@
 use Rattle.std.specs.Prelude.{ℕ, ◌≤◌, List, Option}
 use Rattle.fa_types.specs.Open.{rounds_that, max_closed}
 use Rattle.fa_types.specs.declared.window.Window.{Window}
-use Rattle.fa_batch.specs.declared.spans.Span.{Span}
-use Rattle.fa_batch.specs.Runs.{is_covered}
+use Rattle.fa_closed.specs.declared.spans.Span.{Span}
+use Rattle.fa_closed.specs.Runs.{is_covered}
 use Rattle.fa_calendar.specs.Merging.{total_rounds, AreMerged}
 
 -- its closed rounds as spans, its window, and how many spans there is room for

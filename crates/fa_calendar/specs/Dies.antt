@@ -6,7 +6,7 @@ use Rattle.fa_types.specs.Open.{rounds_that, max_closed, FewClosed}
 use Rattle.fa_types.specs.Windows.{is_in_window}
 use Rattle.fa_types.specs.declared.window.Window.{Window}
 use Rattle.fa_batch_terms.specs.declared.place.Place.{Place}
-use Rattle.fa_batch.specs.Runs.{is_covered}
+use Rattle.fa_closed.specs.Runs.{is_covered}
 use Rattle.fa_set.specs.Members.{Numbers}
 use Rattle.fa_calendar.specs.DieState.{DieState, HasRoom}
 

@@ -1,8 +1,8 @@
 -- The closed rounds of a die as spans no two of which touch, and rounds that come and go.
 use Rattle.std.specs.Prelude.{◌≡◌, ℕ, ◌+◌, ◌-◌, ◌<◌, ◌≤◌, not, ◌&&◌, ◌||◌, ◌==◌, if◌then◌else◌, List, [], ◌∷◌}
 use Rattle.std.specs.List.{sum_by, AllByRecursion}
-use Rattle.fa_batch.specs.declared.spans.Span.{Span}
-use Rattle.fa_batch.specs.Runs.{is_covered, is_from}
+use Rattle.fa_closed.specs.declared.spans.Span.{Span}
+use Rattle.fa_closed.specs.Runs.{is_covered, is_from}
 
 -- the spans rise, and a round that lies in none is between any two
 abbrev pub AreMerged : List Span → Type 0

@@ -14,8 +14,8 @@ use crate::dies::{
     book_all, enter_all, open_all, open_dies, open_one, pass_all, restore_all, spans_without,
 };
 use crate::refused::CalendarRefused;
-use fa_batch::Closed;
 use fa_batch_terms::Place;
+use fa_closed::Closed;
 use fa_types::{Die, Round, Rounds, Window};
 use std::alloc::{AllocError, Allocator, Global};
 
@@ -184,7 +184,7 @@ impl<A: Allocator> Calendar<A> {
 }
 
 impl<A: Allocator + Copy> Calendar<A> {
-    ghost use Rattle.fa_batch.specs.Closed as spans;
+    ghost use Rattle.fa_closed.specs.Closed as spans;
     ghost use Rattle.fa_calendar.specs.Calendar.{current_of, is_booked, is_closed_without};
 
     /// The closed rounds of all dies, these booked places left out.

@@ -3,7 +3,7 @@ ghost use Rattle.std.specs.Prelude.{◌≡◌, ℕ, ◌+◌, ◌-◌, ◌^◌, �
 ghost use Rattle.std.specs.Prelude.{IsOk, IsErrOf, IsTrue, Some, None};
 ghost use Rattle.std.specs.VecDeque.{deque_len, deque_capacity};
 ghost use Rattle.fa_types.specs.Open.{rounds_that, max_closed};
-ghost use Rattle.fa_batch.specs.Runs.{is_covered, is_from, IsNthFree};
+ghost use Rattle.fa_closed.specs.Runs.{is_covered, is_from, IsNthFree};
 ghost use Rattle.fa_calendar.specs.Merging.{total_rounds, AddsRun, AreMerged, DropsRound};
 ghost use Rattle.fa_calendar.specs.DieState.{IsRoomy};
 ghost use Rattle.fa_calendar.specs.Dies.{is_at};
@@ -13,8 +13,8 @@ ghost use Rattle.fa_calendar.specs.Windows.{left_window};
 use crate::gap::first_gap;
 use crate::merging::{pass, put_in, take_out};
 use crate::refused::CalendarRefused;
-use fa_batch::{Span, Spans, count_covered, covers, nth_uncovered};
 use fa_batch_terms::Place;
+use fa_closed::{Span, Spans, count_covered, covers, nth_uncovered};
 use fa_types::{Round, Window};
 use std::alloc::{AllocError, Allocator, Global};
 use std::collections::VecDeque;

@@ -5,7 +5,7 @@ ghost use Rattle.std.specs.FinMap.{contains_key};
 ghost use Rattle.std.specs.List.{AllByRecursion};
 ghost use Rattle.fa_types.specs.Open.{rounds_that, max_closed};
 ghost use Rattle.fa_batch_terms.specs.Plan.{AreApart};
-ghost use Rattle.fa_batch.specs.Runs.{closed_by as spans_close};
+ghost use Rattle.fa_closed.specs.Runs.{closed_by as spans_close};
 ghost use Rattle.fa_calendar.specs.Dies.{closed_by, room_by, state_of, window_by, is_at, is_one, AllHaveRoom, AreIdle, HasRoomFor};
 ghost use Rattle.fa_calendar.specs.Dies.{KeepsDies};
 ghost use Rattle.fa_calendar.specs.Windows.{left_window};
@@ -13,8 +13,8 @@ ghost use Rattle.fa_calendar.specs.Windows.{left_window};
 use crate::busy::BusyDies;
 use crate::die::DieCalendar;
 use crate::refused::CalendarRefused;
-use fa_batch::Spans;
 use fa_batch_terms::Place;
+use fa_closed::Spans;
 use fa_types::{Die, Round};
 use std::alloc::{AllocError, Allocator};
 

@@ -1,11 +1,11 @@
 //! The first run of open rounds between spans of closed ones.
 ghost use Rattle.std.specs.Prelude.{◌≡◌, ℕ, ◌+◌, ◌*◌, ◌^◌, ◌<◌, ◌≤◌};
 ghost use Rattle.fa_types.specs.Open.{max_closed};
-ghost use Rattle.fa_batch.specs.Runs.{is_covered};
+ghost use Rattle.fa_closed.specs.Runs.{is_covered};
 ghost use Rattle.fa_calendar.specs.Merging.{total_rounds, AreMerged};
 ghost use Rattle.fa_types.specs.Windows.{IsFirstWindow};
 
-use fa_batch::Span;
+use fa_closed::Span;
 use std::alloc::Allocator;
 use std::collections::VecDeque;
 

@@ -1,11 +1,11 @@
 //! Spans of rounds that are edited: rounds come and go, and no two spans touch.
 ghost use Rattle.std.specs.Prelude.{◌≡◌, ℕ, ◌+◌, ◌-◌, ◌≤◌, ◌<◌, Bool, true, false, length, slice_index_or, OnOk, OnErr};
 ghost use Rattle.std.specs.VecDeque.{deque_len, deque_capacity};
-ghost use Rattle.fa_batch.specs.declared.spans.Span.{Span};
-ghost use Rattle.fa_batch.specs.Runs.{is_covered, IsIndexFrom};
+ghost use Rattle.fa_closed.specs.declared.spans.Span.{Span};
+ghost use Rattle.fa_closed.specs.Runs.{is_covered, IsIndexFrom};
 ghost use Rattle.fa_calendar.specs.Merging.{total_rounds, AddsRun, AreMerged, DropsRound, PassesRound};
 
-use fa_batch::{Span, index_from};
+use fa_closed::{Span, index_from};
 use std::alloc::{AllocError, Allocator};
 use std::collections::VecDeque;
 

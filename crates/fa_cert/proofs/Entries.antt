@@ -12,7 +12,7 @@ use Rattle.fa_types.specs.declared.numbers.Die.{Die}
 use Rattle.fa_batch_terms.specs.Batch.{Entry, holds, is_among, times_named}
 use Rattle.fa_batch.specs.Index.{entry_index}
 use Rattle.fa_cert.specs.Marks.{AreMarks}
-use Rattle.fa_batch.proofs.Counting.{count-from-any}
+use Rattle.fa_batch_terms.proofs.Counting.{count-from-any}
 use Rattle.fa_batch.proofs.Batches.{is_some-find, named_holds}
 use Rattle.fa_batch.proofs.Indexed.{find-at, find-nowhere, index_is}
 

@@ -9,7 +9,7 @@ use Rattle.fa_types.specs.declared.numbers.Page.{Page}
 use Rattle.fa_batch_terms.specs.Batch.{Entry}
 use Rattle.fa_batch_terms.specs.Certificate.{AreNamed, AreTheHolders, ShowsNoFewer, holds_any, open_places}
 use Rattle.fa_cert_places.specs.OpenCounts.{marked}
-use Rattle.fa_batch.proofs.Counting.{count_by-cons}
+use Rattle.fa_batch_terms.proofs.Counting.{count_by-cons}
 
 -- each marked die is there once, and no other
 count-past : (marks : List Bool) (die n : ℕ) → n ≤ die → count_by (λ d. nat_eq d die) (marked marks n) ≡ 0

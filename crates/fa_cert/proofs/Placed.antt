@@ -17,7 +17,7 @@ use Rattle.fa_batch_terms.specs.Batch.{Entry, holds, times_named}
 use Rattle.fa_batch_terms.specs.Certificate.{AreNamed}
 use Rattle.fa_cert.specs.Marks.{AreMarks}
 use Rattle.fa_batch_terms.specs.Plan.{ArePlaced, ArePlacedOnce, AreHeld, AreApart, rounds_of}
-use Rattle.fa_batch.proofs.Counting.{AllByRecursion-weaker, count_by-none, any-from-count, count-from-any, once-push, twice-push, once-whole}
+use Rattle.fa_batch_terms.proofs.Counting.{AllByRecursion-weaker, count_by-none, any-from-count, count-from-any, once-push, twice-push, once-whole}
 
 cond-or : (b c : Bool) → cond b true c ≡ (c || b)
 cond-or true true = refl

@@ -10,7 +10,7 @@ use Rattle.fa_batch_terms.specs.declared.place.Place.{Place}
 use Rattle.fa_batch_terms.specs.Batch.{Entry, holds, times_named}
 use Rattle.fa_batch_terms.specs.Plan.{IsPlan, AreApart, times_placed, pages_at, rounds_of}
 use Rattle.fa_batch_terms.specs.Certificate.{IsShortage, AreTheHolders, holds_any, open_places, ShowsNoFewer}
-use Rattle.fa_batch.proofs.Counting.{count_by-cons, count_by-le-two, count_by-le-on, count_by-none, count_by-two-le, AllByRecursion-weaker, AllByRecursion-both, AllByRecursion-of, sum_by-add, count-from-any}
+use Rattle.fa_batch_terms.proofs.Counting.{count_by-cons, count_by-le-two, count_by-le-on, count_by-none, count_by-two-le, AllByRecursion-weaker, AllByRecursion-both, AllByRecursion-of, sum_by-add, count-from-any}
 
 -- whether a place is at a die within so many rounds from a first one
 abbrev is_within : ℕ → ℕ → ℕ → Place → Bool

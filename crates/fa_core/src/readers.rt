@@ -1,7 +1,7 @@
 //! The calls of readers, each also with a test of its conditions.
 ghost use Rattle.std.specs.Prelude.{◌≡◌, ℕ, ◌<◌, ◌≤◌, length, map, true, IfOk, ◌+◌};
 ghost use Rattle.std.specs.List.{All};
-ghost use Rattle.fa_batch.specs.Closed.{current_of, is_closed};
+ghost use Rattle.fa_closed.specs.Closed.{current_of, is_closed};
 ghost use Rattle.fa_machine.specs.Conditions.{batch_open};
 ghost use Rattle.fa_machine.specs.Reading.{left_of, released, results as rule_results, to_read};
 ghost use Rattle.fa_machine.specs.Rounds.{is_taken};
@@ -11,7 +11,7 @@ ghost use Rattle.fa_machine.specs.Looks.{counts as rule_counts};
 
 use crate::array::Array;
 use crate::call::{Answer, Call};
-use fa_batch::Closed;
+use fa_closed::Closed;
 use fa_core_read::Admitted;
 use fa_laws::invariants::{an_event_counts, an_event_keeps};
 use fa_machine::{AdmitRefused, BatchId, ReadState};

@@ -2,7 +2,7 @@
 use Rattle.fa_core_bookings.proofs.Booked.{advanced}
 use Rattle.fa_core_bookings.specs.Booked.{Entries, booking_at}
 use Rattle.fa_core_bookings.specs.declared.bookings.Bookings.{Bookings}
-use Rattle.fa_batch.specs.Runs.{is_covered}
+use Rattle.fa_closed.specs.Runs.{is_covered}
 use Rattle.fa_calendar.specs.Calendar.{is_booked, window_of}
 use Rattle.fa_calendar.specs.DieState.{DieState}
 use Rattle.fa_calendar.specs.Dies.{closed_by, no_rounds}

@@ -15,9 +15,9 @@ ghost use Rattle.fa_types.specs.Windows.{IsFirstWindow, IsFull};
 
 use crate::places::{book_all, take_out_all};
 use crate::table::{BookedRounds, forget_current, forget_die, put, take_out};
-use fa_batch::Closed;
 use fa_batch_terms::Place;
 use fa_calendar::{Calendar, CalendarRefused};
+use fa_closed::Closed;
 use fa_machine::{BatchId, Booking};
 use fa_types::{Die, Page, Round, Rounds, Window};
 use std::alloc::{AllocError, Allocator, Global};
@@ -219,7 +219,7 @@ impl<A: Allocator + Clone> Bookings<A> {
 }
 
 impl<A: Allocator + Copy> Bookings<A> {
-    ghost use Rattle.fa_batch.specs.Closed as spans;
+    ghost use Rattle.fa_closed.specs.Closed as spans;
     ghost use Rattle.fa_core_bookings.specs.Bookings.{calendar_of};
 
     /// The closed rounds of all dies, these booked places left out. The error is out of memory.

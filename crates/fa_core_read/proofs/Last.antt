@@ -1,5 +1,5 @@
 -- The last of some places that passes a test, as folds over plans take it.
-use Rattle.fa_batch.proofs.Counting.{count_by-cons}
+use Rattle.fa_batch_terms.proofs.Counting.{count_by-cons}
 use Rattle.fa_batch_terms.specs.declared.place.Place.{Place}
 use Rattle.fa_machine.proofs.Lists.{counted_none}
 use Rattle.fa_machine.specs.Among.{Among}

@@ -1,5 +1,5 @@
 -- Pages of a list that pass a test and are not lost are a sound batch, and their holders are live.
-use Rattle.fa_batch.proofs.Counting.{count-from-none, count_by-cons}
+use Rattle.fa_batch_terms.proofs.Counting.{count-from-none, count_by-cons}
 use Rattle.fa_batch_terms.specs.Batch.{Entry, IsSound, holds, is_among, times_named}
 use Rattle.fa_machine.proofs.Lists.{all_from_among, among-filter, among-map, found_passes}
 use Rattle.fa_machine.proofs.Maps.{has_some}

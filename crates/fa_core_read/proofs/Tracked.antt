@@ -1,5 +1,5 @@
 -- A plan that is booked for a batch, in place of what was booked for it: bookings, jobs and batches agree as before.
-use Rattle.fa_batch.proofs.Counting.{count-from-none}
+use Rattle.fa_batch_terms.proofs.Counting.{count-from-none}
 use Rattle.fa_batch_terms.specs.Plan.{AreApart, ArePlacedOnce, times_placed}
 use Rattle.fa_batch_terms.specs.declared.place.Place.{Place}
 use Rattle.fa_core_batches.specs.Batches.{batches_of, next_of, state_of}

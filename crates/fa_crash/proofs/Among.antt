@@ -6,7 +6,7 @@ use Rattle.fa_machine.specs.Step.{Act, FlushState}
 use Rattle.fa_machine.specs.World.{World}
 use Rattle.fa_machine.specs.declared.answers.Flush.{Flush}
 use Rattle.fa_machine.specs.declared.answers.FlushState.TheVariants.{Waiting}
-use Rattle.fa_shared_request.specs.Moves.{Moves}
+use Rattle.fa_shared_lock.specs.Moves.{Moves}
 use Rattle.fa_shared_steps.specs.Ranges.{first_page, past_page}
 use Rattle.fa_shared_steps.specs.Stages.{after_pages, beginning, beginning_by, from_page}
 use Rattle.fa_shared_steps.specs.declared.request.Fill.{Fill}

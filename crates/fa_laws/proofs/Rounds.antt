@@ -1,5 +1,5 @@
 -- How many rounds of a die are closed: no more than the bookings and the rounds of its window.
-use Rattle.fa_batch.proofs.Windows.{rounds_that-from, rounds_that-none}
+use Rattle.fa_closed.proofs.Windows.{rounds_that-from, rounds_that-none}
 use Rattle.fa_batch_terms.specs.declared.place.Place.{Place}
 use Rattle.fa_machine.proofs.Maps.{if_equal, place_same}
 use Rattle.fa_machine.specs.Maps.{place_cmp}

@@ -1,5 +1,5 @@
 -- What closing leaves of the images of the dies that are left.
-use Rattle.fa_batch.proofs.Counting.{count_by-le-on}
+use Rattle.fa_batch_terms.proofs.Counting.{count_by-le-on}
 use Rattle.fa_mount_close_laws.proofs.Headers.{all_from, clean_header}
 use Rattle.fa_mount_close_laws.proofs.Kept.{Kept}
 use Rattle.fa_mount_close_laws.specs.Closed.{WasClosed}

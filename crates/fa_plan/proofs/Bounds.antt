@@ -4,7 +4,7 @@ use Rattle.fa_types.specs.Open.{rounds_that, open_among, FewClosed}
 use Rattle.fa_batch_terms.specs.Certificate.{open_places}
 use Rattle.fa_cert_places.specs.OpenCounts.{marked}
 use Rattle.fa_cert_places.proofs.Marked.{places-yes, places-grow}
-use Rattle.fa_batch.proofs.Windows.{rounds_that-join}
+use Rattle.fa_closed.proofs.Windows.{rounds_that-join}
 use Rattle.fa_plan.specs.Bound.{IsSomeMarked, places_of}
 
 -- each round is open or closed

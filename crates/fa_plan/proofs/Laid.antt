@@ -9,7 +9,7 @@ use Rattle.std.proofs.lemmas.List.Sums.{sum_by_push}
 use Rattle.fa_types.specs.Open.{IsNthOpen}
 use Rattle.fa_batch_terms.specs.Plan.{AreApart, is_earlier_page}
 use Rattle.fa_batch_terms.specs.declared.place.Place.{Place}
-use Rattle.fa_batch.proofs.Counting.{AllByRecursion-weaker, count_by-le-on, once-push}
+use Rattle.fa_batch_terms.proofs.Counting.{AllByRecursion-weaker, count_by-le-on, once-push}
 use Rattle.fa_cert.proofs.Placed.{is_at_key, key_has, key_only}
 use Rattle.fa_plan.specs.declared.layout.Seat.{Seat}
 use Rattle.fa_plan.specs.Layout.{AreRising, IsInTurn, IsLaidOut, is_at_die, seat_of}

@@ -7,7 +7,7 @@ use Rattle.fa_types.specs.declared.numbers.Die.{Die}
 use Rattle.fa_types.specs.declared.numbers.Page.{Page}
 use Rattle.fa_batch_terms.specs.Batch.{Entry, IsSound, times_named}
 use Rattle.fa_batch_terms.specs.Certificate.{AreNamed, ShowsNoFewer}
-use Rattle.fa_batch.proofs.Counting.{get_or-replicate_default}
+use Rattle.fa_batch_terms.proofs.Counting.{get_or-replicate_default}
 use Rattle.fa_plan.specs.declared.planner.Progress.{Progress}
 use Rattle.fa_plan_search.specs.declared.walk.Tables.{Tables}
 use Rattle.fa_plan_search.specs.declared.walk.Walk.{Walk}

@@ -13,8 +13,8 @@ use Rattle.fa_batch_terms.specs.Batch.{Entry, holds, is_among, times_named}
 use Rattle.fa_batch_terms.specs.Certificate.{AreTheHolders, IsCertificate, IsShortage, ShowsNoFewer, holds_any, open_places}
 use Rattle.fa_batch_terms.specs.Plan.{AreFirstRounds, is_earlier_page, rounds_of, times_placed}
 use Rattle.fa_batch_terms.specs.declared.place.Place.{Place}
-use Rattle.fa_batch.proofs.Counting.{count_by-cons}
-use Rattle.fa_batch.proofs.Windows.{rounds_that-join}
+use Rattle.fa_batch_terms.proofs.Counting.{count_by-cons}
+use Rattle.fa_closed.proofs.Windows.{rounds_that-join}
 use Rattle.fa_plan_search.specs.Pages.{pages_of}
 use Rattle.fa_plan_search.specs.Reading.{no_die}
 use Rattle.fa_plan_search.proofs.Walks.{among_at}

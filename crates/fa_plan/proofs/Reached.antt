@@ -12,7 +12,7 @@ use Rattle.fa_types.specs.declared.numbers.Page.{Page}
 use Rattle.fa_batch_terms.specs.Batch.{AreFine, Entry, holds, is_among, times_named}
 use Rattle.fa_batch_terms.specs.Certificate.{AreNamed, AreTheHolders, holds_any, open_places}
 use Rattle.fa_cert_places.specs.OpenCounts.{AreOpenCounts, marked}
-use Rattle.fa_batch.proofs.Counting.{AllByRecursion-of, AllByRecursion-weaker, count-from-any, count_by-cons, count_by-le-on, sum_by-add, sum_by-le-on}
+use Rattle.fa_batch_terms.proofs.Counting.{AllByRecursion-of, AllByRecursion-weaker, count-from-any, count_by-cons, count_by-le-on, sum_by-add, sum_by-le-on}
 use Rattle.fa_cert.proofs.Marked.{are_the_holders, shows_iff, sum_by-same_counts}
 use Rattle.fa_plan_search.specs.declared.walk.Walk.{Walk}
 use Rattle.fa_plan.specs.Bound.{IsFirstEnough, IsSomeMarked, places_of}

@@ -15,7 +15,7 @@ use Rattle.fa_batch_terms.specs.Batch.{Entry, IsSound, holds, times_named}
 use Rattle.fa_batch_terms.specs.Certificate.{IsCertificate, ShowsNoFewer}
 use Rattle.fa_batch_terms.specs.Plan.{AreFirstRounds, IsPlan, rounds_of, times_placed}
 use Rattle.fa_batch_terms.specs.declared.place.Place.{Place}
-use Rattle.fa_batch.proofs.Counting.{AllByRecursion-weaker, count_by-cons, count-from-any}
+use Rattle.fa_batch_terms.proofs.Counting.{AllByRecursion-weaker, count_by-cons, count-from-any}
 use Rattle.fa_cert.proofs.Shortages.{no_fewer}
 use Rattle.fa_plan.specs.declared.layout.Seat.{Seat}
 use Rattle.fa_cert_places.specs.OpenCounts.{AreOpenCounts}

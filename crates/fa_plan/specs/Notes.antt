@@ -4,8 +4,8 @@ use Rattle.fa_types.specs.declared.numbers.Page.{Page}
 use Rattle.fa_batch_terms.specs.Batch.{Entry}
 use Rattle.fa_batch_terms.specs.declared.place.Place.{Place}
 use Rattle.fa_batch_terms.specs.Certificate.{IsCertificate}
-use Rattle.fa_batch.specs.Closed.{current_of, is_closed}
-use Rattle.fa_batch.specs.Runs.{any_closes}
+use Rattle.fa_closed.specs.Closed.{current_of, is_closed}
+use Rattle.fa_closed.specs.Runs.{any_closes}
 use Rattle.fa_plan.specs.declared.entry.PlanEntry.{PlanEntry}
 use Rattle.fa_plan.specs.declared.note.PlanNote.{PlanNote}
 

@@ -1,5 +1,5 @@
 //! The closed rounds of dies as runs.
-use fa_batch::Run;
+use fa_closed::Run;
 use fa_types::{Die, Round, Rounds};
 use std::alloc::{AllocError, Allocator};
 

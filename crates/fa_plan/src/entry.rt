@@ -1,5 +1,6 @@
 //! A plan that the check of certificates accepts.
-use fa_batch::{Batch, Closed, Plan, Run, Shortage};
+use fa_batch::{Batch, Plan, Shortage};
+use fa_closed::{Closed, Run};
 use std::alloc::{Allocator, Global};
 
 /// A plan of a batch, with the rounds of dies that were closed and what shows that no plan has fewer rounds. Its rounds are told from 1 on,

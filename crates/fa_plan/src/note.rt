@@ -5,9 +5,10 @@ ghost use Rattle.fa_plan.specs.Notes.{IsAccepted, batch_of, place_from, places_o
 use crate::closings::closings;
 use crate::entry::PlanEntry;
 use crate::planner::Planned;
-use fa_batch::{Batch, Closed, Places, Plan, Run, Shortage, end_soon};
+use fa_batch::{Batch, Places, Plan, Shortage};
 use fa_batch_terms::Place;
 use fa_cert::{Verdict, check};
+use fa_closed::{Closed, Run, end_soon};
 use fa_types::{Page, Round, Rounds};
 use std::alloc::{AllocError, Allocator, Global};
 

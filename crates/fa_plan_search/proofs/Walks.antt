@@ -8,8 +8,8 @@ use Rattle.std.proofs.lemmas.List.Folds.{list_any_at, list_any_more, sum_by-repl
 use Rattle.std.proofs.lemmas.Option.{slice_get-get_or}
 use Rattle.fa_types.specs.declared.numbers.Die.{Die}
 use Rattle.fa_batch_terms.specs.Batch.{Entry, is_among}
-use Rattle.fa_batch.proofs.Counting.{count_by-two-le}
-use Rattle.fa_batch.proofs.Counting.{get_or-replicate_default}
+use Rattle.fa_batch_terms.proofs.Counting.{count_by-two-le}
+use Rattle.fa_batch_terms.proofs.Counting.{get_or-replicate_default}
 use Rattle.fa_plan_search.specs.declared.walk.Walk.{Walk}
 use Rattle.fa_plan_search.specs.Reading.{can_read, die_of, load_of, no_die, no_entry}
 use Rattle.fa_plan_search.specs.Search.{AreFull, GoesOn, IsFollowed, IsReached, IsStep, IsWalk, has_reached, rank_of, way_to, with_die}

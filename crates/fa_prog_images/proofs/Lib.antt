@@ -2,7 +2,6 @@ pub mod ByTerms
 pub mod DumpLines
 pub mod Formatting
 pub mod Inner
-pub mod Mounted
 pub mod Rows
 pub mod Sends
 pub mod Told

@@ -186,7 +186,7 @@ fn mounted_of<R: Host, A: Allocator>(
 }
 
 /// Reads the header of each image, once, and asks whether they are those of the settings' array.
-pub(crate) fn read_expected<R: Host, I: Image, A: Allocator>(
+pub fn read_expected<R: Host, I: Image, A: Allocator>(
     rt: &R,
     settings: &Settings<A>,
     terms: Terms,
@@ -372,7 +372,7 @@ fn words_of_fault(fault: MountFault) -> &'static str {
 }
 
 /// What is printed of images that are not mounted.
-pub(crate) fn mount_line(fault: MountFault) -> &'static [u8]
+pub fn mount_line(fault: MountFault) -> &'static [u8]
     ensures { result.now ≡ line_of fault }
 {
     match fault {

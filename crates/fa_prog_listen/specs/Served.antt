@@ -1,8 +1,8 @@
 -- What a server prints of where it listens, and at its end.
 use Rattle.std.specs.Prelude.{◌⊎◌, ℕ, List, [], ◌∷◌, ◌++◌, codes, Option, Result}
 use Rattle.fa_mount.specs.declared.closing.CloseFault.{CloseFault}
-use Rattle.fa_shared.specs.declared.faults.Fault.{Fault}
-use Rattle.fa_prog_images.specs.Ending.{closed_line, closed_status, fault_lines}
+use Rattle.fa_faults.specs.declared.faults.Fault.{Fault}
+use Rattle.fa_prog_array.specs.Ending.{closed_line, closed_status, fault_lines}
 use Rattle.fa_prog_host.specs.Printing.{Prints, TellsNoMemory}
 
 -- where clients can connect

@@ -3,14 +3,15 @@ ghost use Rattle.fa_core.specs.Array.{IsWhole};
 ghost use Rattle.fa_prog_listen.specs.Served.{TellsEnd};
 
 use crate::host::ServerHost;
+use fa_faults::Fault;
 use fa_image::Image;
 use fa_map_calls::Map;
 use fa_mount::{CloseFault, MountedArray};
 use fa_mount_headers::Standing;
+use fa_prog_array::{close, end_text, status_of};
+use fa_prog_files::{keep_lost_at_end, remove_if_empty};
 use fa_prog_host::printing::{print, refuse_for_memory};
-use fa_prog_images::{close, end_text, status_of};
-use fa_prog_watch::{keep_lost_at_end, remove_if_empty};
-use fa_shared::{Fault, Shared};
+use fa_shared::Shared;
 use std::alloc::{AllocError, Global};
 use std::io::Write;
 use std::sync::ledger::Ledger;

@@ -1,17 +1,12 @@
 //! Where the clients of a server come, and what its threads share beside the array.
 use crate::plan::ServePlan;
-use fa_map_calls::Map;
 use fa_mount::place_of;
 use fa_mount_headers::Standing;
-use fa_prog_census::Subject;
 use fa_prog_clients::AcceptQueue;
 use fa_prog_counts::Counts;
-use fa_prog_watch::Losses;
 use fa_settings::Settings;
-use fa_shared::Shared;
 use std::alloc::{AllocError, Allocator, Global};
 use std::net::TcpListener;
-use std::sync::ledger::Ledger;
 
 /// What the threads of a server share beside the array.
 #[derive(Drop)]
@@ -24,38 +19,20 @@ pub struct Listening<'a> {
     pub accept_queue: AcceptQueue,
     /// What is counted.
     pub counts: Counts,
-    /// Which pages were lost.
-    pub losses: Losses<'a>,
     /// What the dies' images are called, by the dies' numbers.
     pub paths: Vec<&'a str>,
     /// The paths of those that there are.
-    image_paths: Vec<Option<&'a str>>,
+    pub image_paths: Vec<Option<&'a str>>,
     /// How many copies each page is to have.
     pub copies: u32,
     /// How many rounds a collector's window has.
     pub window_rounds: u64,
 }
 
-impl<'a> Listening<'a> {
-    /// What is looked at of this array, which is served so.
-    pub fn subject<'b, L: Ledger, M: Map + Drop>(
-        &'b self,
-        shared: &'b Shared<L, M>,
-    ) -> Subject<'b, L, M> {
-        Subject {
-            shared,
-            counts: &self.counts,
-            accept_queue: &self.accept_queue,
-            paths: self.image_paths.as_slice(),
-        }
-    }
-}
-
-/// What the threads share for an array whose dies stand so, with what is known of its lost pages. The error is out of memory.
+/// What the threads share for an array whose dies stand so. The error is out of memory.
 pub fn listening_of<'a, A: Allocator>(
     global: Global,
     dies: &[Standing],
-    losses: Losses<'a>,
     plan: &ServePlan<'a, A>,
 ) -> Result<Listening<'a>, AllocError> {
     let settings = plan.settings;
@@ -69,7 +46,6 @@ pub fn listening_of<'a, A: Allocator>(
         looks: plan.looks,
         accept_queue,
         counts,
-        losses,
         paths,
         image_paths,
         copies: settings.copies.number,

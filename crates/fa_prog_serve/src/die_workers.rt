@@ -1,13 +1,14 @@
 //! Those who work for the dies of the array.
 use fa_image::Image;
 use fa_map_calls::Map;
-use fa_prog_census::CountingGate;
 use fa_prog_clients::Networked;
 use fa_prog_counts::Counts;
+use fa_prog_served::CountingGate;
 use fa_shared::Shared;
 use fa_shared_lock::Seat;
 use fa_types::Die;
-use fa_workers::{ImageTable, JobMemory, collector_worker, die_worker, rebuild_worker};
+use fa_workers::{ImageTable, JobMemory, die_worker};
+use fa_workers_upkeep::{collector_worker, rebuild_worker};
 use std::alloc::AllocError;
 use std::sync::ledger::Ledger;
 

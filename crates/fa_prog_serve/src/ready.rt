@@ -15,6 +15,8 @@ use std::sync::ledger::Ledger;
 pub(crate) struct Ready<'a, L: Ledger, I: Drop> {
     /// What its threads share beside the array.
     pub(crate) listening: Listening<'a>,
+    /// Which pages were lost.
+    pub(crate) losses: Losses<'a>,
     /// The images.
     pub(crate) images: ImagesAtWork<I>,
     /// What its threads are to do.
@@ -38,10 +40,11 @@ pub(crate) fn ready_of<'a, R: Networked, L: Ledger, M: Map + Drop, I: Drop, A: A
     let images = images_at_work(rt.alloc(), dies, images, threads.page_bytes)?;
     let epoch = shared.lock(rt).array().epoch();
     let losses = Losses::new(plan.path, epoch, lost);
-    let listening = listening_of(rt.alloc(), dies, losses, plan)?;
+    let listening = listening_of(rt.alloc(), dies, plan)?;
     let tasks = tasks_of(rt, shared, images.dies.as_slice(), threads, plans)?;
     Ok(Ready {
         listening,
+        losses,
         images,
         tasks,
     })

@@ -6,22 +6,24 @@ ghost use Rattle.fa_prog_serve.specs.Serving.{Listens, TellsOn, TellsServe};
 
 use crate::ready::ready_of;
 use crate::serving::serve_ready;
+use fa_faults::Fault;
 use fa_image::Image;
 use fa_map::PageMap;
 use fa_map_calls::Map;
 use fa_mount::MountedArray;
 use fa_mount_headers::{MountFault, Standing};
+use fa_prog_array::{mount, refuse_mount};
 use fa_prog_host::printing::{DONE, REFUSED, print, refuse_for_memory};
 use fa_prog_host::{
     NotOpened, OpenImages, Opening, open_images, refuse_settings, settings_at, tell,
 };
-use fa_prog_images::{explain, mount, refuse_mount};
+use fa_prog_images::explain;
 use fa_prog_listen::{
     Ended, Held, Listeners, ServePlan, ServerHost, bind_looks, end_served, listening_text,
     open_beside, share,
 };
 use fa_settings::{PlansFile, Settings, Terms};
-use fa_shared::{Fault, Shared};
+use fa_shared::Shared;
 use std::alloc::{AllocError, Allocator};
 use std::io::{Read, Write};
 use std::marker::Brand;

@@ -9,10 +9,9 @@ use fa_image::Image;
 use fa_map_calls::Map;
 use fa_prog_clients::Networked;
 use fa_prog_host::tell;
-use fa_prog_listen::{Ended, Listening, ServerHost, StopWaiter, work_side_by_side};
+use fa_prog_listen::{Ended, ServerHost, StopWaiter, work_side_by_side};
 use fa_shared::Shared;
 use fa_shared_lock::Seat;
-use fa_workers::ImageTable;
 use std::alloc::AllocError;
 use std::io::Read;
 use std::sync::ledger::Ledger;
@@ -43,10 +42,17 @@ pub(crate) fn serve_ready<
 {
     let Ready {
         listening,
+        losses,
         images,
         tasks,
     } = ready;
-    let back = serve_shared(rt, shared, &listening, &images.image_table, tasks, input);
+    let site = Site {
+        shared,
+        image_table: &images.image_table,
+        listening: &listening,
+        losses: &losses,
+    };
+    let back = serve_shared(rt, &site, tasks, input);
     ended_of(rt, shared, images, back)
 }
 
@@ -88,30 +94,18 @@ fn serve_shared<
     M: Map + Send + Drop,
     I: Image + Send + Drop,
     N: Read,
->(
-    rt: &R,
-    shared: &Shared<L, M>,
-    listening: &Listening<'_>,
-    image_table: &ImageTable<I>,
-    tasks: Tasks<'_, L>,
-    input: &mut N,
-) -> Option<Back<L>> {
+>(rt: &R, site: &Site<'_, L, M, I>, tasks: Tasks<'_, L>, input: &mut N) -> Option<Back<L>> {
     let Tasks {
         tasks,
         workers,
         seats,
     } = tasks;
-    let site = Site {
-        shared,
-        image_table,
-        listening,
-    };
     let mut stop_waiter = StopWaiter {
-        listening,
+        listening: site.listening,
         input,
         is_served: false,
     };
-    let left = work_side_by_side(rt, &site, tasks, workers, &mut stop_waiter);
+    let left = work_side_by_side(rt, site, tasks, workers, &mut stop_waiter);
     back_of(left, seats, stop_waiter.is_served)
 }
 

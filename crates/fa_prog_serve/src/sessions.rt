@@ -1,11 +1,11 @@
 //! A session of the server over the array: it serves one client after another, and works for the dies while their requests wait.
 use fa_image::Image;
 use fa_map_calls::Map;
-use fa_prog_census::CountingGate;
 use fa_prog_clients::{ConnectionMemory, Networked, Service, serve_clients};
 use fa_prog_counts::CountingStore;
 use fa_prog_listen::Listening;
-use fa_prog_watch::TellingStore;
+use fa_prog_served::{CountingGate, Served};
+use fa_prog_watch::{Losses, TellingStore};
 use fa_shared::Shared;
 use fa_shared_lock::{Hands, Seat};
 use fa_shared_store::ArrayBlocks;
@@ -48,6 +48,7 @@ impl<'a, L: Ledger> Session<'a, L> {
 pub(crate) fn serve_array<R: Networked, L: Ledger, M: Map + Drop, I: Image + Drop>(
     rt: &R,
     listening: &Listening<'_>,
+    losses: &Losses<'_>,
     shared: &Shared<L, M>,
     image_table: &ImageTable<I>,
     session: Session<'_, L>,
@@ -62,7 +63,9 @@ pub(crate) fn serve_array<R: Networked, L: Ledger, M: Map + Drop, I: Image + Dro
         counts: &listening.counts,
     };
     let helper = Helper::new(rt, rt.alloc(), shared, image_table, &gate, memory);
-    serve_with(rt, listening, shared, service, connection, seat, helper)
+    serve_with(
+        rt, listening, losses, shared, service, connection, seat, helper,
+    )
 }
 
 /// The same over the shared array, with somebody who makes jobs of its dies while a request waits. It is a function of its own, so that no
@@ -70,6 +73,7 @@ pub(crate) fn serve_array<R: Networked, L: Ledger, M: Map + Drop, I: Image + Dro
 fn serve_with<R: Networked, L: Ledger, M: Map + Drop, H: Hands<L, M, Global> + Drop>(
     rt: &R,
     listening: &Listening<'_>,
+    losses: &Losses<'_>,
     shared: &Shared<L, M>,
     service: Service<'_>,
     connection: ConnectionMemory,
@@ -77,7 +81,8 @@ fn serve_with<R: Networked, L: Ledger, M: Map + Drop, H: Hands<L, M, Global> + D
     hands: H,
 ) -> Seat<L> {
     let blocks = ArrayBlocks::new(rt, rt.alloc(), shared, seat, hands);
-    let telling = TellingStore::new(rt, shared, &listening.losses, blocks);
+    let served = Served::new(rt, shared);
+    let telling = TellingStore::new(rt, &served, losses, blocks);
     let telling = serve_counted(rt, listening, service, connection, telling);
     telling.into_blocks().into_seat()
 }

@@ -5,11 +5,11 @@ use crate::tasks::Task;
 use fa_core::Array;
 use fa_image::Image;
 use fa_map_calls::Map;
-use fa_prog_census::Looking;
 use fa_prog_clients::{Networked, accept_clients};
 use fa_prog_listen::{Listening, Workplace};
 use fa_prog_looks::{LooksHost, serve_looks};
-use fa_prog_watch::{watch, write_plans};
+use fa_prog_served::Served;
+use fa_prog_watch::{Looking, Losses, Subject, watch, write_plans};
 use fa_shared::Shared;
 use fa_shared_lock::Seat;
 use fa_types::Die;
@@ -29,6 +29,7 @@ pub(crate) struct Site<'a, L: Ledger, M: Map + Drop, I: Image + Drop> {
     pub(crate) shared: &'a Shared<L, M>,
     pub(crate) image_table: &'a ImageTable<I>,
     pub(crate) listening: &'a Listening<'a>,
+    pub(crate) losses: &'a Losses<'a>,
 }
 
 impl<'a, 'b, R: Networked + LooksHost, L: Ledger, M: Map + Drop, I: Image + Drop> Workplace<
@@ -51,8 +52,8 @@ impl<'a, 'b, R: Networked + LooksHost, L: Ledger, M: Map + Drop, I: Image + Drop
             Task::Watch(seen) => {
                 watch(
                     rt,
-                    self.shared,
-                    &listening.losses,
+                    &Served::new(rt, self.shared),
+                    self.losses,
                     &listening.counts,
                     listening.paths.as_slice(),
                     listening.copies,
@@ -61,19 +62,22 @@ impl<'a, 'b, R: Networked + LooksHost, L: Ledger, M: Map + Drop, I: Image + Drop
                 None
             }
             Task::WritePlans(file) => {
-                write_plans(rt, self.shared, listening.counts.plans(), file);
+                let served = Served::new(rt, self.shared);
+                write_plans(rt, &served, listening.counts.plans(), file);
                 None
             }
             Task::Serve(session) => Some(serve_array(
                 rt,
                 listening,
+                self.losses,
                 self.shared,
                 self.image_table,
                 session,
             )),
             Task::Look(looker) => {
                 if let Some(listener) = listening.looks {
-                    let subject = listening.subject(self.shared);
+                    let served = Served::new(rt, self.shared);
+                    let subject = subject_of(&served, listening);
                     serve_looks(rt, listener, Looking::new(rt, subject, looker));
                 }
                 None
@@ -95,6 +99,16 @@ impl<'a, 'b, R: Networked + LooksHost, L: Ledger, M: Map + Drop, I: Image + Drop
     fn stop(&self, rt: &R) {
         let_collect(rt, self.shared);
         self.shared.stop(rt);
+    }
+}
+
+/// What those who ask look at: this array, which is served so.
+fn subject_of<'a, W>(watched: &'a W, listening: &'a Listening<'_>) -> Subject<'a, W> {
+    Subject {
+        watched,
+        counts: &listening.counts,
+        accept_queue: &listening.accept_queue,
+        paths: listening.image_paths.as_slice(),
     }
 }
 

@@ -2,10 +2,11 @@
 use crate::die_workers::{DieTask, die_task};
 use crate::sessions::Session;
 use fa_map_calls::Map;
-use fa_prog_census::Looker;
 use fa_prog_clients::{Networked, Service};
+use fa_prog_files::PlanFile;
 use fa_prog_listen::ThreadPlan;
-use fa_prog_watch::{PlanFile, Sight, sight_of};
+use fa_prog_served::Served;
+use fa_prog_watch::{Looker, Sight, Watched};
 use fa_shared::Shared;
 use fa_shared_lock::Seat;
 use fa_types::Die;
@@ -103,7 +104,7 @@ fn add_workers<'a, R: Networked, L: Ledger, M: Map + Drop>(
     add(tasks, Task::Collect(collector))?;
     let rebuilder = shared.seat(rt).ok_or(AllocError)?;
     add(tasks, Task::Rebuild(rebuilder))?;
-    let sight = sight_of(shared.lock(rt).array(), plan.copies);
+    let sight = Served::new(rt, shared).sight(plan.copies);
     add(tasks, Task::Watch(sight))
 }
 

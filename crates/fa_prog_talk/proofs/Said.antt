@@ -4,7 +4,7 @@ use Rattle.fa_image.specs.Image.{ImageAnswer, ImageCall}
 use Rattle.fa_machine.specs.State.{Core}
 use Rattle.fa_mount.specs.declared.closing.CloseFault.{CloseFault}
 use Rattle.fa_mount_headers.specs.declared.judging.Standing.{Standing}
-use Rattle.fa_prog_images.specs.Ending.{ClosesOver}
+use Rattle.fa_prog_array.specs.Ending.{ClosesOver}
 use Rattle.fa_prog_text.specs.Talk.{known}
 use Rattle.fa_session.specs.Session.{Session}
 use Rattle.fa_session.specs.declared.session_end.SessionEnd.{SessionEnd}

@@ -8,7 +8,7 @@ use Rattle.fa_image.specs.declared.file_image.FileImage.{FileImage}
 use Rattle.fa_machine.specs.State.{Core}
 use Rattle.fa_mount_headers.specs.Found.{AreOnlyRead}
 use Rattle.fa_mount_headers.specs.declared.judging.Standing.{Standing}
-use Rattle.fa_prog_images.specs.Mounting.{MountsSettings}
+use Rattle.fa_prog_array.specs.Mounting.{MountsSettings}
 use Rattle.fa_prog_host.specs.Opened.{AreOpened}
 use Rattle.fa_mount.specs.declared.closing.CloseFault.{CloseFault}
 use Rattle.fa_prog_talk.specs.Conversation.{Converses}
@@ -18,7 +18,7 @@ use Rattle.fa_prog_text.specs.Talk.{known}
 use Rattle.fa_session.specs.declared.session_end.SessionEnd.{SessionEnd}
 use Rattle.fa_settings.specs.declared.settings.Settings.{Settings}
 use Rattle.fa_settings.specs.declared.terms.Terms.{Terms}
-use Rattle.fa_shared.specs.declared.faults.Fault.{Fault}
+use Rattle.fa_faults.specs.declared.faults.Fault.{Fault}
 
 -- what was only read is as long as it was
 only_long : (xs ys : List ImageState) → AreOnlyRead xs ys → length xs ≡ length ys

@@ -6,13 +6,13 @@ use Rattle.fa_image.specs.Image.{ImageAnswer, ImageCall, ImageState}
 use Rattle.fa_machine.specs.State.{Core}
 use Rattle.fa_mount.specs.declared.closing.CloseFault.{CloseFault}
 use Rattle.fa_mount_headers.specs.declared.judging.Standing.{Standing}
-use Rattle.fa_prog_images.specs.Ending.{ClosesOver}
+use Rattle.fa_prog_array.specs.Ending.{ClosesOver}
 use Rattle.fa_prog_talk.specs.declared.conversation.Said.{Said}
 use Rattle.fa_prog_text.specs.Talk.{known}
 use Rattle.fa_session.specs.Session.{Session}
 use Rattle.fa_session.specs.declared.session_end.SessionEnd.{SessionEnd}
-use Rattle.fa_shared.specs.Faults.{faults_of}
-use Rattle.fa_shared.specs.declared.faults.Fault.{Fault}
+use Rattle.fa_faults.specs.Faults.{faults_of}
+use Rattle.fa_faults.specs.declared.faults.Fault.{Fault}
 use Rattle.fa_solo.specs.Stores.{StoreMakes, StoreState}
 
 -- The store over an array that was mounted of these images, before its first call: it has the array's state and the images, and it is as

@@ -13,8 +13,8 @@ use Rattle.fa_mount_headers.specs.Found.{AreOnlyRead}
 use Rattle.fa_mount_headers.specs.declared.fault.MountFault.{MountFault}
 use Rattle.fa_mount_headers.specs.declared.fault.MountRefused.{MountRefused}
 use Rattle.fa_mount_headers.specs.declared.judging.Standing.{Standing}
-use Rattle.fa_prog_images.specs.Ending.{closed_line, closed_status, fault_lines}
-use Rattle.fa_prog_images.specs.Mounting.{MountsSettings, RefusesSettingsArray}
+use Rattle.fa_prog_array.specs.Ending.{closed_line, closed_status, fault_lines}
+use Rattle.fa_prog_array.specs.Mounting.{MountsSettings, RefusesSettingsArray}
 use Rattle.fa_prog_host.specs.Opened.{AreOpened, IsNotOpened}
 use Rattle.fa_prog_host.specs.declared.images.NotOpened.{NotOpened}
 use Rattle.fa_prog_host.specs.Printing.{Prints, TellsNoMemory}
@@ -29,7 +29,7 @@ use Rattle.fa_session.specs.declared.session_end.SessionEnd.{SessionEnd}
 use Rattle.fa_settings.specs.Settings.{IsSettingsText}
 use Rattle.fa_settings.specs.declared.settings.Settings.{Settings}
 use Rattle.fa_settings.specs.declared.terms.Terms.{Terms}
-use Rattle.fa_shared.specs.declared.faults.Fault.{Fault}
+use Rattle.fa_faults.specs.declared.faults.Fault.{Fault}
 
 -- what is printed of a conversation: the server's bytes, the number of the end, the faults, and how the array was closed
 abbrev pub said_text : List ℕ → SessionEnd → List Fault → Result ℕ CloseFault → List ℕ

@@ -8,7 +8,7 @@ ghost use Rattle.fa_prog_host.specs.Opened.{AreOpened};
 ghost use Rattle.fa_prog_talk.specs.TalkArray.{MayBeServed, RunsTalkArray, TellsClient, TellsLines, TellsMounted, TellsSaid};
 ghost use Rattle.fa_prog_talk.specs.TalkArray.{said_text as text_of};
 ghost use Rattle.fa_prog_text.specs.Output.{RunsOver};
-ghost use Rattle.fa_shared.specs.declared.faults.Fault.{Fault};
+ghost use Rattle.fa_faults.specs.declared.faults.Fault.{Fault};
 
 use crate::conversation::{Said, converse};
 use crate::laws::a_conversation_is_right;
@@ -17,13 +17,14 @@ use fa_map::PageMap;
 use fa_map_calls::Map;
 use fa_mount::CloseFault;
 use fa_mount_headers::MountFault;
+use fa_prog_array::{end_text, mount, refuse_mount, status_of};
+use fa_prog_files::{keep_lost_at_end, keep_or_tell};
 use fa_prog_host::printing::{print, refuse_for_memory};
 use fa_prog_host::{
     Host, NotOpened, OpenImages, Opening, images_alone, open_images, refuse_settings, settings_at,
 };
-use fa_prog_images::{end_text, explain, mount, refuse_mount, status_of};
+use fa_prog_images::explain;
 use fa_prog_text::{read_hex_lines, read_input, refuse_text, refuse_unread, talk_text};
-use fa_prog_watch::{keep_lost_at_end, keep_or_tell};
 use fa_settings::{Settings, Terms};
 use fa_solo::Parts;
 use std::alloc::{AllocError, Allocator, Global};

@@ -7,14 +7,14 @@ ghost use Rattle.fa_prog_talk.specs.Conversation.{BeginsOver, HasSaid};
 ghost use Rattle.fa_prog_talk.specs.TalkArray.{MayBeServed};
 ghost use Rattle.fa_solo.specs.Stores.{seen_of};
 
+use fa_faults::Fault;
 use fa_image::Image;
 use fa_map_calls::Map;
 use fa_mount::CloseFault;
-use fa_prog_images::close;
-use fa_prog_watch::lost_lines;
+use fa_prog_array::close;
+use fa_prog_served::lost_lines;
 use fa_session::{SessionEnd, serve_stream};
 use fa_settings::Settings;
-use fa_shared::Fault;
 use fa_solo::{Parts, Solo};
 use std::alloc::{AllocError, Allocator, Global};
 use std::sync::ledger::{Blank, Ledger};

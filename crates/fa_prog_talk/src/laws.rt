@@ -10,7 +10,7 @@ ghost use Rattle.fa_prog_talk.specs.Conversation.{Converses};
 ghost use Rattle.fa_prog_talk.specs.Right.{IsRight};
 ghost use Rattle.fa_prog_text.specs.Talk.{known};
 ghost use Rattle.fa_session.specs.declared.session_end.SessionEnd.{SessionEnd};
-ghost use Rattle.fa_shared.specs.declared.faults.Fault.{Fault};
+ghost use Rattle.fa_faults.specs.declared.faults.Fault.{Fault};
 
 use fa_image::Image;
 use fa_solo_laws::beginnings::a_mounted_store_is_of_a_world;

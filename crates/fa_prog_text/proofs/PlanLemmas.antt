@@ -9,9 +9,9 @@ use Rattle.fa_batch_terms.specs.Batch.{AreFine}
 use Rattle.fa_texts.specs.BatchText.{IsBatchText, IsRead, StartsWithBatch}
 use Rattle.fa_batch_terms.specs.Certificate.{IsCertificate}
 use Rattle.fa_texts.specs.CertificateText.{IsPrinted}
-use Rattle.fa_batch.specs.Closed.{current_of, is_closed}
+use Rattle.fa_closed.specs.Closed.{current_of, is_closed}
 use Rattle.fa_batch_terms.specs.Plan.{AreFirstRounds}
-use Rattle.fa_batch.specs.Runs.{any_closes}
+use Rattle.fa_closed.specs.Runs.{any_closes}
 use Rattle.fa_texts.specs.Text.{Begins, GoesWrong, IsFirstWrongLine, words_by_line, words_of}
 use Rattle.fa_io.specs.Lines.{lines_of}
 use Rattle.fa_io.proofs.LineLemmas.{some_line}

@@ -4,15 +4,15 @@ use Rattle.std.proofs.Math.Path.{fun_ext}
 use Rattle.std.proofs.lemmas.List.{length-map, map-append}
 use Rattle.std.proofs.lemmas.List.Elements.{All-nil, All-cons, All-head, All-tail, All-append, All-map}
 use Rattle.fa_types.specs.declared.numbers.Page.{Page}
-use Rattle.fa_batch.specs.declared.closed.Run.{Run}
+use Rattle.fa_closed.specs.declared.closed.Run.{Run}
 use Rattle.fa_batch_terms.specs.declared.place.Place.{Place}
 use Rattle.fa_texts.specs.declared.text_error.TextError.{TextError}
 use Rattle.fa_texts.specs.declared.text_error.TextError.TheVariants.{Line, NoMemory}
 use Rattle.fa_texts.specs.declared.batch_text.BatchText.{BatchText}
 use Rattle.fa_cert.specs.declared.verdict.Verdict.{Verdict as CheckVerdict}
 use Rattle.fa_batch_terms.specs.Batch.{Entry, AreFine}
-use Rattle.fa_batch.specs.Closed.{current_of, is_closed}
-use Rattle.fa_batch.specs.Runs.{any_closes}
+use Rattle.fa_closed.specs.Closed.{current_of, is_closed}
+use Rattle.fa_closed.specs.Runs.{any_closes}
 use Rattle.fa_cert.specs.Verdict.{IsVerdict}
 use Rattle.fa_texts.specs.BatchText.{IsBatchText, IsRead, StartsWithBatch, closed_line, end_line, page_line}
 use Rattle.fa_texts.specs.CertificateText.{HasPlaceLine, IsCertificateText, IsSomeCertificate, certificate_lines}

@@ -2,14 +2,14 @@
 use Rattle.std.specs.Prelude.{◌⊎◌, ℕ, List, [], ◌∷◌, ◌++◌, codes, Option}
 use Rattle.fa_types.specs.declared.numbers.Page.{Page}
 use Rattle.fa_batch_terms.specs.declared.unsound.Unsound.{Unsound as BatchUnsound}
-use Rattle.fa_batch.specs.declared.closed.Run.{Run}
+use Rattle.fa_closed.specs.declared.closed.Run.{Run}
 use Rattle.fa_batch_terms.specs.declared.place.Place.{Place}
 use Rattle.fa_batch_terms.specs.Batch.{Entry, IsSound, IsFirstWrong}
 use Rattle.fa_texts.specs.BatchText.{IsBatchText}
 use Rattle.fa_batch_terms.specs.Certificate.{IsCertificate}
 use Rattle.fa_texts.specs.CertificateText.{IsPrinted}
 use Rattle.fa_batch_terms.specs.Plan.{AreFirstRounds}
-use Rattle.fa_batch.specs.Runs.{any_closes}
+use Rattle.fa_closed.specs.Runs.{any_closes}
 use Rattle.fa_texts.specs.Text.{IsFirstWrongLine, words_by_line}
 use Rattle.fa_io.specs.Streams.{Streams}
 use Rattle.fa_prog_host.specs.Printing.{Prints}

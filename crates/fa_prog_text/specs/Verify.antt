@@ -3,12 +3,12 @@ use Rattle.std.specs.Prelude.{◌≡◌, ℕ, List, [], ◌∷◌, ◌++◌, cod
 use Rattle.std.specs.Fmt.{decimal}
 use Rattle.fa_types.specs.declared.numbers.Page.{Page}
 use Rattle.fa_batch_terms.specs.declared.unsound.Unsound.TheVariants.{NoHolder, Twice}
-use Rattle.fa_batch.specs.declared.closed.Run.{Run}
+use Rattle.fa_closed.specs.declared.closed.Run.{Run}
 use Rattle.fa_batch_terms.specs.declared.place.Place.{Place}
 use Rattle.fa_cert.specs.declared.verdict.Verdict.TheVariants.{Least, Refused}
 use Rattle.fa_batch_terms.specs.Batch.{Entry, IsSound, IsFirstWrong}
 use Rattle.fa_texts.specs.LoggedPlan.{AreTexts}
-use Rattle.fa_batch.specs.Runs.{any_closes}
+use Rattle.fa_closed.specs.Runs.{any_closes}
 use Rattle.fa_texts.specs.Text.{words_by_line, IsFirstWrongLine}
 use Rattle.fa_cert.specs.Verdict.{IsVerdict, verdict_text}
 use Rattle.fa_io.specs.Streams.{Streams}

@@ -1,21 +1,21 @@
-//! What is told of an array while it is served: on standard error, of the pages that it lost in a file beside the settings, and of its plans
-//! in a file, so that anybody can check them alone.
+//! Who watches an array while it is served: what is told of it on standard error, which of its pages were lost, its plans, and how it is for
+//! those who ask. It is seen as a `Watched`, so nothing here names an array, and the files stand in `fa_prog_files`.
 #![tactic(auto)]
 
-mod file;
+mod census;
+mod looker;
 mod losses;
-mod pages;
-mod plan_file;
-mod plan_tail;
 mod plan_writing;
 mod slow_calls;
 mod store;
+mod subject;
+mod watched;
 mod watching;
 
-pub use file::{keep_lost_at_end, keep_or_tell, open_lost, remove_if_empty, tell_not_kept};
+pub use looker::{Looker, Looking};
 pub use losses::Losses;
-pub use pages::lost_lines;
-pub use plan_file::{PlanFile, open_plans};
 pub use plan_writing::write_plans;
 pub use store::TellingStore;
-pub use watching::{Sight, sight_of, watch};
+pub use subject::Subject;
+pub use watched::{BLOCKS_A_HOLD, Moment, PAGES_A_HOLD, PLANS_A_HOLD, Sight, Watched};
+pub use watching::watch;

@@ -1,13 +1,10 @@
 //! What was lost of an array that is served, and that it stands in its file.
-use crate::file::{keep_in, tell_not_kept};
-use crate::pages::{LostPages, PAGES_A_HOLD};
-use fa_map_calls::Map;
+use crate::watched::{PAGES_A_HOLD, Watched};
 use fa_prog_clients::Networked;
-use fa_shared::Shared;
-use std::alloc::{AllocError, Global};
+use fa_prog_files::{LostPages, keep_in, tell_not_kept};
+use std::alloc::AllocError;
 use std::fs::File;
 use std::sync::Mutex;
-use std::sync::ledger::Ledger;
 use std::time::Duration;
 use std::{io, thread};
 
@@ -49,17 +46,13 @@ impl<'a> Losses<'a> {
 
     /// Looks at the pages of the array, if a die went out since that was done last, and has those that were lost in the file. True where
     /// that was done, or was not wanted.
-    pub fn keep<R: Networked, L: Ledger, M: Map + Drop>(
-        &self,
-        rt: &R,
-        shared: &Shared<L, M>,
-    ) -> bool {
+    pub fn keep<R: Networked, W: Watched>(&self, rt: &R, watched: &W) -> bool {
         let mut looked = self.looked.lock(rt);
-        let epoch = shared.lock(rt).array().epoch();
+        let epoch = watched.moment().epoch;
         if epoch == looked.epoch {
             return true;
         }
-        match keep_lost(rt, &mut looked.file, shared) {
+        match keep_lost(rt, &mut looked.file, watched) {
             Ok(()) => {
                 looked.epoch = epoch;
                 looked.is_told = false;
@@ -76,13 +69,9 @@ impl<'a> Losses<'a> {
     }
 
     /// The same, tried until it is done or the array is to end. It blocks its thread.
-    pub fn keep_before_answer<R: Networked, L: Ledger, M: Map + Drop>(
-        &self,
-        rt: &R,
-        shared: &Shared<L, M>,
-    ) {
+    pub fn keep_before_answer<R: Networked, W: Watched>(&self, rt: &R, watched: &W) {
         for _ in rt.forever() {
-            if self.keep(rt, shared) || shared.stopped(rt) {
+            if self.keep(rt, watched) || watched.is_stopping() {
                 break;
             }
             thread::sleep(rt, Duration::from_millis(TRY_MILLISECONDS));
@@ -91,12 +80,8 @@ impl<'a> Losses<'a> {
 }
 
 /// Has the pages that are lost in the file, if there are any.
-fn keep_lost<R: Networked, L: Ledger, M: Map + Drop>(
-    rt: &R,
-    file: &mut File,
-    shared: &Shared<L, M>,
-) -> io::Result<()> {
-    let lines = lost_of(rt, shared)?;
+fn keep_lost<R: Networked, W: Watched>(rt: &R, file: &mut File, watched: &W) -> io::Result<()> {
+    let lines = lost_of(rt, watched)?;
     if lines.is_empty() {
         return Ok(());
     }
@@ -104,16 +89,10 @@ fn keep_lost<R: Networked, L: Ledger, M: Map + Drop>(
 }
 
 /// The lines of the pages that are lost, which are looked at in many holds of the array's lock. The error is out of memory.
-fn lost_of<R: Networked, L: Ledger, M: Map + Drop>(
-    rt: &R,
-    shared: &Shared<L, M>,
-) -> Result<String, AllocError> {
-    let pages = shared.lock(rt).array().geometry().pages;
-    let global: Global = rt.alloc();
-    let mut lost = LostPages::new(global);
-    for hold in 0..pages / PAGES_A_HOLD + 1 {
-        let first = hold.saturating_mul(PAGES_A_HOLD);
-        lost.look(shared.lock(rt).array(), first, PAGES_A_HOLD)?;
+fn lost_of<R: Networked, W: Watched>(rt: &R, watched: &W) -> Result<String, AllocError> {
+    let mut lost = LostPages::new(rt.alloc());
+    for hold in 0..watched.geometry().pages / PAGES_A_HOLD + 1 {
+        watched.note_lost(hold.saturating_mul(PAGES_A_HOLD), &mut lost)?;
     }
     lost.lines()
 }

@@ -1,18 +1,13 @@
 //! Who writes the file of plans.
-use crate::plan_file::PlanFile;
-use fa_map_calls::Map;
+use crate::watched::{PLANS_A_HOLD, Watched};
 use fa_plan::{PlanEntry, PlanNote};
 use fa_prog_clients::Networked;
 use fa_prog_counts::PlanFileCounts;
-use fa_shared::Shared;
+use fa_prog_files::PlanFile;
 use fa_texts::{has_batch_text, print_logged_plan};
 use std::alloc::{AllocError, Global};
-use std::sync::ledger::Ledger;
 use std::thread;
 use std::time::Duration;
-
-/// How many plans are taken in one hold of the array's lock.
-const PLANS_A_HOLD: usize = 64;
 
 /// The most rounds of a plan that has a text.
 const MAX_ROUNDS: u64 = 1_000_000;
@@ -31,9 +26,9 @@ struct Pages {
 
 /// Writes the plans that wait into their file until the array is to end and none waits any more. Each is checked before, and one that the
 /// check refuses is not written. It blocks its thread.
-pub fn write_plans<R: Networked, L: Ledger, M: Map + Drop>(
+pub fn write_plans<R: Networked, W: Watched>(
     rt: &R,
-    shared: &Shared<L, M>,
+    watched: &W,
     counts: &PlanFileCounts,
     file: PlanFile,
 ) {
@@ -44,8 +39,8 @@ pub fn write_plans<R: Networked, L: Ledger, M: Map + Drop>(
         all: String::new(rt.alloc()),
     };
     for _ in rt.forever() {
-        let is_last = shared.stopped(rt);
-        let taken = change(rt, shared, &mut used);
+        let is_last = watched.is_stopping();
+        let taken = change(rt, watched, &mut used);
         if !taken.is_empty() {
             let written = print(rt.alloc(), counts, &mut pages, taken, &mut used);
             write(rt, counts, &mut file, pages.all.as_bytes(), written);
@@ -58,27 +53,14 @@ pub fn write_plans<R: Networked, L: Ledger, M: Map + Drop>(
 }
 
 /// Gives used plans back, and takes some of those that wait.
-fn change<R: Networked, L: Ledger, M: Map + Drop>(
+fn change<R: Networked, W: Watched>(
     rt: &R,
-    shared: &Shared<L, M>,
+    watched: &W,
     used: &mut Vec<PlanNote>,
 ) -> Vec<PlanNote> {
     let mut taken = Vec::new(rt.alloc());
-    if taken.reserve(PLANS_A_HOLD).is_err() {
-        return taken;
-    }
-    let mut held = shared.lock(rt);
-    for _ in 0..PLANS_A_HOLD {
-        let Some(note) = used.pop() else {
-            break;
-        };
-        held.give_back_note(note);
-    }
-    for _ in 0..PLANS_A_HOLD {
-        let Some(note) = held.take_plan() else {
-            break;
-        };
-        let _ = taken.push(note);
+    if taken.reserve(PLANS_A_HOLD).is_ok() {
+        watched.change_plans(used, &mut taken);
     }
     taken
 }

@@ -2,36 +2,34 @@
 ghost use Rattle.std.specs.Prelude.{◌≡◌};
 
 use crate::losses::Losses;
-use fa_map_calls::Map;
+use crate::watched::Watched;
 use fa_prog_clients::Networked;
-use fa_shared::Shared;
 use fa_types::{BlockFault, Blocks};
 use std::alloc::Allocator;
-use std::sync::ledger::Ledger;
 
-/// A store over a shared array. Each of its calls is the one of the store within; an answer that a page is lost waits for the file.
+/// A store over an array that is watched. Each of its calls is the one of the store within; an answer that a page is lost waits for the file.
 #[derive(Drop)]
-pub struct TellingStore<'a, R, L: Ledger, M: Map + Drop, B: Blocks + Drop> {
+pub struct TellingStore<'a, R, W, B: Blocks + Drop> {
     blocks: B,
     rt: &'a R,
-    shared: &'a Shared<L, M>,
+    watched: &'a W,
     losses: &'a Losses<'a>,
 }
 
-impl<'a, R: Networked, L: Ledger, M: Map + Drop, B: Blocks + Drop> TellingStore<'a, R, L, M, B> {
+impl<'a, R: Networked, W: Watched, B: Blocks + Drop> TellingStore<'a, R, W, B> {
     /// The store over an array, with what is known of its lost pages.
     pub fn new(
         rt: &'a R,
-        shared: &'a Shared<L, M>,
+        watched: &'a W,
         losses: &'a Losses<'a>,
         blocks: B,
-    ) -> TellingStore<'a, R, L, M, B>
+    ) -> TellingStore<'a, R, W, B>
         ensures { result.blocks ≡ blocks }
     {
         TellingStore {
             blocks,
             rt,
-            shared,
+            watched,
             losses,
         }
     }
@@ -47,13 +45,12 @@ impl<'a, R: Networked, L: Ledger, M: Map + Drop, B: Blocks + Drop> TellingStore<
     /// Where an answer tells of a lost page, has it in the file before.
     fn before<T>(&self, answer: &Result<T, BlockFault>) {
         if matches!(answer, Err(BlockFault::Lost)) {
-            self.losses.keep_before_answer(self.rt, self.shared);
+            self.losses.keep_before_answer(self.rt, self.watched);
         }
     }
 }
 
-impl<R: Networked, L: Ledger, M: Map + Drop, B: Blocks + Drop> Blocks
-    for TellingStore<'_, R, L, M, B> {
+impl<R: Networked, W: Watched, B: Blocks + Drop> Blocks for TellingStore<'_, R, W, B> {
     ghost view = { λ store. B.view store.blocks };
 
     ghost made = { λ before call answer after. B.made before.blocks call answer after.blocks };

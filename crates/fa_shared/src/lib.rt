@@ -2,13 +2,11 @@
 #![tactic(auto)]
 
 mod dies;
-mod faults;
 mod shared;
 mod spares;
 mod turning;
 
 pub use dies::{done, take};
-pub use faults::{Cause, Fault, Faults, MAX_FAULTS, fault_of};
 pub use shared::Shared;
 pub use spares::bring_in_spare;
 pub use turning::{advance, commit_copy, reserve_copy, spare_in, window};

@@ -4,8 +4,8 @@ ghost use Rattle.fa_core.specs.Array.{IsWhole};
 ghost use Rattle.fa_core_tables.specs.Counted.{capped};
 ghost use Rattle.fa_shared_lock.specs.Seats.{commits_together, commits_with, number_of};
 
-use crate::faults::{Fault, Faults};
 use fa_core::Array;
+use fa_faults::{Fault, Faults};
 use fa_map_calls::Map;
 use fa_shared_lock::{Awaits, Gathered, Locked, MAX_SEATS, Seat, SeatSet};
 use std::alloc::{AllocError, Allocator, Global};

@@ -1,2 +1,3 @@
 pub mod Holds
 mod Only
+pub mod Turns

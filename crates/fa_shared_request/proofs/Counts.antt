@@ -32,7 +32,7 @@ use Rattle.std.proofs.Common.{Result, Ok, Err, Vec}
 use Rattle.fa_shared_request.specs.Counts.{Counts, GoesOn, IsMade}
 use Rattle.fa_shared_request.proofs.Begun.{left_from, none_refused}
 use Rattle.fa_shared_request.specs.Tallies.{Tally, left, left_for, pages_in, refusals, refusals_by, tally_at, tally_of}
-use Rattle.fa_shared_request.specs.Moves.{Moves, Strays, Turned, Rested, Moved, Folded, Strayed}
+use Rattle.fa_shared_lock.specs.Moves.{Moves, Strays, Turned, Rested, Moved, Folded, Strayed}
 use Rattle.fa_shared_steps.specs.Stages.{AfterAdmit, AfterPlanned, AfterReserve}
 use Rattle.fa_shared_lock.specs.Accounts.{commits_in}
 use Rattle.fa_shared_steps.specs.Stages.{after_abandon, after_begin, after_claim, after_commit, after_release, after_state}

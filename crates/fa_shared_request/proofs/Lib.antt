@@ -1,5 +1,5 @@
 pub mod Begun
 pub mod Counts
-pub mod Rooms
+pub mod PartTallies
 pub mod Sorting
-pub mod Turns
+pub mod Tiles

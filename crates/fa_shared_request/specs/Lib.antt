@@ -1,7 +1,6 @@
 pub mod Counts
-pub mod Founded
-pub mod Moves
 pub mod Ops
+pub mod PartCounts
 pub mod SharedStore
 pub mod Tallies
 pub mod Waiting

@@ -1,13 +1,11 @@
-//! A request of a block store, made event by event of an array under its lock.
+//! A request of a block store over an array that others use too: how far it is, and what it prepares while the array's lock is free.
 #![tactic(auto)]
 
 mod gathering;
-mod kinds;
+mod homes;
 mod op;
-mod reading;
-mod room;
-mod stages;
-mod syncing;
-mod writing;
+mod parts;
+mod preparing;
 
-pub use op::{Lent, Op, Turn};
+pub use op::{Lent, Op};
+pub use parts::{Part, fault_of, has_ended, parts_of, prepare};

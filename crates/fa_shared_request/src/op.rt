@@ -1,11 +1,10 @@
 //! A request, from its beginning to its answer.
 
-use crate::kinds::{kind_of, turn_from};
-use crate::room;
-use crate::stages::{answer_len, memory_for, prepare_stage, turn_stage};
+use crate::homes::{lacks_home, may_wait_for_home};
+use crate::preparing::{answer_len, memory_for, prepare_stage};
 use fa_machine::ReadState;
 use fa_map_calls::Map;
-use fa_shared_lock::{Awaits, Locked, Seat};
+use fa_shared_lock::{Awaits, Locked};
 use fa_shared_steps::{Fill, Request, Stage, Task, begin, content, fill_with};
 use fa_tag::Payload;
 use fa_types::{BlockFault, Page};
@@ -20,21 +19,9 @@ pub type Lent<A = Global> = Vec<(Page, Vec<u8, A>), A>;
 /// How many buffers may wait for a later request before they are given back.
 const MAX_LENT: usize = 16;
 
-/// What a turn of a request came to.
-#[derive(Clone, Copy)]
-pub enum Turn {
-    /// The next turn may be made at once.
-    More,
-    /// [`Op::prepare`] is next, with no lock held.
-    Prepare,
-    /// The request waits for what others do.
-    Wait,
-    /// The request has ended.
-    End,
-}
-
-/// A request of a block store over an array that others use too. A turn is made with the array's lock held and makes at most one event of
-/// the array, behind a Fold where the history is full. Between turns the lock is free, and [`Op::prepare`] does what wants no lock.
+/// A request of a block store over an array that others use too. Its turns are made with the array's lock held (`fa_shared_turns`), each with
+/// at most one event of the array, behind a Fold where the history is full. Between turns the lock is free, and [`Op::prepare`] does what
+/// wants no lock.
 #[derive(Drop)]
 pub struct Op<A: Allocator = Global, B: Allocator = Global> {
     alloc: A,
@@ -57,9 +44,8 @@ impl<A: Allocator, B: Allocator> Model for Op<A, B> {
 }
 
 impl<A: Allocator + Copy, B: Allocator> Op<A, B> {
+    ghost use Rattle.fa_shared_steps.specs.Ranges.{IsRange};
     ghost use Rattle.std.specs.Prelude.{◌≡◌, ℕ, ◌^◌, ◌<◌, ◌≤◌, [], IfErr, IfOk};
-    ghost use Rattle.fa_shared_lock.specs.Accounts.{IsAccounted};
-    ghost use Rattle.fa_shared_request.specs.Moves.{Turned};
     ghost use Rattle.fa_shared_request.specs.Ops.{Prepares, answer_of, ended as rule_ended, stage_of, task_in};
     ghost use Rattle.fa_shared_steps.specs.Stages.{beginning};
     ghost use Rattle.fa_shared_request.specs.Tallies.{pages_in, tally_of};
@@ -91,23 +77,35 @@ impl<A: Allocator + Copy, B: Allocator> Op<A, B> {
         })
     }
 
-    /// A turn, with a seat of the array. Where the request has something to prepare, or has ended, nothing is done. What is answered says
-    /// whom to ask next, and is in no clause.
-    pub fn turn<L: Ledger, M: Map + Drop>(
-        &mut self,
-        locked: &mut Locked<L, M, A>,
-        seat: &mut Seat<L>,
-    ) -> Turn
-        ensures turned { Turned (task_in self.old) seat.old seat.new locked.old.core (stage_of self.old) locked.new.core
-            (stage_of self.new) }
+    /// What it comes to.
+    pub fn task(&self) -> Task
+        ensures task { result ≡ task_in self.now }
+        ensures range { IsRange result.range }
+    {
+        self.task
+    }
+
+    /// Where it takes memory from that is not its answer's.
+    pub fn alloc(&self) -> A {
+        self.alloc
+    }
+
+    /// Takes out how far it is, for a turn that goes on from there. Until it is put back the request stands as one that has ended.
+    pub fn take_stage(&mut self) -> Stage<A>
+        ensures stage { result ≡ stage_of self.old }
         ensures task { task_in self.new ≡ task_in self.old }
         ensures answer { answer_of self.new ≡ answer_of self.old }
-        ensures account { IsAccounted locked.old seat.old locked.new seat.new }
     {
-        let stage = replace(&mut self.stage, Stage::Ended(None));
-        let before = kind_of(&stage);
-        self.stage = turn_stage(self.alloc, locked, seat, self.task, stage);
-        turn_from(before, kind_of(&self.stage))
+        replace(&mut self.stage, Stage::Ended(None))
+    }
+
+    /// Puts back how far it is, behind a turn.
+    pub fn put_stage(&mut self, stage: Stage<A>)
+        ensures stage { stage_of self.new ≡ stage }
+        ensures task { task_in self.new ≡ task_in self.old }
+        ensures answer { answer_of self.new ≡ answer_of self.old }
+    {
+        self.stage = stage;
     }
 
     /// Does what wants no lock, if there is something: lists pages, or makes what a page is to hold or the answer of a read. The bytes
@@ -234,7 +232,7 @@ impl<A: Allocator + Copy, B: Allocator> Op<A, B> {
     /// speed alone, and in no clause.
     pub fn lacks_home<L: Ledger, M: Map + Drop>(&self, locked: &Locked<L, M, A>) -> bool {
         match &self.stage {
-            Stage::Reserving(held, _) => room::lacks_home(locked.array(), held.page),
+            Stage::Reserving(held, _) => lacks_home(locked.array(), held.page),
             _ => false,
         }
     }
@@ -243,7 +241,7 @@ impl<A: Allocator + Copy, B: Allocator> Op<A, B> {
     /// to be synced. What is told is a matter of speed alone, and in no clause.
     pub fn may_wait_for_home<L: Ledger, M: Map + Drop>(&self, locked: &Locked<L, M, A>) -> bool {
         match &self.stage {
-            Stage::Reserving(held, _) => room::may_wait_for_home(locked.array(), held.page),
+            Stage::Reserving(held, _) => may_wait_for_home(locked.array(), held.page),
             _ => false,
         }
     }
@@ -268,7 +266,7 @@ impl<A: Allocator + Copy, B: Allocator> Op<A, B> {
         };
     }
 
-    /// What it waits for, where its last turn came to [`Turn::Wait`]: its batch, the programs of its claim, its flush, or any change. A
+    /// What it waits for, where it waits: its batch, the programs of its claim, its flush, or any change. A
     /// batch that is to be planned anew waits for other requests. What is answered settles who is woken when, and is in no clause.
     pub fn awaits<L: Ledger, M: Map + Drop>(&self, locked: &Locked<L, M, A>) -> Awaits {
         match &self.stage {

@@ -11,8 +11,9 @@ use crate::context::Context;
 use crate::parts::run_parts;
 use fa_map_calls::Map;
 use fa_shared_lock::{Awaits, Hands, Locked, Seat};
-use fa_shared_request::{Lent, Op, Turn};
+use fa_shared_request::{Lent, Op};
 use fa_shared_steps::Request;
+use fa_shared_turns::{Turn, turn_on};
 use fa_types::{BlockFault, Geometry};
 use std::alloc::Allocator;
 use std::mem::replace;
@@ -243,46 +244,4 @@ pub(crate) fn pass_time<
     let mut guard = context.shared.lock(context.rt);
     hands.end(&mut guard, seat);
     guard
-}
-
-/// Gives back what a batch of the request handed out, and makes its turns while each leads to the next.
-pub(crate) fn turn_on<R: Wait, L: Ledger, M: Map + Drop, A: Allocator + Copy, B: Allocator>(
-    rt: &R,
-    op: &mut Op<A, B>,
-    locked: &mut Locked<L, M, A>,
-    seat: &mut Seat<L>,
-) -> Turn
-    ensures { GoesOn seat.old op.old seat.new op.new }
-{
-    op.give_back(locked);
-    turn_further(rt, op, locked, seat)
-}
-
-/// Makes turns of a request while each leads to the next. It waits before it reserves where a die gets room before long that its page's
-/// copy belongs on.
-fn turn_further<R: Wait, L: Ledger, M: Map + Drop, A: Allocator + Copy, B: Allocator>(
-    rt: &R,
-    op: &mut Op<A, B>,
-    locked: &mut Locked<L, M, A>,
-    seat: &mut Seat<L>,
-) -> Turn
-    ensures { GoesOn seat.old op.old seat.new op.new }
-{
-    if op.ended().is_some() {
-        return Turn::End;
-    }
-    for _ in rt.forever() {
-        if op.may_wait_for_home(locked) {
-            return Turn::Wait;
-        }
-        let turn = op.turn(locked, seat);
-        if matches!(turn, Turn::Wait) {
-            return turn;
-        }
-        locked.note_change();
-        if !matches!(turn, Turn::More) {
-            return turn;
-        }
-    }
-    unreachable!()
 }

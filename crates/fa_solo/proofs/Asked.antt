@@ -6,7 +6,7 @@ use Rattle.fa_shared_request.specs.Counts.{Counts, GoesOn, IsMade}
 use Rattle.fa_mount_headers.specs.declared.judging.Standing.{Standing}
 use Rattle.fa_image.specs.Image.{ImageAnswer, ImageCall}
 use Rattle.fa_shared_lock.specs.Accounts.{IsAccounted}
-use Rattle.fa_shared_request.specs.Moves.{Turned}
+use Rattle.fa_shared_lock.specs.Moves.{Turned}
 use Rattle.fa_shared_request.specs.Ops.{OpView, Prepares, answer_of, stage_of, task_in}
 use Rattle.fa_shared_request.specs.Tallies.{Tally, pages_in, tally_at, tally_of}
 use Rattle.fa_shared_steps.specs.Tasks.{task_of}

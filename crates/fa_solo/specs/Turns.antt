@@ -3,7 +3,7 @@ use Rattle.std.specs.Prelude.{◌≡◌, ℕ, ◌+◌, IsTrue, List}
 use Rattle.fa_shared_request.specs.Counts.{GoesOn}
 use Rattle.fa_mount_headers.specs.declared.judging.Standing.{Standing}
 use Rattle.fa_image.specs.Image.{ImageAnswer, ImageCall}
-use Rattle.fa_shared_request.specs.Moves.{Turned}
+use Rattle.fa_shared_lock.specs.Moves.{Turned}
 use Rattle.fa_shared_request.specs.Ops.{OpView, Prepares, answer_of, stage_of, task_in}
 use Rattle.fa_shared_request.specs.Waiting.{HasNoWindow, awaits_flush, waits, without_room}
 use Rattle.fa_shared_steps.specs.declared.request.Task.{Task}

@@ -23,8 +23,9 @@ use fa_image::Image;
 use fa_machine::{BatchId, WindowRefused};
 use fa_map_calls::Map;
 use fa_shared_lock::Awaits;
-use fa_shared_request::{Op, Turn};
+use fa_shared_request::Op;
 use fa_shared_steps::Request;
+use fa_shared_turns::Turn;
 use fa_solo_job::Inner;
 use fa_types::BlockFault;
 use std::alloc::Allocator;
@@ -201,7 +202,7 @@ fn turn<L: Ledger, M: Map + Drop, I: Image, A: Allocator + Copy, B: Allocator>(
     ensures { (bytes : List ℕ) → (runs : RunsOn I.made bytes inner.old op.old inner.new op.new) × (1 ≤ runs.turns) }
 {
     op.give_back(&mut inner.locked);
-    op.turn(&mut inner.locked, &mut inner.seat)
+    fa_shared_turns::make_turn(op, &mut inner.locked, &mut inner.seat)
 }
 
 /// Makes what there is to be done for dies, where the request may have to wait. Where there is nothing, and it wants room, dies without

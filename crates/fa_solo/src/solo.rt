@@ -1,13 +1,13 @@
 //! The store of one thread.
 ghost use Rattle.std.specs.Prelude.{◌≡◌, ◌*◌, ◌^◌, ◌≤◌, IfErr, IfOk};
 ghost use Rattle.fa_core.specs.Array.{IsWhole, number_of as array_number};
-ghost use Rattle.fa_shared.specs.Faults.{faults_of};
+ghost use Rattle.fa_faults.specs.Faults.{faults_of};
 ghost use Rattle.fa_solo_job.specs.Inner.{house_in, house_of};
 
 use crate::whole::{call, call_flush, call_read};
+use fa_faults::Fault;
 use fa_image::Image;
 use fa_map_calls::Map;
-use fa_shared::Fault;
 use fa_shared_steps::Request;
 use fa_solo_job::{Inner, Parts};
 use fa_types::{BlockFault, Blocks, Geometry, Round};

@@ -3,11 +3,11 @@ ghost use Rattle.std.specs.Prelude.{◌≡◌, ◌+◌, true, IfErr, IfOk, lengt
 ghost use Rattle.fa_core.specs.Array.{IsWhole, number_of as array_number, state_of};
 ghost use Rattle.fa_mount.specs.Standings.{place_on};
 
+use fa_faults::Faults;
 use fa_image::Image;
 use fa_map_calls::Map;
 use fa_mount::{MountedArray, place_of};
 use fa_mount_headers::Standing;
-use fa_shared::Faults;
 use fa_shared_lock::{Locked, Seat};
 use fa_types::{Die, Geometry, TAG_BYTES};
 use std::alloc::{AllocError, Allocator, Global};

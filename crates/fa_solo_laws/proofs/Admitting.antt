@@ -1,5 +1,5 @@
 -- A batch is admitted where none is open: each of its pages is answered or booked, and it takes no more rounds than any plan.
-use Rattle.fa_batch.proofs.Counting.{any-from-count}
+use Rattle.fa_batch_terms.proofs.Counting.{any-from-count}
 use Rattle.fa_batch_terms.specs.Batch.{Entry, holds, is_among}
 use Rattle.fa_batch_terms.specs.Certificate.{IsCertificate, IsLeast}
 use Rattle.fa_batch_terms.specs.Plan.{ArePlaced, IsPlan, pages_at, rounds_of, times_placed}

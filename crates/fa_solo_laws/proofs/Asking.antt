@@ -16,7 +16,7 @@ use Rattle.fa_machine.specs.State.{Core}
 use Rattle.fa_machine.specs.Step.{Act, Advance, Done, Fold, ReserveCopy, SpareIn, Take, Window}
 use Rattle.fa_machine.specs.World.{Gave, Work, World}
 use Rattle.fa_mount.specs.Standings.{AreApart}
-use Rattle.fa_shared_request.specs.Moves.{Folded, Moved, Moves, Rested, Strayed, Turned}
+use Rattle.fa_shared_lock.specs.Moves.{Folded, Moved, Moves, Rested, Strayed, Turned}
 use Rattle.fa_shared_request.specs.Waiting.{HasNoWindow, awaits_flush, waits}
 use Rattle.fa_shared_steps.specs.declared.request.Task.{Task}
 use Rattle.fa_shared_steps.specs.declared.stage.Stage.{Stage}

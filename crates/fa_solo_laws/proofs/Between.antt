@@ -7,7 +7,7 @@ use Rattle.fa_machine.specs.declared.jobs.Flight.{Flight}
 use Rattle.fa_mount_headers.specs.declared.judging.Standing.{Standing}
 use Rattle.fa_shared_lock.specs.Seats.{number_of}
 use Rattle.fa_shared_lock.specs.declared.seat.Seat.{Seat}
-use Rattle.fa_shared_request.specs.Moves.{Folded, Moved, Moves, Rested, Strayed, Turned}
+use Rattle.fa_shared_lock.specs.Moves.{Folded, Moved, Moves, Rested, Strayed, Turned}
 use Rattle.fa_shared_request.specs.Ops.{OpView, ended, stage_of, task_in}
 use Rattle.fa_shared_request.specs.Waiting.{awaits_flush}
 use Rattle.fa_shared_steps.specs.declared.request.Task.{Task}

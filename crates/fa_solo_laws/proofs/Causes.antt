@@ -27,7 +27,7 @@ use Rattle.fa_machine.specs.declared.answers.FlushState.TheVariants.{NoDie as Fl
 use Rattle.fa_machine.specs.declared.refusals.ReserveRefused.{ReserveRefused}
 use Rattle.fa_machine.specs.declared.refusals.ReserveRefused.TheVariants.{NoDie as ReserveNoDie, NoRoom as ReserveNoRoom, Spent as NumbersSpent}
 use Rattle.fa_machine.specs.declared.refusals.SpareRefused.TheVariants.{NotSpare}
-use Rattle.fa_shared_request.specs.Founded.{may_collect}
+use Rattle.fa_shared_lock.specs.Founded.{may_collect}
 use Rattle.fa_shared_steps.specs.declared.range.Range.{Range}
 use Rattle.fa_types.specs.Store.{HasCause, IsMet}
 use Rattle.fa_types.specs.declared.blocks.BlockFault.{BlockFault}

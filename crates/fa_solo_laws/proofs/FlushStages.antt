@@ -15,7 +15,7 @@ use Rattle.fa_machine.specs.declared.refusals.ReserveRefused.{ReserveRefused}
 use Rattle.fa_machine.specs.declared.refusals.ReserveRefused.TheVariants.{NoDie as ReserveNoDie, NoMemory as ReserveNoMemory}
 use Rattle.fa_machine.specs.declared.refusals.ReserveRefused.TheVariants.{NoRoom as ReserveNoRoom}
 use Rattle.fa_machine.specs.declared.refusals.ReserveRefused.TheVariants.{Spent as NumbersSpent}
-use Rattle.fa_shared_request.specs.Moves.{Moves, Strays}
+use Rattle.fa_shared_lock.specs.Moves.{Moves, Strays}
 use Rattle.fa_shared_steps.specs.Stages.{AfterReserve, after_pages, from_page, opened, with_fewer}
 use Rattle.fa_shared_request.specs.Ops.{Prepares}
 use Rattle.fa_shared_steps.specs.Stages.{beginning, beginning_by}

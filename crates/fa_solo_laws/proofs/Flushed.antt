@@ -16,7 +16,7 @@ use Rattle.fa_machine.specs.Step.{Act, Done, FlushBegin, FlushState, Fold, Take}
 use Rattle.fa_machine.specs.World.{World}
 use Rattle.fa_machine.specs.declared.answers.Flush.{Flush}
 use Rattle.fa_machine.specs.declared.answers.FlushState.TheVariants.{Synced}
-use Rattle.fa_shared_request.specs.Moves.{Moves}
+use Rattle.fa_shared_lock.specs.Moves.{Moves}
 use Rattle.fa_shared_steps.specs.Stages.{beginning}
 use Rattle.fa_shared_steps.specs.declared.request.Task.{Task}
 use Rattle.fa_shared_steps.specs.declared.stage.Stage.{Stage}

@@ -18,7 +18,7 @@ use Rattle.fa_machine.specs.declared.jobs.Flight.TheVariants.{Sync}
 use Rattle.fa_machine.specs.Step.{Act, Done, FlushBegin, FlushState, Step, Take}
 use Rattle.fa_machine.specs.declared.answers.Flush.{Flush}
 use Rattle.fa_machine.specs.declared.answers.FlushState.TheVariants.{Synced, Waiting}
-use Rattle.fa_shared_request.specs.Moves.{Moves, Strays}
+use Rattle.fa_shared_lock.specs.Moves.{Moves, Strays}
 use Rattle.fa_shared_request.specs.Ops.{Prepares}
 use Rattle.fa_shared_steps.specs.Stages.{beginning}
 use Rattle.fa_shared_request.specs.Waiting.{waits, without_room}

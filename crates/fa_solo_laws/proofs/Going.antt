@@ -18,7 +18,7 @@ use Rattle.fa_machine.specs.Run.{Event, Happening, Happens, ImageCall}
 use Rattle.fa_machine.specs.State.{Core, MapState}
 use Rattle.fa_machine.specs.Step.{Act, Commit, Step}
 use Rattle.fa_machine.specs.World.{World}
-use Rattle.fa_shared_request.specs.Founded.{may_collect}
+use Rattle.fa_shared_lock.specs.Founded.{may_collect}
 use Rattle.fa_types.specs.Store.{HasCause, IsMet}
 use Rattle.fa_types.specs.declared.blocks.BlockFault.{BlockFault}
 use Rattle.fa_types.specs.declared.blocks.BlockFault.TheVariants.{Lost, NoMemory, NoRoom, Spent}

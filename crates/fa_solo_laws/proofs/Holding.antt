@@ -25,7 +25,7 @@ use Rattle.fa_machine.specs.declared.refusals.ReserveRefused.TheVariants.{Spent 
 use Rattle.fa_mount_headers.specs.declared.judging.Standing.{Standing}
 use Rattle.fa_shared_lock.specs.Seats.{number_of}
 use Rattle.fa_shared_lock.specs.declared.seat.Seat.{Seat}
-use Rattle.fa_shared_request.specs.Moves.{Folded, Moved, Moves, Rested, Strayed, Strays, Turned}
+use Rattle.fa_shared_lock.specs.Moves.{Folded, Moved, Moves, Rested, Strayed, Strays, Turned}
 use Rattle.fa_shared_request.specs.Ops.{Prepares, ended}
 use Rattle.fa_shared_request.specs.Waiting.{awaits_flush, without_room}
 use Rattle.fa_shared_steps.specs.Prepared.{IsFilled, IsListed, IsMerged, SortsAnswer, SortsPage, after_batch}

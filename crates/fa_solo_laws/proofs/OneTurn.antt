@@ -8,7 +8,7 @@ use Rattle.fa_machine.specs.State.{Core}
 use Rattle.fa_machine.specs.Step.{Act, Admit, Commit, Done, Fold, Reserve, ReserveCopy, ReserveFewer, ReserveHole, Step, Take}
 use Rattle.fa_machine.specs.Taking.{Handed}
 use Rattle.fa_machine.specs.World.{IsTold, World, followed}
-use Rattle.fa_shared_request.specs.Moves.{Moved, Moves, Rested, Turned, Folded, Strayed as StrayedTurn}
+use Rattle.fa_shared_lock.specs.Moves.{Moved, Moves, Rested, Turned, Folded, Strayed as StrayedTurn}
 use Rattle.fa_shared_steps.specs.declared.request.Task.{Task}
 use Rattle.fa_shared_steps.specs.declared.stage.Stage.{Stage}
 use Rattle.fa_shared_steps.specs.declared.stage.Stage.TheVariants.{Flushing, Reserving}

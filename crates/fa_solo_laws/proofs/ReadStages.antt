@@ -20,8 +20,8 @@ use Rattle.fa_machine.specs.Step.{Act, Admit, EndBatch, Fold, Replan, is_distinc
 use Rattle.fa_machine.specs.World.{World, plain_page}
 use Rattle.fa_machine.specs.declared.answers.ReadState.TheVariants.{Ready}
 use Rattle.fa_machine.specs.declared.refusals.AdmitRefused.TheVariants.{Lost as PageLost, CalendarFull, Spent as RoundsSpent, NoMemory as AdmitNoMemory}
-use Rattle.fa_shared_request.specs.Founded.{IsBarred, IsFounded}
-use Rattle.fa_shared_request.specs.Moves.{Moves, Strays}
+use Rattle.fa_shared_lock.specs.Founded.{IsBarred, IsFounded}
+use Rattle.fa_shared_lock.specs.Moves.{Moves, Strays}
 use Rattle.fa_shared_request.specs.Ops.{Prepares}
 use Rattle.fa_shared_steps.specs.Prepared.{after_batch, has_part, until}
 use Rattle.fa_shared_steps.specs.Ranges.{first_page, part_of, past_page}

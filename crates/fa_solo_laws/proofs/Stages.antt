@@ -5,8 +5,8 @@ use Rattle.fa_machine.specs.Step.{Act, Admit, EndBatch, Fold, Replan, Step}
 use Rattle.fa_machine.specs.declared.refusals.AdmitRefused.{AdmitRefused}
 use Rattle.fa_machine.specs.declared.refusals.AdmitRefused.TheVariants.{Lost as PageLost, CalendarFull, Spent as RoundsSpent}
 use Rattle.fa_machine.specs.declared.refusals.AdmitRefused.TheVariants.{NoMemory as AdmitNoMemory}
-use Rattle.fa_shared_request.specs.Founded.{IsFounded}
-use Rattle.fa_shared_request.specs.Moves.{Folded, Moved, Moves, Rested, Strayed, Strays, Turned}
+use Rattle.fa_shared_lock.specs.Founded.{IsFounded}
+use Rattle.fa_shared_lock.specs.Moves.{Folded, Moved, Moves, Rested, Strayed, Strays, Turned}
 use Rattle.fa_shared_steps.specs.Stages.{AfterPlanned, IsSorting, stopped}
 use Rattle.fa_shared_request.specs.Ops.{Prepares}
 use Rattle.fa_shared_steps.specs.Prepared.{IsListed, SortsAnswer, after_batch, pages_between, until}

@@ -15,7 +15,7 @@ use Rattle.fa_machine.specs.Step.{FlushBegin, FlushState, Fold, Step}
 use Rattle.fa_machine.specs.declared.answers.Flush.{Flush}
 use Rattle.fa_machine.specs.declared.answers.FlushState.TheVariants.{Synced}
 use Rattle.fa_mount.specs.Standings.{AreApart}
-use Rattle.fa_shared_request.specs.Moves.{Folded, Moved, Rested, Strayed, Turned}
+use Rattle.fa_shared_lock.specs.Moves.{Folded, Moved, Rested, Strayed, Turned}
 use Rattle.fa_shared_steps.specs.declared.request.Task.{Task}
 use Rattle.fa_shared_steps.specs.declared.stage.Stage.{Stage}
 use Rattle.fa_mount_close_laws.specs.Drives.{AreHonest}

@@ -11,7 +11,7 @@ use Rattle.fa_image.specs.Image.{ImageAnswer, ImageCall, ImageMeets, ImageState,
 use Rattle.fa_machine.specs.Cells.{Outcome}
 use Rattle.fa_machine.specs.Step.{Act, Admit, Done, EndBatch, Fold, ReserveCopy}
 use Rattle.fa_mount.specs.Standings.{AreApart}
-use Rattle.fa_shared_request.specs.Moves.{Folded, Moved, Moves, Rested, Strayed, Turned}
+use Rattle.fa_shared_lock.specs.Moves.{Folded, Moved, Moves, Rested, Strayed, Turned}
 use Rattle.fa_shared_request.specs.Waiting.{awaits_flush}
 use Rattle.fa_shared_steps.specs.declared.request.Task.{Task}
 use Rattle.fa_shared_steps.specs.declared.stage.Stage.{Stage}

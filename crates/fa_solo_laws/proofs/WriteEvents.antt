@@ -41,8 +41,8 @@ use Rattle.fa_machine.specs.declared.refusals.FlushRefused.TheVariants.{Spent as
 use Rattle.fa_machine.specs.declared.refusals.ReserveRefused.{ReserveRefused}
 use Rattle.fa_machine.specs.declared.refusals.ReserveRefused.TheVariants.{NoDie as ReserveNoDie, NoMemory as ReserveNoMemory, NoRoom as ReserveNoRoom}
 use Rattle.fa_machine.specs.declared.refusals.ReserveRefused.TheVariants.{Spent as NumbersSpent}
-use Rattle.fa_shared_request.specs.Founded.{IsFounded, may_collect}
-use Rattle.fa_shared_request.specs.Moves.{Moves}
+use Rattle.fa_shared_lock.specs.Founded.{IsFounded, may_collect}
+use Rattle.fa_shared_lock.specs.Moves.{Moves}
 use Rattle.fa_shared_steps.specs.Stages.{AfterReserve, after_pages, from_page, opened, with_fewer}
 use Rattle.fa_shared_steps.specs.Ranges.{begins_at, bytes_in, covers, first_page, past_page}
 use Rattle.fa_shared_steps.specs.declared.request.Task.{Task}

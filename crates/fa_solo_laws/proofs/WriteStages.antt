@@ -18,8 +18,8 @@ use Rattle.fa_machine.specs.Step.{Fold}
 use Rattle.fa_machine.specs.Step.{is_distinct, is_page, is_sized}
 use Rattle.fa_machine.specs.World.{World, plain_page}
 use Rattle.fa_machine.specs.declared.answers.Flush.{Flush}
-use Rattle.fa_shared_request.specs.Founded.{IsBarred, fits}
-use Rattle.fa_shared_request.specs.Moves.{Strays}
+use Rattle.fa_shared_lock.specs.Founded.{IsBarred, fits}
+use Rattle.fa_shared_lock.specs.Moves.{Strays}
 use Rattle.fa_shared_request.specs.Ops.{Prepares}
 use Rattle.fa_shared_steps.specs.Prepared.{IsMerged, IsWish, SortsPage, content, has_content, has_part}
 use Rattle.fa_shared_steps.specs.Ranges.{begins_at, bytes_in, covers, past_page}

@@ -25,7 +25,7 @@ use Rattle.fa_machine.specs.declared.answers.FlushState.TheVariants.{NoDie as Fl
 use Rattle.fa_machine.specs.declared.refusals.ReserveRefused.{ReserveRefused}
 use Rattle.fa_machine.specs.declared.refusals.ReserveRefused.TheVariants.{NoDie as ReserveNoDie, NoMemory as ReserveNoMemory, NoRoom as ReserveNoRoom}
 use Rattle.fa_machine.specs.declared.refusals.ReserveRefused.TheVariants.{Spent as NumbersSpent}
-use Rattle.fa_shared_request.specs.Founded.{may_collect}
+use Rattle.fa_shared_lock.specs.Founded.{may_collect}
 use Rattle.fa_shared_steps.specs.Ranges.{begins_at, bytes_in, covers, first_page, past_page}
 use Rattle.fa_shared_steps.specs.declared.range.Range.{Range}
 use Rattle.fa_shared_steps.specs.declared.stage.PageClaim.{PageClaim}

@@ -5,8 +5,8 @@ use Rattle.fa_solo_laws.specs.Unwritten.{EndsNoBatch, WritesNothing}
 use Rattle.fa_machine.specs.Run.{Happening, Event, Happens, HappensEvent}
 use Rattle.fa_machine.specs.Step.{Act, Abandon, Commit, Fold, Release, Reserve, ReserveFewer, ReserveHole, SpareIn}
 use Rattle.fa_machine.specs.World.{World}
-use Rattle.fa_shared_request.specs.Founded.{IsBarred, IsFounded}
-use Rattle.fa_shared_request.specs.Moves.{Moves, Strays}
+use Rattle.fa_shared_lock.specs.Founded.{IsBarred, IsFounded}
+use Rattle.fa_shared_lock.specs.Moves.{Moves, Strays}
 use Rattle.fa_shared_request.specs.Ops.{Prepares}
 use Rattle.fa_shared_request.specs.Waiting.{HasNoWindow, waits, without_room}
 use Rattle.fa_shared_steps.specs.declared.request.Task.{Task}

@@ -6,7 +6,7 @@ use Rattle.fa_machine.specs.Placement.{copies_asked, has_room}
 use Rattle.fa_machine.specs.Reading.{is_late}
 use Rattle.fa_machine.specs.State.{Core, MapState, dies_of}
 use Rattle.fa_machine.specs.World.{World}
-use Rattle.fa_shared_request.specs.Founded.{may_collect}
+use Rattle.fa_shared_lock.specs.Founded.{may_collect}
 use Rattle.fa_types.specs.Plain.{export}
 use Rattle.fa_types.specs.Store.{Store}
 

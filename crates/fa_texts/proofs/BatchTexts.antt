@@ -3,12 +3,12 @@ use Rattle.std.proofs.Common.{◌≡◌, ◌≢◌, ◌⊎◌, ℕ, ◌-◌, ◌
 use Rattle.std.proofs.lemmas.List.{append-nil, map-append}
 use Rattle.std.proofs.lemmas.List.Elements.{All-nil, All-push, All-head, All-tail, All-weaker}
 use Rattle.fa_types.specs.Open.{max_closed}
-use Rattle.fa_batch.specs.declared.closed.Run.{Run}
+use Rattle.fa_closed.specs.declared.closed.Run.{Run}
 use Rattle.fa_batch_terms.specs.Batch.{Entry}
 use Rattle.fa_texts.specs.BatchText.{page_line, closed_line, end_line, batch_lines, HasPageLine, HasClosedLine, IsBatchText, StartsWithBatch}
 use Rattle.fa_texts.specs.Text.{Begins}
 use Rattle.fa_texts.proofs.LinesRead.{other_word}
-use Rattle.fa_batch.proofs.Parts.{first_same, rest_same, some_left}
+use Rattle.fa_batch_terms.proofs.Parts.{first_same, rest_same, some_left}
 
 -- the lines up to those of these pages and runs, with more behind them
 abbrev pub front : List Entry → List Run → List (List (List ℕ)) → List (List (List ℕ))

@@ -8,7 +8,7 @@ use Rattle.fa_texts.specs.BatchText.{end_line}
 use Rattle.fa_texts.specs.CertificateText.{rounds_line, place_line, short_line, short_lines, certificate_lines, HasPlaceLine, HaveShortLine, IsCertificateText, IsSomeCertificate}
 use Rattle.fa_texts.specs.Text.{Begins}
 use Rattle.fa_texts.proofs.LinesRead.{other_word}
-use Rattle.fa_batch.proofs.Parts.{first_same, rest_same, some_left}
+use Rattle.fa_batch_terms.proofs.Parts.{first_same, rest_same, some_left}
 
 -- the lines up to those of these places and pages, with more behind them
 abbrev pub front : ℕ → List Place → List Page → List (List (List ℕ)) → List (List (List ℕ))

@@ -9,7 +9,7 @@ use Rattle.fa_types.specs.declared.numbers.Page.{Page}
 use Rattle.fa_texts.specs.BatchText.{page_line, HasPageLine}
 use Rattle.fa_texts.specs.CertificateText.{short_line, HaveShortLine}
 use Rattle.fa_texts.specs.Numbers.{IsRisingUpTo}
-use Rattle.fa_batch.proofs.Parts.{first_same, some_left}
+use Rattle.fa_batch_terms.proofs.Parts.{first_same, some_left}
 
 module _ {X : Type 0} (number : X → ℕ) where
   -- words that write the numbers of things

@@ -10,7 +10,7 @@ use Rattle.fa_types.specs.declared.numbers.Page.{Page}
 use Rattle.fa_batch_terms.specs.declared.place.Place.{Place}
 use Rattle.fa_texts.specs.CertificateText.{certificate_lines, HasCertificateText, HasPlaceLine, IsCertificateText, IsPrinted}
 use Rattle.fa_texts.specs.Text.{words_by_line}
-use Rattle.fa_batch.proofs.Counting.{count_by-cons}
+use Rattle.fa_batch_terms.proofs.Counting.{count_by-cons}
 
 -- a number that no page has is none of theirs
 none_of : (n : ℕ) (pages : List Page) → count_by (λ p. p.0 == n) pages ≡ 0 → AllByRecursion (λ m. (n == m) ≡ false) (map (λ p. p.0) pages)

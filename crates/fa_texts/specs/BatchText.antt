@@ -2,13 +2,13 @@
 use Rattle.std.specs.Prelude.{◌≡◌, ◌≢◌, ℕ, ◌+◌, ◌≤◌, List, [], ◌∷◌, ◌++◌, length, map, codes, All}
 use Rattle.std.specs.Fmt.{decimal}
 use Rattle.std.specs.List.Sorted.{IsStrictlyIncreasing}
-use Rattle.fa_batch.specs.declared.closed.Run.{Run}
+use Rattle.fa_closed.specs.declared.closed.Run.{Run}
 use Rattle.fa_texts.specs.declared.batch_text.BatchLine.{BatchLine}
 use Rattle.fa_texts.specs.declared.batch_text.BatchLine.TheVariants.{Page as PageLine, Closed as ClosedLine, End, Other}
 use Rattle.fa_texts.specs.declared.batch_text.BatchText.{BatchText}
 use Rattle.fa_batch_terms.specs.Batch.{Entry}
-use Rattle.fa_batch.specs.Closed.{current_of, is_closed}
-use Rattle.fa_batch.specs.Runs.{any_closes}
+use Rattle.fa_closed.specs.Closed.{current_of, is_closed}
+use Rattle.fa_closed.specs.Runs.{any_closes}
 use Rattle.fa_io.specs.Lines.{lines_of}
 use Rattle.fa_texts.specs.Text.{words_of}
 

@@ -1,7 +1,7 @@
 -- A logged plan: the text of a batch with the text of its certificate at once behind it.
 use Rattle.std.specs.Prelude.{◌≡◌, ℕ, List, ◌++◌}
 use Rattle.fa_types.specs.declared.numbers.Page.{Page}
-use Rattle.fa_batch.specs.declared.closed.Run.{Run}
+use Rattle.fa_closed.specs.declared.closed.Run.{Run}
 use Rattle.fa_batch_terms.specs.declared.place.Place.{Place}
 use Rattle.fa_batch_terms.specs.Batch.{Entry}
 use Rattle.fa_texts.specs.BatchText.{batch_lines, IsBatchText}

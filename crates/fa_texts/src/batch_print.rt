@@ -10,7 +10,8 @@ use crate::batch_text::{MAX_CLOSED_ROUND, MAX_RUNS};
 use crate::certificate_print::print_certificate;
 use crate::line_print::{print_three, push_number};
 use crate::words::{MAX_DIE, MAX_PAGE};
-use fa_batch::{Batch, MAX_PAGES, Plan, Run, Shortage};
+use fa_batch::{Batch, MAX_PAGES, Plan, Shortage};
+use fa_closed::Run;
 use fa_types::{Die, Page};
 use std::alloc::{AllocError, Allocator};
 

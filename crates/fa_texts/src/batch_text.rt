@@ -7,7 +7,8 @@ use crate::text_error::TextError;
 use crate::words::{
     MAX_DIE, MAX_PAGE, cut_word, is_only_word, is_word, next_number, rising_numbers, three_numbers,
 };
-use fa_batch::{Batch, Closed, MAX_PAGES, Run};
+use fa_batch::{Batch, MAX_PAGES};
+use fa_closed::{Closed, Run};
 use fa_io::cut_line;
 use fa_types::{Die, Page, Round};
 use std::alloc::{AllocError, Allocator, Global};

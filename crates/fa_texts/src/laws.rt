@@ -2,7 +2,7 @@
 ghost use Rattle.std.specs.Prelude.{◌≡◌, ℕ, List};
 ghost use Rattle.std.specs.List.Sorted.{IsPermutation};
 ghost use Rattle.fa_types.specs.declared.numbers.Page.{Page};
-ghost use Rattle.fa_batch.specs.declared.closed.Run.{Run};
+ghost use Rattle.fa_closed.specs.declared.closed.Run.{Run};
 ghost use Rattle.fa_batch_terms.specs.declared.place.Place.{Place};
 ghost use Rattle.fa_batch_terms.specs.Batch.{Entry};
 ghost use Rattle.fa_texts.specs.BatchText.{HasBatchText, IsBatchText, StartsWithBatch};

@@ -2,4 +2,3 @@ mod Begun
 mod Dies
 mod Held
 mod Holds
-mod Rebuilds

@@ -9,8 +9,8 @@ use Rattle.fa_machine.specs.State.{Core, is_live}
 use Rattle.fa_machine.specs.Step.{Advance, Done, Step, Take, is_die, is_sized}
 use Rattle.fa_machine.specs.declared.refusals.AdvanceRefused.{AdvanceRefused}
 use Rattle.fa_machine.specs.declared.refusals.AdvanceRefused.TheVariants.{Pending}
-use Rattle.fa_shared.specs.Causes.{fault_of}
-use Rattle.fa_shared.specs.declared.faults.Fault.{Fault}
+use Rattle.fa_faults.specs.Causes.{fault_of}
+use Rattle.fa_faults.specs.declared.faults.Fault.{Fault}
 use Rattle.fa_core_dispatch.specs.Handed.{handed_of}
 use Rattle.fa_types.specs.declared.numbers.Die.{Die}
 use Rattle.fa_types.specs.declared.numbers.Round.{Round}

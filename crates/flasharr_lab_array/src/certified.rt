@@ -4,9 +4,10 @@ ghost use Rattle.fa_batch_terms.specs.Batch.{IsSound};
 ghost use Rattle.fa_core.specs.Array.{IsWhole};
 
 use crate::seen::copy_seen;
-use fa_batch::{Batch, Closed};
+use fa_batch::Batch;
 use fa_batch_terms::Place;
 use fa_cert::{Verdict, check};
+use fa_closed::Closed;
 use fa_core::{Array, Planned};
 use fa_machine::BatchId;
 use fa_map_calls::Map;

@@ -1,7 +1,8 @@
 //! A certificate that no text comes to.
-use fa_batch::{Batch, Closed, Places, Plan, Shortage, end_soon};
+use fa_batch::{Batch, Places, Plan, Shortage};
 use fa_batch_terms::Place;
 use fa_cert::{Refusal, Verdict, check};
+use fa_closed::{Closed, end_soon};
 use fa_types::{Die, Page, Round};
 use std::alloc::{AllocError, Global};
 use std::test::Fail;

@@ -1,5 +1,5 @@
 use Rattle.std.proofs.Common.{◌≡◌, ℕ, ◌&&◌, not, take}
-use Rattle.fa_batch.specs.Runs.{is_covered}
+use Rattle.fa_closed.specs.Runs.{is_covered}
 use Rattle.fa_calendar.specs.Merging.{AreMerged}
 use Rattle.fa_calendar.specs.Dies.{is_at}
 use Rattle.fa_calendar.proofs.die.take_all.Given as goal

@@ -1,6 +1,6 @@
 use Rattle.std.proofs.Common.{◌||◌, arith}
-use Rattle.fa_batch.proofs.Windows.{rounds_that-same}
-use Rattle.fa_batch.specs.Runs.{is_covered, is_from}
+use Rattle.fa_closed.proofs.Windows.{rounds_that-same}
+use Rattle.fa_closed.specs.Runs.{is_covered, is_from}
 use Rattle.fa_calendar.specs.Dies.{closed_by, is_one}
 use Rattle.fa_calendar.proofs.Places.{keeps_set, same_place}
 use Rattle.fa_calendar.proofs.dies.book_one.Goals as goal

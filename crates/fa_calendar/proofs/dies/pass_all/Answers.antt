@@ -1,5 +1,5 @@
 use Rattle.std.proofs.Common.{◌+◌, ap, arith, ◌∙◌}
-use Rattle.fa_batch.specs.Runs.{is_covered}
+use Rattle.fa_closed.specs.Runs.{is_covered}
 use Rattle.fa_calendar.specs.DieState.{DieState}
 use Rattle.fa_calendar.proofs.Idle.{still_idle}
 use Rattle.fa_calendar.proofs.Passing.{all_opened, all_windows, begun, idle_skipped, one_passed}

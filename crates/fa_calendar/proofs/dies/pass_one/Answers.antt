@@ -1,6 +1,6 @@
 use Rattle.std.proofs.Common.{ap, arith, sym, ◌∙◌}
 use Rattle.std.proofs.lemmas.List.{get_or-set_other}
-use Rattle.fa_batch.specs.Runs.{is_covered}
+use Rattle.fa_closed.specs.Runs.{is_covered}
 use Rattle.fa_calendar.specs.DieState.{DieState}
 use Rattle.fa_calendar.specs.Dies.{no_rounds}
 use Rattle.fa_calendar.proofs.Idle.{one_opened, one_roomy, one_window, state_is}

@@ -1,8 +1,8 @@
 use Rattle.std.proofs.Common.{ℕ, ◌≡◌, ◌||◌, sym, ap, ◌∙◌, arith}
 use Rattle.std.proofs.lemmas.List.{get_or_default}
 use Rattle.fa_types.specs.Open.{rounds_that}
-use Rattle.fa_batch.proofs.Windows.{rounds_that-same}
-use Rattle.fa_batch.specs.Runs.{is_covered, is_from}
+use Rattle.fa_closed.proofs.Windows.{rounds_that-same}
+use Rattle.fa_closed.specs.Runs.{is_covered, is_from}
 use Rattle.fa_calendar.specs.DieState.{DieState}
 use Rattle.fa_calendar.specs.Dies.{closed_by, is_one, no_rounds}
 use Rattle.fa_calendar.proofs.Places.{keeps_set, same_place}

@@ -1,8 +1,8 @@
 use Rattle.std.proofs.Common.{◌≡◌, ◌&&◌, not, [], ◌∷◌, List, inl, inr, length, get_or, sym, ap, ◌∙◌, arith}
 use Rattle.std.proofs.lemmas.Bool.{and_left, cases_lt}
 use Rattle.std.proofs.lemmas.List.{get_or_append_left, get_or_default, get_or_past, get_or_push, length_push}
-use Rattle.fa_batch.specs.declared.spans.Span.{Span}
-use Rattle.fa_batch.specs.Runs.{is_covered}
+use Rattle.fa_closed.specs.declared.spans.Span.{Span}
+use Rattle.fa_closed.specs.Runs.{is_covered}
 use Rattle.fa_calendar.specs.DieState.{DieState}
 use Rattle.fa_calendar.specs.Dies.{closed_by, is_at, no_rounds}
 use Rattle.fa_calendar.proofs.dies.spans_without.Goals as goal

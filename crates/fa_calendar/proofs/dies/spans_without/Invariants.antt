@@ -1,5 +1,5 @@
 use Rattle.std.proofs.Common.{◌≡◌, ℕ, ◌<◌, ◌&&◌, not, length}
-use Rattle.fa_batch.specs.Runs.{closed_by as spans_close}
+use Rattle.fa_closed.specs.Runs.{closed_by as spans_close}
 use Rattle.fa_calendar.specs.Dies.{closed_by, is_at}
 use Rattle.fa_calendar.proofs.dies.spans_without.Given as goal
 

@@ -1,8 +1,8 @@
 use Rattle.std.proofs.Common.{◌≡◌, ◌+◌, ◌-◌, ◌*◌, ◌<◌, ◌≤◌, inl, inr, length, take, get_or, sym, ap, ◌∙◌, arith}
 use Rattle.std.proofs.lemmas.Bool.{cases_lt}
 use Rattle.std.proofs.lemmas.List.{get_or_default}
-use Rattle.fa_batch.specs.declared.spans.Span.{Span}
-use Rattle.fa_batch.specs.Runs.{is_covered}
+use Rattle.fa_closed.specs.declared.spans.Span.{Span}
+use Rattle.fa_closed.specs.Runs.{is_covered}
 use Rattle.fa_calendar.specs.Merging.{total_rounds}
 use Rattle.fa_calendar.proofs.Merged.{covered_here, merged_here}
 use Rattle.fa_calendar.proofs.Gaps.{open_run, closed_run, open_between, gap_near, gap_few}

@@ -2,7 +2,7 @@ use Rattle.std.proofs.Common.{◌≡◌, ◌+◌, ◌<◌, length, set, sym, ap,
 use Rattle.std.specs.Prelude.{OnSome}
 use Rattle.std.specs.List.{remove}
 use Rattle.std.proofs.lemmas.List.{get_or_default}
-use Rattle.fa_batch.specs.declared.spans.Span.{Span}
+use Rattle.fa_closed.specs.declared.spans.Span.{Span}
 use Rattle.fa_calendar.specs.Merging.{AddsRun}
 use Rattle.fa_calendar.proofs.Merged.{adds_before, adds_last, adds_touching, adds_between, removed_is}
 use Rattle.fa_calendar.proofs.merging.join.Goals as goal

@@ -1,8 +1,8 @@
 use Rattle.std.proofs.Common.{true, false, ◌≡◌, ◌<◌, ◌≤◌, inl, inr, length, sym, ap, arith}
 use Rattle.std.proofs.lemmas.Bool.{cases_lt}
 use Rattle.std.proofs.lemmas.List.{get_or_default}
-use Rattle.fa_batch.specs.declared.spans.Span.{Span}
-use Rattle.fa_batch.specs.Runs.{is_covered}
+use Rattle.fa_closed.specs.declared.spans.Span.{Span}
+use Rattle.fa_closed.specs.Runs.{is_covered}
 use Rattle.fa_calendar.proofs.Merged.{covered_here, merged_here, none_begun, passes_none, passes_drop}
 use Rattle.fa_calendar.proofs.merging.pass.Goals as goal
 use Rattle.fa_calendar.proofs.merging.pass.Given.{Over}

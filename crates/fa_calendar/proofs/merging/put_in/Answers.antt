@@ -1,7 +1,7 @@
 use Rattle.std.proofs.Common.{sym, ap, subst, arith}
 use Rattle.std.proofs.lemmas.List.{get_or_default}
-use Rattle.fa_batch.specs.declared.spans.Span.{Span}
-use Rattle.fa_batch.specs.Runs.{IsIndexFrom}
+use Rattle.fa_closed.specs.declared.spans.Span.{Span}
+use Rattle.fa_closed.specs.Runs.{IsIndexFrom}
 use Rattle.fa_calendar.specs.Merging.{AddsRun}
 use Rattle.fa_calendar.proofs.Merged.{adds_apart, adds_past, merged_rising}
 use Rattle.fa_calendar.proofs.merging.put_in.Goals as goal

@@ -1,5 +1,5 @@
 use Rattle.std.proofs.Common.{suc, ◌+◌, ◌-◌, ◌++◌, ◌∷◌, take, drop, sym, ap, subst, ◌∙◌, arith}
-use Rattle.fa_batch.specs.declared.spans.Span.{Span}
+use Rattle.fa_closed.specs.declared.spans.Span.{Span}
 use Rattle.fa_calendar.specs.Merging.{DropsRound}
 use Rattle.fa_calendar.proofs.Merged.{drops_inside, split_is, long_inside, on_err_anyway}
 use Rattle.fa_calendar.proofs.merging.split.Goals as goal

@@ -1,6 +1,6 @@
 use Rattle.std.proofs.Common.{◌<◌, length, sym, ap, ◌∙◌, arith}
 use Rattle.std.proofs.lemmas.List.{get_or_default}
-use Rattle.fa_batch.specs.declared.spans.Span.{Span}
+use Rattle.fa_closed.specs.declared.spans.Span.{Span}
 use Rattle.fa_calendar.proofs.Merged.{drops_last, found_within, found_begun, found_last, merged_rising}
 use Rattle.fa_calendar.proofs.merging.take_out.Given.{Over}
 use Rattle.fa_calendar.proofs.merging.take_out.Goals as goal

@@ -1,9 +1,9 @@
 use Rattle.std.proofs.Common.{◌≡◌, sym, ap, subst, ◌∙◌, arith}
 use Rattle.std.specs.Prelude.{OnSome}
 use Rattle.std.specs.List.{remove}
-use Rattle.fa_batch.specs.declared.spans.Span.{Span}
+use Rattle.fa_closed.specs.declared.spans.Span.{Span}
 use Rattle.fa_calendar.specs.Merging.{DropsRound}
-use Rattle.fa_batch.proofs.Covered.{rising_at}
+use Rattle.fa_closed.proofs.Covered.{rising_at}
 use Rattle.fa_calendar.proofs.Merged.{drops_only, drops_first, merged_rising}
 use Rattle.fa_calendar.proofs.merging.trim.Goals as goal
 

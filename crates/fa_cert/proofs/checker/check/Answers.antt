@@ -7,7 +7,7 @@ use Rattle.fa_batch_terms.specs.Batch.{Entry}
 use Rattle.fa_batch_terms.specs.Plan.{IsPlan, rounds_of}
 use Rattle.fa_batch_terms.specs.Certificate.{IsCertificate, ShowsNoFewer, AreNamed}
 use Rattle.fa_cert.specs.Verdict.{IsRefused}
-use Rattle.fa_batch.proofs.Parts.{where_some}
+use Rattle.fa_batch_terms.proofs.Parts.{where_some}
 use Rattle.fa_cert.proofs.checker.check.Goals as goal
 
 -- what shows that no plan has fewer rounds names pages of the batch: with no round there is no page to name

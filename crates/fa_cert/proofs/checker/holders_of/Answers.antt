@@ -1,5 +1,5 @@
 use Rattle.std.proofs.Common.{false, refl}
-use Rattle.fa_batch.proofs.Counting.{get_or-replicate_default}
+use Rattle.fa_batch_terms.proofs.Counting.{get_or-replicate_default}
 use Rattle.fa_cert.proofs.checker.holders_of.Goals as goal
 
 pub loop-page-init : goal.loop-page-init

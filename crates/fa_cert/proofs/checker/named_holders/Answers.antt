@@ -4,9 +4,9 @@ use Rattle.std.proofs.lemmas.List.Folds.{list_any_more}
 use Rattle.fa_types.specs.declared.numbers.Page.{Page}
 use Rattle.fa_batch_terms.specs.Batch.{Entry, holds, is_among}
 use Rattle.fa_batch_terms.specs.Certificate.{holds_any}
-use Rattle.fa_batch.proofs.Counting.{count-from-none}
+use Rattle.fa_batch_terms.proofs.Counting.{count-from-none}
 use Rattle.fa_cert.proofs.Entries.{holders_there, index_below, index_counts, mark_is, mark_more, no_entry, not_named}
-use Rattle.fa_batch.proofs.Counting.{get_or-replicate_default}
+use Rattle.fa_batch_terms.proofs.Counting.{get_or-replicate_default}
 use Rattle.fa_cert.proofs.Placed.{known_at, named_more, not_twice}
 use Rattle.fa_cert.proofs.checker.named_holders.Goals as goal
 

@@ -1,7 +1,7 @@
 use Rattle.std.proofs.Common.{sym, ap, ◌∙◌}
 use Rattle.std.proofs.lemmas.Bool.{iff_false}
 use Rattle.fa_batch_terms.specs.Plan.{IsPlan, ArePlaced, ArePlacedOnce, AreHeld, rounds_of}
-use Rattle.fa_batch.proofs.Parts.{where_none, where_some}
+use Rattle.fa_batch_terms.proofs.Parts.{where_none, where_some}
 use Rattle.fa_cert.proofs.checker.refusal_of.Given.{Over}
 use Rattle.fa_cert.proofs.checker.refusal_of.Goals as goal
 use Rattle.fa_cert.proofs.checker.refusal_of.Goals.{Else-not-branch}

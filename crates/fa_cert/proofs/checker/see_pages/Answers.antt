@@ -8,7 +8,7 @@ use Rattle.fa_cert.specs.Marks.{AreMarks}
 use Rattle.fa_batch_terms.specs.Plan.{ArePlacedOnce, AreHeld}
 use Rattle.fa_batch.proofs.Batches.{unnamed_holds}
 use Rattle.fa_cert.proofs.Entries.{holds_there, mark_is, mark_more, mark_none, no_entry, not_named}
-use Rattle.fa_batch.proofs.Counting.{get_or-replicate_default}
+use Rattle.fa_batch_terms.proofs.Counting.{get_or-replicate_default}
 use Rattle.fa_cert.proofs.Placed.{held_more, no_place, page_once_more}
 use Rattle.fa_cert.proofs.checker.see_pages.Goals as goal
 use Rattle.fa_cert.proofs.checker.see_pages.Goals.{in-Some, in-None}

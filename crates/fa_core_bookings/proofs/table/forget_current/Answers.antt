@@ -1,5 +1,5 @@
 use Rattle.std.proofs.Common.{◌+◌, ap, arith, sym, ◌∙◌}
-use Rattle.fa_batch.proofs.Indexed.{nothing}
+use Rattle.fa_batch_terms.proofs.Parts.{nothing}
 use Rattle.fa_core_bookings.proofs.Closed.{none_beyond}
 use Rattle.fa_core_bookings.proofs.Forgotten.{all_forgotten, free_skipped, none_forgotten, one_forgotten}
 use Rattle.fa_core_bookings.specs.Booked.{booking_at}

@@ -1,5 +1,5 @@
-use Rattle.fa_batch.specs.Closed.{is_closed}
-use Rattle.fa_batch.specs.declared.closed.Closed.{Closed}
+use Rattle.fa_closed.specs.Closed.{is_closed}
+use Rattle.fa_closed.specs.declared.closed.Closed.{Closed}
 use Rattle.fa_core_bookings.specs.Bookings.{calendar_of}
 use Rattle.fa_core_bookings.specs.Places.{without_places}
 use Rattle.fa_machine.specs.Reading.{released}

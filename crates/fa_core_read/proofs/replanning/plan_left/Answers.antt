@@ -1,6 +1,6 @@
 use Rattle.fa_batch_terms.specs.Batch.{Entry}
 use Rattle.fa_batch_terms.specs.Certificate.{IsCertificate}
-use Rattle.fa_batch.specs.Closed.{current_of, is_closed}
+use Rattle.fa_closed.specs.Closed.{current_of, is_closed}
 use Rattle.fa_batch_terms.specs.Plan.{AreFirstRounds}
 use Rattle.fa_core_bookings.specs.Bookings.{calendar_of}
 use Rattle.fa_machine.specs.Reading.{IsPlanned, entries_for, left_of, released}

@@ -1,4 +1,4 @@
-use Rattle.fa_batch.proofs.Counting.{get_or-replicate_default}
+use Rattle.fa_batch_terms.proofs.Counting.{get_or-replicate_default}
 use Rattle.fa_core_upkeep.proofs.Dies.{asked_more, inserted_all, marked_all, marked_more}
 use Rattle.fa_core_upkeep.proofs.flushing.ask_live_dies.Goals as goal
 use Rattle.fa_machine.specs.State.{is_live}

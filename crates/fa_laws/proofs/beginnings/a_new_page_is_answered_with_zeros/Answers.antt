@@ -17,7 +17,7 @@ use Rattle.fa_machine.specs.declared.places.Booking.{Booking}
 use Rattle.fa_machine.specs.declared.places.Version.{Version}
 use Rattle.fa_types.specs.declared.window.Window.{Window as WindowOf}
 use Rattle.fa_types.specs.Open.{FewClosed}
-use Rattle.fa_batch.proofs.Windows.{rounds_that-none}
+use Rattle.fa_closed.proofs.Windows.{rounds_that-none}
 use Rattle.fa_machine.specs.Rounds.{is_taken_with}
 use Rattle.fa_types.specs.declared.geometry.Geometry.{Geometry}
 use Rattle.std.proofs.Common.{List, None, Some, [], ap, arith, cond, eq-eqb, false, inl, length, map, not, refl, subst, sym, true, ℕ, ◌<◌}

@@ -2,7 +2,7 @@ use Rattle.std.proofs.Common.{◌≡◌, ℕ, ◌+◌, ◌<◌, get_or, set, tak
 use Rattle.std.proofs.lemmas.List.{length-set}
 use Rattle.fa_types.specs.Open.{IsNthOpen}
 use Rattle.fa_batch_terms.specs.declared.place.Place.{Place}
-use Rattle.fa_batch.proofs.Counting.{get_or-replicate_default}
+use Rattle.fa_batch_terms.proofs.Counting.{get_or-replicate_default}
 use Rattle.fa_plan.specs.declared.layout.Seat.{Seat}
 use Rattle.fa_plan.specs.Layout.{IsLaidOut, is_at_die}
 use Rattle.fa_plan.proofs.Laid.{laid_more, laid_none, taken_more}

@@ -3,7 +3,7 @@ use Rattle.std.specs.FinMap.{len}
 use Rattle.fa_machine.specs.State.{Core}
 use Rattle.fa_prog_talk.proofs.Said.{closes_by, session_by}
 use Rattle.fa_prog_talk.proofs.Seen.{session_seen}
-use Rattle.fa_shared.specs.Faults.{faults_of}
+use Rattle.fa_faults.specs.Faults.{faults_of}
 use Rattle.fa_solo.specs.Stores.{StoreMakes, seen_of}
 use Rattle.fa_solo_job.specs.House.{House}
 use Rattle.fa_prog_talk.proofs.conversation.served.Goals as goal

@@ -1,4 +1,4 @@
-use Rattle.fa_shared_store.proofs.Tallies.{parts_further, parts_prepared}
+use Rattle.fa_shared_request.proofs.PartTallies.{parts_further, parts_prepared}
 use Rattle.fa_shared_store.proofs.parts.finish_parts.Goals as goal
 
 pub loop-preserved : goal.loop-preserved

@@ -1,4 +1,4 @@
-use Rattle.fa_shared_store.specs.PartCounts.{PartsGoOn}
+use Rattle.fa_shared_request.specs.PartCounts.{PartsGoOn}
 use Rattle.fa_shared_store.proofs.parts.finish_parts.Given as goal
 
 abbrev pub invariant-loop : goal.invariant-loop

@@ -1,4 +1,4 @@
-use Rattle.fa_shared_store.proofs.Tallies.{parts_ended, parts_further, parts_nowhere}
+use Rattle.fa_shared_request.proofs.PartTallies.{parts_ended, parts_further, parts_nowhere}
 use Rattle.fa_shared_store.proofs.parts.make_turns.Goals as goal
 use Rattle.fa_shared_store.proofs.parts.make_turns.Goals.{in-None, in-Some+then-not-matches}
 

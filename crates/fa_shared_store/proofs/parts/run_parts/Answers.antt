@@ -1,7 +1,7 @@
 use Rattle.std.proofs.Common.{◌∙◌, ap}
 use Rattle.std.specs.List.{sum_by}
-use Rattle.fa_shared_store.proofs.Tallies.{if_ok, made_parts}
-use Rattle.fa_shared_store.specs.PartCounts.{left_in, refusals_in}
+use Rattle.fa_shared_request.proofs.PartTallies.{if_ok, made_parts}
+use Rattle.fa_shared_request.specs.PartCounts.{left_in, refusals_in}
 use Rattle.fa_shared_request.specs.Tallies.{pages_in}
 use Rattle.fa_shared_steps.specs.Tasks.{task_of}
 use Rattle.fa_shared_store.proofs.parts.run_parts.Goals as goal

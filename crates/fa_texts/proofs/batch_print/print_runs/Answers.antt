@@ -1,6 +1,6 @@
 use Rattle.std.proofs.Common.{ℕ, map, string_bytes, sym, arith, subst}
 use Rattle.std.proofs.lemmas.List.{map_more, take_all}
-use Rattle.fa_batch.specs.declared.closed.Run.{Run}
+use Rattle.fa_closed.specs.declared.closed.Run.{Run}
 use Rattle.fa_texts.specs.BatchText.{closed_line}
 use Rattle.fa_texts.specs.Text.{PrintsLines}
 use Rattle.fa_texts.proofs.Printed.{prints_behind, prints_none}

@@ -1,10 +1,10 @@
 use Rattle.std.proofs.Common.{◌≡◌, ◌≢◌, ◌∷◌, codes, sym, ◌∙◌, arith, subst}
 use Rattle.std.specs.Option.{MatchOption}
 use Rattle.std.proofs.lemmas.Fmt.{decimal_injective}
-use Rattle.fa_batch.specs.declared.closed.Run.{Run}
+use Rattle.fa_closed.specs.declared.closed.Run.{Run}
 use Rattle.fa_texts.specs.BatchText.{HasClosedLine, closed_line}
 use Rattle.fa_texts.specs.Text.{words_left}
-use Rattle.fa_batch.proofs.Parts.{first_same, rest_same}
+use Rattle.fa_batch_terms.proofs.Parts.{first_same, rest_same}
 use Rattle.fa_texts.proofs.batch_text.closed_run.Goals as goal
 use Rattle.fa_texts.proofs.batch_text.closed_run.Goals.{then-first-eq0-via-then-first-eq0, then-first-eq0-via-else-first-eq0+then-last-first}
 

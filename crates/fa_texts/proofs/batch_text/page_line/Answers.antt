@@ -3,7 +3,7 @@ use Rattle.std.specs.Fmt.{decimal}
 use Rattle.fa_texts.specs.Numbers.{IsRisingUpTo}
 use Rattle.fa_texts.specs.Text.{words_left}
 use Rattle.fa_texts.proofs.LinesRead.{page_says, other_word, writes_each, numbers_below}
-use Rattle.fa_batch.proofs.Parts.{rest_same, where_none, where_some}
+use Rattle.fa_batch_terms.proofs.Parts.{rest_same, where_none, where_some}
 use Rattle.fa_texts.proofs.batch_text.page_line.Goals as goal
 
 pub returns-in_ok-holders-in-Some-2 : goal.returns-in_ok-holders-in-Some-2

@@ -3,11 +3,11 @@ use Rattle.std.proofs.lemmas.Bool.{eqb-false, false≢true}
 use Rattle.std.proofs.lemmas.List.{nil_from_length}
 use Rattle.std.proofs.lemmas.List.Elements.{recursion_from_All}
 use Rattle.fa_types.specs.Open.{max_closed}
-use Rattle.fa_batch.specs.declared.closed.Run.{Run}
+use Rattle.fa_closed.specs.declared.closed.Run.{Run}
 use Rattle.fa_texts.specs.BatchText.{SaysOfBatch, IsBatchText, StartsWithBatch}
 use Rattle.fa_texts.specs.Text.{words_of}
 use Rattle.fa_texts.proofs.BatchTexts.{begins, closed_more, ends, none_begins, not_first, not_next, not_none, not_whole, page_more, page_no_next, run_no_next, runs_end_soon, starts}
-use Rattle.fa_batch.proofs.Covered.{few_soon}
+use Rattle.fa_closed.proofs.Covered.{few_soon}
 use Rattle.fa_texts.proofs.Reading.{HasRead, nothing_read, read_more, wrong_end, wrong_next}
 use Rattle.fa_texts.proofs.batch_text.read_batch.Goals as goal
 use Rattle.fa_texts.proofs.batch_text.read_batch.Goals.{then-not-is_empty-via-then-not-is_empty, then-not-is_empty-via-else-not-is_empty+then-len-ge-MAX_PAGES, in-Page+else-not-is_empty+else-len-ge-MAX_PAGES+in_ok-push-in-Page, in-Closed+else-len-ge-MAX_RUNS+in_ok-push-in-Closed}

@@ -3,7 +3,7 @@ use Rattle.std.specs.Option.{MatchOption}
 use Rattle.fa_batch_terms.specs.declared.place.Place.{Place}
 use Rattle.fa_texts.specs.CertificateText.{HasPlaceLine, place_line}
 use Rattle.fa_texts.specs.Text.{words_left}
-use Rattle.fa_batch.proofs.Parts.{rest_same}
+use Rattle.fa_batch_terms.proofs.Parts.{rest_same}
 use Rattle.fa_texts.proofs.certificate_text.place_of.Goals as goal
 
 pub returns-in_err-page : goal.returns-in_err-page

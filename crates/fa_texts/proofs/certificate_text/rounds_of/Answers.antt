@@ -1,7 +1,7 @@
 use Rattle.std.proofs.Common.{sym, ap, ◌∙◌}
 use Rattle.fa_texts.specs.Text.{words_left}
 use Rattle.fa_texts.proofs.Cuts.{words_some}
-use Rattle.fa_batch.proofs.Parts.{rest_same}
+use Rattle.fa_batch_terms.proofs.Parts.{rest_same}
 use Rattle.fa_texts.proofs.certificate_text.rounds_of.Goals as goal
 
 pub returns-in-Some : goal.returns-in-Some

@@ -4,7 +4,7 @@ use Rattle.fa_texts.specs.Numbers.{IsRisingUpTo}
 use Rattle.fa_texts.specs.Text.{words_left}
 use Rattle.fa_texts.proofs.Cuts.{nothing_left, something_left}
 use Rattle.fa_texts.proofs.LinesRead.{short_says, other_word, no_words, writes_each, numbers_below}
-use Rattle.fa_batch.proofs.Parts.{rest_same, where_none, where_some}
+use Rattle.fa_batch_terms.proofs.Parts.{rest_same, where_none, where_some}
 use Rattle.fa_texts.proofs.certificate_text.short_line.Goals as goal
 
 pub returns-then-is_none : goal.returns-then-is_none

@@ -4,7 +4,7 @@ use Rattle.std.proofs.lemmas.List.{append-nil}
 use Rattle.fa_texts.specs.BatchText.{StartsWithBatch}
 use Rattle.fa_texts.specs.CertificateText.{IsSomeCertificate}
 use Rattle.fa_texts.specs.Text.{GoesWrong, IsFirstWrongLine}
-use Rattle.fa_batch.proofs.Parts.{first_same, rest_same}
+use Rattle.fa_batch_terms.proofs.Parts.{first_same, rest_same}
 use Rattle.fa_texts.proofs.laws.one_first_wrong_line.Goals as goal
 
 module _ (IsText : List (List (List ℕ)) → Type 0) where

@@ -4,13 +4,13 @@ use Rattle.std.proofs.lemmas.Fmt.{decimal_injective}
 use Rattle.std.proofs.lemmas.List.Elements.{All-head, All-tail}
 use Rattle.fa_types.specs.declared.numbers.Die.{Die}
 use Rattle.fa_types.specs.declared.numbers.Page.{Page}
-use Rattle.fa_batch.specs.declared.closed.Run.{Run}
+use Rattle.fa_closed.specs.declared.closed.Run.{Run}
 use Rattle.fa_batch_terms.specs.declared.place.Place.{Place}
 use Rattle.fa_batch_terms.specs.Batch.{Entry}
 use Rattle.fa_texts.specs.BatchText.{closed_line, end_line, page_line, HasClosedLine, HasPageLine}
 use Rattle.fa_texts.specs.CertificateText.{HasPlaceLine, place_line, short_lines}
 use Rattle.fa_texts.proofs.LinesRead.{other_word}
-use Rattle.fa_batch.proofs.Parts.{first_same, rest_same, some_left}
+use Rattle.fa_batch_terms.proofs.Parts.{first_same, rest_same, some_left}
 use Rattle.fa_texts.proofs.laws.text_says_one_thing.Goals as goal
 
 -- a number is told by its digits

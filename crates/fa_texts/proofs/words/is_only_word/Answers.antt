@@ -1,6 +1,6 @@
 use Rattle.std.proofs.Common.{sym, ◌∙◌}
 use Rattle.fa_texts.proofs.Cuts.{something_left}
-use Rattle.fa_batch.proofs.Parts.{rest_same}
+use Rattle.fa_batch_terms.proofs.Parts.{rest_same}
 use Rattle.fa_texts.proofs.words.is_only_word.Goals as goal
 
 pub returns-else-is_none : goal.returns-else-is_none

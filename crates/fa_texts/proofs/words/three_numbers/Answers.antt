@@ -4,7 +4,7 @@ use Rattle.std.specs.Option.{MatchOption}
 use Rattle.fa_texts.specs.Numbers.{AreWithin, three_words}
 use Rattle.fa_texts.specs.Text.{words_left}
 use Rattle.fa_texts.proofs.Cuts.{words_some}
-use Rattle.fa_batch.proofs.Parts.{rest_same}
+use Rattle.fa_batch_terms.proofs.Parts.{rest_same}
 use Rattle.fa_texts.proofs.words.three_numbers.Goals as goal
 
 pub returns-in_err-second : goal.returns-in_err-second

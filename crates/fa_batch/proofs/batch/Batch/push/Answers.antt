@@ -1,7 +1,7 @@
 use Rattle.std.proofs.Common.{◌≡◌, is_some, true, false, [], ◌∷◌, ◌++◌, length, subst, sym, ap, ◌∙◌, rules, arith}
 use Rattle.fa_batch.specs.Index.{pages_of, AreRising}
 use Rattle.fa_batch.proofs.Held.{index-batch}
-use Rattle.fa_batch.proofs.Indexed.{nothing}
+use Rattle.fa_batch_terms.proofs.Parts.{nothing}
 use Rattle.fa_batch.proofs.Pushed.{entries_pushed, new_pushed, old_pushed, rising_pushed, taken_back}
 use Rattle.fa_batch.proofs.batch.Batch.push.Goals as goal
 

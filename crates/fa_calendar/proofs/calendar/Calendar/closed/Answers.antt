@@ -1,6 +1,6 @@
 use Rattle.std.proofs.Common.{not, [], sym, ◌∙◌, arith}
 use Rattle.std.proofs.lemmas.Bool.{and_parts}
-use Rattle.fa_batch.specs.Runs.{closed_by as spans_close}
+use Rattle.fa_closed.specs.Runs.{closed_by as spans_close}
 use Rattle.fa_calendar.specs.Dies.{closed_by, window_by, is_at}
 use Rattle.fa_types.specs.Windows.{is_in_window}
 use Rattle.fa_calendar.proofs.Cases.{without_is}

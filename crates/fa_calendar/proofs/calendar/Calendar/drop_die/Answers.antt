@@ -1,5 +1,5 @@
 use Rattle.std.proofs.Common.{sym, ap, ◌∙◌, arith}
-use Rattle.fa_batch.specs.Runs.{is_covered}
+use Rattle.fa_closed.specs.Runs.{is_covered}
 use Rattle.fa_types.specs.Windows.{is_in_window}
 use Rattle.fa_calendar.proofs.Sound.{set_sound}
 use Rattle.fa_calendar.proofs.Idle.{idle_cleared}

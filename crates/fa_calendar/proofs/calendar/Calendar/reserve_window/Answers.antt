@@ -1,6 +1,6 @@
 use Rattle.std.proofs.Common.{refl, sym, ap, ◌∙◌, arith}
 use Rattle.fa_types.specs.Open.{rounds_that}
-use Rattle.fa_batch.specs.Runs.{is_covered}
+use Rattle.fa_closed.specs.Runs.{is_covered}
 use Rattle.fa_calendar.specs.DieState.{DieState}
 use Rattle.fa_calendar.specs.Dies.{closed_by}
 use Rattle.fa_calendar.specs.declared.refused.CalendarRefused.TheVariants.{Full, NoMemory}

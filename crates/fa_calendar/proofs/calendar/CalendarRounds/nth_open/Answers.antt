@@ -1,6 +1,6 @@
 use Rattle.std.proofs.Common.{sym, ap, subst, ◌∙◌, arith}
 use Rattle.std.proofs.lemmas.List.{get_or_default}
-use Rattle.fa_batch.specs.Runs.{IsNthFree}
+use Rattle.fa_closed.specs.Runs.{IsNthFree}
 use Rattle.fa_calendar.specs.DieState.{DieState}
 use Rattle.fa_calendar.specs.Dies.{no_rounds}
 use Rattle.fa_calendar.proofs.Sound.{open_same, taken_at}

@@ -1,5 +1,5 @@
 use Rattle.std.proofs.Common.{ap, sym, ◌∙◌}
-use Rattle.fa_batch.specs.Runs.{is_covered}
+use Rattle.fa_closed.specs.Runs.{is_covered}
 use Rattle.fa_calendar.specs.DieState.{DieState}
 use Rattle.fa_calendar.proofs.Totals.{none_covered}
 use Rattle.fa_calendar.proofs.die.DieCalendar.is_idle.Goals as goal

@@ -1,6 +1,6 @@
 use Rattle.std.proofs.Common.{ℕ, ◌+◌, ◌≤◌, ap, subst, arith}
 use Rattle.fa_types.specs.Open.{rounds_that, max_closed}
-use Rattle.fa_batch.specs.Runs.{is_covered}
+use Rattle.fa_closed.specs.Runs.{is_covered}
 use Rattle.fa_calendar.specs.Merging.{total_rounds, AreMerged}
 use Rattle.fa_calendar.proofs.Merged.{length_fits}
 use Rattle.fa_calendar.specs.DieState.{DieState}

@@ -1,7 +1,7 @@
 use Rattle.std.proofs.Common.{◌+◌, ◌≤◌, sym, ap, ◌∙◌, subst, arith}
 use Rattle.std.specs.VecDeque.{deque_capacity}
 use Rattle.fa_types.specs.Open.{max_closed}
-use Rattle.fa_batch.specs.Runs.{is_covered}
+use Rattle.fa_closed.specs.Runs.{is_covered}
 use Rattle.fa_calendar.specs.Merging.{total_rounds, AreMerged}
 use Rattle.fa_calendar.proofs.Merged.{merged_rising}
 use Rattle.fa_calendar.specs.DieState.{DieState}

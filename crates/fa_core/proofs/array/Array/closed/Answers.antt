@@ -1,4 +1,4 @@
-use Rattle.fa_batch.specs.Closed.{is_closed}
+use Rattle.fa_closed.specs.Closed.{is_closed}
 use Rattle.fa_core.specs.Array.{state_of}
 use Rattle.fa_machine.specs.Rounds.{is_taken}
 use Rattle.fa_machine.specs.State.{CalendarState}

@@ -1,5 +1,5 @@
 use Rattle.std.proofs.Common.{sym, ◌∙◌}
-use Rattle.fa_batch.proofs.Indexed.{nothing}
+use Rattle.fa_batch_terms.proofs.Parts.{nothing}
 use Rattle.fa_core_bookings.specs.Booked.{booking_at}
 use Rattle.fa_core_bookings.specs.Found.{get_booked, window_is}
 use Rattle.fa_core_bookings.proofs.bookings.Bookings.busy_from.Goals as goal

@@ -1,4 +1,4 @@
-use Rattle.fa_batch.specs.Closed as spans
+use Rattle.fa_closed.specs.Closed as spans
 use Rattle.fa_core_bookings.proofs.Exchanged.{all_booked, without_is}
 use Rattle.std.proofs.Common.{Bool, IfOk, subst, ℕ, ◌≡◌, ◌≤◌}
 use Rattle.fa_core_bookings.proofs.bookings.Bookings.closed.Goals as goal

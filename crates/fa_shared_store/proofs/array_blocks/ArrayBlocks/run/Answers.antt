@@ -1,6 +1,6 @@
 use Rattle.std.proofs.Common.{refl}
 use Rattle.fa_shared_request.proofs.Counts.{made_op}
-use Rattle.fa_shared_store.proofs.Tallies.{served_well}
+use Rattle.fa_shared_request.proofs.PartTallies.{served_well}
 use Rattle.fa_shared_request.proofs.Begun.{begun}
 use Rattle.fa_shared_request.specs.Tallies.{pages_in}
 use Rattle.fa_shared_request.specs.Ops.{stage_of, task_in}

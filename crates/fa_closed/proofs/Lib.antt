@@ -1,0 +1,2 @@
+pub mod Covered
+pub mod Windows

@@ -1,0 +1,106 @@
+//! Turns of a request that is done in parts, side by side.
+ghost use Rattle.fa_shared_request.specs.PartCounts.{PartsGoOn};
+
+use crate::turn::Turn;
+use crate::turning::turn_on;
+use fa_map_calls::Map;
+use fa_shared_lock::{Awaits, Locked, Seat};
+use fa_shared_request::{Op, Part};
+use std::alloc::Allocator;
+use std::sync::Wait;
+use std::sync::ledger::Ledger;
+
+/// How many pages are hashed at once.
+const SIDE_BY_SIDE: usize = 8;
+
+/// How the parts of a request stand behind their turns.
+#[derive(Clone, Copy)]
+struct Stand {
+    /// How many have something to prepare.
+    prepares: usize,
+    /// Some wait for what dies do.
+    works: bool,
+    /// Some wait for what others hold up.
+    waits: bool,
+}
+
+impl Stand {
+    /// One part more, whose last turn came to this.
+    fn count<L: Ledger, M: Map + Drop, A: Allocator + Copy>(
+        &mut self,
+        turn: Turn,
+        op: &Op<A, A>,
+        locked: &Locked<L, M, A>,
+    ) {
+        match turn {
+            Turn::Prepare => self.prepares = self.prepares.saturating_add(1),
+            Turn::Wait => match op.awaits(locked) {
+                Awaits::Change => self.waits = true,
+                _ => self.works = true,
+            },
+            Turn::More | Turn::End => {}
+        }
+    }
+}
+
+/// Makes turns of each part while each leads to the next, and answers what is next for them together.
+pub fn turn_all<R: Wait, L: Ledger, M: Map + Drop, A: Allocator + Copy>(
+    rt: &R,
+    parts: &mut [Part<A>],
+    locked: &mut Locked<L, M, A>,
+    seat: &mut Seat<L>,
+) -> Turn
+    ensures { PartsGoOn seat.old parts.old seat.new parts.new }
+{
+    let mut stand = Stand {
+        prepares: 0,
+        works: false,
+        waits: false,
+    };
+    for part in parts {
+        let turn = turn_on(rt, &mut part.op, locked, seat);
+        stand.count(turn, &part.op, locked);
+    }
+    next_for(stand)
+}
+
+/// What is next for parts that stand so: to prepare, to wait, or nothing, where all have ended.
+///
+/// What is to be hashed waits until it can be hashed side by side, while dies work for other parts. It never does while a part waits for
+/// others, since these may wait for the page that it has claimed.
+fn next_for(stand: Stand) -> Turn {
+    let Stand {
+        prepares,
+        works,
+        waits,
+    } = stand;
+    if prepares >= SIDE_BY_SIDE || (prepares > 0 && (waits || !works)) {
+        Turn::Prepare
+    } else if works || waits {
+        Turn::Wait
+    } else {
+        Turn::End
+    }
+}
+
+/// What parts wait for: what dies do for one that waits for that, or else what others hold up. It is the one behind which as many parts
+/// have a page to hash as are hashed side by side, if so many wait: dies make programs in the order in which they were reserved, and before
+/// that there is little to do.
+pub fn awaits_of<L: Ledger, M: Map + Drop, A: Allocator + Copy>(
+    parts: &[Part<A>],
+    locked: &Locked<L, M, A>,
+) -> Awaits {
+    let mut ready = parts.iter().filter(|part| part.op.has_content()).count();
+    let mut last = Awaits::Change;
+    for part in parts {
+        let awaits = part.op.awaits(locked);
+        if !matches!(awaits, Awaits::Change) {
+            last = awaits;
+            ready = ready.saturating_add(1);
+            if ready >= SIDE_BY_SIDE {
+                break;
+            }
+        }
+    }
+    last
+}

@@ -1,0 +1,2 @@
+pub mod Rebuilding
+pub mod Windows
