@@ -115,11 +115,22 @@ fn back_of<L: Ledger>(
     seats: Vec<Seat<L>>,
     is_served: bool,
 ) -> Option<Back<L>> {
+    match left {
+        Some(left) => Some(Back {
+            seats: with_seats(left, seats),
+            is_served,
+        }),
+        None => None,
+    }
+}
+
+/// These seats in a list that has room for them.
+fn with_seats<L: Ledger>(left: Vec<Option<Seat<L>>>, seats: Vec<Seat<L>>) -> Vec<Seat<L>> {
     let mut seats = seats;
-    for seat in left? {
+    for seat in left {
         if let Some(seat) = seat {
             let _ = seats.push(seat);
         }
     }
-    Some(Back { seats, is_served })
+    seats
 }

@@ -5,7 +5,7 @@ use fa_prog_clients::{ConnectionMemory, Networked, Service, serve_clients};
 use fa_prog_counts::CountingStore;
 use fa_prog_listen::Listening;
 use fa_prog_served::{CountingGate, Served};
-use fa_prog_watch::{Losses, TellingStore};
+use fa_prog_watch::{Losses, TellingStore, Watched};
 use fa_shared::Shared;
 use fa_shared_lock::{Hands, Seat};
 use fa_shared_store::ArrayBlocks;
@@ -82,9 +82,23 @@ fn serve_with<R: Networked, L: Ledger, M: Map + Drop, H: Hands<L, M, Global> + D
 ) -> Seat<L> {
     let blocks = ArrayBlocks::new(rt, rt.alloc(), shared, seat, hands);
     let served = Served::new(rt, shared);
-    let telling = TellingStore::new(rt, &served, losses, blocks);
-    let telling = serve_counted(rt, listening, service, connection, telling);
-    telling.into_blocks().into_seat()
+    let blocks = serve_telling(rt, listening, losses, &served, service, connection, blocks);
+    blocks.into_seat()
+}
+
+/// The same over any store of an array that is watched, which is handed back. No client is told of a lost page before that stands in its file. It
+/// knows neither store nor array, so that no type is written that has both within.
+fn serve_telling<R: Networked, W: Watched, B: Blocks + Drop>(
+    rt: &R,
+    listening: &Listening<'_>,
+    losses: &Losses<'_>,
+    watched: &W,
+    service: Service<'_>,
+    connection: ConnectionMemory,
+    blocks: B,
+) -> B {
+    let telling = TellingStore::new(rt, watched, losses, blocks);
+    serve_counted(rt, listening, service, connection, telling).into_blocks()
 }
 
 /// The same over any store, which is handed back. What its clients ask for is counted.

@@ -65,8 +65,8 @@ pub(crate) fn tasks_of<'a, R: Networked, L: Ledger, M: Map + Drop>(
     })
 }
 
-/// Adds the tasks of all, and answers how many are of those who work for the array or watch it. It stands apart from whoever owns the
-/// tasks, so that no exit of it drops them.
+/// Adds the tasks of all, for which there is memory, and answers how many are of those who work for the array or watch it. It stands apart from
+/// whoever owns the tasks, so that no exit of it drops them. The error is out of memory, or of seats.
 fn add_all<'a, R: Networked, L: Ledger, M: Map + Drop>(
     rt: &R,
     shared: &Shared<L, M>,
@@ -76,15 +76,15 @@ fn add_all<'a, R: Networked, L: Ledger, M: Map + Drop>(
     tasks: &mut Vec<Task<'a, L>>,
 ) -> Result<usize, AllocError> {
     if let Some(file) = plan_file {
-        add(tasks, Task::WritePlans(file))?;
+        add(tasks, Task::WritePlans(file));
     }
     add_workers(rt, shared, dies, plan, tasks)?;
     let workers = tasks.len();
     add_sessions(rt, shared, plan, tasks)?;
     if plan.has_looks {
-        add(tasks, Task::Look(Looker::new(rt.alloc())?))?;
+        add(tasks, Task::Look(Looker::new(rt.alloc())?));
     }
-    add(tasks, Task::Accept)?;
+    add(tasks, Task::Accept);
     Ok(workers)
 }
 
@@ -98,14 +98,15 @@ fn add_workers<'a, R: Networked, L: Ledger, M: Map + Drop>(
 ) -> Result<(), AllocError> {
     for die in dies {
         let task = die_task(rt, shared, *die, plan.page_bytes)?;
-        add(tasks, Task::Die(task))?;
+        add(tasks, Task::Die(task));
     }
     let collector = shared.seat(rt).ok_or(AllocError)?;
-    add(tasks, Task::Collect(collector))?;
+    add(tasks, Task::Collect(collector));
     let rebuilder = shared.seat(rt).ok_or(AllocError)?;
-    add(tasks, Task::Rebuild(rebuilder))?;
+    add(tasks, Task::Rebuild(rebuilder));
     let sight = Served::new(rt, shared).sight(plan.copies);
-    add(tasks, Task::Watch(sight))
+    add(tasks, Task::Watch(sight));
+    Ok(())
 }
 
 /// Adds a task for each session.
@@ -123,13 +124,12 @@ fn add_sessions<'a, R: Networked, L: Ledger, M: Map + Drop>(
         };
         let seat = shared.seat(rt).ok_or(AllocError)?;
         let session = Session::new(rt.alloc(), service, seat)?;
-        add(tasks, Task::Serve(session))?;
+        add(tasks, Task::Serve(session));
     }
     Ok(())
 }
 
-/// Adds a task. The error is out of memory.
-fn add<'a, L: Ledger>(tasks: &mut Vec<Task<'a, L>>, task: Task<'a, L>) -> Result<(), AllocError> {
-    tasks.push(task)?;
-    Ok(())
+/// Adds a task, for which there is memory.
+fn add<'a, L: Ledger>(tasks: &mut Vec<Task<'a, L>>, task: Task<'a, L>) {
+    let _ = tasks.push(task);
 }
