@@ -10,6 +10,9 @@ from servers import FAULT, Geometry, ensure, equal, same_bytes, wait_until
 
 LARGER = Geometry(blocks=16, slots=16, pages=192)
 WITH_A_SPARE = Geometry(dies=5, spares=1, blocks=16, slots=16, pages=192)
+# So many pages that one look at the array at least, of five a second, finds some with too few copies.
+TAKES_LONG = Geometry(dies=5, spares=1, blocks=64, slots=256, pages=16384)
+HEALED = "all pages have their copies again"
 
 
 def reads_until_out(array, server, content, die):
@@ -20,6 +23,23 @@ def reads_until_out(array, server, content, die):
             same_bytes(client.read(0, array.geometry.size), content, "the disk while a die fails")
         ensure(server.is_told(f"die {die} went out"), f"'die {die} went out' is not told, though its image is cut: {server.errors}")
         same_bytes(client.read(0, array.geometry.size), content, "the disk without the die")
+
+
+@case
+def what_has_its_copies_again_is_told(make):
+    array = make(TAKES_LONG)
+    content = os.urandom(TAKES_LONG.size)
+    with array.serve() as server:
+        with server.client() as client:
+            for offset in range(0, TAKES_LONG.size, 1 << 20):
+                client.write(offset, content[offset:offset + (1 << 20)])
+        ensure(not server.is_told(HEALED), f"told before a die was lost: {server.errors}")
+        array.take_away(1)
+        reads_until_out(array, server, content, 1)
+        ensure(wait_until(lambda: server.is_told(HEALED), 20), f"not told that all pages have their copies again: {server.errors}")
+        server.stop(faults=[1])
+    array.checked(dies=5, live=4, spare=0, written=16384, thin=0)
+    array.has_copies_of(content)
 
 
 @case
