@@ -4,7 +4,8 @@ use Rattle.std.proofs.lemmas.Bool.{cases_order}
 use Rattle.std.proofs.lemmas.Option.{slice_get_within}
 use Rattle.std.specs.Prelude.{None, Option, option_and_then, slice_get}
 use Rattle.fa_mount_headers.specs.declared.judging.Standing.{Standing}
-use Rattle.fa_mount.specs.Standings.{AreApart, SharePlace, place_of, place_on}
+use Rattle.fa_mount.specs.Standings.{AreApart, SharePlace, place_on}
+use Rattle.fa_mount_headers.specs.Places.{place_of}
 
 some_standing : (o : Option Standing) (index : ℕ) → option_and_then place_of o ≡ Some index → (standing : Standing) × (o ≡ Some standing)
 some_standing None index is = cc

@@ -10,7 +10,8 @@ use Rattle.fa_image.specs.Image.{ImageState, ImageMeets, ImageCall, WritingHeade
 use Rattle.fa_machine.specs.State.{Core, is_live}
 use Rattle.fa_mount.specs.Closing.{AreAccepted, Ends, HasBecome, HaveBecome, IsClosed, IsEarlier, IsOut, IsUnmarked, Took, writing_in}
 use Rattle.fa_mount.specs.Phases.{ByDie}
-use Rattle.fa_mount.specs.Standings.{place_of, place_on}
+use Rattle.fa_mount.specs.Standings.{place_on}
+use Rattle.fa_mount_headers.specs.Places.{place_of}
 use Rattle.fa_mount.specs.declared.closing.CloseFault.{CloseFault}
 use Rattle.fa_mount.specs.declared.closing.CloseFault.TheVariants.{Busy, Lost, NoDieLive}
 

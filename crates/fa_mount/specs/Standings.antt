@@ -1,14 +1,7 @@
 -- Where the images of dies stand in a list of images.
-use Rattle.std.specs.Prelude.{◌≡◌, ℕ, ◌<◌, Bool, true, List, Option, Some, None, option_and_then, slice_get}
+use Rattle.std.specs.Prelude.{◌≡◌, ℕ, ◌<◌, Bool, true, List, Option, Some, option_and_then, slice_get}
 use Rattle.fa_mount_headers.specs.declared.judging.Standing.{Standing}
-use Rattle.fa_mount_headers.specs.declared.judging.Standing.TheVariants.{Missing, Live, Spare, Out}
-
--- the place of the image of a die that stands so
-abbrev pub place_of : Standing → Option ℕ
-place_of Missing = None
-place_of (Live index) = Some index
-place_of (Spare index) = Some index
-place_of (Out index) = Some index
+use Rattle.fa_mount_headers.specs.Places.{place_of}
 
 -- the place of the image of a die
 abbrev pub place_on : List Standing → ℕ → Option ℕ

@@ -17,4 +17,3 @@ pub use array::MountedArray;
 pub use closing::{CloseFault, close_clean};
 pub use mounting::{mount, mount_found, mount_found_side_by_side};
 pub use recovering::{recover, recover_found, recover_found_side_by_side};
-pub use standings::place_of;

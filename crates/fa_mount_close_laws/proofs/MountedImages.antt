@@ -16,7 +16,8 @@ use Rattle.fa_machine.specs.World.{World}
 use Rattle.fa_laws.proofs.Within.{GeometryLaw}
 use Rattle.fa_mount.proofs.Worlds.{mounted_world}
 use Rattle.fa_mount.specs.MountsArray.{MountsArray}
-use Rattle.fa_mount.specs.Standings.{AreApart, place_of, place_on}
+use Rattle.fa_mount.specs.Standings.{AreApart, place_on}
+use Rattle.fa_mount_headers.specs.Places.{place_of}
 use Rattle.fa_mount_close_laws.proofs.DrivenRuns.{drives_run}
 use Rattle.fa_mount_close_laws.specs.Drives.{AreHonest, AreImages, Drive, Driven, Drives, acts_of, beginning, events_of}
 use Rattle.fa_mount_close_laws.specs.DrivenMounted.{images_on}

@@ -5,5 +5,6 @@ pub mod Formatted
 pub mod Found
 pub mod Judged
 pub mod NewArray
+pub mod Places
 pub mod Recovering
 pub mod Rules

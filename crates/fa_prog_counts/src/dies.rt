@@ -1,10 +1,19 @@
 //! What is counted of the calls of the dies' images.
 use crate::sessions::{add, value, zeros};
+use fa_types::Die;
 use std::alloc::{AllocError, Global};
 use std::sync::atomic::{AtomicU64, Ordering};
 
 /// What the calls of an image are called, each at its place.
 pub const CALLS: [&str; 6] = ["read", "program", "move", "erase", "header", "sync"];
+
+/// The die of this number. An array has no more than 64.
+pub fn die_of(number: usize) -> Die {
+    match u8::try_from(number) {
+        Ok(number) => Die(number),
+        Err(_) => Die(u8::MAX),
+    }
+}
 
 /// What was counted of the image of one die, whose calls are made one at a time.
 #[derive(Drop)]

@@ -12,7 +12,7 @@ mod store;
 
 pub use commands::{COMMANDS, Command};
 pub use counts::Counts;
-pub use dies::{CALLS, DieCounts};
+pub use dies::{CALLS, DieCounts, die_of};
 pub use latency::{BUCKETS, bound_of, bucket_of};
 pub use plans::{PlanFileCounts, PlanFileTotals};
 pub use sessions::{ERRORS, RequestTotals, SessionCounts, Totals};

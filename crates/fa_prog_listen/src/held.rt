@@ -1,6 +1,6 @@
 //! The files that a server has open.
 use crate::host::ServerHost;
-use fa_prog_files::{PlanFile, open_lost, open_plans, tell_not_kept};
+use fa_prog_host::{PlanFile, open_lost, open_plans, tell_not_kept};
 use fa_settings::PlansFile;
 use std::fs::File;
 

@@ -1,6 +1,6 @@
 //! Where clients and those who ask how the array is come.
 ghost use Rattle.std.specs.Prelude.{◌≡◌, List, ℕ, IfOk, string_bytes};
-ghost use Rattle.fa_prog_listen.specs.Served.{address_line};
+ghost use Rattle.fa_prog_listen.specs.Address.{address_line};
 
 use crate::host::ServerHost;
 use fa_prog_host::tell;

@@ -1,7 +1,6 @@
 //! Where the clients of a server come, and what its threads share beside the array.
 use crate::plan::ServePlan;
-use fa_mount::place_of;
-use fa_mount_headers::Standing;
+use fa_mount_headers::{Standing, place_of};
 use fa_prog_clients::AcceptQueue;
 use fa_prog_counts::Counts;
 use fa_settings::Settings;

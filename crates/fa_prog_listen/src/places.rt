@@ -1,6 +1,6 @@
 //! Where the images of a server belong, while some of them are worked with.
-use fa_mount::place_of;
-use fa_mount_headers::Standing;
+use fa_mount_headers::{Standing, place_of};
+use fa_prog_counts::die_of;
 use fa_types::Die;
 use std::alloc::{AllocError, Global};
 
@@ -71,14 +71,6 @@ impl<I: Drop> Lists<I> {
         }
         let _ = self.indexes.push(index);
         let _ = self.manned.push(image);
-    }
-}
-
-/// The die of this number. An array has no more than 64.
-pub fn die_of(number: usize) -> Die {
-    match u8::try_from(number) {
-        Ok(number) => Die(number),
-        Err(_) => Die(u8::MAX),
     }
 }
 

@@ -7,8 +7,7 @@ use fa_prog_served::CountingGate;
 use fa_shared::Shared;
 use fa_shared_lock::Seat;
 use fa_types::Die;
-use fa_workers::{ImageTable, JobMemory, die_worker};
-use fa_workers_upkeep::{collector_worker, rebuild_worker};
+use fa_workers::{ImageTable, JobMemory, collector_worker, die_worker, rebuild_worker};
 use std::alloc::AllocError;
 use std::sync::ledger::Ledger;
 

@@ -1,6 +1,7 @@
 //! The images of a server that are worked with.
 use fa_mount_headers::Standing;
-use fa_prog_listen::{ImagePlaces, Parted, die_of, part_images};
+use fa_prog_counts::die_of;
+use fa_prog_listen::{ImagePlaces, Parted, part_images};
 use fa_types::Die;
 use fa_workers::ImageTable;
 use std::alloc::{AllocError, Global};

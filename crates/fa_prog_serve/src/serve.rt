@@ -19,9 +19,9 @@ use fa_prog_host::{
 };
 use fa_prog_images::explain;
 use fa_prog_listen::{
-    Ended, Held, Listeners, ServePlan, ServerHost, bind_looks, end_served, listening_text,
-    open_beside, share,
+    Held, Listeners, ServePlan, ServerHost, bind_looks, listening_text, open_beside,
 };
+use fa_prog_served::{Ended, end_served, share};
 use fa_settings::{PlansFile, Settings, Terms};
 use fa_shared::Shared;
 use std::alloc::{AllocError, Allocator};

@@ -3,7 +3,7 @@ use crate::die_workers::{DieTask, die_task};
 use crate::sessions::Session;
 use fa_map_calls::Map;
 use fa_prog_clients::{Networked, Service};
-use fa_prog_files::PlanFile;
+use fa_prog_host::PlanFile;
 use fa_prog_listen::ThreadPlan;
 use fa_prog_served::Served;
 use fa_prog_watch::{Looker, Sight, Watched};

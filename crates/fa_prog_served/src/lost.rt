@@ -6,7 +6,7 @@ ghost use Rattle.fa_machine.specs.Step.{is_page};
 
 use fa_core::Array;
 use fa_map_calls::Map;
-use fa_prog_files::LostPages;
+use fa_prog_host::LostPages;
 use fa_types::Page;
 use std::alloc::{AllocError, Global};
 

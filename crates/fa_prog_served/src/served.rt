@@ -6,7 +6,7 @@ use crate::standing::{moment_of, sight_of, standing_of};
 use fa_map_calls::Map;
 use fa_plan::PlanNote;
 use fa_prog_clients::Networked;
-use fa_prog_files::LostPages;
+use fa_prog_host::LostPages;
 use fa_prog_status::{DieState, FaultStatus, PageStatus, SlotCounts};
 use fa_prog_watch::{BLOCKS_A_HOLD, Moment, PAGES_A_HOLD, PLANS_A_HOLD, Sight, Watched};
 use fa_shared::Shared;

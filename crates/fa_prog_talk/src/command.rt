@@ -18,10 +18,10 @@ use fa_map_calls::Map;
 use fa_mount::CloseFault;
 use fa_mount_headers::MountFault;
 use fa_prog_array::{end_text, mount, refuse_mount, status_of};
-use fa_prog_files::{keep_lost_at_end, keep_or_tell};
 use fa_prog_host::printing::{print, refuse_for_memory};
 use fa_prog_host::{
-    Host, NotOpened, OpenImages, Opening, images_alone, open_images, refuse_settings, settings_at,
+    Host, NotOpened, OpenImages, Opening, images_alone, keep_lost_at_end, keep_or_tell,
+    open_images, refuse_settings, settings_at,
 };
 use fa_prog_images::explain;
 use fa_prog_text::{read_hex_lines, read_input, refuse_text, refuse_unread, talk_text};

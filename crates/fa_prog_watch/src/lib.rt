@@ -1,5 +1,5 @@
 //! Who watches an array while it is served: what is told of it on standard error, which of its pages were lost, its plans, and how it is for
-//! those who ask. It is seen as a `Watched`, so nothing here names an array, and the files stand in `fa_prog_files`.
+//! those who ask. It is seen as a `Watched`, so nothing here names an array, and the files stand in `fa_prog_host`.
 #![tactic(auto)]
 
 mod census;

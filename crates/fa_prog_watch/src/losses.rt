@@ -1,7 +1,7 @@
 //! What was lost of an array that is served, and that it stands in its file.
 use crate::watched::{PAGES_A_HOLD, Watched};
 use fa_prog_clients::Networked;
-use fa_prog_files::{LostPages, keep_in, tell_not_kept};
+use fa_prog_host::{LostPages, keep_in, tell_not_kept};
 use std::alloc::AllocError;
 use std::fs::File;
 use std::sync::Mutex;

@@ -3,7 +3,7 @@ use crate::watched::{PLANS_A_HOLD, Watched};
 use fa_plan::{PlanEntry, PlanNote};
 use fa_prog_clients::Networked;
 use fa_prog_counts::PlanFileCounts;
-use fa_prog_files::PlanFile;
+use fa_prog_host::PlanFile;
 use fa_texts::{has_batch_text, print_logged_plan};
 use std::alloc::{AllocError, Global};
 use std::thread;

@@ -1,9 +1,8 @@
 //! An array that is served, as those who ask look at it.
 use crate::watched::Watched;
 use fa_prog_clients::AcceptQueue;
-use fa_prog_counts::{Counts, PlanFileTotals};
+use fa_prog_counts::{Counts, PlanFileTotals, die_of};
 use fa_prog_status::{DieState, DieStatus, PlanFileStatus, SlotCounts, Status};
-use fa_types::Die;
 use std::alloc::{AllocError, Global};
 
 /// What is looked at.
@@ -82,13 +81,5 @@ fn plan_file_status(taken: PlanFileTotals, dropped: u64) -> PlanFileStatus {
         dropped,
         unfit: taken.unfit,
         failed: taken.failed,
-    }
-}
-
-/// The die of a number. An array has no more than 64.
-fn die_of(number: usize) -> Die {
-    match u8::try_from(number) {
-        Ok(number) => Die(number),
-        Err(_) => Die(u8::MAX),
     }
 }

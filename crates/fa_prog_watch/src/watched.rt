@@ -1,6 +1,6 @@
 //! An array that is served, as who watches it sees it. Nothing else here names an array.
 use fa_plan::PlanNote;
-use fa_prog_files::LostPages;
+use fa_prog_host::LostPages;
 use fa_prog_status::{DieState, FaultStatus, PageStatus, PlanStatus, SlotCounts};
 use fa_types::{Die, Geometry};
 use std::alloc::{AllocError, Global};

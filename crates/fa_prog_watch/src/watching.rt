@@ -34,18 +34,22 @@ pub fn watch<R: Networked, W: Watched>(
         is_full: false,
         ..seen
     };
-    let mut was_thin = seen.is_thin;
+    let mut is_healing = seen.is_thin;
     let mut told = 0usize;
     let mut slow_calls = SlowCalls::NONE;
     for _ in rt.forever() {
         let is_last = watched.is_stopping();
         slow_calls.look(rt, counts, paths);
         losses.keep(rt, watched);
-        let sight = watched.sight(copies);
+        // Faults are asked for first, so that an array is not seen as healed of one that came behind the sight.
+        let told_before = told;
         told = tell_faults(rt, watched, paths, told);
-        tell_comers(rt, paths, &seen, &sight);
-        if was_thin && sight.is_healed {
+        let sight = watched.sight(copies);
+        let has_comers = tell_comers(rt, paths, &seen, &sight);
+        is_healing = is_healing || sight.is_thin || told > told_before || has_comers;
+        if is_healing && sight.is_healed {
             tell_healed(rt, count_lost(watched));
+            is_healing = false;
         }
         if sight.is_full && !seen.is_full {
             tell(
@@ -53,7 +57,6 @@ pub fn watch<R: Networked, W: Watched>(
                 "the array is running full: trim what is not needed, or replace dies that are out",
             );
         }
-        was_thin = sight.is_thin || was_thin && !sight.is_healed;
         seen = sight;
         if is_last {
             break;
@@ -131,8 +134,9 @@ fn tell_fault<R: Networked>(rt: &R, paths: &[&str], fault: &FaultStatus) {
     warn!(log; "{path}: die {die} went out in round {round}: {cause}; replace it");
 }
 
-/// Tells of the dies that are live now and were not before.
-fn tell_comers<R: Networked>(rt: &R, paths: &[&str], seen: &Sight, sight: &Sight) {
+/// Tells of the dies that are live now and were not before. Whether there is one.
+fn tell_comers<R: Networked>(rt: &R, paths: &[&str], seen: &Sight, sight: &Sight) -> bool {
+    let mut has_comers = false;
     for number in 0..64u8 {
         let place = usize::from(number);
         if sight.live[place] && !seen.live[place] {
@@ -141,8 +145,10 @@ fn tell_comers<R: Networked>(rt: &R, paths: &[&str], seen: &Sight, sight: &Sight
                 rt,
                 format_args!("{path}: die {number} came in; it is being filled"),
             );
+            has_comers = true;
         }
     }
+    has_comers
 }
 
 /// The path of a die's image.

@@ -12,7 +12,8 @@ use Rattle.fa_machine.specs.declared.places.Used.{Used}
 use Rattle.fa_machine.specs.declared.places.Used.TheVariants.{Held, Reserved, Stale}
 use Rattle.fa_machine.specs.declared.places.Version.{Version}
 use Rattle.fa_mount.specs.MountsArray.{MountsArray}
-use Rattle.fa_mount.specs.Standings.{AreApart, place_of}
+use Rattle.fa_mount.specs.Standings.{AreApart}
+use Rattle.fa_mount_headers.specs.Places.{place_of}
 use Rattle.fa_mount_close_laws.proofs.AnyCell.{any_cell}
 use Rattle.fa_mount_close_laws.proofs.MountedImages.{mounted_begins, out_is_neither, placed_apart, placed_shape}
 use Rattle.fa_mount_close_laws.specs.Drives.{AreImages}

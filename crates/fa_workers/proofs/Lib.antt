@@ -2,3 +2,4 @@ mod Begun
 mod Dies
 mod Held
 mod Holds
+mod Rebuilds

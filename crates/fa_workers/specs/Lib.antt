@@ -2,3 +2,5 @@ pub mod Begun
 pub mod DieTurns
 pub mod Held
 pub mod JobMemories
+pub mod Rebuilding
+pub mod Windows

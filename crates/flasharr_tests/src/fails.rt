@@ -1,7 +1,7 @@
 //! A connection whose writer takes nothing, and how often the longest requests call their streams.
 use crate::rows::{FLAGS, GO, GONE, GREETING, end_of, served};
 use crate::spelling::{joined, spell_all, spelled};
-use fa_io::faulty::Piecewise;
+use fa_io::faulty::Faulty;
 use fa_session::SessionEnd;
 use fa_types::MemBlocks;
 use std::alloc::{AllocError, Global};
@@ -18,8 +18,8 @@ fn client(alloc: Global) -> Result<Vec<u8>, Fail> {
 
 /// Whether the connection of a client ends at the first write, with nothing read, where the writer takes nothing.
 fn ends_at_once(alloc: Global, said: &[u8]) -> bool {
-    let mut reader = Piecewise::new(said, 4096);
-    let mut writer = Piecewise::new(Vec::new(alloc), 0);
+    let mut reader = Faulty::piecewise(said, 4096);
+    let mut writer = Faulty::piecewise(Vec::new(alloc), 0);
     let ended = served(alloc, &mut reader, &mut writer);
     ended == SessionEnd::WriteFailed && writer.calls == 1 && reader.calls == 0
 }
@@ -56,8 +56,8 @@ fn reads_back(
     data: &[u8],
     replies: &[u8],
 ) -> bool {
-    let mut reader = Piecewise::new(said, 1_000_000);
-    let mut writer = Piecewise::new(Vec::new(alloc), 1_000_000);
+    let mut reader = Faulty::piecewise(said, 1_000_000);
+    let mut writer = Faulty::piecewise(Vec::new(alloc), 1_000_000);
     let ended = end_of(alloc, &mut reader, &mut writer, store);
     let front = writer.inner.strip_suffix(data).unwrap_or(&[]);
     // A call takes a million bytes: 33 or so for the data, and few for all else.
@@ -82,7 +82,7 @@ fn the_longest_read_and_write(rt: HostRuntime) -> Result<(), Fail> {
 
 /// Whether a client is answered so, by fewer reads than this, until its input ends.
 fn is_answered(alloc: Global, said: &[u8], answer: &[u8], reads: u64) -> bool {
-    let mut reader = Piecewise::new(said, 1_000_000);
+    let mut reader = Faulty::piecewise(said, 1_000_000);
     let mut writer = Vec::new(alloc);
     let ended = served(alloc, &mut reader, &mut writer);
     ended == SessionEnd::InputEnded && writer.as_slice() == answer && reader.calls < reads

@@ -1,5 +1,5 @@
 //! Streams that are interrupted and that fail, and how often they are called.
-use fa_io::faulty::{Failing, Interrupted, Piecewise};
+use fa_io::faulty::Faulty;
 use fa_io::{Calls, ReadEnd, SendFailed, fill, send, send_all, skip};
 use std::alloc::Global;
 use std::io::ErrorKind;
@@ -11,7 +11,7 @@ const BYTES: &[u8] = b"twenty bytes or some";
 /// Whether all bytes are read through interruptions, by so many calls.
 fn reads_through(reads: u64) -> bool {
     let mut calls = Calls::new();
-    let mut reader = Interrupted::new(Piecewise::new(BYTES, 7));
+    let mut reader = Faulty::interrupted(BYTES, 7);
     let mut into = [0u8; 20];
     fill(&mut reader, &mut calls, &mut into) == Ok(())
         && into.as_slice() == BYTES
@@ -21,9 +21,9 @@ fn reads_through(reads: u64) -> bool {
 /// Whether all bytes are written through interruptions, by so many calls.
 fn writes_through(alloc: Global, writes: u64) -> bool {
     let mut calls = Calls::new();
-    let mut writer = Interrupted::new(Piecewise::new(Vec::new(alloc), 1));
+    let mut writer = Faulty::interrupted(Vec::new(alloc), 1);
     send(&mut writer, &mut calls, BYTES) == Ok(())
-        && writer.inner.inner.as_slice() == BYTES
+        && writer.inner.as_slice() == BYTES
         && calls.writes == writes
 }
 
@@ -35,11 +35,11 @@ fn reads_and_writes_through_interruptions(rt: HostRuntime) -> Result<(), Fail> {
 
 /// Whether the read of this number fails, with so many bytes left to read.
 fn read_fails(fails_at: u64, left: usize) -> bool {
-    let mut reader = Failing::new(Piecewise::new(BYTES, 7), fails_at);
+    let mut reader = Faulty::failing(BYTES, 7, fails_at);
     match fill(&mut reader, &mut Calls::new(), &mut [0; 20]) {
         Err(ReadEnd::Failed(fault)) => {
             fault.kind() == ErrorKind::BrokenPipe
-                && reader.inner.inner.len() == left
+                && reader.inner.len() == left
                 && reader.calls == fails_at
         }
         _ => false,
@@ -48,11 +48,11 @@ fn read_fails(fails_at: u64, left: usize) -> bool {
 
 /// Whether the write of this number fails, with so many bytes written.
 fn write_fails(alloc: Global, fails_at: u64, written: usize) -> bool {
-    let mut writer = Failing::new(Piecewise::new(Vec::new(alloc), 7), fails_at);
+    let mut writer = Faulty::failing(Vec::new(alloc), 7, fails_at);
     match send_all(&mut writer, BYTES) {
         Err(SendFailed::Failed(fault)) => {
             fault.kind() == ErrorKind::BrokenPipe
-                && writer.inner.inner.len() == written
+                && writer.inner.len() == written
                 && writer.calls == fails_at
         }
         _ => false,
@@ -61,7 +61,7 @@ fn write_fails(alloc: Global, fails_at: u64, written: usize) -> bool {
 
 /// Whether a writer that takes nothing is called once, and that is told.
 fn fails_where_nothing_is_taken(alloc: Global) -> bool {
-    let mut writer = Piecewise::new(Vec::new(alloc), 0);
+    let mut writer = Faulty::piecewise(Vec::new(alloc), 0);
     match send_all(&mut writer, BYTES) {
         Err(SendFailed::Failed(fault)) => {
             fault.kind() == ErrorKind::WriteZero && writer.calls == 1

@@ -2,7 +2,7 @@
 //! a wrong magic number stand in tests/cases/cuts.py, and the others in tests/cases/conversations.py.
 use crate::spelling::joined;
 use fa_io::WriteBoth;
-use fa_io::faulty::{Interrupted, Piecewise};
+use fa_io::faulty::Faulty;
 use fa_session::{SessionEnd, serve_stream};
 use fa_types::{Blocks, MemBlocks};
 use std::alloc::Global;
@@ -47,18 +47,18 @@ pub fn served<R: Read, W: WriteBoth>(alloc: Global, reader: &mut R, writer: &mut
 
 /// Whether a conversation goes well in pieces of a length, with a writer that takes one byte a call.
 fn converses_in_pieces(alloc: Global, said: &[u8], most: usize, answer: &[u8], end: u8) -> bool {
-    let mut reader = Piecewise::new(said, most);
-    let mut writer = Piecewise::new(Vec::new(alloc), 1);
+    let mut reader = Faulty::piecewise(said, most);
+    let mut writer = Faulty::piecewise(Vec::new(alloc), 1);
     let ended = served(alloc, &mut reader, &mut writer);
     ended.number() == end && writer.inner.as_slice() == answer
 }
 
 /// Whether a conversation goes well over streams that are interrupted at every other call.
 fn converses_through_interruptions(alloc: Global, said: &[u8], answer: &[u8], end: u8) -> bool {
-    let mut reader = Interrupted::new(Piecewise::new(said, 7));
-    let mut writer = Interrupted::new(Piecewise::new(Vec::new(alloc), 5));
+    let mut reader = Faulty::interrupted(said, 7);
+    let mut writer = Faulty::interrupted(Vec::new(alloc), 5);
     let ended = served(alloc, &mut reader, &mut writer);
-    ended.number() == end && writer.inner.inner.as_slice() == answer
+    ended.number() == end && writer.inner.as_slice() == answer
 }
 
 /// Tries one conversation: over streams that are interrupted, and in pieces of each length.

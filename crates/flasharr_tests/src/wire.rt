@@ -1,7 +1,7 @@
 //! Connections whose streams fail, and one call for a reply with its data.
 use crate::rows::{FLAGS, GO, GONE, GREETING, served};
 use crate::spelling::joined;
-use fa_io::faulty::{Failing, Piecewise};
+use fa_io::faulty::Faulty;
 use fa_session::SessionEnd;
 use std::alloc::Global;
 use std::test::Fail;
@@ -37,10 +37,10 @@ fn failing(
     read: u64,
     write: u64,
 ) -> Option<(SessionEnd, usize)> {
-    let mut reader = Failing::new(Piecewise::new(said, 50), read);
-    let mut writer = Failing::new(Piecewise::new(Vec::new(alloc), 50), write);
+    let mut reader = Faulty::failing(said, 50, read);
+    let mut writer = Faulty::failing(Vec::new(alloc), 50, write);
     let ended = served(alloc, &mut reader, &mut writer);
-    let told = writer.inner.inner.as_slice();
+    let told = writer.inner.as_slice();
     if reader.calls <= read && writer.calls <= write && answer.starts_with(told) {
         Some((ended, told.len()))
     } else {
@@ -78,7 +78,7 @@ fn each_socket_call_fails(rt: HostRuntime) -> Result<(), Fail> {
 /// Whether so many bytes are said to a client, by so many calls of the writer, until its input ends.
 fn is_said_by(alloc: Global, said: &[u8], bytes: usize, calls: u64) -> bool {
     let mut reader = said;
-    let mut writer = Piecewise::new(Vec::new(alloc), 1_000_000);
+    let mut writer = Faulty::piecewise(Vec::new(alloc), 1_000_000);
     let ended = served(alloc, &mut reader, &mut writer);
     ended == SessionEnd::InputEnded && writer.inner.len() == bytes && writer.calls == calls
 }

@@ -1,0 +1,90 @@
+//! The worker that gives dies their windows.
+ghost use Rattle.std.specs.Prelude.{◌≡◌, ◌<◌, false, if◌then◌else◌};
+ghost use Rattle.fa_core.specs.Array.{state_of};
+ghost use Rattle.fa_core.specs.Windows.{is_window_due};
+ghost use Rattle.fa_shared_lock.specs.Rest.{LeavesRest};
+ghost use Rattle.fa_shared_lock.specs.declared.sleepers.Awaits.TheVariants.{Change, Window};
+ghost use Rattle.fa_workers.specs.Windows.{GivesWindow, GivesWindows};
+
+use fa_core::Array;
+use fa_map_calls::Map;
+use fa_shared::{Shared, window};
+use fa_shared_lock::{Awaits, Locked, Seat};
+use fa_types::Die;
+use std::alloc::Allocator;
+use std::sync::Wait;
+use std::sync::ledger::Ledger;
+use std::time::Clock;
+
+/// Gives each live die that wants one a window of so many rounds, 1 to 64, until the array is to end. It sleeps
+/// behind each look at the dies until one wants a window; and where one was refused, until something has changed.
+pub fn collector_worker<R: Wait + Clock, L: Ledger, M: Map + Drop, A: Allocator + Copy>(
+    rt: &R,
+    alloc: A,
+    shared: &Shared<L, M, A>,
+    seat: &mut Seat<L>,
+    window_rounds: u64,
+) {
+    let mut guard = shared.lock(rt);
+    for _ in rt.forever() {
+        if guard.is_stopping() {
+            break;
+        }
+        give_windows(alloc, &mut guard, seat, window_rounds);
+        let awaits = next_look(guard.array());
+        guard = shared.sleep(rt, seat, awaits, false, guard);
+    }
+}
+
+/// What the collector waits for behind a look: that a die wants a window, or any change, where one that wants it was refused.
+fn next_look<M: Map, A: Allocator + Clone>(array: &Array<M, A>) -> Awaits
+    ensures { result ≡ (if is_window_due (state_of M.view array.now) then Change else Window) }
+{
+    if array.is_window_due() {
+        Awaits::Change
+    } else {
+        Awaits::Window
+    }
+}
+
+/// A Window for each die that wants one. Whether one was accepted.
+fn give_windows<L: Ledger, M: Map + Drop, A: Allocator + Copy>(
+    alloc: A,
+    locked: &mut Locked<L, M, A>,
+    seat: &mut Seat<L>,
+    rounds: u64,
+) -> bool
+    ensures gives { GivesWindows rounds locked.old.core locked.old.core.page_map.geometry.dies locked.new.core }
+    ensures nothing { result ≡ false → locked.new.core ≡ locked.old.core }
+    ensures account { LeavesRest locked.old seat.old locked.new seat.new }
+{
+    let mut given = false;
+    for die in 0..locked.array().geometry().dies {
+        if give_window(alloc, locked, seat, Die(die as u8), rounds) {
+            given = true;
+        }
+    }
+    given
+}
+
+/// A Window for a die, if it wants one. Whether it was accepted.
+fn give_window<L: Ledger, M: Map + Drop, A: Allocator + Copy>(
+    alloc: A,
+    locked: &mut Locked<L, M, A>,
+    seat: &mut Seat<L>,
+    die: Die,
+    rounds: u64,
+) -> bool
+    requires { die.0 < locked.old.core.page_map.geometry.dies }
+    ensures gives { GivesWindow rounds locked.old.core die.0 result locked.new.core }
+    ensures geometry { locked.new.core.page_map.geometry ≡ locked.old.core.page_map.geometry }
+    ensures account { LeavesRest locked.old seat.old locked.new seat.new }
+{
+    if !locked.array().wants_window(die) {
+        return false;
+    }
+    match window(alloc, locked, seat, die, rounds) {
+        None => false,
+        Some(answer) => answer.is_ok(),
+    }
+}

@@ -1,2 +1,0 @@
-pub mod Rebuilding
-pub mod Windows
