@@ -72,7 +72,8 @@ impl<M: Map, A: Allocator + Copy> Array<M, A> {
         ensures number { number_of self.new ≡ number_of self.old }
         ensures whole { IsWhole M.view self.new }
         ensures fits { FitsAnswer (state_of M.view self.old).page_map.geometry (number_of self.old) (Call.Take die) result }
-        ensures commits { (rule_counts (state_of M.view self.new)).0 ≡ (rule_counts (state_of M.view self.old)).0 + commits_of_answer result }
+        ensures commits { (rule_counts (state_of M.view self.new)).0
+            ≡ (rule_counts (state_of M.view self.old)).0 + commits_of_answer result }
     {
         if !self.may_take(die) {
             return Answer::Stranger(None);
@@ -85,10 +86,12 @@ impl<M: Map, A: Allocator + Copy> Array<M, A> {
     /// A Done.
     pub(crate) fn make_done(&mut self, die: Die, outcome: Outcome, buffer: Vec<u8, A>) -> Answer<A>
         requires { IsWhole M.view self.old }
-        ensures event { (seat : ℕ) → Makes (state_of M.view self.old) seat (Call.Done die outcome buffer) result (state_of M.view self.new) }
+        ensures event { (seat : ℕ) → Makes (state_of M.view self.old) seat (Call.Done die outcome buffer) result
+            (state_of M.view self.new) }
         ensures number { number_of self.new ≡ number_of self.old }
         ensures whole { IsWhole M.view self.new }
-        ensures commits { (rule_counts (state_of M.view self.new)).0 ≡ (rule_counts (state_of M.view self.old)).0 + commits_of_answer result }
+        ensures commits { (rule_counts (state_of M.view self.new)).0
+            ≡ (rule_counts (state_of M.view self.old)).0 + commits_of_answer result }
     {
         if !self.may_end(die, outcome, &buffer) {
             return Answer::Stranger(Some(buffer));

@@ -55,7 +55,8 @@ impl<M: Map, A: Allocator + Copy> Array<M, A> {
         ensures event { (seat : ℕ) → Makes (state_of M.view self.old) seat Call.FlushBegin result (state_of M.view self.new) }
         ensures number { number_of self.new ≡ number_of self.old }
         ensures whole { IsWhole M.view self.new }
-        ensures commits { (rule_counts (state_of M.view self.new)).0 ≡ (rule_counts (state_of M.view self.old)).0 + commits_of_answer result }
+        ensures commits { (rule_counts (state_of M.view self.new)).0
+            ≡ (rule_counts (state_of M.view self.old)).0 + commits_of_answer result }
     {
         let answer = self.flush_begin();
         an_event_counts();
@@ -68,7 +69,8 @@ impl<M: Map, A: Allocator + Copy> Array<M, A> {
         ensures event { (seat : ℕ) → Makes (state_of M.view self.old) seat (Call.FlushState flush) result (state_of M.view self.new) }
         ensures number { number_of self.new ≡ number_of self.old }
         ensures whole { IsWhole M.view self.new }
-        ensures commits { (rule_counts (state_of M.view self.new)).0 ≡ (rule_counts (state_of M.view self.old)).0 + commits_of_answer result }
+        ensures commits { (rule_counts (state_of M.view self.new)).0
+            ≡ (rule_counts (state_of M.view self.old)).0 + commits_of_answer result }
     {
         let answer = self.flush_state(&flush);
         Answer::FlushState(answer)
@@ -80,7 +82,8 @@ impl<M: Map, A: Allocator + Copy> Array<M, A> {
         ensures event { (seat : ℕ) → Makes (state_of M.view self.old) seat Call.Fold result (state_of M.view self.new) }
         ensures number { number_of self.new ≡ number_of self.old }
         ensures whole { IsWhole M.view self.new }
-        ensures commits { (rule_counts (state_of M.view self.new)).0 ≡ (rule_counts (state_of M.view self.old)).0 + commits_of_answer result }
+        ensures commits { (rule_counts (state_of M.view self.new)).0
+            ≡ (rule_counts (state_of M.view self.old)).0 + commits_of_answer result }
     {
         self.fold();
         an_event_counts();

@@ -168,7 +168,8 @@ impl<M: Map, A: Allocator + Copy> Array<M, A> {
         ensures handed { HandsOutWhole (state_of M.view self.old) (Call.Admit pages.entry) result }
         ensures number { number_of self.new ≡ number_of self.old }
         ensures whole { IsWhole M.view self.new }
-        ensures commits { (rule_counts (state_of M.view self.new)).0 ≡ (rule_counts (state_of M.view self.old)).0 + commits_of_answer result }
+        ensures commits { (rule_counts (state_of M.view self.new)).0
+            ≡ (rule_counts (state_of M.view self.old)).0 + commits_of_answer result }
     {
         if !self.may_admit(pages) {
             return Answer::Stranger(None);
@@ -185,7 +186,8 @@ impl<M: Map, A: Allocator + Copy> Array<M, A> {
         ensures handed { HandsOutWhole (state_of M.view self.old) (Call.Replan batch) result }
         ensures number { number_of self.new ≡ number_of self.old }
         ensures whole { IsWhole M.view self.new }
-        ensures commits { (rule_counts (state_of M.view self.new)).0 ≡ (rule_counts (state_of M.view self.old)).0 + commits_of_answer result }
+        ensures commits { (rule_counts (state_of M.view self.new)).0
+            ≡ (rule_counts (state_of M.view self.old)).0 + commits_of_answer result }
     {
         if !self.batch_open(batch) {
             return Answer::Stranger(None);
@@ -201,7 +203,8 @@ impl<M: Map, A: Allocator + Copy> Array<M, A> {
         ensures event { (seat : ℕ) → Makes (state_of M.view self.old) seat (Call.EndBatch batch) result (state_of M.view self.new) }
         ensures number { number_of self.new ≡ number_of self.old }
         ensures whole { IsWhole M.view self.new }
-        ensures commits { (rule_counts (state_of M.view self.new)).0 ≡ (rule_counts (state_of M.view self.old)).0 + commits_of_answer result }
+        ensures commits { (rule_counts (state_of M.view self.new)).0
+            ≡ (rule_counts (state_of M.view self.old)).0 + commits_of_answer result }
     {
         if !self.batch_open(batch) {
             return Answer::Stranger(None);

@@ -104,7 +104,8 @@ impl<M: Map, A: Allocator + Copy> Array<M, A> {
         ensures event { (seat : ℕ) → Makes (state_of M.view self.old) seat (Call.Window die rounds) result (state_of M.view self.new) }
         ensures number { number_of self.new ≡ number_of self.old }
         ensures whole { IsWhole M.view self.new }
-        ensures commits { (rule_counts (state_of M.view self.new)).0 ≡ (rule_counts (state_of M.view self.old)).0 + commits_of_answer result }
+        ensures commits { (rule_counts (state_of M.view self.new)).0
+            ≡ (rule_counts (state_of M.view self.old)).0 + commits_of_answer result }
     {
         if !self.may_have_window(die, rounds) {
             return Answer::Stranger(None);
@@ -120,7 +121,8 @@ impl<M: Map, A: Allocator + Copy> Array<M, A> {
         ensures event { (seat : ℕ) → Makes (state_of M.view self.old) seat Call.Advance result (state_of M.view self.new) }
         ensures number { number_of self.new ≡ number_of self.old }
         ensures whole { IsWhole M.view self.new }
-        ensures commits { (rule_counts (state_of M.view self.new)).0 ≡ (rule_counts (state_of M.view self.old)).0 + commits_of_answer result }
+        ensures commits { (rule_counts (state_of M.view self.new)).0
+            ≡ (rule_counts (state_of M.view self.old)).0 + commits_of_answer result }
     {
         let answer = self.advance();
         an_event_counts();
@@ -133,7 +135,8 @@ impl<M: Map, A: Allocator + Copy> Array<M, A> {
         ensures event { (seat : ℕ) → Makes (state_of M.view self.old) seat (Call.SpareIn die) result (state_of M.view self.new) }
         ensures number { number_of self.new ≡ number_of self.old }
         ensures whole { IsWhole M.view self.new }
-        ensures commits { (rule_counts (state_of M.view self.new)).0 ≡ (rule_counts (state_of M.view self.old)).0 + commits_of_answer result }
+        ensures commits { (rule_counts (state_of M.view self.new)).0
+            ≡ (rule_counts (state_of M.view self.old)).0 + commits_of_answer result }
     {
         if !self.is_die(die) {
             return Answer::Stranger(None);
@@ -151,10 +154,12 @@ impl<M: Map, A: Allocator + Copy> Array<M, A> {
         payload: &Payload<A>,
     ) -> Answer<A>
         requires { IsWhole M.view self.old }
-        ensures event { (seat : ℕ) → Makes (state_of M.view self.old) seat (Call.ReserveCopy page seq payload.entry) result (state_of M.view self.new) }
+        ensures event { (seat : ℕ) → Makes (state_of M.view self.old) seat (Call.ReserveCopy page seq payload.entry) result
+            (state_of M.view self.new) }
         ensures number { number_of self.new ≡ number_of self.old }
         ensures whole { IsWhole M.view self.new }
-        ensures commits { (rule_counts (state_of M.view self.new)).0 ≡ (rule_counts (state_of M.view self.old)).0 + commits_of_answer result }
+        ensures commits { (rule_counts (state_of M.view self.new)).0
+            ≡ (rule_counts (state_of M.view self.old)).0 + commits_of_answer result }
     {
         if !self.may_reserve_copy(page, payload) {
             return Answer::Stranger(None);
@@ -170,7 +175,8 @@ impl<M: Map, A: Allocator + Copy> Array<M, A> {
         ensures event { (seat : ℕ) → Makes (state_of M.view self.old) seat Call.CommitCopy result (state_of M.view self.new) }
         ensures number { number_of self.new ≡ number_of self.old }
         ensures whole { IsWhole M.view self.new }
-        ensures commits { (rule_counts (state_of M.view self.new)).0 ≡ (rule_counts (state_of M.view self.old)).0 + commits_of_answer result }
+        ensures commits { (rule_counts (state_of M.view self.new)).0
+            ≡ (rule_counts (state_of M.view self.old)).0 + commits_of_answer result }
     {
         if !self.copy_open() {
             return Answer::Stranger(None);

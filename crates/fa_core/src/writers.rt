@@ -141,7 +141,8 @@ impl<M: Map, A: Allocator + Copy> Array<M, A> {
         ensures event { (seat : ℕ) → Makes (state_of M.view self.old) seat (Call.Claim page) result (state_of M.view self.new) }
         ensures number { number_of self.new ≡ number_of self.old }
         ensures whole { IsWhole M.view self.new }
-        ensures commits { (rule_counts (state_of M.view self.new)).0 ≡ (rule_counts (state_of M.view self.old)).0 + commits_of_answer result }
+        ensures commits { (rule_counts (state_of M.view self.new)).0
+            ≡ (rule_counts (state_of M.view self.old)).0 + commits_of_answer result }
     {
         if !self.is_page(page) {
             return Answer::Stranger(None);
@@ -157,7 +158,8 @@ impl<M: Map, A: Allocator + Copy> Array<M, A> {
         ensures event { (seat : ℕ) → Makes (state_of M.view self.old) seat (Call.Release claim) result (state_of M.view self.new) }
         ensures number { number_of self.new ≡ number_of self.old }
         ensures whole { IsWhole M.view self.new }
-        ensures commits { (rule_counts (state_of M.view self.new)).0 ≡ (rule_counts (state_of M.view self.old)).0 + commits_of_answer result }
+        ensures commits { (rule_counts (state_of M.view self.new)).0
+            ≡ (rule_counts (state_of M.view self.old)).0 + commits_of_answer result }
     {
         if !self.may_reserve(claim) {
             return Answer::Stranger(None);
@@ -170,10 +172,12 @@ impl<M: Map, A: Allocator + Copy> Array<M, A> {
     /// A Reserve.
     pub(crate) fn make_reserve(&mut self, claim: ClaimId, payload: &Payload<A>) -> Answer<A>
         requires { IsWhole M.view self.old }
-        ensures event { (seat : ℕ) → Makes (state_of M.view self.old) seat (Call.Reserve claim payload.entry) result (state_of M.view self.new) }
+        ensures event { (seat : ℕ) → Makes (state_of M.view self.old) seat (Call.Reserve claim payload.entry) result
+            (state_of M.view self.new) }
         ensures number { number_of self.new ≡ number_of self.old }
         ensures whole { IsWhole M.view self.new }
-        ensures commits { (rule_counts (state_of M.view self.new)).0 ≡ (rule_counts (state_of M.view self.old)).0 + commits_of_answer result }
+        ensures commits { (rule_counts (state_of M.view self.new)).0
+            ≡ (rule_counts (state_of M.view self.old)).0 + commits_of_answer result }
     {
         if !self.may_reserve_payload(claim, payload) {
             return Answer::Stranger(None);
@@ -189,7 +193,8 @@ impl<M: Map, A: Allocator + Copy> Array<M, A> {
         ensures event { (seat : ℕ) → Makes (state_of M.view self.old) seat (Call.ReserveHole claim) result (state_of M.view self.new) }
         ensures number { number_of self.new ≡ number_of self.old }
         ensures whole { IsWhole M.view self.new }
-        ensures commits { (rule_counts (state_of M.view self.new)).0 ≡ (rule_counts (state_of M.view self.old)).0 + commits_of_answer result }
+        ensures commits { (rule_counts (state_of M.view self.new)).0
+            ≡ (rule_counts (state_of M.view self.old)).0 + commits_of_answer result }
     {
         if !self.may_reserve(claim) {
             return Answer::Stranger(None);
@@ -202,10 +207,12 @@ impl<M: Map, A: Allocator + Copy> Array<M, A> {
     /// A ReserveFewer.
     pub(crate) fn make_reserve_fewer(&mut self, claim: ClaimId, payload: &Payload<A>) -> Answer<A>
         requires { IsWhole M.view self.old }
-        ensures event { (seat : ℕ) → Makes (state_of M.view self.old) seat (Call.ReserveFewer claim payload.entry) result (state_of M.view self.new) }
+        ensures event { (seat : ℕ) → Makes (state_of M.view self.old) seat (Call.ReserveFewer claim payload.entry) result
+            (state_of M.view self.new) }
         ensures number { number_of self.new ≡ number_of self.old }
         ensures whole { IsWhole M.view self.new }
-        ensures commits { (rule_counts (state_of M.view self.new)).0 ≡ (rule_counts (state_of M.view self.old)).0 + commits_of_answer result }
+        ensures commits { (rule_counts (state_of M.view self.new)).0
+            ≡ (rule_counts (state_of M.view self.old)).0 + commits_of_answer result }
     {
         if !self.may_reserve_payload(claim, payload) {
             return Answer::Stranger(None);
@@ -221,7 +228,8 @@ impl<M: Map, A: Allocator + Copy> Array<M, A> {
         ensures event { Makes (state_of M.view self.old) seat (Call.Commit claim) result (state_of M.view self.new) }
         ensures number { number_of self.new ≡ number_of self.old }
         ensures whole { IsWhole M.view self.new }
-        ensures commits { (rule_counts (state_of M.view self.new)).0 ≡ (rule_counts (state_of M.view self.old)).0 + commits_of_answer result }
+        ensures commits { (rule_counts (state_of M.view self.new)).0
+            ≡ (rule_counts (state_of M.view self.old)).0 + commits_of_answer result }
     {
         if !self.may_commit(claim) {
             return Answer::Stranger(None);
@@ -237,7 +245,8 @@ impl<M: Map, A: Allocator + Copy> Array<M, A> {
         ensures event { (seat : ℕ) → Makes (state_of M.view self.old) seat (Call.Abandon claim) result (state_of M.view self.new) }
         ensures number { number_of self.new ≡ number_of self.old }
         ensures whole { IsWhole M.view self.new }
-        ensures commits { (rule_counts (state_of M.view self.new)).0 ≡ (rule_counts (state_of M.view self.old)).0 + commits_of_answer result }
+        ensures commits { (rule_counts (state_of M.view self.new)).0
+            ≡ (rule_counts (state_of M.view self.old)).0 + commits_of_answer result }
     {
         if !self.is_reserved(claim) {
             return Answer::Stranger(None);

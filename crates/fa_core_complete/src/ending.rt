@@ -33,7 +33,8 @@ pub fn done<M: Map, A: Allocator + Clone>(
     requires whole { length buffer.old.items ≡ (M.view state.old.page_map).geometry.page_bytes }
     requires fitted { IsFitted M.view state.old }
     requires sound { IsSound (core_of M.view state.old) }
-    ensures ends { EndsJob (core_of M.view state.old) die.0 (get (core_of M.view state.old).jobs die.0) (outcome_of outcome buffer.old.items)
+    ensures ends { EndsJob (core_of M.view state.old) die.0 (get (core_of M.view state.old).jobs die.0)
+        (outcome_of outcome buffer.old.items)
         (core_of M.view state.new) }
     ensures fitted { IsFitted M.view state.new }
     ensures buffer { length buffer.new.items ≡ length buffer.old.items }

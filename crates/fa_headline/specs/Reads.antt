@@ -61,7 +61,8 @@ pub record WasAtOnce (first : World) (before : List Happening) (pages : List ℕ
   pub plain : plain_page at page ≡ bytes
 
 -- what the batch answers for a page
-abbrev pub IsAnswer : (first : World) {happenings : List Happening} (last : World) {batch : ℕ} → IsOpen happenings batch → ℕ → List ℕ → Type 0
+abbrev pub IsAnswer : (first : World) {happenings : List Happening} (last : World) {batch : ℕ} → IsOpen happenings batch → ℕ → List ℕ
+    → Type 0
 IsAnswer first {happenings} last {batch} o page bytes =
     WasRead first (up_to_admit o.before o.pages o.admitted) o.since last batch page bytes ⊎ WasAtOnce first o.before o.pages page bytes
 

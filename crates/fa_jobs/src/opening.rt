@@ -18,7 +18,8 @@ use fa_image::Image;
 /// A read whose slot was read by one call of its die's image has run, as `run_job` runs it, once that slot is opened and its payload handed
 /// out.
 pub fn a_read_that_is_opened_has_run<I: Image>()
-    ensures { (geometry : Geometry) (array : List ℕ) (die : ℕ) (job : Handed) (batch : BatchId) (page : Page) (version : Version) (slot : Slot)
+    ensures { (geometry : Geometry) (array : List ℕ) (die : ℕ) (job : Handed) (batch : BatchId) (page : Page) (version : Version)
+        (slot : Slot)
         (bytes handed : List ℕ) (outcome : Outcome) (before after : I) → job.flight ≡ Read batch page version slot
         → I.made before (ReadingSlot slot.0) (Gave bytes) after → length bytes ≡ geometry.page_bytes + 64
         → Opens bytes geometry.page_bytes outcome handed

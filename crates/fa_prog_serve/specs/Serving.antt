@@ -4,7 +4,7 @@ use Rattle.fa_mount_headers.specs.declared.fault.MountFault.{MountFault}
 use Rattle.fa_prog_images.specs.Array.{mount_line}
 use Rattle.fa_prog_host.specs.Printing.{Prints, TellsNoMemory}
 use Rattle.fa_prog_listen.specs.Address.{address_line}
-use Rattle.fa_prog_served.specs.Ending.{TellsEnd}
+use Rattle.fa_prog_array.specs.Ending.{TellsEnd}
 use Rattle.fa_prog_host.specs.SettingsRefused.{RefusesSettings}
 
 -- Where clients can connect is printed.

@@ -1,9 +1,9 @@
 //! Those who work for the dies of the array.
 use fa_image::Image;
 use fa_map_calls::Map;
+use fa_prog_array::CountingGate;
 use fa_prog_clients::Networked;
 use fa_prog_counts::Counts;
-use fa_prog_served::CountingGate;
 use fa_shared::Shared;
 use fa_shared_lock::Seat;
 use fa_types::Die;

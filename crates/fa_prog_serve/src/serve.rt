@@ -12,7 +12,7 @@ use fa_map::PageMap;
 use fa_map_calls::Map;
 use fa_mount::MountedArray;
 use fa_mount_headers::{MountFault, Standing};
-use fa_prog_array::{mount, refuse_mount};
+use fa_prog_array::{Ended, end_served, mount, refuse_mount, share};
 use fa_prog_host::printing::{DONE, REFUSED, print, refuse_for_memory};
 use fa_prog_host::{
     NotOpened, OpenImages, Opening, open_images, refuse_settings, settings_at, tell,
@@ -21,7 +21,6 @@ use fa_prog_images::explain;
 use fa_prog_listen::{
     Held, Listeners, ServePlan, ServerHost, bind_looks, listening_text, open_beside,
 };
-use fa_prog_served::{Ended, end_served, share};
 use fa_settings::{PlansFile, Settings, Terms};
 use fa_shared::Shared;
 use std::alloc::{AllocError, Allocator};

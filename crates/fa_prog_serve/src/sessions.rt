@@ -1,10 +1,10 @@
 //! A session of the server over the array: it serves one client after another, and works for the dies while their requests wait.
 use fa_image::Image;
 use fa_map_calls::Map;
+use fa_prog_array::{CountingGate, Served};
 use fa_prog_clients::{ConnectionMemory, Networked, Service, serve_clients};
 use fa_prog_counts::CountingStore;
 use fa_prog_listen::Listening;
-use fa_prog_served::{CountingGate, Served};
 use fa_prog_watch::{Losses, TellingStore, Watched};
 use fa_shared::Shared;
 use fa_shared_lock::{Hands, Seat};

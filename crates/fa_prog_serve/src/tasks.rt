@@ -2,10 +2,10 @@
 use crate::die_workers::{DieTask, die_task};
 use crate::sessions::Session;
 use fa_map_calls::Map;
+use fa_prog_array::Served;
 use fa_prog_clients::{Networked, Service};
 use fa_prog_host::PlanFile;
 use fa_prog_listen::ThreadPlan;
-use fa_prog_served::Served;
 use fa_prog_watch::{Looker, Sight, Watched};
 use fa_shared::Shared;
 use fa_shared_lock::Seat;

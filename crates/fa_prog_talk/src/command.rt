@@ -93,7 +93,8 @@ fn answer<R: Host, W: Write, A: Allocator + Copy>(
     output: &mut W,
 ) -> u8
     requires served { MayBeServed settings.now }
-    ensures { TellsLines Brand (PageTables Heap) settings.now taken.entry.terms text.now (W.contents output.old) (W.contents output.new) result }
+    ensures { TellsLines Brand (PageTables Heap) settings.now taken.entry.terms text.now (W.contents output.old) (W.contents output.new)
+        result }
 {
     match read_hex_lines(alloc, text) {
         Ok(bytes) => open(rt, alloc, settings, taken, bytes.as_slice(), output),
@@ -111,7 +112,8 @@ fn open<R: Host, W: Write, A: Allocator + Copy>(
     output: &mut W,
 ) -> u8
     requires served { MayBeServed settings.now }
-    ensures { TellsClient Brand (PageTables Heap) settings.now taken.entry.terms bytes.now (W.contents output.old) (W.contents output.new) result }
+    ensures { TellsClient Brand (PageTables Heap) settings.now taken.entry.terms bytes.now (W.contents output.old) (W.contents output.new)
+        result }
 {
     let opening = Opening {
         terms: taken.terms,
@@ -145,7 +147,8 @@ fn talk_over<R: Host, W: Write, A: Allocator + Copy>(
 ) -> u8
     requires served { MayBeServed settings.now }
     requires opened { AreOpened settings.now.geometry (length settings.now.images.items) taken.terms true places.now images.items }
-    ensures { TellsClient Brand (PageTables Heap) settings.now taken.entry.terms bytes.now (W.contents output.old) (W.contents output.new) result }
+    ensures { TellsClient Brand (PageTables Heap) settings.now taken.entry.terms bytes.now (W.contents output.old) (W.contents output.new)
+        result }
 {
     a_conversation_is_right::<Brand, PageMap, FileImage>();
     let mut images = images;
@@ -179,7 +182,8 @@ fn talk_mounted<R: Host, M: Map + Drop, I: Image + Drop, W: Write, A: Allocator 
     requires served { MayBeServed settings.now }
     requires whole { IsWhole M.view parts.mounted.array }
     ensures { TellsMounted I.view I.honest I.made Brand M (string_bytes settings.now.export) bytes.now (number_of parts.mounted.array)
-        parts.mounted.dies.items (state_of M.view parts.mounted.array) parts.images.items (W.contents output.old) (W.contents output.new) result }
+        parts.mounted.dies.items (state_of M.view parts.mounted.array) parts.images.items (W.contents output.old) (W.contents output.new)
+        result }
 {
     match converse::<Brand, M, I, A>(rt.alloc(), alloc, Blank::new(257), parts, settings, bytes) {
         Ok(said) => {

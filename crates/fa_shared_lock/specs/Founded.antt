@@ -28,7 +28,8 @@ module _ {A : Type 0} where
   abbrev pub IsFounded : Core → Stage A → Act → Stage A → Type 0
   IsFounded core (Reading purpose batch) (EndBatch b answers) next = results core b ≡ Ready
   IsFounded core (Reading purpose batch) (Replan b answer) next = results core b ≡ Torn
-  IsFounded core (Reserving held (Fewer payload)) (ReserveFewer claim bytes (Err NoRoom)) (Releasing h fault) = may_collect core.page_map ≡ false
+  IsFounded core (Reserving held (Fewer payload)) (ReserveFewer claim bytes (Err NoRoom)) (Releasing h fault) = may_collect core.page_map
+      ≡ false
   IsFounded core stage act next = Unit {0}
 
   abbrev pub fits : Core → Wish A → Bool

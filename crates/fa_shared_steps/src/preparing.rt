@@ -157,7 +157,8 @@ fn merge_page<A: Allocator + Copy>(
 /// Puts what goes into a page over the bytes that it held, and says whether it could: there have to be bytes for it, and place.
 fn put_content(into: &mut [u8], task: Task, bytes: &[u8], page: Page) -> bool
     requires { IsRange task.range }
-    ensures put { result ≡ true → into.new ≡ with_bytes (begins_at task.range page.0) (rule_content task.fill task.range page.0 bytes.now) into.old }
+    ensures put { result ≡ true → into.new
+        ≡ with_bytes (begins_at task.range page.0) (rule_content task.fill task.range page.0 bytes.now) into.old }
     ensures tested { result ≡ (rule_has task.fill task.range page.0 bytes.now && rule_part task.range page.0 (length into.old)) }
 {
     let begin = task.range.begins_at(page.0);

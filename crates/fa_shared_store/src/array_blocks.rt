@@ -116,7 +116,8 @@ impl<
 
     ghost view = { λ store. shared_view store.bytes store.context.page_bytes };
 
-    ghost made = { λ before call answer after. (after.bytes ≡ before.bytes) × (after.context.page_bytes ≡ before.context.page_bytes) × IsAnswer call answer
+    ghost made = { λ before call answer after. (after.bytes ≡ before.bytes) × (after.context.page_bytes ≡ before.context.page_bytes)
+        × IsAnswer call answer
         × IsMade (pages_of before.context.page_bytes call) before.seat (is_accepted answer) after.seat };
 
     ghost meets = { λ before after call answer made.

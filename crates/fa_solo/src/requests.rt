@@ -72,8 +72,10 @@ pub(crate) fn run_read<L: Ledger, M: Map + Drop, I: Image, A: Allocator + Copy, 
     ensures length { IfOk result (λ answer. length answer.items ≡ len) }
     ensures room { IfErr result (λ fault. fault ≡ NoRoom → ⊥) }
     ensures made { IsMade 0 inner.old.seat (is_ok result) inner.new.seat }
-    ensures gave { IfOk result (λ answer. MakesRequest I.made (task_of page_bytes (Read offset len)) [] (Gave answer.items) inner.old inner.new) }
-    ensures refused { IfErr result (λ fault. MakesRequest I.made (task_of page_bytes (Read offset len)) [] (Refused fault) inner.old inner.new) }
+    ensures gave { IfOk result (λ answer. MakesRequest I.made (task_of page_bytes (Read offset len)) [] (Gave answer.items) inner.old
+        inner.new) }
+    ensures refused { IfErr result (λ fault. MakesRequest I.made (task_of page_bytes (Read offset len)) [] (Refused fault) inner.old
+        inner.new) }
 {
     let request = Request::Read { offset, len };
     let mut op = match Op::new(inner.alloc, into, request, u64::from(page_bytes)) {

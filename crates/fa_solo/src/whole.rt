@@ -57,8 +57,10 @@ pub(crate) fn call_read<L: Ledger, M: Map + Drop, I: Image, A: Allocator + Copy,
     ensures length { IfOk result (λ answer. length answer.items ≡ len) }
     ensures room { IfErr result (λ fault. fault ≡ NoRoom → ⊥) }
     ensures made { IsMade 0 inner.old.seat (is_ok result) inner.new.seat }
-    ensures gave { IfOk result (λ answer. MakesWhole I.made (task_of page_bytes (Read offset len)) [] (Gave answer.items) inner.old inner.new) }
-    ensures refused { IfErr result (λ fault. MakesWhole I.made (task_of page_bytes (Read offset len)) [] (Refused fault) inner.old inner.new) }
+    ensures gave { IfOk result (λ answer. MakesWhole I.made (task_of page_bytes (Read offset len)) [] (Gave answer.items) inner.old
+        inner.new) }
+    ensures refused { IfErr result (λ fault. MakesWhole I.made (task_of page_bytes (Read offset len)) [] (Refused fault) inner.old
+        inner.new) }
 {
     bring_in(inner);
     let answer = run_read(inner, page_bytes, offset, len, into);
@@ -128,7 +130,8 @@ fn tidy_unless<L: Ledger, M: Map + Drop, I: Image, A: Allocator + Copy>(
     inner: &mut Inner<L, M, I, A>,
     is_full: bool,
 )
-    ensures tidies { (tidies : Tidies I.made inner.old inner.new) × (is_full ≡ false → IsDone I.made inner.old.locked.number inner.old.dies.items
+    ensures tidies { (tidies : Tidies I.made inner.old inner.new)
+        × (is_full ≡ false → IsDone I.made inner.old.locked.number inner.old.dies.items
         (number_of inner.old.seat) (house_of inner.old) (house_of inner.new) tidies.orders) }
     ensures full { is_full ≡ true → inner.new ≡ inner.old }
 {

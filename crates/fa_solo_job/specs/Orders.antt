@@ -123,7 +123,8 @@ module _ {I : Type 0} (made : I → ImageCall → ImageAnswer → I → Type 0) 
   -- What stops it. An event is refused. Or a batch is ended that has not all of its answers, as no die had a job and the round was refused
   -- to pass. Behind that only what is for dies is done.
   pub data IsHalted (old : House I) (new : House I) : Type 0 where
-    Refused : (middle tried : House I) (act : Act) → Orders old middle → IsRefusal act → IsDue middle.core act → Step middle.core act tried.core
+    Refused : (middle tried : House I) (act : Act) → Orders old middle → IsRefusal act → IsDue middle.core act
+        → Step middle.core act tried.core
         → tried.images ≡ middle.images → Goes made array dies seat IsForDies tried new → IsHalted old new
     Unread : (middle read : House I) (refused : AdvanceRefused) → Orders old middle → (reads : ReadsPage middle read)
         → results reads.waited.core reads.admitted.batch.0 ≡ Waiting

@@ -17,7 +17,8 @@ pub fn a_lost_page_stays_lost()
     ensures lost { (w last : World) (happenings : List Happening) (page : ℕ) → IsReached w → is_lost w.core.page_map page ≡ true
         → ((c : Copying) → w.core.copying ≡ Some c → c.page.0 ≡ page → ⊥) → RunLeaving page w happenings last
         → is_lost last.core.page_map page ≡ true }
-    ensures never_read { (w last after : World) (happenings : List Happening) (page : ℕ) (pages : List ℕ) (admitted : Admitted) → IsReached w
+    ensures never_read { (w last after : World) (happenings : List Happening) (page : ℕ) (pages : List ℕ) (admitted : Admitted)
+        → IsReached w
         → is_lost w.core.page_map page ≡ true → ((c : Copying) → w.core.copying ≡ Some c → c.page.0 ≡ page → ⊥)
         → RunLeaving page w happenings last → Contains pages page → ¬ (HappensEvent last (Admit pages (Ok admitted)) after) }
 {

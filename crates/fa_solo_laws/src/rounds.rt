@@ -60,7 +60,8 @@ pub fn a_read_takes_the_least_rounds<L, M, I: Image, A>()
 /// just mounted. The images return what was written, and the array is at rest as the read begins. Or one of the calls before it was given
 /// up.
 pub fn a_read_behind_calls_takes_the_least_rounds<L, M, I: Image, A>()
-    ensures { (start old : StoreState L M I A) (new : Inner L M I A) (w : World) (exchanges : List Exchange) (offset len : ℕ) (given : List ℕ)
+    ensures { (start old : StoreState L M I A) (new : Inner L M I A) (w : World) (exchanges : List Exchange) (offset len : ℕ)
+        (given : List ℕ)
         (places : List Place) → IsStoreOf I.view start w → (chain : Chain (StoreMakes I.made) start exchanges old)
         → AreHonest I.honest (image_on old.inner.dies.items old.inner.images.items) → IsAtRest old.inner.locked.core
         → past_page (range_in old.inner.locked.core offset len) - first_page (range_in old.inner.locked.core offset len) ≤ 1024

@@ -27,7 +27,8 @@ use fa_laws::steps::{
 /// It was refused as lost, and the array and its images are of a world still to which runs lead. The images return what was written, no two
 /// dies have one image, no lost page is being copied, and the request lies within the array.
 pub fn a_request_of_the_store_serves<L, M, I: Image, A>()
-    ensures { (old new : Inner L M I A) (request : Request) (bytes : List ℕ) (answer : Answer) (w : World) → IsWorldOf I.view old w → IsCalm w
+    ensures { (old new : Inner L M I A) (request : Request) (bytes : List ℕ) (answer : Answer) (w : World) → IsWorldOf I.view old w
+        → IsCalm w
         → AreApart old.dies.items → end_of request ≤ w.core.page_map.geometry.pages * w.core.page_map.geometry.page_bytes
         → HasBytes request bytes → IsAnswer (call_of request bytes) answer
         → (makes : MakesRequest I.made (task_of w.core.page_map.geometry.page_bytes request) bytes answer old new)

@@ -22,7 +22,8 @@ use Rattle.fa_workers.specs.declared.job_memory.JobMemory.{JobMemory}
 module _ {I : Type 0} (made : I → ImageCall → ImageAnswer → I → Type 0) (geometry : Geometry) (array : List ℕ) (die : ℕ) where
   -- The job ran, or its slot was read into these bytes, and stands as a bad one until it is opened.
   pub data Begins (job : Handed) (outcome : JobOutcome) (slot_bytes page_bytes : List ℕ) (before after : I) : Type 0 where
-    HasRun : Ran made geometry array die job (end_of outcome page_bytes) before after → Begins job outcome slot_bytes page_bytes before after
+    HasRun : Ran made geometry array die job (end_of outcome page_bytes) before after
+        → Begins job outcome slot_bytes page_bytes before after
     HasRead : (batch : BatchId) (page : Page) (version : Version) (slot : Slot) → job.flight ≡ Read batch page version slot
         → outcome ≡ WasRead Bad → made before (ReadingSlot slot.0) (GaveBytes slot_bytes) after
         → Begins job outcome slot_bytes page_bytes before after
@@ -41,7 +42,8 @@ module _ {A : Type 0} where
   -- So it is of each of them.
   abbrev pub OpensReads : List (MadeJob A) → List (MadeJob A) → Type 0
   OpensReads old new =
-      (length new ≡ length old) × ((k : ℕ) (made : MadeJob A) → k < length old → OpensMade (slice_index_or old k made) (slice_index_or new k made))
+      (length new ≡ length old) × ((k : ℕ) (made : MadeJob A) → k < length old
+      → OpensMade (slice_index_or old k made) (slice_index_or new k made))
 
   -- the bytes of a slot in the memory of a place, or others where there are fewer
   abbrev pub bytes_or : List ℕ → List (MadeJob A) → ℕ → List ℕ

@@ -1,13 +1,13 @@
 //! The end of a server: the array is closed, and it is told how.
 ghost use Rattle.fa_core.specs.Array.{IsWhole};
-ghost use Rattle.fa_prog_served.specs.Ending.{TellsEnd};
+ghost use Rattle.fa_prog_array.specs.Ending.{TellsEnd};
 
+use crate::closing::{close, end_text, status_of};
 use fa_faults::Fault;
 use fa_image::Image;
 use fa_map_calls::Map;
 use fa_mount::{CloseFault, MountedArray};
 use fa_mount_headers::Standing;
-use fa_prog_array::{close, end_text, status_of};
 use fa_prog_host::printing::{print, refuse_for_memory};
 use fa_prog_host::{Host, keep_lost_at_end, remove_if_empty};
 use fa_shared::Shared;
