@@ -31,12 +31,13 @@ fn run<T: Threads + Sync, I: DieImage + Send>(
     threads: &T,
     folder: &str,
 ) -> io::Result<ExitCode> {
+    let mut script = Script::new(rt)?;
     let heap = new_heap(rt.alloc());
-    let mut script = Script::new(rt.alloc(), rt.reader())?;
     let mut lab = Lab::new(rt, &heap);
     let mut yard: Yard<'_, I> = Yard {
         folder,
         geometry: None,
+        images: Vec::new(&heap),
         bare: None,
     };
     run_lines(threads, &mut script, &mut lab, &mut yard);

@@ -1,4 +1,5 @@
 //! Lines over an array.
+ghost use Rattle.std.specs.Prelude.{◌≡◌, ◌≤◌, IfSome, true};
 ghost use Rattle.fa_core.specs.Array.{IsWhole};
 
 use crate::bare_jobs::do_bare;
@@ -11,22 +12,24 @@ use fa_mount::{CloseFault, MountedArray, close_clean};
 use fa_types::Die;
 use flasharr_lab_array::{Desk, make_job, plan_pages, run_event, run_job_of, show_look, work_all};
 use flasharr_lab_calls::do_free;
-use flasharr_lab_parts::{DieImage, Heap, Images, Tools, Yard};
+use flasharr_lab_parts::{DieImage, Heap, Tools, Yard};
 use flasharr_lab_words::{MAX_DIES, Order, Output, Wish, Work, die_of, number_at, show_live};
 use std::alloc::Allocator;
-use std::io::BufRead;
+
+/// The most rounds that a window of the collector has.
+const MAX_WINDOW_ROUNDS: u64 = 64;
 
 /// Does what lines ask of an array, up to one by which it is dropped, or one that asks for a store of it: then how many rounds its windows
 /// have.
-pub fn over_array<'a, R: BufRead + Drop, M: Map + Drop, I: DieImage>(
-    script: &mut Script<R>,
+pub fn over_array<'a, M: Map + Drop, I: DieImage>(
+    script: &mut Script,
     lab: &mut Lab<'a>,
     yard: &mut Yard<'a, I>,
     mounted: &mut MountedArray<M, &'a Heap>,
-    images: &mut Images<'a, I>,
 ) -> Option<u64>
     requires { IsWhole M.view mounted.old.array }
-    ensures { IsWhole M.view mounted.new.array }
+    ensures whole { IsWhole M.view mounted.new.array }
+    ensures window { IfSome result (λ rounds. (1 ≤ rounds) × (rounds ≤ 64)) }
 {
     'lines: for _ in 0..u64::MAX {
         if !script.goes_on(&mut lab.tools) {
@@ -34,22 +37,33 @@ pub fn over_array<'a, R: BufRead + Drop, M: Map + Drop, I: DieImage>(
         }
         match script.turn.order.wish {
             Wish::Begin(_) => return None,
-            Wish::Work(Work::Solo) if has_images(mounted, images) => {
-                return Some(number_at(script.turn.order.numbers.as_slice(), 0));
+            Wish::Work(Work::Solo) if has_images(mounted, yard.images.len()) => {
+                let rounds = number_at(script.turn.order.numbers.as_slice(), 0);
+                if is_window(rounds) {
+                    return Some(rounds);
+                }
+                lab.tools.output.word("no window");
             }
-            _ => do_line(&script.turn.order, lab, yard, mounted, images),
+            _ => do_line(&script.turn.order, lab, yard, mounted),
         }
         script.turn.done(&mut lab.tools);
     }
     None
 }
 
-/// Whether there are images, and each live die has one.
-fn has_images<'a, M: Map + Drop, I: DieImage>(
-    mounted: &MountedArray<M, &'a Heap>,
-    images: &Images<'a, I>,
+/// Whether there are images, `count` of them, and each live die has one.
+fn has_images<M: Map + Drop, A: Allocator + Copy>(
+    mounted: &MountedArray<M, A>,
+    count: usize,
 ) -> bool {
-    mounted.has_images(images.len()) && !images.is_empty()
+    count > 0 && mounted.has_images(count)
+}
+
+/// Whether a window may have so many rounds.
+fn is_window(rounds: u64) -> bool
+    ensures { result ≡ true → (1 ≤ rounds) × (rounds ≤ 64) }
+{
+    rounds != 0 && rounds <= MAX_WINDOW_ROUNDS
 }
 
 /// Does what a line asks for.
@@ -58,7 +72,6 @@ fn do_line<'a, M: Map + Drop, I: DieImage>(
     lab: &mut Lab<'a>,
     yard: &mut Yard<'a, I>,
     mounted: &mut MountedArray<M, &'a Heap>,
-    images: &mut Images<'a, I>,
 )
     requires { IsWhole M.view mounted.old.array }
     ensures { IsWhole M.view mounted.new.array }
@@ -72,8 +85,8 @@ fn do_line<'a, M: Map + Drop, I: DieImage>(
     match order.wish {
         Wish::Make(event) => run_event(&mut mounted.array, tools, desk, event, numbers),
         Wish::Show(look) => show_look(&mounted.array, tools, desk, look, numbers),
-        Wish::Work(work) => do_work(mounted, images.as_mut_slice(), tools, desk, work, numbers),
-        Wish::Touch(deed) => touch_images(order, deed, tools, images),
+        Wish::Work(work) => do_work(mounted, &mut yard.images, tools, desk, work, numbers),
+        Wish::Touch(deed) => touch_images(order, deed, tools, &mut yard.images),
         Wish::Bare(wish) => do_bare(wish, numbers, tools, yard),
         Wish::Free(wish) => do_free(order, wish, tools, beside),
         Wish::Ask(_) => tools.output.word("no store"),

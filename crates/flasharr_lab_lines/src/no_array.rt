@@ -10,54 +10,43 @@ use flasharr_lab_calls::do_free;
 use flasharr_lab_parts::{DieImage, Images, Tools, Yard, drop_image, new_images, swap};
 use flasharr_lab_words::{Begin, Order, Output, Wish, index_of, number_at};
 
-/// Does what a line asks for while no array is there, and gives the images that there are then.
-pub fn without_array<'a, I: DieImage>(
-    turn: &mut Turn,
-    lab: &mut Lab<'a>,
-    yard: &mut Yard<'a, I>,
-    images: Images<'a, I>,
-) -> Images<'a, I> {
+/// Does what a line asks for while no array is there.
+pub fn without_array<'a, I: DieImage>(turn: &mut Turn, lab: &mut Lab<'a>, yard: &mut Yard<'a, I>) {
     match turn.order.wish {
         Wish::Begin(Begin::Images { is_old }) => make_images(turn, &mut lab.tools, yard, is_old),
         _ => {
-            let mut images = images;
-            do_without_array(&turn.order, lab, yard, &mut images);
+            do_without_array(&turn.order, lab, yard);
             turn.done(&mut lab.tools);
-            images
         }
     }
 }
 
-/// Makes images. None are left where they are not had.
+/// Makes images in the place of those before.
 fn make_images<'a, I: DieImage>(
     turn: &mut Turn,
     tools: &mut Tools<'a>,
     yard: &mut Yard<'a, I>,
     is_old: bool,
-) -> Images<'a, I> {
+) {
     match geometry_of(turn.order.numbers.as_slice()) {
         Some(geometry) => {
-            let images = images_of(geometry, tools, yard, is_old);
+            yard.geometry = Some(geometry);
+            yard.images = images_of(geometry, tools, yard.folder, is_old);
             turn.done(tools);
-            images
         }
-        None => {
-            turn.refuse(tools);
-            Vec::new(tools.heap())
-        }
+        None => turn.refuse(tools),
     }
 }
 
-/// Makes images of a geometry, and tells that.
+/// Makes images of a geometry, and tells that. There are none where they are not had.
 fn images_of<'a, I: DieImage>(
     geometry: Geometry,
     tools: &mut Tools<'a>,
-    yard: &mut Yard<'a, I>,
+    folder: &str,
     is_old: bool,
 ) -> Images<'a, I> {
     let heap = tools.heap();
-    yard.geometry = Some(geometry);
-    match new_images::<I>(tools.meter.rt, heap, yard.folder, geometry, is_old) {
+    match new_images::<I>(tools.meter.rt, heap, folder, geometry, is_old) {
         Some(images) => {
             tools.output.word("made");
             images
@@ -70,17 +59,13 @@ fn images_of<'a, I: DieImage>(
 }
 
 /// Does what a line asks for that makes no images.
-fn do_without_array<'a, I: DieImage>(
-    order: &Order,
-    lab: &mut Lab<'a>,
-    yard: &mut Yard<'a, I>,
-    images: &mut Images<'a, I>,
-) {
+fn do_without_array<'a, I: DieImage>(order: &Order, lab: &mut Lab<'a>, yard: &mut Yard<'a, I>) {
     let Lab { tools, beside, .. } = lab;
+    let numbers = order.numbers.as_slice();
     match order.wish {
-        Wish::Begin(begin) => begin_with(begin, order.numbers.as_slice(), images, tools),
-        Wish::Touch(deed) => touch_images(order, deed, tools, images),
-        Wish::Bare(wish) => do_bare(wish, order.numbers.as_slice(), tools, yard),
+        Wish::Begin(begin) => begin_with(begin, numbers, &mut yard.images, tools),
+        Wish::Touch(deed) => touch_images(order, deed, tools, &mut yard.images),
+        Wish::Bare(wish) => do_bare(wish, numbers, tools, yard),
         Wish::Free(wish) => do_free(order, wish, tools, beside),
         Wish::Ask(_) => tools.output.word("no store"),
         Wish::Make(_) | Wish::Show(_) | Wish::Work(_) => tools.output.word("no array"),

@@ -1,22 +1,25 @@
 //! The lines that are read, one after the other.
 use crate::turn::{End, Turn};
 use flasharr_lab_parts::Tools;
-use std::alloc::Global;
-use std::io::{self, BufRead, BufReader};
+use std::io::{self, BufRead, BufReader, Input, StdinLock};
 
-/// The lines of a reader, of which one is to be done or was done.
+/// What lines are read from.
+type Reader = BufReader<StdinLock<'static>>;
+
+/// The lines of the input, of which one is to be done or was done.
 #[derive(Drop)]
-pub struct Script<R: BufRead + Drop> {
-    reader: BufReader<R>,
+pub struct Script {
+    reader: Reader,
     /// The line that was read last.
     pub turn: Turn,
 }
 
-impl<R: BufRead + Drop> Script<R> {
-    /// The lines of a reader, none of which was read yet.
-    pub fn new(alloc: Global, reader: R) -> io::Result<Script<R>> {
+impl Script {
+    /// The lines of the input, none of which was read yet.
+    pub fn new(rt: &HostRuntime) -> io::Result<Script> {
+        let alloc = rt.alloc();
         Ok(Script {
-            reader: BufReader::new(alloc, reader)?,
+            reader: BufReader::new(alloc, rt.reader())?,
             turn: Turn::new(alloc),
         })
     }
@@ -34,7 +37,7 @@ impl<R: BufRead + Drop> Script<R> {
 }
 
 /// Reads a line. What was answered is printed before, unless a whole line is there already.
-fn read<R: BufRead + Drop>(reader: &mut BufReader<R>, turn: &mut Turn, tools: &mut Tools<'_>) {
+fn read(reader: &mut Reader, turn: &mut Turn, tools: &mut Tools<'_>) {
     if !reader.buffer().contains(&b'\n') && tools.flush().is_err() {
         turn.stop(End::Broken);
     } else {
@@ -43,7 +46,7 @@ fn read<R: BufRead + Drop>(reader: &mut BufReader<R>, turn: &mut Turn, tools: &m
 }
 
 /// Reads a line, and begins with what it asks for.
-fn read_line<R: BufRead + Drop>(reader: &mut BufReader<R>, turn: &mut Turn, tools: &mut Tools<'_>) {
+fn read_line(reader: &mut Reader, turn: &mut Turn, tools: &mut Tools<'_>) {
     let mut line = String::new(tools.alloc);
     match reader.read_line(&mut line) {
         Ok(0) => turn.stop(End::Input),

@@ -15,13 +15,15 @@ pub const ARRAY: [u8; 16] = [7; 16];
 /// The images of an array's dies.
 pub type Images<'a, I> = Vec<I, &'a Heap>;
 
-/// What images are made with, and the one that stands beside those of the array.
+/// The images of an array's dies with what they are made with, and the image that stands beside them.
 #[derive(Drop)]
 pub struct Yard<'a, I: DieImage> {
     /// The folder of images in files.
     pub folder: &'a str,
     /// The geometry of the images that were made last.
     pub geometry: Option<Geometry>,
+    /// The images of the array's dies.
+    pub images: Images<'a, I>,
     /// The image beside those of the array.
     pub bare: Option<I>,
 }
