@@ -2,7 +2,7 @@
 use Rattle.std.proofs.Common.{◌≡◌, ℕ, ◌+◌, ◌*◌, ◌<◌, ◌≤◌, List, [], ◌∷◌, ◌++◌, length, take, drop, replicate, ap, sym, ◌∙◌, slice_index_or, arith}
 use Rattle.std.proofs.lemmas.List.{take_at, length-replicate}
 use Rattle.fa_types.specs.Store.{with_bytes, bytes_at}
-use Rattle.fa_types.specs.MemoryMeets.{length-with_bytes}
+use Rattle.fa_types.proofs.Lengths.{length-with_bytes}
 use Rattle.fa_image.specs.Cut.{cut}
 use Rattle.fa_image.specs.Cuts.{slot-cut, cut-with_bytes, cut-one, cut-replicate, part_fits}
 use Rattle.fa_image.specs.Image.{with_slots}

@@ -7,7 +7,7 @@ use Rattle.std.proofs.lemmas.Bool.{false≢true}
 use Rattle.std.proofs.lemmas.Slice.Eq.{bytes_eq-Decides}
 use Rattle.std.proofs.Math.Seq.{take-append-add}
 use Rattle.fa_types.specs.Store.{with_bytes, bytes_at}
-use Rattle.fa_types.specs.MemoryMeets.{length-bytes_at}
+use Rattle.fa_types.proofs.Lengths.{length-bytes_at}
 use Rattle.fa_types.specs.declared.geometry.Geometry.{Geometry}
 use Rattle.fa_ghost.specs.Contents.{Contents, fitted, next_left}
 use Rattle.fa_image.specs.Cut.{cut, AreSlots-cut}

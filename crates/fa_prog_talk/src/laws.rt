@@ -13,9 +13,9 @@ ghost use Rattle.fa_session.specs.declared.session_end.SessionEnd.{SessionEnd};
 ghost use Rattle.fa_faults.specs.declared.faults.Fault.{Fault};
 
 use fa_image::Image;
+use fa_plain_store::MemBlocks;
 use fa_solo_laws::beginnings::a_mounted_store_is_of_a_world;
 use fa_solo_laws::sessions::a_session_of_the_store_meets;
-use fa_types::MemBlocks;
 use std::alloc::Global;
 
 /// A client of an array that was mounted is answered as by a plain store whose bytes are what stood in the slots of its images, from the

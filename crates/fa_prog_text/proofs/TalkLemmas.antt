@@ -1,7 +1,7 @@
 -- From the parts of `talk` to what it prints.
 use Rattle.std.proofs.Common.{◌≡◌, ◌⊎◌, inl, inr, ℕ, List, [], length, replicate, Ok, Option, ap, ◌∙◌, subst}
 use Rattle.std.proofs.lemmas.List.{length-replicate}
-use Rattle.fa_types.specs.Memory.{MemoryMade}
+use Rattle.fa_plain_store.specs.Memory.{MemoryMade}
 use Rattle.fa_session.specs.Session.{Session}
 use Rattle.fa_session.specs.declared.session_end.SessionEnd.{SessionEnd}
 use Rattle.fa_prog_text.specs.HexLines.{bytes_of_text}

@@ -2,7 +2,7 @@
 use Rattle.std.specs.Prelude.{◌≡◌, ◌⊎◌, ℕ, List, [], ◌∷◌, ◌++◌, replicate, codes, Some, Ok, Err, Option}
 use Rattle.std.specs.Fmt.{decimal}
 use Rattle.hex.specs.Hex.{encode_lower}
-use Rattle.fa_types.specs.Memory.{MemoryMade}
+use Rattle.fa_plain_store.specs.Memory.{MemoryMade}
 use Rattle.fa_session.specs.Ends.{end_number}
 use Rattle.fa_session.specs.Session.{Session}
 use Rattle.fa_session.specs.declared.session_end.SessionEnd.{SessionEnd}

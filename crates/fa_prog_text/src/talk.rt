@@ -10,9 +10,9 @@ ghost use Rattle.fa_prog_text.specs.Talk.{RefusesText, Talks, TellsTalk, RunsTal
 use crate::hex_lines::{TextFault, read_hex_lines};
 use crate::input::read_input;
 use crate::output::refuse_input;
+use fa_plain_store::MemBlocks;
 use fa_prog_host::printing::{DONE, FAULTY, print, refuse_for_memory};
 use fa_session::{SessionEnd, serve_stream};
-use fa_types::MemBlocks;
 use std::alloc::{AllocError, Allocator};
 use std::io::{ErrorKind, Read, Write};
 

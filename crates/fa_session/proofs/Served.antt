@@ -15,8 +15,8 @@ use Rattle.fa_cmds.specs.declared.request.Request.{Request}
 use Rattle.fa_cmds.specs.declared.reply.ReplyCode.{ReplyCode}
 use Rattle.fa_cmds.specs.Requests.{IsRequest, request_bytes, body_length, reply_bytes, row_of}
 use Rattle.fa_cmds.specs.declared.request.Command.TheVariants.{Read, Write}
-use Rattle.fa_session_parts.specs.Asking.{call_of}
-use Rattle.fa_session_parts.specs.Memory.{Receives}
+use Rattle.fa_session_asking.specs.Asking.{call_of}
+use Rattle.fa_session_memory.specs.Memory.{Receives}
 use Rattle.fa_session.specs.Ends.{end_of_read, end_of_stream}
 use Rattle.fa_session.specs.Exchanges.{Outcome, Exchange, MayCome, IsExchange, heard_of, reply_of, reply_to, Makes, Chain, IsPartOfRequest, EndsTransmission, Transmitted}
 use Rattle.fa_session.specs.Serving.{ReadsBody, StopsInBody, Declines, AnswersRequest, AsksStore, IsServed}

@@ -14,7 +14,7 @@ use Rattle.fa_cmds.specs.declared.decision.Decision.TheVariants.{Disconnect as L
 use Rattle.fa_cmds.specs.declared.reply.ReplyCode.{ReplyCode}
 use Rattle.fa_cmds.specs.declared.reply.ReplyCode.TheVariants.{Success, Io, NoMemory as OutOfMemory, NoSpace}
 use Rattle.fa_cmds.specs.Requests.{IsRequest, request_bytes, body_length, reply_bytes, decision}
-use Rattle.fa_session_parts.specs.Asking.{call_of}
+use Rattle.fa_session_asking.specs.Asking.{call_of}
 use Rattle.fa_session.specs.declared.session_end.SessionEnd.{SessionEnd}
 use Rattle.fa_session.specs.declared.session_end.SessionEnd.TheVariants.{Disconnected, Aborted, Closed}
 use Rattle.fa_session.specs.declared.session_end.SessionEnd.TheVariants.{InputEnded, ReadFailed, WriteFailed}

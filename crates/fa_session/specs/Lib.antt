@@ -4,7 +4,7 @@ pub mod Exchanges
 pub mod Handshake
 pub mod Serving
 pub mod Session
-pub use Rattle.fa_session_parts.specs.Asking
+pub use Rattle.fa_session_asking.specs.Asking
 pub use Rattle.fa_cmds.specs.Requests
 pub use Rattle.fa_io.specs.Streams
 pub use Rattle.fa_nego.specs.NegoState

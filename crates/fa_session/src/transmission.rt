@@ -8,7 +8,7 @@ use crate::exchange::{decline, perform};
 use crate::session_end::SessionEnd;
 use fa_cmds::{Decision, REQUEST_BYTES, decide, read_request};
 use fa_io::{Calls, WriteBoth, fill};
-use fa_session_parts::{DataMemory, MAX_KEPT};
+use fa_session_memory::{DataMemory, MAX_KEPT};
 use fa_types::Blocks;
 use std::alloc::Allocator;
 use std::io::Read;

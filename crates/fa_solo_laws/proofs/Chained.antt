@@ -1,5 +1,5 @@
 -- The calls of a connection, one after the other.
-use Rattle.fa_session_parts.specs.Asking.{call_of as wanted_call}
+use Rattle.fa_session_asking.specs.Asking.{call_of as wanted_call}
 use Rattle.fa_solo_laws.specs.Calls.{HasBytes, call_of as asked_call}
 use Rattle.fa_solo_laws.specs.Shown.{store_of}
 use Rattle.fa_shared_request.specs.Counts.{request_of}

@@ -7,7 +7,7 @@ use Rattle.fa_shared_steps.specs.Ranges.{begins_at, bytes_in, covers}
 use Rattle.fa_shared_steps.specs.declared.range.Range.{Range}
 use Rattle.fa_shared_steps.specs.declared.request.Fill.{Fill}
 use Rattle.fa_shared_steps.specs.declared.request.Fill.TheVariants.{Bytes, Holes, Zeros}
-use Rattle.fa_types.specs.MemoryMeets.{length-bytes_at, length-with_bytes}
+use Rattle.fa_types.proofs.Lengths.{length-bytes_at, length-with_bytes}
 use Rattle.fa_types.specs.Plain.{HasPages, export, put}
 use Rattle.fa_types.specs.Store.{bytes_at, with_bytes}
 use Rattle.std.proofs.Common.{List, None, Option, Some, [], ap, arith, length, replicate, sym, take, true, ℕ, ◌*◌, ◌+◌, ◌-◌, ◌∙◌, ◌≡◌, ◌≤◌}

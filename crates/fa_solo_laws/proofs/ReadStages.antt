@@ -31,7 +31,7 @@ use Rattle.fa_shared_steps.specs.declared.stage.Purpose.TheVariants.{Answer}
 use Rattle.fa_shared_request.specs.Waiting.{without_room}
 use Rattle.fa_shared_steps.specs.declared.stage.Stage.{Stage}
 use Rattle.fa_shared_steps.specs.declared.stage.Stage.TheVariants.{Asking, Ended, Leaving, Listing, Reading, Reserving, Sorting}
-use Rattle.fa_types.specs.MemoryMeets.{length-bytes_at}
+use Rattle.fa_types.proofs.Lengths.{length-bytes_at}
 use Rattle.fa_types.specs.Plain.{HasPages, export}
 use Rattle.fa_types.specs.Store.{HasCause, IsMet, bytes_at}
 use Rattle.fa_types.specs.declared.blocks.BlockFault.{BlockFault}

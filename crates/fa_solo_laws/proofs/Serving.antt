@@ -31,7 +31,7 @@ use Rattle.fa_shared_steps.specs.declared.request.Task.{Task}
 use Rattle.fa_shared_steps.specs.declared.stage.Stage.{Stage}
 use Rattle.fa_shared_steps.specs.declared.stage.Stage.TheVariants.{Ended}
 use Rattle.fa_types.specs.Plain.{export}
-use Rattle.fa_types.specs.MemoryMeets.{length-bytes_at}
+use Rattle.fa_types.proofs.Lengths.{length-bytes_at}
 use Rattle.fa_types.specs.Store.{Answer, Done, Flushing, IsAnswer, Meets, Reading, HasCause, IsCutShort, IsUnwritten, IsWritten, IsZeroed, Refused, Serves}
 use Rattle.fa_types.specs.Store.{StopsAfter, Store, Trimming, Zeroing, first_whole, whole_length, whole_offset}
 use Rattle.fa_types.specs.declared.blocks.BlockFault.{BlockFault}

@@ -5,7 +5,7 @@ use Rattle.std.proofs.lemmas.Nat.{div-mul-add}
 use Rattle.std.proofs.lemmas.Bool.{false_from_ne_true}
 use Rattle.std.proofs.lemmas.Grind.{same_number_lists}
 use Rattle.std.proofs.lemmas.List.{length-replicate, length-take-le, get_or-append_right, get_or_append_left, get_or-replicate, get_or-take, get_or-drop}
-use Rattle.fa_types.specs.MemoryMeets.{length-bytes_at}
+use Rattle.fa_types.proofs.Lengths.{length-bytes_at}
 use Rattle.fa_types.specs.Store.{Store, Reading, Trimming, Gave, Done, Meets, IsWhole, InRange, IsCovered, first_whole, whole_offset, whole_length, with_bytes, bytes_at}
 
 -- from its first whole page on, and before the page with its end

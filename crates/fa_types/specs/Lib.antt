@@ -1,6 +1,4 @@
 pub mod Geometry
-pub mod Memory
-pub mod MemoryMeets
 pub mod Open
 pub mod Plain
 pub mod Store

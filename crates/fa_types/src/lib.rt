@@ -1,5 +1,5 @@
 //! The names that every layer shares: numbers of pages, dies, slots and rounds, the geometry of an
-//! array, the trait of a block store, and the plain store in memory.
+//! array, and the trait of a block store.
 #![tactic(auto)]
 
 mod blocks;
@@ -8,7 +8,6 @@ mod copies;
 mod geometry;
 mod kind;
 pub mod laws;
-mod mem_blocks;
 mod numbers;
 mod rounds;
 mod sizes;
@@ -18,7 +17,6 @@ pub use blocks::{BlockFault, Blocks};
 pub use copies::Copies;
 pub use geometry::{Geometry, GeometryFault};
 pub use kind::Kind;
-pub use mem_blocks::MemBlocks;
 pub use numbers::{Die, Page, Round, Seq, Slot};
 pub use rounds::Rounds;
 pub use sizes::{HEADER_BYTES, TAG_BYTES};

@@ -1,8 +1,9 @@
 //! Requests that are alike through a session, and the same bytes moved without one.
 use crate::asking::EXPORT;
 use crate::client::{Client, Sink, put};
+use fa_plain_store::MemBlocks;
 use fa_session::{SessionEnd, serve_stream};
-use fa_types::{Blocks, MemBlocks};
+use fa_types::Blocks;
 use flasharr_lab_parts::{Meter, Tools};
 use flasharr_lab_words::small_at;
 use std::alloc::{AllocError, Global};

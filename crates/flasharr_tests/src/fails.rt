@@ -2,8 +2,8 @@
 use crate::rows::{FLAGS, GO, GONE, GREETING, end_of, served};
 use crate::spelling::{joined, spell_all, spelled};
 use fa_io::faulty::Faulty;
+use fa_plain_store::MemBlocks;
 use fa_session::SessionEnd;
-use fa_types::MemBlocks;
 use std::alloc::{AllocError, Global};
 use std::test::Fail;
 

@@ -3,8 +3,9 @@
 use crate::spelling::joined;
 use fa_io::WriteBoth;
 use fa_io::faulty::Faulty;
+use fa_plain_store::MemBlocks;
 use fa_session::{SessionEnd, serve_stream};
-use fa_types::{Blocks, MemBlocks};
+use fa_types::Blocks;
 use std::alloc::Global;
 use std::io::Read;
 use std::test::Fail;

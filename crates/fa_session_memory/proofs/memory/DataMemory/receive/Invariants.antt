@@ -1,8 +1,8 @@
 -- What came stands at the front of the memory.
 use Rattle.std.proofs.Common.{◌≤◌, ◌-◌, length, take}
 use Rattle.std.specs.Io.KnownBytes.{Consumes}
-use Rattle.fa_session_parts.specs.Memory.{IsModest}
-use Rattle.fa_session_parts.proofs.memory.DataMemory.receive.Given as goal
+use Rattle.fa_session_memory.specs.Memory.{IsModest}
+use Rattle.fa_session_memory.proofs.memory.DataMemory.receive.Given as goal
 
 abbrev pub invariant-parts : goal.invariant-parts
 invariant-parts g l = record {

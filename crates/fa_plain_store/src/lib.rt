@@ -1,9 +1,11 @@
 //! The plain store: bytes in memory, with no dies.
-ghost use Rattle.std.specs.Prelude.{◌≡◌, ◌+◌, ◌≤◌, length, replicate, IfOk};
-ghost use Rattle.fa_types.specs.Memory.{without_pages};
+#![tactic(auto)]
 
-use crate::blocks::{BlockFault, Blocks};
-use crate::bytes::{fill, part, put};
+ghost use Rattle.std.specs.Prelude.{◌≡◌, ◌+◌, ◌≤◌, length, replicate, IfOk};
+ghost use Rattle.fa_plain_store.specs.Memory.{without_pages};
+
+use fa_types::bytes::{fill, part, put};
+use fa_types::{BlockFault, Blocks};
 use std::alloc::{AllocError, Allocator, Global};
 use std::marker::Model;
 
@@ -36,8 +38,8 @@ impl<A: Allocator> MemBlocks<A> {
 }
 
 impl<A: Allocator> Blocks for MemBlocks<A> {
-    ghost use Rattle.fa_types.specs.Memory.{memory_view, MemoryMade};
-    ghost use Rattle.fa_types.specs.MemoryMeets.{memory_meets, memory_whole};
+    ghost use Rattle.fa_plain_store.specs.Memory.{memory_view, MemoryMade};
+    ghost use Rattle.fa_plain_store.specs.MemoryMeets.{memory_meets, memory_whole};
 
     ghost view = { memory_view };
 

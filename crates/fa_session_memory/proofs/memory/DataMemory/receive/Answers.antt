@@ -5,9 +5,9 @@ use Rattle.std.proofs.lemmas.Grind.{common_steps}
 use Rattle.std.proofs.lemmas.Result.{err_from_is_err_and}
 use Rattle.fa_io.specs.Streams.{EndsReading, Skips}
 use Rattle.fa_io.specs.declared.reading.ReadEnd.{ReadEnd}
-use Rattle.fa_session_parts.specs.Memory.{IsModest, Receives}
-use Rattle.fa_session_parts.specs.declared.memory.Received.TheVariants.{Dropped}
-use Rattle.fa_session_parts.proofs.memory.DataMemory.receive.Goals as goal
+use Rattle.fa_session_memory.specs.Memory.{IsModest, Receives}
+use Rattle.fa_session_memory.specs.declared.memory.Received.TheVariants.{Dropped}
+use Rattle.fa_session_memory.proofs.memory.DataMemory.receive.Goals as goal
 
 -- modest in two steps, and where more came
 modest-more : (before middle after at came : ℕ) → at ≤ came → IsModest before middle at → IsModest middle after at → IsModest before after came

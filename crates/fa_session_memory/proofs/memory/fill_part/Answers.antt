@@ -3,9 +3,9 @@ use Rattle.std.proofs.lemmas.Grind.{common_steps}
 use Rattle.fa_io.specs.Streams.{Fills}
 use Rattle.fa_io.specs.declared.reading.ReadEnd.{ReadEnd}
 use Rattle.fa_io.proofs.StreamLemmas.{take-put_mid-more}
-use Rattle.fa_session_parts.specs.Memory.{FillsPart}
+use Rattle.fa_session_memory.specs.Memory.{FillsPart}
 use borrow.Rule.Slice.PartMut.{put_mid}
-use Rattle.fa_session_parts.proofs.memory.fill_part.Goals as goal
+use Rattle.fa_session_memory.proofs.memory.fill_part.Goals as goal
 
 take-whole : (xs : List ℕ) → take (length xs) xs ≡ xs
 take-whole xs = search (arith, common_steps)

@@ -3,8 +3,8 @@ use Rattle.std.specs.Prelude.{◌≡◌, ℕ, ◌+◌, ◌*◌, ◌<◌, ◌≤�
 use Rattle.std.specs.Io.KnownBytes.{Consumes}
 use Rattle.fa_io.specs.Streams.{EndsReading}
 use Rattle.fa_io.specs.declared.reading.ReadEnd.{ReadEnd}
-use Rattle.fa_session_parts.specs.declared.memory.Received.{Received}
-use Rattle.fa_session_parts.specs.declared.memory.Received.TheVariants.{Whole, Dropped}
+use Rattle.fa_session_memory.specs.declared.memory.Received.{Received}
+use Rattle.fa_session_memory.specs.declared.memory.Received.TheVariants.{Whole, Dropped}
 
 -- Memory that had some bytes has so many after as many came: at most twice as many as came, or 64 KiB, or as
 -- many as before.

@@ -1,6 +1,8 @@
 //! Asks the store for what a request wants: one call of it, with the range, the flags and the data of the request.
+#![tactic(auto)]
+
 ghost use Rattle.std.specs.Prelude.{◌≡◌, ◌≢◌, length, IfErr, OnOk};
-ghost use Rattle.fa_session_parts.specs.Asking.{WasAsked};
+ghost use Rattle.fa_session_asking.specs.Asking.{WasAsked};
 ghost use Rattle.fa_cmds.specs.Requests.{body_length, IsToDo};
 ghost use Rattle.fa_types.specs.Store.{Done, Refused};
 

@@ -1,7 +1,7 @@
 //! The memory of a connection for the data of its WRITEs.
 ghost use Rattle.std.specs.Prelude.{◌≡◌, ◌≤◌, ◌<◌, length, take, max, OnOk, OnErr, IfOk, vec_capacity};
 ghost use Rattle.fa_io.specs.Streams.{Skips};
-ghost use Rattle.fa_session_parts.specs.Memory.{FillsPart, Receives, IsModest};
+ghost use Rattle.fa_session_memory.specs.Memory.{FillsPart, Receives, IsModest};
 
 use fa_io::{Calls, ReadEnd, fill, skip, skip_through};
 use std::alloc::{AllocError, Allocator};

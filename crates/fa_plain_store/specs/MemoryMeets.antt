@@ -3,22 +3,14 @@ use Rattle.std.proofs.Common.{lit≤, ◌≡◌, ℕ, ◌+◌, ◌≤◌, List, 
 use Rattle.std.proofs.Common.{length-append, length-take, length-drop}
 use Rattle.std.proofs.lemmas.List.{length-replicate}
 use Rattle.std.proofs.lemmas.Bool.{false≢true}
+use Rattle.fa_types.proofs.Lengths.{length-with_bytes, length-bytes_at}
 use Rattle.fa_types.specs.Store.{Call, Reading, Writing, Zeroing, Trimming, Flushing, Answer, Gave, Done, Refused}
 use Rattle.fa_types.specs.Store.{Meets, IsUnwritten, IsWritten, IsWhole, with_bytes, bytes_at, whole_offset, whole_length}
-use Rattle.fa_types.specs.Memory.{memory_view, MemoryMade, without_pages}
+use Rattle.fa_plain_store.specs.Memory.{memory_view, MemoryMade, without_pages}
 use Rattle.fa_types.specs.declared.blocks.BlockFault.TheVariants.{Lost, NoRoom, NoMemory, Spent}
 
--- a write keeps the length
-pub length-with_bytes : (offset : ℕ) (bytes content : List ℕ) → offset + length bytes ≤ length content
-    → length (with_bytes offset bytes content) ≡ length content
-length-with_bytes offset bytes content fits = simp (length-append, length-take, length-drop) (omega arith)
-
--- a part that lies within the bytes has its length
-pub length-bytes_at : (offset len : ℕ) (content : List ℕ) → offset + len ≤ length content → length (bytes_at offset len content) ≡ len
-length-bytes_at offset len content fits = simp (length-take, length-drop) (omega arith)
-
 -- a trim keeps the length
-pub length-without_pages : (offset len : ℕ) (content : List ℕ) → offset + len ≤ length content
+length-without_pages : (offset len : ℕ) (content : List ℕ) → offset + len ≤ length content
     → length (without_pages offset len content) ≡ length content
 length-without_pages offset len content fits = simp (length-append, length-take, length-drop, length-replicate) (omega arith)
 
