@@ -10,8 +10,10 @@ from servers import FAULT, Geometry, ensure, equal, same_bytes, wait_until
 
 LARGER = Geometry(blocks=16, slots=16, pages=192)
 WITH_A_SPARE = Geometry(dies=5, spares=1, blocks=16, slots=16, pages=192)
-# So many pages that some looks at the array, of five a second, find some with too few copies. In an array of 192 none may.
+# So many pages that some looks at the array, of five a second, find some with too few copies.
 TAKES_LONG = Geometry(dies=5, spares=1, blocks=64, slots=256, pages=16384)
+# So few pages that they have their copies again before the next look at the array.
+FEW_PAGES = 8
 HEALED = "all pages have their copies again"
 
 
@@ -27,24 +29,26 @@ def reads_until_out(array, server, content, die):
 
 @case
 def what_has_its_copies_again_is_told(make):
-    for geometry in (WITH_A_SPARE, TAKES_LONG):
-        tells_when_it_is_healed(make(geometry))
+    for geometry, written in ((WITH_A_SPARE, FEW_PAGES), (WITH_A_SPARE, WITH_A_SPARE.pages), (TAKES_LONG, TAKES_LONG.pages)):
+        tells_when_it_is_healed(make(geometry), written)
 
 
-def tells_when_it_is_healed(array):
-    """Loses a die for which a spare comes in. That all pages have their copies again is told behind it, and not before."""
-    size, pages = array.geometry.size, array.geometry.pages
-    content = os.urandom(size)
+def tells_when_it_is_healed(array, written):
+    """Writes so many pages and loses a die for which a spare comes in. That all pages have their copies again is told behind it, and not
+    before."""
+    size, page_bytes = array.geometry.size, array.geometry.page_bytes
+    data = os.urandom(written * page_bytes)
+    content = data + bytes(size - len(data))
     with array.serve() as server:
         with server.client() as client:
-            for offset in range(0, size, 1 << 20):
-                client.write(offset, content[offset:offset + (1 << 20)])
+            for offset in range(0, len(data), 1 << 20):
+                client.write(offset, data[offset:offset + (1 << 20)])
         ensure(not server.is_told(HEALED), f"told before a die was lost: {server.errors}")
         array.take_away(1)
         reads_until_out(array, server, content, 1)
-        ensure(wait_until(lambda: server.is_told(HEALED), 20), f"not told that all pages have their copies again: {server.errors}")
+        ensure(wait_until(lambda: server.is_told(HEALED), 60), f"not told that all pages have their copies again: {server.errors}")
         server.stop(faults=[1])
-    array.checked(dies=5, live=4, spare=0, written=pages, thin=0)
+    array.checked(dies=5, live=4, spare=0, written=written, thin=0)
     array.has_copies_of(content)
 
 
