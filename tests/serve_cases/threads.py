@@ -4,6 +4,8 @@ what runs side by side and does not rest on time: a call is held for ten seconds
 Sessions of the server make jobs of dies while they wait. So where one is held in a call of a die's image, the workers of the other dies
 make theirs."""
 import os
+import time
+from concurrent.futures import ThreadPoolExecutor
 
 from call_log import ALL, LYING, MEMORY_REFUSALS
 from nbd_client import NO_HOLE, READ, WRITE
@@ -20,6 +22,11 @@ FIRST = range(8)
 CALLS = 102
 # By how many writes of one page its dies run full there, where nothing is erased, and how many are made behind these.
 FULL, MORE = 8, 6
+# Four dies of 128 slots each, of which the pages' copies take three quarters.
+NEARLY_FULL = Geometry(dies=4, blocks=8, slots=16, pages=188)
+# How many clients write them, how many writes each makes, how often that is tried, and how long a write takes at least that is not woken, in
+# seconds.
+WRITERS, WRITES, TRIES, LOOKS_AGAIN = 8, 200, 5, 0.09
 
 
 def drawn(number):
@@ -165,6 +172,32 @@ def collect(make):
             ensure(watched.erases, "nothing was erased")
             user.reads(0, 8)
         server.stop()
+
+
+@case
+def who_waits_for_room_is_woken(make):
+    """Clients write pages of an array that is nearly full, so many writes wait for dies that collect. Whoever waits looks again a tenth of a
+    second after that began, so a write that is not woken as a die has room takes that long. Other work may hold up writes as long, so it is
+    tried more than once."""
+    with written(make(NEARLY_FULL), NEARLY_FULL.pages).serve() as server:
+        with ThreadPoolExecutor(WRITERS) as pool:
+            for _ in range(TRIES):
+                late = sum(pool.map(lambda number: count_late(server, number), range(WRITERS)))
+                if late <= WRITERS * WRITES // 40:
+                    break
+        server.stop()
+    ensure(late <= WRITERS * WRITES // 40, f"{late} of {WRITERS * WRITES} writes took {LOOKS_AGAIN} seconds and more, and each time before")
+
+
+def count_late(server, number):
+    """How many writes took as long as one that is not woken, of those of the client of this number."""
+    late = 0
+    with User(server, NEARLY_FULL) as user:
+        for write in range(WRITES):
+            began = time.monotonic()
+            user.write((7 * number + 13 * write) % NEARLY_FULL.pages)
+            late += time.monotonic() - began >= LOOKS_AGAIN
+    return late
 
 
 @case

@@ -38,6 +38,7 @@ pub(crate) fn work_die<R: Networked, L: Ledger, M: Map + Drop, I: Image + Drop>(
     image_table: &ImageTable<I>,
     counts: &Counts,
     task: DieTask<L>,
+    window_rounds: u64,
 ) -> Seat<L> {
     let DieTask {
         die,
@@ -52,6 +53,7 @@ pub(crate) fn work_die<R: Networked, L: Ledger, M: Map + Drop, I: Image + Drop>(
         die,
         image_table,
         memory,
+        window_rounds,
         &CountingGate { counts },
     );
     seat

@@ -46,6 +46,7 @@ impl<'a, 'b, R: Networked + LooksHost, L: Ledger, M: Map + Drop, I: Image + Drop
                 self.image_table,
                 &listening.counts,
                 task,
+                listening.window_rounds,
             )),
             Task::Collect(seat) => Some(collect(rt, self.shared, seat, listening.window_rounds)),
             Task::Rebuild(seat) => Some(rebuild(rt, self.shared, seat)),

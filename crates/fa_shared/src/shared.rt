@@ -189,8 +189,10 @@ fn make_parts<A: Allocator + Copy>(alloc: A) -> Result<(Faults<A>, Vec<Condvar, 
 fn limit_of(awaits: Awaits) -> Duration {
     match awaits {
         Awaits::Job(_) | Awaits::Window | Awaits::ThinPage => Duration::from_millis(WORKER_SLEEP),
-        Awaits::Batch(_) | Awaits::Programs(_) | Awaits::Flush(_) | Awaits::Change => {
-            Duration::from_millis(REQUEST_SLEEP)
-        }
+        Awaits::Batch(_)
+        | Awaits::Programs(_)
+        | Awaits::Flush(_)
+        | Awaits::Room(_)
+        | Awaits::Change => Duration::from_millis(REQUEST_SLEEP),
     }
 }

@@ -2,12 +2,14 @@
 #![tactic(auto)]
 
 mod hands;
+mod homes;
 mod locked;
 mod making;
 mod seat;
 mod sleepers;
 
 pub use hands::Hands;
+pub use homes::{DieSet, homes_to_come, lacks_home};
 pub use locked::{Gathered, Locked, MAX_SEATS, plain};
 pub use making::make;
 pub use seat::Seat;

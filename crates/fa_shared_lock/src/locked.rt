@@ -7,7 +7,7 @@ ghost use Rattle.fa_shared_lock.specs.Only.{has_passed as rule_passed};
 ghost use Rattle.fa_shared_lock.specs.Seats.{commits_together};
 
 use crate::seat::Seat;
-use crate::sleepers::{Awaits, SeatSet, Sleepers};
+use crate::sleepers::{Awaits, SeatSet, Sleepers, is_due};
 use fa_core::{Answer, Array, Call, Planned};
 use fa_map_calls::Map;
 use fa_plan::PlanNote;
@@ -212,6 +212,11 @@ impl<L: Ledger, M: Map + Drop, A: Allocator + Copy> Locked<L, M, A> {
         ensures { self.new ≡ self.old }
     {
         self.sleepers.due(&self.array)
+    }
+
+    /// Whether somebody who waits so would be woken, had anything changed. It is a matter of speed alone, and in no clause.
+    pub fn is_due(&self, awaits: Awaits) -> bool {
+        is_due(&self.array, true, awaits)
     }
 
     /// What holds of the array whenever the lock is free: its numbers are the replay of its history since the last fold, in which each

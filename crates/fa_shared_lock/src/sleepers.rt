@@ -1,6 +1,7 @@
 //! Who sleeps until the array has changed, and for what.
 ghost use Rattle.fa_core.specs.Array.{IsWhole};
 
+use crate::homes::{DieSet, has_come};
 use crate::locked::MAX_SEATS;
 use fa_core::Array;
 use fa_machine::{BatchId, ClaimId, Flush, FlushState, ReadState};
@@ -27,6 +28,8 @@ pub enum Awaits {
     Window,
     /// A page that has too few copies may get one more.
     ThinPage,
+    /// One of these dies, which had no room, has some, or gets none before long.
+    Room(DieSet),
     /// Something that others hold up: a claim, room, or a place in the calendar.
     Change,
 }
@@ -157,8 +160,9 @@ impl<A: Allocator> Sleepers<A> {
 }
 
 impl<A: Allocator> Sleepers<A> {
-    /// Those for whom it is time, as the array is. They are counted as awake. Where dies whose workers sleep have jobs, and many who help
-    /// sleep, one of these is woken in the place of all the workers: it takes the jobs of several dies in one hold.
+    /// Those for whom it is time, as the array is. They are counted as awake. Where dies whose workers sleep have jobs, and somebody who
+    /// helps sleeps, one of these is woken in the place of all the workers: it takes the jobs of several dies in one hold. It leaves those of
+    /// a die that collects to the die's worker, unless many help.
     pub(crate) fn due<M: Map, B: Allocator + Clone>(&mut self, array: &Array<M, B>) -> SeatSet
         requires { IsWhole M.view array.now }
     {
@@ -170,7 +174,7 @@ impl<A: Allocator> Sleepers<A> {
         for seat in 0..self.seats {
             match self.sleepers.get(seat as usize) {
                 Some(Some(sleeper)) if is_due(array, changed, sleeper.awaits) => {
-                    if matches!(sleeper.awaits, Awaits::Job(_)) {
+                    if can_be_led(array, are_many, sleeper.awaits) {
                         workers.insert(seat);
                     } else {
                         due.insert(seat);
@@ -181,7 +185,7 @@ impl<A: Allocator> Sleepers<A> {
             }
         }
         match leader {
-            Some(seat) if are_many && !workers.is_empty() => due.insert(seat),
+            Some(seat) if !workers.is_empty() => due.insert(seat),
             _ => due.insert_all(workers),
         }
         self.wake(due);
@@ -200,8 +204,24 @@ impl<A: Allocator> Sleepers<A> {
     }
 }
 
-/// Whether it is time for somebody who waits so.
-fn is_due<M: Map, A: Allocator + Clone>(array: &Array<M, A>, changed: bool, awaits: Awaits) -> bool
+/// Whether somebody who helps takes the jobs that are waited for so, where many help or not.
+fn can_be_led<M: Map, A: Allocator + Clone>(
+    array: &Array<M, A>,
+    are_many: bool,
+    awaits: Awaits,
+) -> bool {
+    match awaits {
+        Awaits::Job(die) => are_many || !array.has_window(die),
+        _ => false,
+    }
+}
+
+/// Whether it is time for somebody who waits so, where something has changed or not.
+pub(crate) fn is_due<M: Map, A: Allocator + Clone>(
+    array: &Array<M, A>,
+    changed: bool,
+    awaits: Awaits,
+) -> bool
     requires { IsWhole M.view array.now }
 {
     match awaits {
@@ -211,6 +231,7 @@ fn is_due<M: Map, A: Allocator + Clone>(array: &Array<M, A>, changed: bool, awai
         Awaits::Job(die) => array.is_die(die) && array.has_job(die),
         Awaits::Window => array.is_window_due(),
         Awaits::ThinPage => changed && array.next_thin().is_some(),
+        Awaits::Room(dies) => has_come(array, dies),
         Awaits::Change => changed,
     }
 }

@@ -41,6 +41,13 @@ part_counts before after parts i part d within counts =
     (sum_by-set left_in parts i part d within) (sum_by-set refusals_in parts i part d within)
     (get_or-le-sum_by refusals_in parts i d within) (get_or-le-sum_by left_in parts i d within) counts
 
+-- one part stayed what it was
+pub part_stays : {A : Type 0} (commits : ℕ) (parts : List (Part A)) (i : ℕ) (d : Part A) → i < length parts
+    → Counts (tally_of_parts commits parts) (tally_of_parts commits (set parts i (get_or parts i d)))
+part_stays commits parts i d within =
+    part_counts commits commits parts i (get_or parts i d) d within
+    (record { rises = omega arith; stays = omega arith; most = omega arith; all = λ same. refl })
+
 pub parts_nowhere : {L A : Type 0} (seat same : Seat L) (parts : List (Part A)) → commits_with same ≡ commits_with seat
     → number_of same ≡ number_of seat → PartsGoOn seat parts same parts
 parts_nowhere seat same parts kept number = record {

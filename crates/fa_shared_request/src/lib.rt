@@ -2,10 +2,9 @@
 #![tactic(auto)]
 
 mod gathering;
-mod homes;
 mod op;
 mod parts;
 mod preparing;
 
 pub use op::{Lent, Op};
-pub use parts::{Part, fault_of, has_ended, parts_of, prepare};
+pub use parts::{Part, SIDE_BY_SIDE, fault_of, has_ended, parts_of, prepare};

@@ -1,10 +1,9 @@
 //! A request, from its beginning to its answer.
 
-use crate::homes::{lacks_home, may_wait_for_home};
 use crate::preparing::{answer_len, memory_for, prepare_stage};
 use fa_machine::ReadState;
 use fa_map_calls::Map;
-use fa_shared_lock::{Awaits, Locked};
+use fa_shared_lock::{Awaits, Locked, homes_to_come, lacks_home};
 use fa_shared_steps::{Fill, Request, Stage, Task, begin, content, fill_with};
 use fa_tag::Payload;
 use fa_types::{BlockFault, Page};
@@ -241,7 +240,7 @@ impl<A: Allocator + Copy, B: Allocator> Op<A, B> {
     /// to be synced. What is told is a matter of speed alone, and in no clause.
     pub fn may_wait_for_home<L: Ledger, M: Map + Drop>(&self, locked: &Locked<L, M, A>) -> bool {
         match &self.stage {
-            Stage::Reserving(held, _) => may_wait_for_home(locked.array(), held.page),
+            Stage::Reserving(held, _) => !homes_to_come(locked.array(), held.page).is_empty(),
             _ => false,
         }
     }
@@ -266,7 +265,7 @@ impl<A: Allocator + Copy, B: Allocator> Op<A, B> {
         };
     }
 
-    /// What it waits for, where it waits: its batch, the programs of its claim, its flush, or any change. A
+    /// What it waits for, where it waits: its batch, the programs of its claim, its flush, dies that get room, or any change. A
     /// batch that is to be planned anew waits for other requests. What is answered settles who is woken when, and is in no clause.
     pub fn awaits<L: Ledger, M: Map + Drop>(&self, locked: &Locked<L, M, A>) -> Awaits {
         match &self.stage {
@@ -274,6 +273,14 @@ impl<A: Allocator + Copy, B: Allocator> Op<A, B> {
                 ReadState::Waiting => Awaits::Batch(*batch),
                 ReadState::Ready | ReadState::Torn => Awaits::Change,
             },
+            Stage::Reserving(held, _) => {
+                let dies = homes_to_come(locked.array(), held.page);
+                if dies.is_empty() {
+                    Awaits::Change
+                } else {
+                    Awaits::Room(dies)
+                }
+            }
             Stage::Committing(held, _) => Awaits::Programs(held.claim),
             Stage::Flushing(flush) => Awaits::Flush(*flush),
             _ => Awaits::Change,

@@ -15,6 +15,9 @@ use std::alloc::{AllocError, Allocator, Global};
 /// How many parts a request has at most.
 const PARTS: u64 = 16;
 
+/// How many pages are hashed side by side.
+pub const SIDE_BY_SIDE: usize = 8;
+
 /// A part of a request.
 #[derive(Drop)]
 pub struct Part<A: Allocator = Global> {
@@ -119,17 +122,42 @@ fn refusal<A: Allocator + Copy>(part: &Part<A>) -> Option<BlockFault>
     }
 }
 
-/// Prepares each part that has something to prepare. The pages' bytes are hashed side by side, where there is memory for that.
+/// Prepares each part that has something to prepare. The pages' bytes are hashed side by side, where there is memory for that, and those that
+/// are left over wait for others, where there are as many as are hashed side by side.
 pub fn prepare<A: Allocator + Copy>(alloc: A, parts: &mut [Part<A>], bytes: &[u8])
     ensures { (commits : ℕ) → Counts (tally_of_parts commits parts.old) (tally_of_parts commits parts.new) }
 {
-    let mut payloads = match payloads_of(alloc, parts, bytes) {
+    let mut left = hashed_now(parts);
+    let mut payloads = match payloads_of(alloc, parts, bytes, left) {
         Ok(payloads) => payloads,
         Err(_) => Vec::new(alloc),
     };
     for part in parts {
+        if !takes_turn(part, &mut left) {
+            continue;
+        }
         prepare_part(part, bytes, &mut payloads);
     }
+}
+
+/// How many pages are hashed now: all whose bytes are to be hashed, or where these are more than are hashed side by side, so many at a time.
+fn hashed_now<A: Allocator + Copy>(parts: &[Part<A>]) -> usize {
+    let ready = parts.iter().filter(|part| part.op.has_content()).count();
+    if ready > SIDE_BY_SIDE {
+        ready.saturating_sub(ready % SIDE_BY_SIDE)
+    } else {
+        ready
+    }
+}
+
+/// Whether a part is prepared now, where the bytes of so many pages more are hashed: one that has none to hash is.
+fn takes_turn<A: Allocator + Copy>(part: &Part<A>, left: &mut usize) -> bool {
+    if !part.op.has_content() {
+        return true;
+    }
+    let is_left = *left > 0;
+    *left = left.saturating_sub(1);
+    is_left
 }
 
 /// Prepares a part, if it has something to prepare, with the payload that was made for it, if there is one.
@@ -150,14 +178,18 @@ fn prepare_part<A: Allocator + Copy>(
     }
 }
 
-/// What the parts are to write next, from behind. The error is out of memory.
+/// What the first parts are to write next, of so many pages at most, from behind. The error is out of memory.
 fn payloads_of<A: Allocator + Copy>(
     alloc: A,
     parts: &[Part<A>],
     bytes: &[u8],
+    most: usize,
 ) -> Result<Vec<Payload<A>, A>, AllocError> {
     let mut contents = Vec::with_capacity(alloc, parts.len())?;
     for part in parts {
+        if contents.len() >= most {
+            break;
+        }
         let own = bytes.get(part.from..part.to).unwrap_or(&[]);
         if let Some(content) = part.op.next_content(own) {
             contents.push(content)?;

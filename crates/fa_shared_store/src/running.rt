@@ -217,7 +217,7 @@ fn make_turns<
     hands.note();
 }
 
-/// Does what there is to be done for others, or else sleeps until what is awaited has come.
+/// Works for dies until what is awaited has come, or sleeps until then where nobody wants that work done.
 pub(crate) fn pass_time<
     'a,
     R: Wait + Clock,
@@ -236,12 +236,17 @@ pub(crate) fn pass_time<
     ensures number { number_of seat.new ≡ number_of seat.old }
 {
     let mut guard = guard;
-    if !hands.take(&mut guard, seat) {
-        return context.shared.sleep(context.rt, seat, awaits, true, guard);
+    for _ in context.rt.forever() {
+        if !hands.take(&mut guard, seat) {
+            return context.shared.sleep(context.rt, seat, awaits, true, guard);
+        }
+        context.shared.release(seat, guard);
+        hands.work();
+        guard = context.shared.lock(context.rt);
+        hands.end(&mut guard, seat);
+        if guard.is_due(awaits) {
+            return guard;
+        }
     }
-    context.shared.release(seat, guard);
-    hands.work();
-    let mut guard = context.shared.lock(context.rt);
-    hands.end(&mut guard, seat);
-    guard
+    unreachable!()
 }

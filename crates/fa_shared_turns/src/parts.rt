@@ -4,14 +4,11 @@ ghost use Rattle.fa_shared_request.specs.PartCounts.{PartsGoOn};
 use crate::turn::Turn;
 use crate::turning::turn_on;
 use fa_map_calls::Map;
-use fa_shared_lock::{Awaits, Locked, Seat};
-use fa_shared_request::{Op, Part};
+use fa_shared_lock::{Awaits, DieSet, Locked, Seat};
+use fa_shared_request::{Op, Part, SIDE_BY_SIDE};
 use std::alloc::Allocator;
 use std::sync::Wait;
 use std::sync::ledger::Ledger;
-
-/// How many pages are hashed at once.
-const SIDE_BY_SIDE: usize = 8;
 
 /// How the parts of a request stand behind their turns.
 #[derive(Clone, Copy)]
@@ -35,7 +32,7 @@ impl Stand {
         match turn {
             Turn::Prepare => self.prepares = self.prepares.saturating_add(1),
             Turn::Wait => match op.awaits(locked) {
-                Awaits::Change => self.waits = true,
+                Awaits::Room(_) | Awaits::Change => self.waits = true,
                 _ => self.works = true,
             },
             Turn::More | Turn::End => {}
@@ -91,16 +88,25 @@ pub fn awaits_of<L: Ledger, M: Map + Drop, A: Allocator + Copy>(
     locked: &Locked<L, M, A>,
 ) -> Awaits {
     let mut ready = parts.iter().filter(|part| part.op.has_content()).count();
-    let mut last = Awaits::Change;
+    let mut last = None;
+    let mut waits = false;
+    let mut rooms = DieSet::EMPTY;
     for part in parts {
-        let awaits = part.op.awaits(locked);
-        if !matches!(awaits, Awaits::Change) {
-            last = awaits;
-            ready = ready.saturating_add(1);
-            if ready >= SIDE_BY_SIDE {
-                break;
+        match part.op.awaits(locked) {
+            Awaits::Change => waits = true,
+            Awaits::Room(dies) => rooms = rooms.union(dies),
+            awaits => {
+                last = Some(awaits);
+                ready = ready.saturating_add(1);
+                if ready >= SIDE_BY_SIDE {
+                    break;
+                }
             }
         }
     }
-    last
+    match last {
+        Some(awaits) => awaits,
+        None if waits || rooms.is_empty() => Awaits::Change,
+        None => Awaits::Room(rooms),
+    }
 }

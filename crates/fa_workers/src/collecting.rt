@@ -67,6 +67,19 @@ fn give_windows<L: Ledger, M: Map + Drop, A: Allocator + Copy>(
     given
 }
 
+/// A Window for a die whose last one has ended, if it wants another.
+pub(crate) fn give_next_window<L: Ledger, M: Map + Drop, A: Allocator + Copy>(
+    alloc: A,
+    locked: &mut Locked<L, M, A>,
+    seat: &mut Seat<L>,
+    die: Die,
+    rounds: u64,
+) {
+    if locked.array().is_die(die) && !locked.array().has_window(die) {
+        give_window(alloc, locked, seat, die, rounds);
+    }
+}
+
 /// A Window for a die, if it wants one. Whether it was accepted.
 fn give_window<L: Ledger, M: Map + Drop, A: Allocator + Copy>(
     alloc: A,

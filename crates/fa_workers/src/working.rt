@@ -1,5 +1,6 @@
 //! The worker of a die.
 use crate::bench::{Bench, Lain};
+use crate::collecting::give_next_window;
 use crate::die_events::{Ended, Next, end_job, turn};
 use crate::helping::open_read;
 use crate::image_table::ImageTable;
@@ -17,6 +18,9 @@ use std::mem::replace;
 use std::sync::Wait;
 use std::sync::ledger::Ledger;
 use std::time::Clock;
+
+/// How many turns of a die are made at most behind the first one in the hold that ends a job: one that begins a window, and one in it.
+const MORE_TURNS: u32 = 2;
 
 /// What a die's worker has behind a job.
 #[derive(Drop)]
@@ -48,6 +52,7 @@ pub fn die_worker<
     die: Die,
     image_table: &ImageTable<I, A>,
     memory: JobMemory<A>,
+    window_rounds: u64,
     gate: &G,
 ) {
     let mut memory = memory;
@@ -62,7 +67,7 @@ pub fn die_worker<
             Lain::Made(outcome) => open_read(&mut memory, outcome, None, 0),
         };
         let buffer = replace(&mut memory.buffer, Vec::new(alloc));
-        let behind = finish(rt, alloc, shared, seat, die, outcome, buffer);
+        let behind = finish(rt, alloc, shared, seat, die, window_rounds, outcome, buffer);
         memory.buffer = behind.buffer;
         next = behind.next;
     }
@@ -116,21 +121,29 @@ fn wait_for_job<R: Wait + Clock, L: Ledger, M: Map + Drop, A: Allocator + Copy>(
     unreachable!()
 }
 
-/// Ends a job and makes the die's next turn, and one more where the round has risen, in one hold. Behind the hold it notes why the die went
-/// out, if it did.
+/// Ends a job and makes the die's next turn, and more where the round has risen, in one hold. Where a window of the die has ended and it
+/// wants another one, it has that at once. Behind the hold it notes why the die went out, if it did.
 fn finish<R: Wait, L: Ledger, M: Map + Drop, A: Allocator + Copy>(
     rt: &R,
     alloc: A,
     shared: &Shared<L, M, A>,
     seat: &mut Seat<L>,
     die: Die,
+    window_rounds: u64,
     outcome: Outcome,
     buffer: Vec<u8, A>,
 ) -> Behind<A> {
     let mut guard = shared.lock(rt);
     let Ended { buffer, fault } = end_job(alloc, &mut guard, seat, die, outcome, buffer);
+    let had_window = guard.array().has_window(die);
     let mut turned = turn(alloc, &mut guard, seat, die);
-    if matches!(turned, Next::Again) {
+    for _ in 0..MORE_TURNS {
+        if !matches!(turned, Next::Again) {
+            break;
+        }
+        if had_window {
+            give_next_window(alloc, &mut guard, seat, die, window_rounds);
+        }
         turned = turn(alloc, &mut guard, seat, die);
     }
     shared.release(seat, guard);
