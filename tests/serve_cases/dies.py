@@ -10,9 +10,9 @@ from servers import FAULT, Geometry, ensure, equal, same_bytes, wait_until
 
 LARGER = Geometry(blocks=16, slots=16, pages=192)
 WITH_A_SPARE = Geometry(dies=5, spares=1, blocks=16, slots=16, pages=192)
-# So many pages that some looks at the array, of five a second, find some with too few copies.
+# As many pages as it takes for a look at the array, of five a second, to find some with too few copies.
 TAKES_LONG = Geometry(dies=5, spares=1, blocks=64, slots=256, pages=16384)
-# So few pages that they have their copies again before the next look at the array.
+# Few enough pages that they have their copies again before the next look at the array.
 FEW_PAGES = 8
 HEALED = "all pages have their copies again"
 
@@ -34,7 +34,7 @@ def what_has_its_copies_again_is_told(make):
 
 
 def tells_when_it_is_healed(array, written):
-    """Writes so many pages and loses a die for which a spare comes in. That all pages have their copies again is told behind it, and not
+    """Writes that number of pages and loses a die for which a spare comes in. That all pages have their copies again is told behind it, and not
     before."""
     size, page_bytes = array.geometry.size, array.geometry.page_bytes
     data = os.urandom(written * page_bytes)

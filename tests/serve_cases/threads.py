@@ -1,5 +1,6 @@
 """What the threads of a server do beside one another. A library counts and holds calls of images (tests/call_log.c), so that a case shows
-what runs side by side and does not rest on time: a call is held for ten seconds at most, and then the case is late and fails.
+what runs side by side and does not rest on time: a call is held for ten seconds at most, and then the case is late and fails. One case alone
+rests on time, that of writes that wait for room.
 
 Sessions of the server make jobs of dies while they wait. So where one is held in a call of a die's image, the workers of the other dies
 make theirs."""

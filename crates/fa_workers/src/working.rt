@@ -122,7 +122,7 @@ fn wait_for_job<R: Wait + Clock, L: Ledger, M: Map + Drop, A: Allocator + Copy>(
 }
 
 /// Ends a job and makes the die's next turn, and more where the round has risen, in one hold. Where a window of the die has ended and it
-/// wants another one, it has that at once. Behind the hold it notes why the die went out, if it did.
+/// wants another one, it has that at once, unless the array is to end. Behind the hold it notes why the die went out, if it did.
 fn finish<R: Wait, L: Ledger, M: Map + Drop, A: Allocator + Copy>(
     rt: &R,
     alloc: A,
@@ -141,7 +141,7 @@ fn finish<R: Wait, L: Ledger, M: Map + Drop, A: Allocator + Copy>(
         if !matches!(turned, Next::Again) {
             break;
         }
-        if had_window {
+        if had_window && !guard.is_stopping() {
             give_next_window(alloc, &mut guard, seat, die, window_rounds);
         }
         turned = turn(alloc, &mut guard, seat, die);
