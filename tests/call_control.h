@@ -19,10 +19,12 @@ struct control {
     _Atomic uint64_t begun, is_late;
     // The dies whose next read of a slot hands out wrong bytes. What the image holds stays as it is.
     _Atomic uint64_t lying;
-    // The number of the thread that is refused memory, or 0, and how often it was refused (tests/thread_memory.c).
+    // The number of the thread that is refused memory, or 0, and how often memory was refused to anybody (tests/refused_memory.c).
     _Atomic uint64_t thread_without_memory, memory_refusals;
     // The write or sync from now on, the first being 1, that is refused with EIO and not made. With 0 none is.
     _Atomic uint64_t due;
+    // The request for memory from now on, the first being 1, that is refused. With 0 none is.
+    _Atomic uint64_t memory_due;
 };
 
 extern struct control *control;

@@ -9,7 +9,7 @@ import sys
 HERE = os.path.dirname(os.path.abspath(__file__))
 # The numbers of tests/call_control.h, in their order.
 (REFUSED, SYNC_NANOSECONDS, SYNCS, WRITES, ERASES, PROGRAMS, IS_SHUT, HELD_READS, HELD_PROGRAMS, ENOUGH, BEGUN, IS_LATE, LYING,
- THREAD_WITHOUT_MEMORY, MEMORY_REFUSALS, DUE) = range(16)
+ THREAD_WITHOUT_MEMORY, MEMORY_REFUSALS, DUE, MEMORY_DUE) = range(17)
 CONTROL_BYTES = 4096
 # All dies, and more calls than ever begin.
 ALL = NEVER = (1 << 64) - 1
@@ -20,7 +20,7 @@ def compiled(folder, *, refuses_memory=False):
     if not shutil.which("cc"):
         sys.exit(f"{os.path.basename(sys.argv[0])}: it needs cc, a compiler of C: apt-get install gcc libc6-dev")
     path = os.path.join(folder, "call_log.so")
-    sources = ["call_log.c", *(["thread_memory.c"] if refuses_memory else [])]
+    sources = ["call_log.c", *(["refused_memory.c"] if refuses_memory else [])]
     words = ["cc", "-O2", "-Wall", "-Wextra", "-shared", "-fPIC", "-o", path]
     subprocess.run([*words, *(os.path.join(HERE, it) for it in sources)], check=True)
     return path
@@ -81,6 +81,10 @@ class CallLog:
     def refuse_call(self, number):
         """The write or sync of this number from now on, the first being 1, is refused; with 0 none is."""
         self.put(DUE, number)
+
+    def refuse_request(self, number):
+        """The request for memory of this number from now on, the first being 1, is refused; with 0 none is."""
+        self.put(MEMORY_DUE, number)
 
     def close(self):
         self.numbers.close()

@@ -10,7 +10,7 @@ use fa_mount::{CloseFault, MountedArray};
 use fa_mount_headers::Standing;
 use fa_prog_host::printing::{print, refuse_for_memory};
 use fa_prog_host::{Host, keep_lost_at_end, remove_if_empty};
-use fa_shared::Shared;
+use fa_shared::{Shared, discard};
 use std::alloc::{AllocError, Global};
 use std::io::Write;
 use std::sync::ledger::Ledger;
@@ -40,7 +40,10 @@ pub fn end_served<R: Host, L: Ledger, M: Map + Drop, I: Image + Drop, W: Write>(
         array: shared.into_array(),
         dies,
     };
-    end_lent(rt, path, &mounted, ended, faults, output)
+    let status = end_lent(rt, path, &mounted, ended, faults, output);
+    let MountedArray { array, .. } = mounted;
+    discard(array);
+    status
 }
 
 /// The same of an array that is lent.

@@ -30,7 +30,10 @@ impl<'a, R, L: Ledger, M: Map + Drop> Served<'a, R, L, M> {
 
 impl<R: Networked, L: Ledger, M: Map + Drop> Watched for Served<'_, R, L, M> {
     fn geometry(&self) -> Geometry {
-        self.shared.lock(self.rt).array().geometry()
+        let guard = self.shared.lock(self.rt);
+        let geometry = guard.array().geometry();
+        self.shared.let_go(guard);
+        geometry
     }
 
     fn is_stopping(&self) -> bool {
@@ -38,15 +41,24 @@ impl<R: Networked, L: Ledger, M: Map + Drop> Watched for Served<'_, R, L, M> {
     }
 
     fn moment(&self) -> Moment {
-        moment_of(self.shared.lock(self.rt).array())
+        let guard = self.shared.lock(self.rt);
+        let moment = moment_of(guard.array());
+        self.shared.let_go(guard);
+        moment
     }
 
     fn sight(&self, copies: u32) -> Sight {
-        sight_of(self.shared.lock(self.rt).array(), copies)
+        let guard = self.shared.lock(self.rt);
+        let sight = sight_of(guard.array(), copies);
+        self.shared.let_go(guard);
+        sight
     }
 
     fn standing(&self, die: Die, has_image: bool) -> (DieState, bool) {
-        standing_of(self.shared.lock(self.rt).array(), die, has_image)
+        let guard = self.shared.lock(self.rt);
+        let standing = standing_of(guard.array(), die, has_image);
+        self.shared.let_go(guard);
+        standing
     }
 
     fn faults(&self, global: Global) -> Result<Vec<FaultStatus>, AllocError> {
@@ -55,30 +67,30 @@ impl<R: Networked, L: Ledger, M: Map + Drop> Watched for Served<'_, R, L, M> {
     }
 
     fn note_lost(&self, first: u64, lost: &mut LostPages) -> Result<(), AllocError> {
-        note_lost(self.shared.lock(self.rt).array(), first, PAGES_A_HOLD, lost)
+        let guard = self.shared.lock(self.rt);
+        let noted = note_lost(guard.array(), first, PAGES_A_HOLD, lost);
+        self.shared.let_go(guard);
+        noted
     }
 
     fn count_lost(&self, first: u64) -> u64 {
-        count_lost(self.shared.lock(self.rt).array(), first, PAGES_A_HOLD)
+        let guard = self.shared.lock(self.rt);
+        let count = count_lost(guard.array(), first, PAGES_A_HOLD);
+        self.shared.let_go(guard);
+        count
     }
 
     fn count_pages(&self, first: u64, counted: &mut PageStatus) -> Result<(), AllocError> {
-        count_pages(
-            self.shared.lock(self.rt).array(),
-            first,
-            PAGES_A_HOLD,
-            counted,
-        )
+        let guard = self.shared.lock(self.rt);
+        let made = count_pages(guard.array(), first, PAGES_A_HOLD, counted);
+        self.shared.let_go(guard);
+        made
     }
 
     fn count_slots(&self, die: Die, first: u32, counted: &mut SlotCounts) {
-        count_slots(
-            self.shared.lock(self.rt).array(),
-            die,
-            first,
-            BLOCKS_A_HOLD,
-            counted,
-        );
+        let guard = self.shared.lock(self.rt);
+        count_slots(guard.array(), die, first, BLOCKS_A_HOLD, counted);
+        self.shared.let_go(guard);
     }
 
     fn change_plans(&self, used: &mut Vec<PlanNote>, taken: &mut Vec<PlanNote>) {
@@ -95,5 +107,6 @@ impl<R: Networked, L: Ledger, M: Map + Drop> Watched for Served<'_, R, L, M> {
             };
             let _ = taken.push(note);
         }
+        self.shared.let_go(held);
     }
 }

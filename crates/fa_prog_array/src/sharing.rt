@@ -4,7 +4,7 @@ ghost use Rattle.fa_core.specs.Array.{IsWhole};
 
 use fa_core::Array;
 use fa_map_calls::Map;
-use fa_shared::Shared;
+use fa_shared::{Shared, discard};
 use std::alloc::Global;
 use std::sync::ledger::{Blank, Ledger};
 
@@ -20,7 +20,13 @@ pub fn share<L: Ledger, M: Map + Drop>(
     requires parts { (blank.parts ≡ L.parts) × (blank.parts ≡ 257) }
     requires whole { IsWhole M.view array }
 {
-    Shared::<L, M>::new(alloc, blank, keeping(alloc, array, plans_every)).ok()
+    match Shared::<L, M>::new(alloc, blank, keeping(alloc, array, plans_every)) {
+        Ok(shared) => Some(shared),
+        Err(array) => {
+            discard(array);
+            None
+        }
+    }
 }
 
 /// The array, which keeps the plan of each n-th batch for who writes it, where that is wanted.

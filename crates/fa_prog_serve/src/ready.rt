@@ -8,6 +8,7 @@ use fa_prog_listen::{Held, Listening, ServePlan, listening_of};
 use fa_prog_watch::Losses;
 use fa_shared::Shared;
 use std::alloc::{AllocError, Allocator};
+use std::sync::Wait;
 use std::sync::ledger::Ledger;
 
 /// What was made for a server.
@@ -38,8 +39,7 @@ pub(crate) fn ready_of<'a, R: Networked, L: Ledger, M: Map + Drop, I: Drop, A: A
         plans,
     } = held;
     let images = images_at_work(rt.alloc(), dies, images, threads.page_bytes)?;
-    let epoch = shared.lock(rt).array().epoch();
-    let losses = Losses::new(plan.path, epoch, lost);
+    let losses = Losses::new(plan.path, epoch_of(rt, shared), lost);
     let listening = listening_of(rt.alloc(), dies, plan)?;
     let tasks = tasks_of(rt, shared, images.dies.as_slice(), threads, plans)?;
     Ok(Ready {
@@ -48,4 +48,12 @@ pub(crate) fn ready_of<'a, R: Networked, L: Ledger, M: Map + Drop, I: Drop, A: A
         images,
         tasks,
     })
+}
+
+/// The epoch of a shared array.
+fn epoch_of<R: Wait, L: Ledger, M: Map + Drop>(rt: &R, shared: &Shared<L, M>) -> u64 {
+    let guard = shared.lock(rt);
+    let epoch = guard.array().epoch();
+    shared.let_go(guard);
+    epoch
 }

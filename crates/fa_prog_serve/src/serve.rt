@@ -246,7 +246,10 @@ fn serve_over<
     let served = serve_lent(rt, &shared, dies.as_slice(), held, plan, input, output);
     match served {
         Some((ended, faults)) => end_served(rt, plan.path, shared, dies, ended, faults, output),
-        None => refuse_for_memory(output),
+        None => {
+            shared.discard();
+            refuse_for_memory(output)
+        }
     }
 }
 

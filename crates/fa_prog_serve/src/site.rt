@@ -116,15 +116,23 @@ fn subject_of<'a, W>(watched: &'a W, listening: &'a Listening<'_>) -> Subject<'a
 /// Waits until no die wants a window of the collector, or until a second has passed.
 fn let_collect<R: Networked, L: Ledger, M: Map + Drop>(rt: &R, shared: &Shared<L, M>) {
     for _ in 0..COLLECT_LOOKS {
-        if shared.stopped(rt) || !is_collecting(shared.lock(rt).array()) {
+        if shared.stopped(rt) || !is_collecting(rt, shared) {
             return;
         }
         thread::sleep(rt, Duration::from_millis(COLLECT_MILLISECONDS));
     }
 }
 
+/// Whether a die of a shared array wants a window of the collector.
+fn is_collecting<R: Networked, L: Ledger, M: Map + Drop>(rt: &R, shared: &Shared<L, M>) -> bool {
+    let guard = shared.lock(rt);
+    let wants = wants_window(guard.array());
+    shared.let_go(guard);
+    wants
+}
+
 /// Whether a live die has less room than a block, and a victim.
-fn is_collecting<M: Map>(array: &Array<M>) -> bool {
+fn wants_window<M: Map>(array: &Array<M>) -> bool {
     for number in 0..array.geometry().dies {
         if array.wants_window(Die(number as u8)) {
             return true;

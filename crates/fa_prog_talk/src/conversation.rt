@@ -10,10 +10,11 @@ ghost use Rattle.fa_solo.specs.Stores.{seen_of};
 use fa_faults::Fault;
 use fa_image::Image;
 use fa_map_calls::Map;
-use fa_mount::CloseFault;
+use fa_mount::{CloseFault, MountedArray};
 use fa_prog_array::{close, lost_lines};
 use fa_session::{SessionEnd, serve_stream};
 use fa_settings::Settings;
+use fa_shared::discard;
 use fa_solo::{Parts, Solo};
 use std::alloc::{AllocError, Allocator, Global};
 use std::sync::ledger::{Blank, Ledger};
@@ -53,7 +54,12 @@ pub(crate) fn converse<L: Ledger, M: Map + Drop, I: Image + Drop, A: Allocator +
     let rounds = u64::from(settings.window_rounds);
     match Solo::<L, M, I>::new(global, blank, parts, rounds) {
         Ok(store) => Ok(served(global, alloc, store, settings, bytes)),
-        Err(_) => Err(AllocError),
+        Err(parts) => {
+            let Parts { mounted, .. } = parts;
+            let MountedArray { array, .. } = mounted;
+            discard(array);
+            Err(AllocError)
+        }
     }
 }
 
@@ -81,6 +87,8 @@ fn served<L: Ledger, M: Map + Drop, I: Image + Drop, A: Allocator + Copy>(
     } = store.into_parts();
     let lost = lost_lines(global, &mounted.array);
     let closed = close(&mounted, images.as_mut_slice());
+    let MountedArray { array, .. } = mounted;
+    discard(array);
     Said {
         written,
         end,

@@ -7,6 +7,6 @@ mod spares;
 mod turning;
 
 pub use dies::{done, take};
-pub use shared::Shared;
+pub use shared::{Shared, discard};
 pub use spares::bring_in_spare;
 pub use turning::{advance, commit_copy, reserve_copy, spare_in, window};

@@ -63,6 +63,11 @@ impl<L: Ledger, M: Map + Drop, A: Allocator + Copy> Shared<L, M, A> {
         self.locked.lock(rt)
     }
 
+    /// Frees the lock behind a look. Nobody is woken.
+    pub fn let_go(&self, guard: MutexGuard<'_, Locked<L, M, A>>) {
+        drop(guard);
+    }
+
     /// Frees the lock, and wakes those for whom it is time. Rounds that may pass have passed before.
     pub fn release(&self, seat: &mut Seat<L>, guard: MutexGuard<'_, Locked<L, M, A>>)
         ensures commits { commits_with seat.new ≡ commits_with seat.old }
@@ -166,6 +171,11 @@ impl<L: Ledger, M: Map + Drop, A: Allocator + Copy> Shared<L, M, A> {
         self.locked.lock(rt).gather(seats)
     }
 
+    /// The array is given up as it is.
+    pub fn discard(self) {
+        drop(self);
+    }
+
     /// The array, shared no more.
     pub fn into_array(self) -> Array<M, A>
         ensures { IsWhole M.view result }
@@ -173,6 +183,11 @@ impl<L: Ledger, M: Map + Drop, A: Allocator + Copy> Shared<L, M, A> {
         let Shared { locked, .. } = self;
         locked.into_inner().into_array()
     }
+}
+
+/// An array is given up as it is. The parts of one are proved to be dropped in each crate that drops one, so other crates have it done here.
+pub fn discard<M: Map + Drop, A: Allocator + Copy>(array: Array<M, A>) {
+    drop(array);
 }
 
 /// The faults of a shared array, and what wakes those who sleep. The error is out of memory.

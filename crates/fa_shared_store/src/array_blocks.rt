@@ -58,7 +58,10 @@ impl<
     ) -> ArrayBlocks<'a, R, L, M, A, H>
         ensures { result.seat ≡ seat }
     {
-        let (bytes, page_bytes) = store_bytes(shared.lock(rt).array().geometry());
+        let guard = shared.lock(rt);
+        let geometry = guard.array().geometry();
+        shared.let_go(guard);
+        let (bytes, page_bytes) = store_bytes(geometry);
         ArrayBlocks {
             context: Context {
                 rt,

@@ -1,5 +1,5 @@
 //! Requests over an array that is shared, from their beginning to their end.
-ghost use Rattle.std.specs.Prelude.{◌≡◌, ◌+◌, ◌*◌, ◌^◌, ◌≤◌, length, is_ok, IfOk, IfErr};
+ghost use Rattle.std.specs.Prelude.{◌≡◌, ◌+◌, ◌*◌, ◌^◌, ◌≤◌, length, true, is_ok, IfOk, IfErr, None};
 ghost use Rattle.fa_shared_request.specs.Counts.{GoesOn, IsMade};
 ghost use Rattle.fa_shared_request.specs.Ops.{ended, stage_of};
 ghost use Rattle.fa_shared_request.specs.Tallies.{pages_in};
@@ -53,7 +53,14 @@ fn run_whole<R: Wait + Clock, L: Ledger, M: Map + Drop, A: Allocator + Copy, H: 
         Ok(op) => op,
         Err(_) => return Err(BlockFault::NoMemory),
     };
-    match finish(context, seat, hands, &mut op, bytes) {
+    result_of(finish(context, seat, hands, &mut op, bytes))
+}
+
+/// What is told of a request that has ended so.
+fn result_of(end: Option<BlockFault>) -> Result<(), BlockFault>
+    ensures { is_ok result ≡ true → end ≡ None }
+{
+    match end {
         None => Ok(()),
         Some(fault) => Err(fault),
     }
@@ -116,6 +123,19 @@ pub(crate) fn run_read<
     op.lend(replace(lent, Vec::new(context.alloc)));
     let end = finish(context, seat, hands, &mut op, &[]);
     *lent = op.take_lent();
+    answer_of(op, end, len)
+}
+
+/// The answer of a read that has ended so.
+fn answer_of<A: Allocator + Copy, B: Allocator>(
+    op: Op<A, B>,
+    end: Option<BlockFault>,
+    len: u64,
+) -> Result<Vec<u8, B>, BlockFault>
+    ensures length { IfOk result (λ answer. length answer.items ≡ len) }
+    ensures room { IfErr result (λ fault. fault ≡ NoRoom → ⊥) }
+    ensures none { is_ok result ≡ true → end ≡ None }
+{
     match end {
         None => handed_out(op, len),
         Some(fault) => Err(of_read(fault)),

@@ -18,7 +18,7 @@ use std::alloc::Allocator;
 use std::sync::ledger::Ledger;
 
 /// What came of giving windows.
-#[derive(Clone, Copy, PartialEq, Eq)]
+#[derive(Clone, Copy)]
 pub(crate) enum Windows {
     /// No die wanted one.
     Unwanted,
@@ -54,7 +54,7 @@ fn collect_once<L: Ledger, M: Map + Drop, I: Image, A: Allocator + Copy>(
     ensures collects { Collects I.made result inner.old inner.new }
 {
     let windows = step_windows(inner);
-    if windows != Windows::Unwanted {
+    if !matches!(windows, Windows::Unwanted) {
         return windows;
     }
     if is_unwanted(inner) {

@@ -34,6 +34,7 @@ pub fn collector_worker<R: Wait + Clock, L: Ledger, M: Map + Drop, A: Allocator 
         let awaits = next_look(guard.array());
         guard = shared.sleep(rt, seat, awaits, false, guard);
     }
+    shared.let_go(guard);
 }
 
 /// What the collector waits for behind a look: that a die wants a window, or any change, where one that wants it was refused.

@@ -7,6 +7,7 @@ use crate::store::over_store;
 use fa_map_calls::Map;
 use fa_mount::MountedArray;
 use fa_mount_headers::MountRefused;
+use fa_shared::discard;
 use flasharr_lab_array::show_mounted;
 use flasharr_lab_lines::{Lab, Script, Shape, array_over, over_array};
 use flasharr_lab_parts::{DieImage, Heap, Yard, show_unmounted};
@@ -98,4 +99,6 @@ fn own<'a, M: Map + Drop, I: DieImage>(
             None => break 'stores,
         }
     }
+    let MountedArray { array, .. } = mounted;
+    discard(array);
 }

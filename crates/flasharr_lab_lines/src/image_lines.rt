@@ -3,6 +3,7 @@ use fa_image::Image;
 use fa_map_calls::Map;
 use fa_mount::{MountedArray, mount, recover};
 use fa_mount_headers::MountRefused;
+use fa_shared::discard;
 use fa_types::Copies;
 use flasharr_lab_array::{show_map, show_mounted};
 use flasharr_lab_parts::{DieImage, Images, Tools, copies_of, show_unmounted, touch};
@@ -72,4 +73,6 @@ fn show_beside<M: Map + Drop, A: Allocator + Copy>(
 ) {
     show_mounted(&mounted.array, output);
     show_map(&mounted.array, output);
+    let MountedArray { array, .. } = mounted;
+    discard(array);
 }

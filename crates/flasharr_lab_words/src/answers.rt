@@ -1,35 +1,35 @@
 //! What events are answered, in words.
 use crate::content::show_content;
 use crate::output::Output;
+use crate::refusals::Reason;
 use fa_batch_terms::Place;
 use fa_machine::{
     AdmitRefused, ClaimId, ClaimRefused, CommitCopyRefused, Copied, Flush, FlushRefused, FlushState,
 };
 use fa_types::{Page, Round, Seq};
 use std::alloc::Allocator;
-use std::fmt::Display;
 
 /// A claim, or why it was refused.
 pub fn show_claim(answer: &Result<ClaimId, ClaimRefused>, output: &mut Output) {
     match answer {
         Ok(claim) => output.pair("claim", claim.0),
-        Err(refused) => output.refusal(refused),
+        Err(refused) => output.reason(refused),
     }
 }
 
 /// The number of a write, or why it was refused.
-pub fn show_seq<E: Display>(answer: &Result<Seq, E>, output: &mut Output) {
+pub fn show_seq<E: Reason>(answer: &Result<Seq, E>, output: &mut Output) {
     match answer {
         Ok(seq) => output.pair("seq", seq.0),
-        Err(refused) => output.refusal(refused),
+        Err(refused) => output.reason(refused),
     }
 }
 
 /// A round, or why it was refused.
-pub fn show_round<E: Display>(answer: &Result<Round, E>, output: &mut Output) {
+pub fn show_round<E: Reason>(answer: &Result<Round, E>, output: &mut Output) {
     match answer {
         Ok(round) => output.pair("round", round.0),
-        Err(refused) => output.refusal(refused),
+        Err(refused) => output.reason(refused),
     }
 }
 
@@ -37,15 +37,15 @@ pub fn show_round<E: Display>(answer: &Result<Round, E>, output: &mut Output) {
 pub fn show_flush(answer: &Result<Flush, FlushRefused>, output: &mut Output) {
     match answer {
         Ok(flush) => output.pair("flush", flush.number),
-        Err(refused) => output.refusal(refused),
+        Err(refused) => output.reason(refused),
     }
 }
 
 /// A word, or why it was refused.
-pub fn show_word<E: Display>(word: &str, answer: &Result<(), E>, output: &mut Output) {
+pub fn show_word<E: Reason>(word: &str, answer: &Result<(), E>, output: &mut Output) {
     match answer {
         Ok(()) => output.word(word),
-        Err(refused) => output.refusal(refused),
+        Err(refused) => output.reason(refused),
     }
 }
 
@@ -54,7 +54,7 @@ pub fn show_copied(answer: &Result<Copied, CommitCopyRefused>, output: &mut Outp
     match answer {
         Ok(Copied::Current) => output.word("current"),
         Ok(Copied::Late) => output.word("late"),
-        Err(refused) => output.refusal(refused),
+        Err(refused) => output.reason(refused),
     }
 }
 
@@ -69,7 +69,7 @@ pub fn show_flush_state(state: FlushState, output: &mut Output) {
 
 /// Why pages were not admitted, and the page that is lost.
 pub fn show_admit_refused(refused: AdmitRefused, output: &mut Output) {
-    output.refusal(&refused);
+    output.reason(&refused);
     if let AdmitRefused::Lost(page) = refused {
         output.number(page.0);
     }

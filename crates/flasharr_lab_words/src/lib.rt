@@ -10,6 +10,7 @@ mod naming;
 mod order;
 mod output;
 mod pages;
+mod refusals;
 mod words;
 
 pub use answers::{
@@ -23,4 +24,5 @@ pub use looks::{show_batch_state, show_closed, show_counts, show_history, show_t
 pub use order::{Ask, Bare, Begin, Deed, Ending, Event, Free, Look, MAX_TIMES, Order, Wish, Work};
 pub use output::Output;
 pub use pages::{MAX_DIES, PageSeen, bit_of, show_page, show_page_word, show_version};
+pub use refusals::Reason;
 pub use words::{die_of, index_of, number_at, small_at};

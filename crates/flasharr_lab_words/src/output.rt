@@ -1,4 +1,5 @@
 //! What is printed.
+use crate::refusals::Reason;
 use std::alloc::Global;
 use std::fmt::Display;
 
@@ -94,6 +95,12 @@ impl Output {
     pub fn refusal<E: Display>(&mut self, error: &E) {
         self.word("refused:");
         self.shown(error);
+    }
+
+    /// Why an event was refused.
+    pub fn reason<R: Reason>(&mut self, refused: &R) {
+        self.word("refused:");
+        self.word(refused.reason());
     }
 
     /// One more word, as it is displayed.

@@ -50,7 +50,10 @@ fn is_full_for_a_window(calendar: &mut Calendar) -> bool {
     if window.is_some() || now.0 > 1_000_000 {
         return false;
     }
-    calendar.reserve_window(Die(0), 1) == Err(CalendarRefused::Full)
+    matches!(
+        calendar.reserve_window(Die(0), 1),
+        Err(CalendarRefused::Full)
+    )
 }
 
 /// Whether two of each three rounds of die 0 are booked, as many as a die may have.

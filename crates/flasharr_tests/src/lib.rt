@@ -24,8 +24,6 @@ mod cert;
 #[cfg(test)]
 mod cmds;
 #[cfg(test)]
-mod commands;
-#[cfg(test)]
 mod fails;
 #[cfg(test)]
 mod io;
@@ -37,8 +35,6 @@ mod nego;
 mod reopened;
 #[cfg(test)]
 mod rows;
-#[cfg(test)]
-mod settings;
 #[cfg(test)]
 mod sockets;
 #[cfg(test)]

@@ -1,5 +1,5 @@
-// A part of the library of tests/call_log.c that refuses memory to one thread of the server, as long as the test says so. Each thread has
-// the least number from 1 on that no other has as it is made, up to 63. The main thread has none.
+// A part of the library of tests/call_log.c that refuses memory: to one thread of the server as long as the test says so, or one request of
+// any thread. Each thread has the least number from 1 on that no other has as it is made, up to 63. The main thread has none.
 #define _GNU_SOURCE
 #include <dlfcn.h>
 #include <errno.h>
@@ -26,8 +26,16 @@ static _Atomic uint64_t taken = 1;
 // It is laid out as the thread is made, so that to look at it takes no memory.
 static _Thread_local uint64_t number __attribute__((tls_model("initial-exec")));
 
+// Whether this request is the one that is refused.
+static int is_due(void) {
+    uint64_t left = control->memory_due;
+    while (left && !atomic_compare_exchange_weak(&control->memory_due, &left, left - 1))
+        ;
+    return left == 1;
+}
+
 static int is_refused(void) {
-    if (!number || control->thread_without_memory != number)
+    if ((!number || control->thread_without_memory != number) && !is_due())
         return 0;
     control->memory_refusals++;
     errno = ENOMEM;
