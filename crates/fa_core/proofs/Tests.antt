@@ -1,6 +1,6 @@
 -- The tests of conditions, and what an event is counted as.
-use Rattle.fa_core.specs.Calls.{commits_of_answer}
-use Rattle.fa_core.specs.declared.call.Answer.TheVariants.{Commit as GaveCommit}
+use Rattle.fa_core_calls.specs.Calls.{commits_of_answer}
+use Rattle.fa_core_calls.specs.declared.call.Answer.TheVariants.{Commit as GaveCommit}
 use Rattle.fa_laws.specs.Counted.{commits_of}
 use Rattle.fa_machine.specs.Run.{Event}
 use Rattle.fa_machine.specs.Step.{Commit}

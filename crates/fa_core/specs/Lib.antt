@@ -1,3 +1,1 @@
 pub mod Array
-pub mod Calls
-pub mod Windows

@@ -6,15 +6,14 @@ ghost use Rattle.fa_core_outcome.specs.Outcomes.{outcome_of};
 ghost use Rattle.fa_machine.specs.Cells.{is_of_kind};
 ghost use Rattle.fa_machine.specs.Conditions.{history_full};
 ghost use Rattle.fa_machine.specs.Step.{Done, Step, Take, is_die};
-ghost use Rattle.fa_core_dispatch.specs.Fits.{IsJobFor};
-ghost use Rattle.fa_core_dispatch.specs.Handed.{handed_of};
+ghost use Rattle.fa_core_outcome.specs.Fits.{IsJobFor};
+ghost use Rattle.fa_core_outcome.specs.Handed.{handed_of};
 ghost use Rattle.fa_machine.specs.Looks.{counts as rule_counts};
 
 use crate::array::Array;
-use crate::call::{Answer, Call};
-use fa_core_dispatch::Job;
+use fa_core_calls::{Answer, Call};
 use fa_core_dispatch::laws::what_is_handed_out_fits;
-use fa_core_outcome::Outcome;
+use fa_core_outcome::{Job, Outcome};
 use fa_laws::invariants::{an_event_counts, an_event_keeps};
 use fa_map_calls::Map;
 use fa_types::Die;
@@ -63,7 +62,7 @@ impl<M: Map, A: Allocator + Clone> Array<M, A> {
 
 impl<M: Map, A: Allocator + Copy> Array<M, A> {
     ghost use Rattle.fa_core.specs.Array.{IsWhole, number_of, state_of};
-    ghost use Rattle.fa_core.specs.Calls.{FitsAnswer, Makes, commits_of_answer};
+    ghost use Rattle.fa_core_calls.specs.Calls.{FitsAnswer, Makes, commits_of_answer};
 
     /// A Take, by the seat.
     pub(crate) fn make_take(&mut self, die: Die, seat: u32) -> Answer<A>

@@ -5,7 +5,7 @@ ghost use Rattle.fa_machine.specs.Looks.{counts as rule_counts};
 ghost use Rattle.fa_machine.specs.Step.{FlushBegin, Fold, Step};
 
 use crate::array::Array;
-use crate::call::{Answer, Call};
+use fa_core_calls::{Answer, Call};
 use fa_laws::invariants::{an_event_counts, an_event_keeps};
 use fa_machine::{Flush, FlushRefused, FlushState};
 use fa_map_calls::Map;
@@ -47,7 +47,7 @@ impl<M: Map, A: Allocator + Clone> Array<M, A> {
 
 impl<M: Map, A: Allocator + Copy> Array<M, A> {
     ghost use Rattle.fa_core.specs.Array.{IsWhole, number_of, state_of};
-    ghost use Rattle.fa_core.specs.Calls.{Makes, commits_of_answer};
+    ghost use Rattle.fa_core_calls.specs.Calls.{Makes, commits_of_answer};
 
     /// A FlushBegin.
     pub(crate) fn make_flush_begin(&mut self) -> Answer<A>

@@ -2,10 +2,10 @@
 #![tactic(auto)]
 
 mod array;
-mod call;
 mod conditions;
 mod dies;
 mod distinct;
+mod events;
 mod flushing;
 mod looks;
 mod readers;
@@ -14,8 +14,6 @@ mod turning;
 mod writers;
 
 pub use array::Array;
-pub use call::{Answer, Call};
-pub use fa_core_dispatch::Job;
-pub use fa_core_outcome::Outcome;
-pub use fa_core_read::Admitted;
+pub use fa_core_calls::{Admitted, Answer, Call};
+pub use fa_core_outcome::{Job, Outcome};
 pub use fa_plan::Planned;

@@ -10,7 +10,7 @@ ghost use Rattle.fa_machine.specs.Looks.{next_thin as rule_thin, wants_window as
 ghost use Rattle.fa_machine.specs.Placement.{room as rule_room};
 ghost use Rattle.fa_machine.specs.State.{is_live as rule_live};
 ghost use Rattle.fa_machine.specs.Taking.{taken};
-ghost use Rattle.fa_core.specs.Windows.{is_window_due as is_due, lacks_window as lacks};
+ghost use Rattle.fa_core_calls.specs.Windows.{is_window_due as is_due, lacks_window as lacks};
 ghost use Rattle.fa_core_tables.specs.Counted.{capped};
 ghost use Rattle.fa_mirror.specs.Order.{first_dies as rule_first, numbers_of};
 

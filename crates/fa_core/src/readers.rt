@@ -6,13 +6,12 @@ ghost use Rattle.fa_machine.specs.Conditions.{batch_open};
 ghost use Rattle.fa_machine.specs.Reading.{left_of, released, results as rule_results, to_read};
 ghost use Rattle.fa_machine.specs.Rounds.{is_taken};
 ghost use Rattle.fa_machine.specs.Step.{Admit, EndBatch, Replan, Step, is_distinct};
-ghost use Rattle.fa_core_read.specs.Answers.{IsHandedOut, admit_answer, plan_answer};
+ghost use Rattle.fa_core_calls.specs.Answers.{IsHandedOut, admit_answer, plan_answer};
 ghost use Rattle.fa_machine.specs.Looks.{counts as rule_counts};
 
 use crate::array::Array;
-use crate::call::{Answer, Call};
 use fa_closed::Closed;
-use fa_core_read::Admitted;
+use fa_core_calls::{Admitted, Answer, Call};
 use fa_laws::invariants::{an_event_counts, an_event_keeps};
 use fa_machine::{AdmitRefused, BatchId, ReadState};
 use fa_map_calls::Map;
@@ -159,7 +158,7 @@ impl<M: Map, A: Allocator + Clone> Array<M, A> {
 
 impl<M: Map, A: Allocator + Copy> Array<M, A> {
     ghost use Rattle.fa_core.specs.Array.{IsWhole, number_of, state_of};
-    ghost use Rattle.fa_core.specs.Calls.{HandsOutWhole, Makes, commits_of_answer};
+    ghost use Rattle.fa_core_calls.specs.Calls.{HandsOutWhole, Makes, commits_of_answer};
 
     /// An Admit.
     pub(crate) fn make_admit(&mut self, alloc: A, pages: &[Page]) -> Answer<A>

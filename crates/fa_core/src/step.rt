@@ -3,13 +3,13 @@ ghost use Rattle.std.specs.Prelude.{◌≡◌, ◌+◌};
 ghost use Rattle.fa_machine.specs.Looks.{counts};
 
 use crate::array::Array;
-use crate::call::{Answer, Call};
+use fa_core_calls::{Answer, Call};
 use fa_map_calls::Map;
 use std::alloc::Allocator;
 
 impl<M: Map, A: Allocator + Copy> Array<M, A> {
     ghost use Rattle.fa_core.specs.Array.{IsWhole, number_of, state_of};
-    ghost use Rattle.fa_core.specs.Calls.{FitsAnswer, HandsOutWhole, Makes, commits_of_answer};
+    ghost use Rattle.fa_core_calls.specs.Calls.{FitsAnswer, HandsOutWhole, Makes, commits_of_answer};
 
     /// One event, made by a seat. Where a condition of the event does not hold, the answer is Stranger and nothing has changed.
     pub fn step(&mut self, alloc: A, seat: u32, call: Call<'_, A>) -> Answer<A>

@@ -5,7 +5,7 @@ ghost use Rattle.fa_machine.specs.Step.{Window, Advance, SpareIn, ReserveCopy, C
 ghost use Rattle.fa_machine.specs.Looks.{counts as rule_counts};
 
 use crate::array::Array;
-use crate::call::{Answer, Call};
+use fa_core_calls::{Answer, Call};
 use fa_laws::invariants::{an_event_counts, an_event_keeps};
 use fa_machine::{
     AdvanceRefused, CommitCopyRefused, Copied, ReserveCopyRefused, SpareRefused, WindowRefused,
@@ -96,7 +96,7 @@ impl<M: Map, A: Allocator + Clone> Array<M, A> {
 
 impl<M: Map, A: Allocator + Copy> Array<M, A> {
     ghost use Rattle.fa_core.specs.Array.{IsWhole, number_of, state_of};
-    ghost use Rattle.fa_core.specs.Calls.{Makes, commits_of_answer};
+    ghost use Rattle.fa_core_calls.specs.Calls.{Makes, commits_of_answer};
 
     /// A Window.
     pub(crate) fn make_window(&mut self, die: Die, rounds: u64) -> Answer<A>

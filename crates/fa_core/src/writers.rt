@@ -5,7 +5,7 @@ ghost use Rattle.fa_machine.specs.Step.{Claim, Release, Reserve, ReserveHole, Re
 ghost use Rattle.fa_machine.specs.Looks.{counts as rule_counts};
 
 use crate::array::Array;
-use crate::call::{Answer, Call};
+use fa_core_calls::{Answer, Call};
 use fa_laws::invariants::{an_event_counts, an_event_keeps};
 use fa_machine::{AbandonRefused, ClaimId, ClaimRefused, CommitRefused, ReserveRefused};
 use fa_map_calls::Map;
@@ -133,7 +133,7 @@ fn one_of(asked: u32) -> u32
 
 impl<M: Map, A: Allocator + Copy> Array<M, A> {
     ghost use Rattle.fa_core.specs.Array.{IsWhole, number_of, state_of};
-    ghost use Rattle.fa_core.specs.Calls.{Makes, commits_of_answer};
+    ghost use Rattle.fa_core_calls.specs.Calls.{Makes, commits_of_answer};
 
     /// A Claim.
     pub(crate) fn make_claim(&mut self, page: Page) -> Answer<A>

@@ -21,7 +21,8 @@ use Rattle.fa_sound.specs.Ready.{AreReady}
 use Rattle.fa_sound.specs.Sound.{IsSound}
 use Rattle.fa_tag.specs.SlotGrammar.{IsPayloadOf}
 use Rattle.fa_core_dispatch.proofs.Masks.{bit, mask_below, mask_more, still_below}
-use Rattle.fa_core_dispatch.specs.Fits.{HasLimits, IsJobFor}
+use Rattle.fa_core_dispatch.specs.Limits.{HasLimits}
+use Rattle.fa_core_outcome.specs.Fits.{IsJobFor}
 use Rattle.fa_types.specs.declared.kind.Kind.{Kind}
 use Rattle.fa_types.specs.declared.kind.Kind.TheVariants.{Data, Hole}
 use Rattle.fa_types.specs.declared.numbers.Page.{Page}

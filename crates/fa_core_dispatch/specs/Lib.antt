@@ -1,3 +1,2 @@
 pub mod Begins
-pub mod Fits
-pub mod Handed
+pub mod Limits

@@ -4,7 +4,8 @@ ghost use Rattle.fa_machine.specs.State.{Core};
 ghost use Rattle.fa_machine.specs.Taking.{Handed, Takes};
 ghost use Rattle.fa_sound.specs.Ready.{AreReady};
 ghost use Rattle.fa_sound.specs.Sound.{IsSound};
-ghost use Rattle.fa_core_dispatch.specs.Fits.{HasLimits, IsJobFor};
+ghost use Rattle.fa_core_dispatch.specs.Limits.{HasLimits};
+ghost use Rattle.fa_core_outcome.specs.Fits.{IsJobFor};
 
 /// Whatever a Take hands out fits the die and its image: its slots and its block are the die's, and what it writes is a slot with a
 /// page's bytes, or a header of the array with this number.

@@ -3,12 +3,10 @@
 
 mod collecting;
 mod header;
-mod job;
 mod jobs;
 pub mod laws;
 mod programs;
 mod reading;
 mod taking;
 
-pub use job::Job;
 pub use taking::{has_job, take};

@@ -6,10 +6,10 @@ ghost use Rattle.fa_sound.specs.Ready.{AreReady};
 ghost use Rattle.fa_core_tables.specs.Dies.{by_die};
 ghost use Rattle.fa_core_state.specs.Core.{core_of};
 ghost use Rattle.fa_core_state.specs.Fitted.{IsFitted};
-ghost use Rattle.fa_core_dispatch.specs.Handed.{handed_of};
+ghost use Rattle.fa_core_outcome.specs.Handed.{handed_of};
 
-use crate::job::Job;
 use crate::jobs::set_job;
+use fa_core_outcome::Job;
 use fa_core_state::State;
 use fa_core_tables::ByDie;
 use fa_machine::Flight;

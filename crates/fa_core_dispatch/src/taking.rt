@@ -11,14 +11,14 @@ ghost use Rattle.fa_core_tables.specs.Dies.{by_die};
 ghost use Rattle.fa_core_state.specs.Core.{core_of};
 ghost use Rattle.fa_core_state.specs.Fitted.{IsFitted};
 ghost use Rattle.fa_core_dispatch.specs.Begins.{MayBegin};
-ghost use Rattle.fa_core_dispatch.specs.Handed.{handed_of};
+ghost use Rattle.fa_core_outcome.specs.Handed.{handed_of};
 
 use crate::collecting::{begin_move, step_job};
 use crate::header::header_job;
-use crate::job::Job;
 use crate::jobs::set_job;
 use crate::programs::{begin_other, has_other};
 use crate::reading::{begin_read, drop_stale_booking, read_job};
+use fa_core_outcome::Job;
 use fa_core_state::State;
 use fa_machine::Flight;
 use fa_map_calls::Map;

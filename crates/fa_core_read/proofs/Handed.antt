@@ -1,5 +1,5 @@
 -- A plan is handed out as the planner made it.
-use Rattle.fa_core_read.specs.Answers.{IsHandedOut}
+use Rattle.fa_core_calls.specs.Answers.{IsHandedOut}
 use Rattle.fa_plan.specs.declared.planner.Planned.{Planned}
 use Rattle.std.proofs.Common.{subst, ℕ, ◌*◌, ◌+◌, ◌≡◌, ◌≤◌}
 use Rattle.std.specs.Prelude.{Err, IfOk, Ok, Result}

@@ -12,7 +12,7 @@ ghost use Rattle.fa_machine.specs.Rounds.{is_closed, is_taken_with};
 ghost use Rattle.fa_machine.specs.Step.{is_distinct};
 ghost use Rattle.fa_core_state.specs.Core.{core_of};
 ghost use Rattle.fa_core_state.specs.Fitted.{IsFitted};
-ghost use Rattle.fa_core_read.specs.Answers.{IsHandedOut, admit_answer, planned_of};
+ghost use Rattle.fa_core_calls.specs.Answers.{IsHandedOut, admit_answer, planned_of};
 ghost use Rattle.fa_core_read.specs.Opened.{new_batch, opened_state};
 ghost use Rattle.fa_types.specs.Open.{FewClosed};
 ghost use Rattle.fa_types.specs.Windows.{IsFull};
@@ -22,22 +22,14 @@ use crate::planner::Planner;
 use crate::planning::{is_late, plan_written};
 use fa_batch_terms::Place;
 use fa_calendar::CalendarRefused;
+use fa_core_calls::Admitted;
 use fa_core_read_pages::first_lost;
 use fa_core_state::State;
 use fa_machine::{AdmitRefused, BatchId};
 use fa_map_calls::Map;
 use fa_plan::Planned;
 use fa_types::Page;
-use std::alloc::{AllocError, Allocator, Global};
-
-/// A batch that was admitted.
-#[derive(Drop)]
-pub struct Admitted<A: Allocator = Global> {
-    /// Its number.
-    pub batch: BatchId,
-    /// The plan of its pages that are to be read, with what shows that it is least.
-    pub planned: Planned<A>,
-}
+use std::alloc::{AllocError, Allocator};
 
 /// A batch of these pages, at most 1,024 and no two the same. Those that have bytes on their dies are planned in the least number of
 /// rounds, and booked; the others are answered with zeros at once. Refused, nothing has changed.

@@ -1,8 +1,8 @@
 //! What is handed out verifies: a law, the contract of a function with no code.
 ghost use Rattle.std.specs.Prelude.{ℕ, List, Ok, length};
 ghost use Rattle.fa_batch_terms.specs.Certificate.{IsCertificate};
-ghost use Rattle.fa_core_read.specs.Answers.{IsHandedOut, admitted_of, planned_of};
-ghost use Rattle.fa_core_read.specs.declared.admitting.Admitted.{Admitted};
+ghost use Rattle.fa_core_calls.specs.Answers.{IsHandedOut, admitted_of, planned_of};
+ghost use Rattle.fa_core_calls.specs.declared.admitted.Admitted.{Admitted};
 ghost use Rattle.fa_machine.specs.Reading.{Admits, Replans, entries_for, left_of, released, to_read};
 ghost use Rattle.fa_machine.specs.Rounds.{is_closed};
 ghost use Rattle.fa_machine.specs.State.{Core};

@@ -12,7 +12,7 @@ mod planning;
 mod replanning;
 mod standing;
 
-pub use admitting::{Admitted, admit};
+pub use admitting::admit;
 pub use counting::PlanCounts;
 pub use ending::end_batch;
 pub use planner::Planner;

@@ -5,7 +5,7 @@ ghost use Rattle.fa_core_bookings.specs.Bookings.{calendar_of};
 ghost use Rattle.fa_machine.specs.Copies.{is_lost};
 ghost use Rattle.fa_machine.specs.Reading.{IsPlanned, is_late as rule_late, to_read};
 ghost use Rattle.fa_machine.specs.Step.{is_distinct};
-ghost use Rattle.fa_core_read.specs.Answers.{IsHandedOut, planned_of};
+ghost use Rattle.fa_core_calls.specs.Answers.{IsHandedOut, planned_of};
 
 use crate::planner::Planner;
 use fa_core_bookings::Bookings;

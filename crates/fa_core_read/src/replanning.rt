@@ -16,7 +16,7 @@ ghost use Rattle.fa_machine.specs.Reading.{Replans, IsPlanned, booked, entries_f
 ghost use Rattle.fa_machine.specs.Rounds.{is_closed as is_closed_in, is_taken, is_taken_with};
 ghost use Rattle.fa_core_state.specs.Core.{core_of};
 ghost use Rattle.fa_core_state.specs.Fitted.{IsFitted};
-ghost use Rattle.fa_core_read.specs.Answers.{IsHandedOut, plan_answer, planned_of};
+ghost use Rattle.fa_core_calls.specs.Answers.{IsHandedOut, plan_answer, planned_of};
 ghost use Rattle.fa_core_read_pages.specs.Left.{is_left as rule_left, left_among, places_among};
 ghost use Rattle.fa_types.specs.Open.{FewClosed};
 ghost use Rattle.fa_types.specs.Windows.{IsFull};

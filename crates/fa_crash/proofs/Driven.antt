@@ -7,7 +7,7 @@ use Rattle.fa_crash.proofs.WholeCalls.{call_whole, unmade_whole}
 use Rattle.fa_crash.specs.Images.{WriteWhole}
 use Rattle.fa_image.specs.Image.{ImageAnswer, ImageCall, ImageMeets, ImageState, IsImage}
 use Rattle.fa_jobs.specs.Made.{MakesCall as MakesJobCall}
-use Rattle.fa_core_dispatch.specs.Fits.{IsJobFor}
+use Rattle.fa_core_outcome.specs.Fits.{IsJobFor}
 use Rattle.fa_laws.proofs.Within.{GeometryLaw}
 use Rattle.fa_machine.specs.Beginning.{IsBeginning}
 use Rattle.fa_machine.specs.Collecting.{is_in_block}

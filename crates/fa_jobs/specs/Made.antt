@@ -12,7 +12,7 @@ use Rattle.fa_machine.specs.declared.places.Version.{Version}
 use Rattle.fa_tag.specs.HeaderGrammar.{header_bytes}
 use Rattle.fa_tag.specs.SlotGrammar.{IsOpened, payload_of, slot_2}
 use Rattle.fa_tag.specs.declared.tag.Opened.{Opened}
-use Rattle.fa_core_dispatch.specs.Fits.{header_of, tag_of}
+use Rattle.fa_core_outcome.specs.Fits.{header_of, tag_of}
 use Rattle.fa_types.specs.declared.geometry.Geometry.{Geometry}
 
 -- What bytes of a slot are to the machine. A slot that was sealed is its page, write and place with its payload.

@@ -5,7 +5,7 @@ use Rattle.fa_machine.specs.Taking.{Handed}
 use Rattle.fa_machine.specs.declared.jobs.Flight.{Flight}
 use Rattle.fa_machine.specs.declared.jobs.Flight.TheVariants.{Header as HeaderJob, Move, Erase, Read, Program, Sync}
 use Rattle.fa_tag.specs.SlotGrammar.{IsPayloadOf}
-use Rattle.fa_core_dispatch.specs.Fits.{IsFlightFor, IsJobFor}
+use Rattle.fa_core_outcome.specs.Fits.{IsFlightFor, IsJobFor}
 use Rattle.fa_types.specs.declared.geometry.Geometry.{Geometry}
 use Rattle.fa_types.specs.declared.kind.Kind.{Kind}
 use Rattle.fa_types.specs.declared.kind.Kind.TheVariants.{Data, Hole}

@@ -5,7 +5,7 @@ ghost use Rattle.fa_machine.specs.Taking.{Handed};
 ghost use Rattle.fa_machine.specs.declared.jobs.Flight.TheVariants.{Header as HeaderJob};
 ghost use Rattle.fa_tag.specs.HeaderGrammar.{IsHeader, header_bytes};
 ghost use Rattle.fa_jobs.specs.Made.{Ran};
-ghost use Rattle.fa_core_dispatch.specs.Fits.{header_of};
+ghost use Rattle.fa_core_outcome.specs.Fits.{header_of};
 
 use crate::gate::{Gate, ImageCallKind};
 use fa_core_outcome::Outcome;

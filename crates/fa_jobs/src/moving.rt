@@ -6,7 +6,7 @@ ghost use Rattle.fa_machine.specs.declared.jobs.Flight.TheVariants.{Move};
 ghost use Rattle.fa_machine.specs.Cells.{moved_payload};
 ghost use Rattle.fa_tag.specs.SlotGrammar.{IsPayloadOf, IsTag, payload_of};
 ghost use Rattle.fa_jobs.specs.Made.{ProgramsMoved, Ran};
-ghost use Rattle.fa_core_dispatch.specs.Fits.{tag_of};
+ghost use Rattle.fa_core_outcome.specs.Fits.{tag_of};
 
 use crate::gate::{Gate, ImageCallKind};
 use fa_core_outcome::Outcome;

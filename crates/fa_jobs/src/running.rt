@@ -2,17 +2,16 @@
 ghost use Rattle.std.specs.Prelude.{◌≡◌, length};
 ghost use Rattle.fa_core_outcome.specs.Outcomes.{outcome_of};
 ghost use Rattle.fa_image.specs.Image.{slot_bytes};
-ghost use Rattle.fa_core_dispatch.specs.Handed.{handed_of};
+ghost use Rattle.fa_core_outcome.specs.Handed.{handed_of};
 ghost use Rattle.fa_jobs.specs.Made.{Ran};
-ghost use Rattle.fa_core_dispatch.specs.Fits.{IsJobFor};
+ghost use Rattle.fa_core_outcome.specs.Fits.{IsJobFor};
 
 use crate::gate::Gate;
 use crate::header::run_header;
 use crate::moving::run_move;
 use crate::reading::run_read;
 use crate::writing::{run_erase, run_program, run_sync};
-use fa_core_dispatch::Job;
-use fa_core_outcome::Outcome;
+use fa_core_outcome::{Job, Outcome};
 use fa_image::Image;
 use fa_machine::Flight;
 use fa_types::Die;

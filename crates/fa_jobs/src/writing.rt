@@ -4,7 +4,7 @@ ghost use Rattle.fa_core_outcome.specs.Outcomes.{outcome_of};
 ghost use Rattle.fa_image.specs.Image.{Done, Erasing, Refused, Syncing, slot_bytes};
 ghost use Rattle.fa_machine.specs.declared.jobs.Flight.TheVariants.{Program, Erase, Sync};
 ghost use Rattle.fa_jobs.specs.Made.{Ran};
-ghost use Rattle.fa_core_dispatch.specs.Fits.{IsSlotFor};
+ghost use Rattle.fa_core_outcome.specs.Fits.{IsSlotFor};
 
 use crate::gate::{Gate, ImageCallKind};
 use fa_core_outcome::Outcome;

@@ -18,7 +18,7 @@ use Rattle.fa_mount_close_laws.specs.Drives.{MakesNext, OnlyMade, RefusesCall, R
 use Rattle.fa_mount_close_laws.specs.Drives.{acts_of, beginning, events_of, told_by, works_after}
 use Rattle.fa_mount_close_laws.specs.Images.{IsImageOf, OnlyCalled}
 use Rattle.fa_mount_scan.specs.ContentCells.{IsCellOf}
-use Rattle.fa_core_dispatch.specs.Fits.{IsJobFor}
+use Rattle.fa_core_outcome.specs.Fits.{IsJobFor}
 use Rattle.fa_types.specs.declared.geometry.Geometry.{Geometry}
 use Rattle.fa_jobs.specs.Made.{MakesCall as MakesJobCall, MakesCalls, Ran}
 use Rattle.std.proofs.Common.{Bool, IsTrue, List, Option, Some, [], ap, false, inl, inr, map, refl, subst, suc, sym, true, ℕ, ◌*◌, ◌++◌, ◌<◌}

@@ -16,7 +16,7 @@ use Rattle.fa_mount_close_laws.proofs.OneCall.{IsSomeCell, IsWritable, call_lead
 use Rattle.fa_mount_close_laws.specs.Images.{IsImageOf, OnlyCalled}
 use Rattle.fa_mount_scan.specs.ContentCells.{IsCellOf}
 use Rattle.fa_tag.specs.SlotGrammar.{IsPayloadOf}
-use Rattle.fa_core_dispatch.specs.Fits.{IsFlightFor, IsJobFor}
+use Rattle.fa_core_outcome.specs.Fits.{IsFlightFor, IsJobFor}
 use Rattle.fa_types.specs.declared.geometry.Geometry.{Geometry}
 use Rattle.fa_types.specs.declared.kind.Kind.{Kind}
 use Rattle.fa_types.specs.declared.kind.Kind.TheVariants.{Data, Hole}

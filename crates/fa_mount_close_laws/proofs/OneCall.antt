@@ -15,7 +15,7 @@ use Rattle.fa_tag.specs.HeaderGrammar.{header_bytes}
 use Rattle.fa_tag.specs.SlotGrammar.{IsErased, IsOpened, IsPayloadOf, IsTag, payload_of, slot_2}
 use Rattle.fa_tag.specs.declared.tag.Opened.{Opened}
 use Rattle.fa_tag.specs.declared.tag.Opened.TheVariants.{Bad, Erased, Good}
-use Rattle.fa_core_dispatch.specs.Fits.{header_of}
+use Rattle.fa_core_outcome.specs.Fits.{header_of}
 use Rattle.fa_types.specs.declared.geometry.Geometry.{Geometry}
 use Rattle.fa_jobs.specs.Made.{IsGivenBy, IsMadeBy, IsSeen}
 use Rattle.std.proofs.Common.{Bool, IsTrue, List, None, Some, [], ap, arith, false, inl, inr, length, refl, replicate, slice_index_or, subst, sym, true}

@@ -11,7 +11,7 @@ use Rattle.fa_machine.specs.World.{Gave, JobCall, Refused, Told, Work, World, ne
 use Rattle.fa_machine.specs.declared.jobs.Flight.{Flight}
 use Rattle.fa_machine.specs.declared.jobs.Flight.TheVariants.{Read}
 use Rattle.fa_mount_close_laws.specs.Images.{IsImageOf}
-use Rattle.fa_core_dispatch.specs.Fits.{IsJobFor}
+use Rattle.fa_core_outcome.specs.Fits.{IsJobFor}
 use Rattle.fa_jobs.specs.Made.{MakesCall as MakesJobCall}
 
 -- What there is while an array runs: its state, the images of dies that have one, the job in flight of each die with what its calls

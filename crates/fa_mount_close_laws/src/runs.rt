@@ -19,7 +19,7 @@ ghost use Rattle.fa_mount_close_laws.specs.Images.{IsImageOf, OnlyCalled};
 ghost use Rattle.fa_mount_close_laws.specs.DrivenMounted.{images_on};
 ghost use Rattle.fa_mount_scan.specs.ContentCells.{IsCellOf};
 ghost use Rattle.fa_mount_scan.specs.MountedWorld.{CopiesAgree, IsMountedWorld, bytes_of, is_spare_of};
-ghost use Rattle.fa_core_dispatch.specs.Fits.{IsJobFor};
+ghost use Rattle.fa_core_outcome.specs.Fits.{IsJobFor};
 ghost use Rattle.fa_jobs.specs.Made.{Ran};
 
 use crate::closing::{a_closed_array_is_mounted_again, a_mounted_world_has_no_newer_cell};

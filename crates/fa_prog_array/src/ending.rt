@@ -7,39 +7,25 @@ use fa_faults::Fault;
 use fa_image::Image;
 use fa_map_calls::Map;
 use fa_mount::{CloseFault, MountedArray};
-use fa_mount_headers::Standing;
 use fa_prog_host::printing::{print, refuse_for_memory};
 use fa_prog_host::{Host, keep_lost_at_end, remove_if_empty};
-use fa_shared::{Shared, discard};
+use fa_prog_listen::Ended;
+use fa_shared::discard;
 use std::alloc::{AllocError, Global};
 use std::io::Write;
-use std::sync::ledger::Ledger;
-
-/// What is left of a server that has ended.
-#[derive(Drop)]
-pub struct Ended<I: Drop> {
-    /// The images, in the order in which they were opened.
-    pub images: Vec<I>,
-    /// Each thread could be started, and so clients were served.
-    pub is_served: bool,
-}
 
 /// Closes an array that was served, notes the page that closing found to be lost, if there is one, and tells how it was closed.
-pub fn end_served<R: Host, L: Ledger, M: Map + Drop, I: Image + Drop, W: Write>(
+pub fn end_served<R: Host, M: Map + Drop, I: Image + Drop, W: Write>(
     rt: &R,
     path: &str,
-    shared: Shared<L, M>,
-    dies: Vec<Standing>,
+    mounted: MountedArray<M>,
     ended: Result<Ended<I>, AllocError>,
     faults: Result<Vec<Fault>, AllocError>,
     output: &mut W,
 ) -> u8
+    requires { IsWhole M.view mounted.array }
     ensures { TellsEnd (W.contents output.old) (W.contents output.new) result }
 {
-    let mounted = MountedArray {
-        array: shared.into_array(),
-        dies,
-    };
     let status = end_lent(rt, path, &mounted, ended, faults, output);
     let MountedArray { array, .. } = mounted;
     discard(array);

@@ -1,9 +1,7 @@
 //! A shared array as who watches it sees it.
-use crate::counting::{count_pages, count_slots};
 use crate::faults::told;
-use crate::lost::{count_lost, note_lost};
-use crate::standing::{moment_of, sight_of, standing_of};
-use fa_map_calls::Map;
+use crate::seen::Seen;
+use fa_core_calls::Events;
 use fa_plan::PlanNote;
 use fa_prog_clients::Networked;
 use fa_prog_host::LostPages;
@@ -16,19 +14,19 @@ use std::sync::ledger::Ledger;
 
 /// A shared array, on a machine on which its lock is waited for.
 #[derive(Drop)]
-pub struct Served<'a, R, L: Ledger, M: Map + Drop> {
+pub struct Served<'a, R, L: Ledger, E: Events<Global> + Seen> {
     rt: &'a R,
-    shared: &'a Shared<L, M>,
+    shared: &'a Shared<L, E>,
 }
 
-impl<'a, R, L: Ledger, M: Map + Drop> Served<'a, R, L, M> {
+impl<'a, R, L: Ledger, E: Events<Global> + Seen> Served<'a, R, L, E> {
     /// This array.
-    pub fn new(rt: &'a R, shared: &'a Shared<L, M>) -> Served<'a, R, L, M> {
+    pub fn new(rt: &'a R, shared: &'a Shared<L, E>) -> Served<'a, R, L, E> {
         Served { rt, shared }
     }
 }
 
-impl<R: Networked, L: Ledger, M: Map + Drop> Watched for Served<'_, R, L, M> {
+impl<R: Networked, L: Ledger, E: Events<Global> + Seen> Watched for Served<'_, R, L, E> {
     fn geometry(&self) -> Geometry {
         let guard = self.shared.lock(self.rt);
         let geometry = guard.array().geometry();
@@ -42,21 +40,21 @@ impl<R: Networked, L: Ledger, M: Map + Drop> Watched for Served<'_, R, L, M> {
 
     fn moment(&self) -> Moment {
         let guard = self.shared.lock(self.rt);
-        let moment = moment_of(guard.array());
+        let moment = guard.array().moment();
         self.shared.let_go(guard);
         moment
     }
 
     fn sight(&self, copies: u32) -> Sight {
         let guard = self.shared.lock(self.rt);
-        let sight = sight_of(guard.array(), copies);
+        let sight = guard.array().sight(copies);
         self.shared.let_go(guard);
         sight
     }
 
     fn standing(&self, die: Die, has_image: bool) -> (DieState, bool) {
         let guard = self.shared.lock(self.rt);
-        let standing = standing_of(guard.array(), die, has_image);
+        let standing = guard.array().standing(die, has_image);
         self.shared.let_go(guard);
         standing
     }
@@ -68,28 +66,30 @@ impl<R: Networked, L: Ledger, M: Map + Drop> Watched for Served<'_, R, L, M> {
 
     fn note_lost(&self, first: u64, lost: &mut LostPages) -> Result<(), AllocError> {
         let guard = self.shared.lock(self.rt);
-        let noted = note_lost(guard.array(), first, PAGES_A_HOLD, lost);
+        let noted = guard.array().note_lost(first, PAGES_A_HOLD, lost);
         self.shared.let_go(guard);
         noted
     }
 
     fn count_lost(&self, first: u64) -> u64 {
         let guard = self.shared.lock(self.rt);
-        let count = count_lost(guard.array(), first, PAGES_A_HOLD);
+        let count = guard.array().count_lost(first, PAGES_A_HOLD);
         self.shared.let_go(guard);
         count
     }
 
     fn count_pages(&self, first: u64, counted: &mut PageStatus) -> Result<(), AllocError> {
         let guard = self.shared.lock(self.rt);
-        let made = count_pages(guard.array(), first, PAGES_A_HOLD, counted);
+        let made = guard.array().count_pages(first, PAGES_A_HOLD, counted);
         self.shared.let_go(guard);
         made
     }
 
     fn count_slots(&self, die: Die, first: u32, counted: &mut SlotCounts) {
         let guard = self.shared.lock(self.rt);
-        count_slots(guard.array(), die, first, BLOCKS_A_HOLD, counted);
+        guard
+            .array()
+            .count_slots(die, first, BLOCKS_A_HOLD, counted);
         self.shared.let_go(guard);
     }
 

@@ -1,6 +1,7 @@
 //! What a server has beside its threads and its array: where clients and looks come, files and images, and the line that stops it.
 #![tactic(auto)]
 
+mod ended;
 mod held;
 mod host;
 mod listeners;
@@ -11,6 +12,7 @@ mod side_by_side;
 mod stop_line;
 mod stop_waiter;
 
+pub use ended::Ended;
 pub use held::{Held, open_beside};
 pub use host::ServerHost;
 pub use listeners::{Listeners, bind_looks, listening_text};

@@ -4,26 +4,27 @@ ghost use Rattle.fa_core.specs.Array.{IsWhole};
 ghost use Rattle.fa_map.specs.PageView.{page_view};
 ghost use Rattle.fa_prog_serve.specs.Serving.{Listens, TellsOn, TellsServe};
 
-use crate::ready::ready_of;
-use crate::serving::serve_ready;
+use fa_core_calls::Events;
 use fa_faults::Fault;
 use fa_image::Image;
 use fa_map::PageMap;
 use fa_map_calls::Map;
 use fa_mount::MountedArray;
 use fa_mount_headers::{MountFault, Standing};
-use fa_prog_array::{Ended, end_served, mount, refuse_mount, share};
+use fa_prog_array::{Kept, Seen, Served, end_served, keeping, mount, refuse_mount};
 use fa_prog_host::printing::{DONE, REFUSED, print, refuse_for_memory};
 use fa_prog_host::{
     NotOpened, OpenImages, Opening, open_images, refuse_settings, settings_at, tell,
 };
 use fa_prog_images::explain;
 use fa_prog_listen::{
-    Held, Listeners, ServePlan, ServerHost, bind_looks, listening_text, open_beside,
+    Ended, Held, Listeners, ServePlan, ServerHost, bind_looks, listening_text, open_beside,
 };
+use fa_prog_threads::{ready_of, serve_ready};
+use fa_prog_watch::Watched;
 use fa_settings::{PlansFile, Settings, Terms};
-use fa_shared::Shared;
-use std::alloc::{AllocError, Allocator};
+use fa_shared::{Shared, discard};
+use std::alloc::{AllocError, Allocator, Global};
 use std::io::{Read, Write};
 use std::marker::Brand;
 use std::net::TcpListener;
@@ -189,10 +190,10 @@ pub fn serve_on<R: ServerHost, I: Image + Send + Drop, N: Read, W: Write, A: All
     }
 }
 
-/// How the threads of an array ended, and the faults that took its dies out.
-type Served<I> = (Result<Ended<I>, AllocError>, Result<Vec<Fault>, AllocError>);
+/// What a served array leaves: how its threads ended, and the faults that took its dies out.
+type Left<I> = (Result<Ended<I>, AllocError>, Result<Vec<Fault>, AllocError>);
 
-/// Serves an array that was mounted, over a ledger of 257 parts that nothing else names.
+/// Serves an array that was mounted, over a ledger of 257 parts that nothing else names, and closes it.
 fn serve_mounted<
     L: Ledger + Send,
     R: ServerHost,
@@ -216,62 +217,93 @@ fn serve_mounted<
     ensures { TellsOn (W.contents output.old) (W.contents output.new) result }
 {
     let MountedArray { array, dies } = mounted;
-    match share::<L, M>(rt.alloc(), blank, array, plan.plans_every) {
-        Some(shared) => serve_over(rt, shared, dies, held, plan, input, output),
+    let kept = Kept {
+        array: keeping(rt.alloc(), array, plan.plans_every),
+    };
+    let served = serve_shared::<L, R, Kept<M>, I, N, W, A>(
+        rt,
+        blank,
+        kept,
+        dies.as_slice(),
+        held,
+        plan,
+        input,
+        output,
+    );
+    match served {
+        Some((Kept { array }, (ended, faults))) => {
+            let mounted = MountedArray { array, dies };
+            end_served(rt, plan.path, mounted, ended, faults, output)
+        }
         None => refuse_for_memory(output),
     }
 }
 
-/// Serves a shared array, and closes it.
-fn serve_over<
+/// Shares an array of any kind, serves it, and takes it back. None where memory is refused before anybody can connect.
+fn serve_shared<
     L: Ledger + Send,
     R: ServerHost,
-    M: Map + Send + Drop,
+    E: Events<Global> + Seen + Send,
     I: Image + Send + Drop,
     N: Read,
     W: Write,
     A: Allocator,
 >(
     rt: &R,
-    shared: Shared<L, M>,
-    dies: Vec<Standing>,
-    held: Held<I>,
-    plan: &ServePlan<'_, A>,
-    input: &mut N,
-    output: &mut W,
-) -> u8
-    requires { L.parts ≡ 257 }
-    ensures { TellsOn (W.contents output.old) (W.contents output.new) result }
-{
-    let served = serve_lent(rt, &shared, dies.as_slice(), held, plan, input, output);
-    match served {
-        Some((ended, faults)) => end_served(rt, plan.path, shared, dies, ended, faults, output),
-        None => {
-            shared.discard();
-            refuse_for_memory(output)
-        }
-    }
-}
-
-/// Serves a shared array until the input says so. How its threads ended, and the faults that took dies out; none where memory is refused
-/// before anybody can connect. It stands apart from whoever owns the array, so that no exit of it drops one.
-fn serve_lent<
-    L: Ledger + Send,
-    R: ServerHost,
-    M: Map + Send + Drop,
-    I: Image + Send + Drop,
-    N: Read,
-    W: Write,
-    A: Allocator,
->(
-    rt: &R,
-    shared: &Shared<L, M>,
+    blank: Blank,
+    array: E,
     dies: &[Standing],
     held: Held<I>,
     plan: &ServePlan<'_, A>,
     input: &mut N,
     output: &mut W,
-) -> Option<Served<I>>
+) -> Option<(E, Left<I>)>
+    requires name { blank.name ≡ L.name }
+    requires parts { (blank.parts ≡ L.parts) × (blank.parts ≡ 257) }
+    requires whole { E.whole array }
+    ensures whole { IfSome result (λ back. E.whole back.0) }
+    ensures listens { IfSome result (λ _. Listens (W.contents output.old) (W.contents output.new)) }
+    ensures refused { result ≡ None → W.contents output.new ≡ W.contents output.old }
+{
+    let shared = match Shared::<L, E>::new(rt.alloc(), blank, array) {
+        Ok(shared) => shared,
+        Err(array) => {
+            discard(array);
+            return None;
+        }
+    };
+    let watched = Served::new(rt, &shared);
+    let left = serve_lent(rt, &shared, &watched, dies, held, plan, input, output);
+    match left {
+        Some(left) => Some((shared.into_array(), left)),
+        None => {
+            shared.discard();
+            None
+        }
+    }
+}
+
+/// Serves a shared array, which is watched so, until the input says so. How its threads ended, and the faults that took dies out; none where memory is refused
+/// before anybody can connect. It stands apart from whoever owns the array, so that no exit of it drops one.
+fn serve_lent<
+    L: Ledger + Send,
+    R: ServerHost,
+    E: Events<Global> + Send,
+    S: Watched + Sync,
+    I: Image + Send + Drop,
+    N: Read,
+    W: Write,
+    A: Allocator,
+>(
+    rt: &R,
+    shared: &Shared<L, E>,
+    watched: &S,
+    dies: &[Standing],
+    held: Held<I>,
+    plan: &ServePlan<'_, A>,
+    input: &mut N,
+    output: &mut W,
+) -> Option<Left<I>>
     requires { L.parts ≡ 257 }
     ensures listens { IfSome result (λ _. Listens (W.contents output.old) (W.contents output.new)) }
     ensures refused { result ≡ None → W.contents output.new ≡ W.contents output.old }
@@ -279,10 +311,10 @@ fn serve_lent<
     let Ok(line) = listening_text(rt.alloc(), plan.listener, plan.settings.listen) else {
         return None;
     };
-    let Ok(ready) = ready_of(rt, shared, dies, held, plan) else {
+    let Ok(ready) = ready_of(rt, shared, watched, dies, held, plan) else {
         return None;
     };
     let _ = print(output, DONE, line.as_bytes());
-    let ended = serve_ready(rt, shared, ready, input);
+    let ended = serve_ready(rt, shared, watched, ready, input);
     Some((ended, shared.faults(rt, rt.alloc())))
 }

@@ -7,6 +7,7 @@ use Rattle.fa_image.specs.declared.file_image.FileImage.{FileImage}
 use Rattle.fa_image.specs.Image.{ImageAnswer, ImageCall, ImageState}
 use Rattle.fa_io.specs.Streams.{Reads, Streams}
 use Rattle.fa_machine.specs.State.{Core}
+use Rattle.fa_prog_array.specs.declared.kept.Kept.{Kept}
 use Rattle.fa_map.specs.declared.page_map.PageMap.{PageMap}
 use Rattle.fa_mount.specs.declared.closing.CloseFault.{CloseFault}
 use Rattle.fa_mount_headers.specs.Found.{AreOnlyRead}
@@ -103,4 +104,4 @@ abbrev pub RunsTalkArray : Type 0 → Terms → Streams → ℕ → Type 0
 RunsTalkArray A terms s status =
     (Reads s [] × (RefusesSettings A s.held_before s.held_after status ⊎ TellsNoMemory s.held_before s.held_after status))
     ⊎ ((text : List ℕ) × (settings : Settings A) × IsSettingsText text settings
-    × RunsOver (TellsLines Brand (PageMap Global) settings terms) (codes "talk: cannot read" ++ 10 ∷ []) s status)
+    × RunsOver (TellsLines Brand (Kept (PageMap Global)) settings terms) (codes "talk: cannot read" ++ 10 ∷ []) s status)

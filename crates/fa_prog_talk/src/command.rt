@@ -2,6 +2,7 @@
 ghost use Rattle.std.specs.Prelude.{◌≡◌, true, [], ◌∷◌, ◌++◌, List, IfOk, codes, length, string_bytes};
 ghost use Rattle.std.specs.declared.alloc.Global.{Global as Heap};
 ghost use Rattle.fa_core.specs.Array.{IsWhole, number_of, state_of};
+ghost use Rattle.fa_prog_array.specs.declared.kept.Kept.{Kept as KeptRecord};
 ghost use Rattle.fa_io.specs.Streams.{between};
 ghost use Rattle.fa_map.specs.declared.page_map.PageMap.{PageMap as PageTables};
 ghost use Rattle.fa_prog_host.specs.Opened.{AreOpened};
@@ -15,9 +16,9 @@ use crate::laws::a_conversation_is_right;
 use fa_image::{FileImage, Image};
 use fa_map::PageMap;
 use fa_map_calls::Map;
-use fa_mount::CloseFault;
+use fa_mount::{CloseFault, MountedArray};
 use fa_mount_headers::MountFault;
-use fa_prog_array::{end_text, mount, refuse_mount, status_of};
+use fa_prog_array::{Kept, end_text, mount, refuse_mount, status_of};
 use fa_prog_host::printing::{print, refuse_for_memory};
 use fa_prog_host::{
     Host, NotOpened, OpenImages, Opening, images_alone, keep_lost_at_end, keep_or_tell,
@@ -75,7 +76,7 @@ fn hear<R: Host, N: Read, W: Write, A: Allocator + Copy>(
 ) -> u8
     requires served { MayBeServed settings.now }
     ensures { let streams = between (N.remaining input.old) (N.remaining input.new) (W.contents output.old) (W.contents output.new) in
-        RunsOver (TellsLines Brand (PageTables Heap) settings.now taken.entry.terms) (codes "talk: cannot read" ++ 10 ∷ []) streams result }
+        RunsOver (TellsLines Brand (KeptRecord (PageTables Heap)) settings.now taken.entry.terms) (codes "talk: cannot read" ++ 10 ∷ []) streams result }
 {
     match read_input(alloc, input) {
         Ok(text) => answer(rt, alloc, settings, taken, text.as_slice(), output),
@@ -93,7 +94,7 @@ fn answer<R: Host, W: Write, A: Allocator + Copy>(
     output: &mut W,
 ) -> u8
     requires served { MayBeServed settings.now }
-    ensures { TellsLines Brand (PageTables Heap) settings.now taken.entry.terms text.now (W.contents output.old) (W.contents output.new)
+    ensures { TellsLines Brand (KeptRecord (PageTables Heap)) settings.now taken.entry.terms text.now (W.contents output.old) (W.contents output.new)
         result }
 {
     match read_hex_lines(alloc, text) {
@@ -112,7 +113,7 @@ fn open<R: Host, W: Write, A: Allocator + Copy>(
     output: &mut W,
 ) -> u8
     requires served { MayBeServed settings.now }
-    ensures { TellsClient Brand (PageTables Heap) settings.now taken.entry.terms bytes.now (W.contents output.old) (W.contents output.new)
+    ensures { TellsClient Brand (KeptRecord (PageTables Heap)) settings.now taken.entry.terms bytes.now (W.contents output.old) (W.contents output.new)
         result }
 {
     let opening = Opening {
@@ -147,18 +148,22 @@ fn talk_over<R: Host, W: Write, A: Allocator + Copy>(
 ) -> u8
     requires served { MayBeServed settings.now }
     requires opened { AreOpened settings.now.geometry (length settings.now.images.items) taken.terms true places.now images.items }
-    ensures { TellsClient Brand (PageTables Heap) settings.now taken.entry.terms bytes.now (W.contents output.old) (W.contents output.new)
+    ensures { TellsClient Brand (KeptRecord (PageTables Heap)) settings.now taken.entry.terms bytes.now (W.contents output.old) (W.contents output.new)
         result }
 {
-    a_conversation_is_right::<Brand, PageMap, FileImage>();
+    a_conversation_is_right::<Brand, Kept<PageMap>, FileImage>();
     let mut images = images;
     match mount(rt, settings, taken.terms, images.as_mut_slice()) {
-        Ok(mounted) => talk_mounted(
+        Ok(MountedArray { array, dies }) => talk_mounted(
             rt,
             alloc,
             settings,
             taken.path,
-            Parts { mounted, images },
+            Parts {
+                array: Kept { array },
+                dies,
+                images,
+            },
             bytes,
             output,
         ),
@@ -175,14 +180,14 @@ fn talk_mounted<R: Host, M: Map + Drop, I: Image + Drop, W: Write, A: Allocator 
     alloc: A,
     settings: &Settings<A>,
     path: &str,
-    parts: Parts<M, I>,
+    parts: Parts<Kept<M>, I>,
     bytes: &[u8],
     output: &mut W,
 ) -> u8
     requires served { MayBeServed settings.now }
-    requires whole { IsWhole M.view parts.mounted.array }
-    ensures { TellsMounted I.view I.honest I.made Brand M (string_bytes settings.now.export) bytes.now (number_of parts.mounted.array)
-        parts.mounted.dies.items (state_of M.view parts.mounted.array) parts.images.items (W.contents output.old) (W.contents output.new)
+    requires whole { IsWhole M.view parts.array.array }
+    ensures { TellsMounted I.view I.honest I.made Brand (KeptRecord M) (string_bytes settings.now.export) bytes.now (number_of parts.array.array)
+        parts.dies.items (state_of M.view parts.array.array) parts.images.items (W.contents output.old) (W.contents output.new)
         result }
 {
     match converse::<Brand, M, I, A>(rt.alloc(), alloc, Blank::new(257), parts, settings, bytes) {

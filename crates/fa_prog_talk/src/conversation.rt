@@ -1,6 +1,7 @@
 //! A conversation with one client over an array that is mounted, up to the closing of the array.
 ghost use Rattle.std.specs.Prelude.{◌≡◌, ◌≤◌, ℕ, List, IfOk, length, string_bytes};
 ghost use Rattle.fa_core.specs.Array.{IsWhole, number_of, state_of};
+ghost use Rattle.fa_prog_array.specs.declared.kept.Kept.{Kept as KeptRecord};
 ghost use Rattle.fa_machine.specs.State.{Core};
 ghost use Rattle.fa_mount_headers.specs.declared.judging.Standing.{Standing};
 ghost use Rattle.fa_prog_talk.specs.Conversation.{BeginsOver, HasSaid};
@@ -11,7 +12,7 @@ use fa_faults::Fault;
 use fa_image::Image;
 use fa_map_calls::Map;
 use fa_mount::{CloseFault, MountedArray};
-use fa_prog_array::{close, lost_lines};
+use fa_prog_array::{Kept, close, lost_lines};
 use fa_session::{SessionEnd, serve_stream};
 use fa_settings::Settings;
 use fa_shared::discard;
@@ -40,23 +41,22 @@ pub(crate) fn converse<L: Ledger, M: Map + Drop, I: Image + Drop, A: Allocator +
     global: Global,
     alloc: A,
     blank: Blank,
-    parts: Parts<M, I>,
+    parts: Parts<Kept<M>, I>,
     settings: &Settings<A>,
     bytes: &[u8],
 ) -> Result<Said<A>, AllocError>
     requires name { blank.name ≡ L.name }
     requires parts { (blank.parts ≡ L.parts) × (blank.parts ≡ 257) }
-    requires whole { IsWhole M.view parts.mounted.array }
+    requires whole { IsWhole M.view parts.array.array }
     requires settings { MayBeServed settings.now }
-    ensures { IfOk result (HasSaid I.view I.honest I.made L M (string_bytes settings.now.export) bytes.now
-        (number_of parts.mounted.array) parts.mounted.dies.items (state_of M.view parts.mounted.array) parts.images.items) }
+    ensures { IfOk result (HasSaid I.view I.honest I.made L (KeptRecord M) (string_bytes settings.now.export) bytes.now
+        (number_of parts.array.array) parts.dies.items (state_of M.view parts.array.array) parts.images.items) }
 {
     let rounds = u64::from(settings.window_rounds);
-    match Solo::<L, M, I>::new(global, blank, parts, rounds) {
+    match Solo::<L, Kept<M>, I>::new(global, blank, parts, rounds) {
         Ok(store) => Ok(served(global, alloc, store, settings, bytes)),
         Err(parts) => {
-            let Parts { mounted, .. } = parts;
-            let MountedArray { array, .. } = mounted;
+            let Parts { array, .. } = parts;
             discard(array);
             Err(AllocError)
         }
@@ -67,13 +67,13 @@ pub(crate) fn converse<L: Ledger, M: Map + Drop, I: Image + Drop, A: Allocator +
 fn served<L: Ledger, M: Map + Drop, I: Image + Drop, A: Allocator + Copy>(
     global: Global,
     alloc: A,
-    store: Solo<L, M, I>,
+    store: Solo<L, Kept<M>, I>,
     settings: &Settings<A>,
     bytes: &[u8],
 ) -> Said<A>
     requires { length (string_bytes settings.now.export) ≤ 4096 }
     ensures { (array : List ℕ) (dies : List Standing) (core : Core) (images : List I) → BeginsOver array dies core images (seen_of store)
-        → HasSaid I.view I.honest I.made L M (string_bytes settings.now.export) bytes.now array dies core images result }
+        → HasSaid I.view I.honest I.made L (KeptRecord M) (string_bytes settings.now.export) bytes.now array dies core images result }
 {
     let mut store = store;
     let mut reader = bytes;
@@ -82,13 +82,15 @@ fn served<L: Ledger, M: Map + Drop, I: Image + Drop, A: Allocator + Copy>(
     let end = serve_stream(alloc, &mut reader, &mut written, &mut store, export);
     let faults = store.faults(global);
     let Parts {
-        mounted,
+        array: Kept { array },
+        dies,
         mut images,
     } = store.into_parts();
+    let mounted = MountedArray { array, dies };
     let lost = lost_lines(global, &mounted.array);
     let closed = close(&mounted, images.as_mut_slice());
     let MountedArray { array, .. } = mounted;
-    discard(array);
+    discard(Kept { array });
     Said {
         written,
         end,

@@ -3,8 +3,8 @@ ghost use Rattle.std.specs.FinMap.{get};
 ghost use Rattle.std.specs.Option.{option_map_or};
 ghost use Rattle.std.specs.Prelude.{◌≡◌, ◌&&◌, true, false, option_map, IfErr, IfOk, IfSome};
 ghost use Rattle.fa_core_outcome.specs.Outcomes.{outcome_of};
-ghost use Rattle.fa_core_dispatch.specs.Fits.{IsJobFor};
-ghost use Rattle.fa_core_dispatch.specs.Handed.{handed_of};
+ghost use Rattle.fa_core_outcome.specs.Fits.{IsJobFor};
+ghost use Rattle.fa_core_outcome.specs.Handed.{handed_of};
 ghost use Rattle.fa_machine.specs.Cells.{is_of_kind};
 ghost use Rattle.fa_machine.specs.Conditions.{history_full};
 ghost use Rattle.fa_machine.specs.Step.{Done, Step, Take, is_die, is_sized};
@@ -12,19 +12,17 @@ ghost use Rattle.fa_shared_lock.specs.Seats.{commits_with, number_of};
 ghost use Rattle.fa_shared_lock.specs.Accounts.{IsAccounted};
 ghost use Rattle.fa_shared_lock.specs.Rest.{LeavesRest};
 
-use fa_core::{Answer, Call};
-use fa_core_dispatch::Job;
-use fa_core_outcome::Outcome;
-use fa_map_calls::Map;
+use fa_core_calls::{Answer, Call, Events};
+use fa_core_outcome::{Job, Outcome};
 use fa_shared_lock::{Locked, Seat, make, plain};
 use fa_types::Die;
 use std::alloc::Allocator;
 use std::sync::ledger::Ledger;
 
 /// A Take of a die of the array. The history has room for it.
-pub fn take<L: Ledger, M: Map + Drop, A: Allocator + Copy>(
+pub fn take<L: Ledger, E: Events<A>, A: Allocator + Copy>(
     alloc: A,
-    locked: &mut Locked<L, M, A>,
+    locked: &mut Locked<L, E, A>,
     seat: &mut Seat<L>,
     die: Die,
 ) -> Option<Job<A>>
@@ -44,9 +42,9 @@ pub fn take<L: Ledger, M: Map + Drop, A: Allocator + Copy>(
 
 /// A Done, with the buffer that has what a read gave. The buffer is handed back, or the one that it changed places with. The error is the
 /// buffer where the die is at no job that can end so, or the buffer has not the bytes of a page.
-pub fn done<L: Ledger, M: Map + Drop, A: Allocator + Copy>(
+pub fn done<L: Ledger, E: Events<A>, A: Allocator + Copy>(
     alloc: A,
-    locked: &mut Locked<L, M, A>,
+    locked: &mut Locked<L, E, A>,
     seat: &mut Seat<L>,
     die: Die,
     outcome: Outcome,

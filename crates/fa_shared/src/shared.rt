@@ -1,12 +1,10 @@
 //! The array that threads share.
 ghost use Rattle.std.specs.Prelude.{◌≡◌, ℕ, ◌+◌, IfErr, IfOk, IfSome};
-ghost use Rattle.fa_core.specs.Array.{IsWhole};
 ghost use Rattle.fa_core_tables.specs.Counted.{capped};
 ghost use Rattle.fa_shared_lock.specs.Seats.{commits_together, commits_with, number_of};
 
-use fa_core::Array;
+use fa_core_calls::{Events, Looks};
 use fa_faults::{Fault, Faults};
-use fa_map_calls::Map;
 use fa_shared_lock::{Awaits, Gathered, Locked, MAX_SEATS, Seat, SeatSet};
 use std::alloc::{AllocError, Allocator, Global};
 use std::hint::spin_loop;
@@ -26,20 +24,20 @@ const TRIES: u32 = 100;
 /// An array that threads share, with the faults that took its dies out. Nobody holds its lock but for one event, or for two that belong
 /// together, and no page, image or socket is touched under it. The faults have a lock of their own.
 #[derive(Drop)]
-pub struct Shared<L: Ledger, M: Map + Drop, A: Allocator + Copy = Global> {
-    locked: Mutex<Locked<L, M, A>>,
+pub struct Shared<L: Ledger, E: Events<A>, A: Allocator + Copy = Global> {
+    locked: Mutex<Locked<L, E, A>>,
     faults: Mutex<Faults<A>>,
     // By the numbers of seats: what wakes whoever has the seat.
     bells: Vec<Condvar, A>,
 }
 
-impl<L: Ledger, M: Map + Drop, A: Allocator + Copy> Shared<L, M, A> {
+impl<L: Ledger, E: Events<A>, A: Allocator + Copy> Shared<L, E, A> {
     /// An array to be shared, with a ledger of 257 parts that nothing else names. The book begins with the Commits that were made before.
     /// Where memory is refused, or so many Commits were made that a count of 64 bits does not tell them, the array is handed back.
-    pub fn new(alloc: A, blank: Blank, array: Array<M, A>) -> Result<Shared<L, M, A>, Array<M, A>>
+    pub fn new(alloc: A, blank: Blank, array: E) -> Result<Shared<L, E, A>, E>
         requires name { blank.name ≡ L.name }
         requires parts { (blank.parts ≡ L.parts) × (blank.parts ≡ 257) }
-        requires whole { IsWhole M.view array }
+        requires whole { E.whole array }
         ensures refused { IfErr result (λ back. back ≡ array) }
     {
         let Ok((faults, bells)) = make_parts(alloc) else {
@@ -53,7 +51,7 @@ impl<L: Ledger, M: Map + Drop, A: Allocator + Copy> Shared<L, M, A> {
     }
 
     /// The array under its lock, which is free again once the guard is dropped.
-    pub fn lock<R: Wait>(&self, rt: &R) -> MutexGuard<'_, Locked<L, M, A>> {
+    pub fn lock<R: Wait>(&self, rt: &R) -> MutexGuard<'_, Locked<L, E, A>> {
         for _ in 0..TRIES {
             if let Some(guard) = self.locked.try_lock() {
                 return guard;
@@ -64,12 +62,12 @@ impl<L: Ledger, M: Map + Drop, A: Allocator + Copy> Shared<L, M, A> {
     }
 
     /// Frees the lock behind a look. Nobody is woken.
-    pub fn let_go(&self, guard: MutexGuard<'_, Locked<L, M, A>>) {
+    pub fn let_go(&self, guard: MutexGuard<'_, Locked<L, E, A>>) {
         drop(guard);
     }
 
     /// Frees the lock, and wakes those for whom it is time. Rounds that may pass have passed before.
-    pub fn release(&self, seat: &mut Seat<L>, guard: MutexGuard<'_, Locked<L, M, A>>)
+    pub fn release(&self, seat: &mut Seat<L>, guard: MutexGuard<'_, Locked<L, E, A>>)
         ensures commits { commits_with seat.new ≡ commits_with seat.old }
         ensures number { number_of seat.new ≡ number_of seat.old }
     {
@@ -89,8 +87,8 @@ impl<L: Ledger, M: Map + Drop, A: Allocator + Copy> Shared<L, M, A> {
         seat: &mut Seat<L>,
         awaits: Awaits,
         helps: bool,
-        guard: MutexGuard<'a, Locked<L, M, A>>,
-    ) -> MutexGuard<'a, Locked<L, M, A>>
+        guard: MutexGuard<'a, Locked<L, E, A>>,
+    ) -> MutexGuard<'a, Locked<L, E, A>>
         ensures commits { commits_with seat.new ≡ commits_with seat.old }
         ensures number { number_of seat.new ≡ number_of seat.old }
     {
@@ -177,8 +175,8 @@ impl<L: Ledger, M: Map + Drop, A: Allocator + Copy> Shared<L, M, A> {
     }
 
     /// The array, shared no more.
-    pub fn into_array(self) -> Array<M, A>
-        ensures { IsWhole M.view result }
+    pub fn into_array(self) -> E
+        ensures { E.whole result }
     {
         let Shared { locked, .. } = self;
         locked.into_inner().into_array()
@@ -186,7 +184,7 @@ impl<L: Ledger, M: Map + Drop, A: Allocator + Copy> Shared<L, M, A> {
 }
 
 /// An array is given up as it is. The parts of one are proved to be dropped in each crate that drops one, so other crates have it done here.
-pub fn discard<M: Map + Drop, A: Allocator + Copy>(array: Array<M, A>) {
+pub fn discard<E: Looks>(array: E) {
     drop(array);
 }
 

@@ -1,21 +1,19 @@
 //! Spares that are brought in.
 ghost use Rattle.std.specs.Prelude.{◌≡◌, ◌<◌, true, false};
-ghost use Rattle.fa_core.specs.Array.{state_of};
 ghost use Rattle.fa_shared_lock.specs.Rest.{LeavesRest};
 ghost use Rattle.fa_shared.specs.Spares.{BringsIn, BringsInOne, live_below, wants_spare as rule_wants};
 
 use crate::turning::spare_in;
-use fa_core::Array;
-use fa_map_calls::Map;
+use fa_core_calls::{Events, Looks};
 use fa_shared_lock::{Locked, Seat};
 use fa_types::Die;
 use std::alloc::Allocator;
 use std::sync::ledger::Ledger;
 
 /// Brings in the lowest spare, if a die is live and fewer dies are than are to be in use. Whether one was brought in.
-pub fn bring_in_spare<L: Ledger, M: Map + Drop, A: Allocator + Copy>(
+pub fn bring_in_spare<L: Ledger, E: Events<A>, A: Allocator + Copy>(
     alloc: A,
-    locked: &mut Locked<L, M, A>,
+    locked: &mut Locked<L, E, A>,
     seat: &mut Seat<L>,
 ) -> bool
     ensures brings { BringsIn locked.old.core result locked.new.core }
@@ -33,8 +31,8 @@ pub fn bring_in_spare<L: Ledger, M: Map + Drop, A: Allocator + Copy>(
 }
 
 /// Whether a die is live, and fewer than are to be in use.
-fn wants_spare<M: Map, A: Allocator + Copy>(array: &Array<M, A>) -> bool
-    ensures { result ≡ rule_wants (state_of M.view array.now).page_map }
+fn wants_spare<E: Looks>(array: &E) -> bool
+    ensures { result ≡ rule_wants (E.core array.now).page_map }
 {
     let geometry = array.geometry();
     let live = count_live(array);
@@ -42,8 +40,8 @@ fn wants_spare<M: Map, A: Allocator + Copy>(array: &Array<M, A>) -> bool
 }
 
 /// How many dies are live.
-fn count_live<M: Map, A: Allocator + Copy>(array: &Array<M, A>) -> u32
-    ensures { result ≡ live_below (state_of M.view array.now).page_map (state_of M.view array.now).page_map.geometry.dies }
+fn count_live<E: Looks>(array: &E) -> u32
+    ensures { result ≡ live_below (E.core array.now).page_map (E.core array.now).page_map.geometry.dies }
 {
     let mut live = 0;
     for die in 0..array.geometry().dies {
@@ -55,9 +53,9 @@ fn count_live<M: Map, A: Allocator + Copy>(array: &Array<M, A>) -> u32
 }
 
 /// A SpareIn of a die that is not live. Whether it was accepted.
-fn bring_in<L: Ledger, M: Map + Drop, A: Allocator + Copy>(
+fn bring_in<L: Ledger, E: Events<A>, A: Allocator + Copy>(
     alloc: A,
-    locked: &mut Locked<L, M, A>,
+    locked: &mut Locked<L, E, A>,
     seat: &mut Seat<L>,
     die: Die,
 ) -> bool

@@ -6,11 +6,10 @@ ghost use Rattle.fa_shared_lock.specs.Seats.{commits_with};
 ghost use Rattle.fa_shared_lock.specs.Accounts.{IsAccounted};
 ghost use Rattle.fa_shared_lock.specs.Rest.{LeavesRest};
 
-use fa_core::{Answer, Call};
+use fa_core_calls::{Answer, Call, Events};
 use fa_machine::{
     AdvanceRefused, CommitCopyRefused, Copied, ReserveCopyRefused, SpareRefused, WindowRefused,
 };
-use fa_map_calls::Map;
 use fa_shared_lock::{Locked, Seat, make, plain};
 use fa_tag::Payload;
 use fa_types::{Die, Page, Round, Seq};
@@ -18,9 +17,9 @@ use std::alloc::Allocator;
 use std::sync::ledger::Ledger;
 
 /// A Window. None where the die is none of the array, or no window has so many rounds.
-pub fn window<L: Ledger, M: Map + Drop, A: Allocator + Copy>(
+pub fn window<L: Ledger, E: Events<A>, A: Allocator + Copy>(
     alloc: A,
-    locked: &mut Locked<L, M, A>,
+    locked: &mut Locked<L, E, A>,
     seat: &mut Seat<L>,
     die: Die,
     rounds: u64,
@@ -39,9 +38,9 @@ pub fn window<L: Ledger, M: Map + Drop, A: Allocator + Copy>(
 }
 
 /// An Advance.
-pub fn advance<L: Ledger, M: Map + Drop, A: Allocator + Copy>(
+pub fn advance<L: Ledger, E: Events<A>, A: Allocator + Copy>(
     alloc: A,
-    locked: &mut Locked<L, M, A>,
+    locked: &mut Locked<L, E, A>,
     seat: &mut Seat<L>,
 ) -> Result<Round, AdvanceRefused>
     ensures event { Step locked.old.core (Advance result) locked.new.core }
@@ -56,9 +55,9 @@ pub fn advance<L: Ledger, M: Map + Drop, A: Allocator + Copy>(
 }
 
 /// A SpareIn of a die of the array.
-pub fn spare_in<L: Ledger, M: Map + Drop, A: Allocator + Copy>(
+pub fn spare_in<L: Ledger, E: Events<A>, A: Allocator + Copy>(
     alloc: A,
-    locked: &mut Locked<L, M, A>,
+    locked: &mut Locked<L, E, A>,
     seat: &mut Seat<L>,
     die: Die,
 ) -> Result<(), SpareRefused>
@@ -75,8 +74,8 @@ pub fn spare_in<L: Ledger, M: Map + Drop, A: Allocator + Copy>(
 }
 
 /// A ReserveCopy. None where the payload has not a page's bytes, or the page is none of the array.
-pub fn reserve_copy<L: Ledger, M: Map + Drop, A: Allocator + Copy>(
-    locked: &mut Locked<L, M, A>,
+pub fn reserve_copy<L: Ledger, E: Events<A>, A: Allocator + Copy>(
+    locked: &mut Locked<L, E, A>,
     seat: &mut Seat<L>,
     page: Page,
     seq: Seq,
@@ -97,9 +96,9 @@ pub fn reserve_copy<L: Ledger, M: Map + Drop, A: Allocator + Copy>(
 }
 
 /// A CommitCopy. None where no copy is under way.
-pub fn commit_copy<L: Ledger, M: Map + Drop, A: Allocator + Copy>(
+pub fn commit_copy<L: Ledger, E: Events<A>, A: Allocator + Copy>(
     alloc: A,
-    locked: &mut Locked<L, M, A>,
+    locked: &mut Locked<L, E, A>,
     seat: &mut Seat<L>,
 ) -> Option<Result<Copied, CommitCopyRefused>>
     ensures some { IfSome result (λ answer. Step locked.old.core (CommitCopy answer) locked.new.core) }

@@ -1,8 +1,8 @@
 -- Events of some kind behind others.
-use Rattle.fa_core.specs.Calls.{Makes}
-use Rattle.fa_core.specs.declared.call.Answer.{Answer}
-use Rattle.fa_core.specs.declared.call.Answer.TheVariants.{Advance as GaveAdvance, Stranger}
-use Rattle.fa_core.specs.declared.call.Call.TheVariants.{Advance}
+use Rattle.fa_core_calls.specs.Calls.{Makes}
+use Rattle.fa_core_calls.specs.declared.call.Answer.{Answer}
+use Rattle.fa_core_calls.specs.declared.call.Answer.TheVariants.{Advance as GaveAdvance, Stranger}
+use Rattle.fa_core_calls.specs.declared.call.Call.TheVariants.{Advance}
 use Rattle.fa_machine.specs.State.{Core}
 use Rattle.fa_machine.specs.Step.{Act, Advance as ActAdvance}
 use Rattle.fa_shared_lock.specs.Only.{IsAdvance, MakesOnly, MayNotAdvance, NoMore, OneMore, has_passed}

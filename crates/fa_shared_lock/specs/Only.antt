@@ -2,8 +2,8 @@
 use Rattle.std.specs.FinMap.{get}
 use Rattle.std.specs.Option.{option_map_or}
 use Rattle.std.specs.Prelude.{◌≡◌, ◌++◌, ◌&&◌, List, [], ◌∷◌, ℕ, Bool, true, false, Some, None, Ok, is_some, map}
-use Rattle.fa_core.specs.declared.call.Answer.{Answer}
-use Rattle.fa_core.specs.declared.call.Answer.TheVariants.{Advance as GaveAdvance}
+use Rattle.fa_core_calls.specs.declared.call.Answer.{Answer}
+use Rattle.fa_core_calls.specs.declared.call.Answer.TheVariants.{Advance as GaveAdvance}
 use Rattle.fa_machine.specs.Cells.{Outcome, is_of_kind}
 use Rattle.fa_machine.specs.State.{Core}
 use Rattle.fa_machine.specs.Step.{Act, Advance, Done, Fold, Step, Take, is_sized}

@@ -1,7 +1,7 @@
 -- What is left of a locked array by whoever makes no Commit, and events behind a Fold.
 use Rattle.std.specs.Prelude.{◌≡◌, true}
-use Rattle.fa_core.specs.declared.call.Call.{Call}
-use Rattle.fa_core.specs.declared.call.Call.TheVariants.{Commit}
+use Rattle.fa_core_calls.specs.declared.call.Call.{Call}
+use Rattle.fa_core_calls.specs.declared.call.Call.TheVariants.{Commit}
 use Rattle.fa_machine.specs.Conditions.{history_full}
 use Rattle.fa_machine.specs.State.{Core}
 use Rattle.fa_machine.specs.Step.{Act, Fold, Step}

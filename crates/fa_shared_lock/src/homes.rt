@@ -1,10 +1,8 @@
 //! Dies that a write of a page would go to and that have no room, and whether it is better to wait for them. What is told here is a matter
 //! of speed alone, and in no clause.
-use fa_core::Array;
+use fa_core_calls::Looks;
 use fa_machine::JobKind;
-use fa_map_calls::Map;
 use fa_types::{Die, Page};
-use std::alloc::Allocator;
 
 /// A set of dies, by their numbers, 0 to 63.
 #[derive(Clone, Copy)]
@@ -42,7 +40,7 @@ impl DieSet {
 }
 
 /// Whether a die has no room that a write of the page would go to.
-pub fn lacks_home<M: Map, A: Allocator + Clone>(array: &Array<M, A>, page: Page) -> bool {
+pub fn lacks_home<E: Looks>(array: &E, page: Page) -> bool {
     for die in array.first_dies(page).as_slice() {
         if has_no_room(array, *die) {
             return true;
@@ -52,7 +50,7 @@ pub fn lacks_home<M: Map, A: Allocator + Clone>(array: &Array<M, A>, page: Page)
 }
 
 /// Such dies that get room before long.
-pub fn homes_to_come<M: Map, A: Allocator + Clone>(array: &Array<M, A>, page: Page) -> DieSet {
+pub fn homes_to_come<E: Looks>(array: &E, page: Page) -> DieSet {
     let mut dies = DieSet::EMPTY;
     for die in array.first_dies(page).as_slice() {
         if is_to_come(array, *die) {
@@ -63,7 +61,7 @@ pub fn homes_to_come<M: Map, A: Allocator + Clone>(array: &Array<M, A>, page: Pa
 }
 
 /// Whether one of these dies has room, or gets none before long.
-pub(crate) fn has_come<M: Map, A: Allocator + Clone>(array: &Array<M, A>, dies: DieSet) -> bool {
+pub(crate) fn has_come<E: Looks>(array: &E, dies: DieSet) -> bool {
     for number in 0..64u8 {
         let die = Die(number);
         if dies.contains(die) && !is_to_come(array, die) {
@@ -74,17 +72,17 @@ pub(crate) fn has_come<M: Map, A: Allocator + Clone>(array: &Array<M, A>, dies: 
 }
 
 /// Whether a die has no room and gets some before long: it has a window, or is at a move or an erase.
-fn is_to_come<M: Map, A: Allocator + Clone>(array: &Array<M, A>, die: Die) -> bool {
+fn is_to_come<E: Looks>(array: &E, die: Die) -> bool {
     has_no_room(array, die) && is_collecting(array, die)
 }
 
 /// Whether a die of the array has no room.
-fn has_no_room<M: Map, A: Allocator + Clone>(array: &Array<M, A>, die: Die) -> bool {
+fn has_no_room<E: Looks>(array: &E, die: Die) -> bool {
     array.is_die(die) && array.room(die) == 0
 }
 
 /// Whether the die's collector has rounds, or is at a step.
-fn is_collecting<M: Map, A: Allocator + Clone>(array: &Array<M, A>, die: Die) -> bool {
+fn is_collecting<E: Looks>(array: &E, die: Die) -> bool {
     match array.job_kind(die) {
         Some(JobKind::Move | JobKind::Erase) => true,
         _ => array.has_window(die),

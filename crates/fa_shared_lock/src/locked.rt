@@ -2,15 +2,14 @@
 ghost use Rattle.std.specs.Prelude.{◌≡◌, ◌⊎◌, ℕ, ◌+◌, ◌<◌, ◌≤◌, true, false, IfOk, IfErr, IfSome, IfNone, length};
 ghost use Rattle.fa_machine.specs.Looks.{counts as rule_counts};
 ghost use Rattle.fa_core_tables.specs.Counted.{capped};
-ghost use Rattle.fa_core.specs.Calls.{commits_of_answer};
+ghost use Rattle.fa_core_calls.specs.Calls.{commits_of_answer};
 ghost use Rattle.fa_shared_lock.specs.Only.{has_passed as rule_passed};
 ghost use Rattle.fa_shared_lock.specs.Seats.{commits_together};
 
 use crate::seat::Seat;
 use crate::sleepers::{Awaits, SeatSet, Sleepers, is_due};
-use fa_core::{Answer, Array, Call, Planned};
-use fa_map_calls::Map;
-use fa_plan::PlanNote;
+use fa_core_calls::{Answer, Call, Events};
+use fa_plan::{PlanNote, Planned};
 use fa_types::Page;
 use std::alloc::{Allocator, Global};
 use std::marker::Model;
@@ -32,8 +31,8 @@ pub enum Gathered<L: Ledger, A: Allocator = Global> {
 /// An array that is shared under a lock, with the account of its Commits: the book has how many there were, and each seat how many of
 /// them were made with it. Each event is made with a seat, and nothing else changes the array.
 #[derive(Drop)]
-pub struct Locked<L: Ledger, M: Map + Drop, A: Allocator + Copy = Global> {
-    array: Array<M, A>,
+pub struct Locked<L: Ledger, E: Events<A>, A: Allocator + Copy = Global> {
+    array: E,
     alloc: A,
     book: Book<L>,
     // What is left of the ledger's parts, with the Commits of the seats that came back.
@@ -44,9 +43,8 @@ pub struct Locked<L: Ledger, M: Map + Drop, A: Allocator + Copy = Global> {
     sleepers: Sleepers<A>,
 }
 
-impl<L: Ledger, M: Map + Drop, A: Allocator + Copy> Model for Locked<L, M, A> {
+impl<L: Ledger, E: Events<A>, A: Allocator + Copy> Model for Locked<L, E, A> {
     ghost use Rattle.std.specs.Prelude.{◌≡◌, ◌+◌, ◌≤◌};
-    ghost use Rattle.fa_core.specs.Array.{IsWhole, number_of, state_of};
     ghost use Rattle.fa_machine.specs.Looks.{counts};
     ghost use Rattle.fa_shared_lock.specs.Codes.{locked_code};
     ghost use Rattle.fa_shared_lock.specs.Locked.{LockedState};
@@ -56,21 +54,20 @@ impl<L: Ledger, M: Map + Drop, A: Allocator + Copy> Model for Locked<L, M, A> {
     ghost coded = { locked_code };
 
     ghost view = { λ l. record {
-      core = state_of M.view l.array;
-      number = number_of l.array;
+      core = E.core l.array;
+      number = E.number l.array;
       book = l.book.total;
       out = l.out;
       gathered = l.rest.amount;
       stopping = l.stopping;
     } };
 
-    ghost invariant = { λ l. IsWhole M.view l.array × (l.book.total ≡ (counts (state_of M.view l.array)).0)
+    ghost invariant = { λ l. E.whole l.array × (l.book.total ≡ (counts (E.core l.array)).0)
         × (l.rest.parts + l.out ≡ 257) × (l.out ≤ 256) };
 }
 
-impl<L: Ledger, M: Map + Drop, A: Allocator + Copy> Locked<L, M, A> {
-    ghost use Rattle.fa_core.specs.Array.{IsWhole, number_of as array_number, state_of};
-    ghost use Rattle.fa_core.specs.Calls.{FitsAnswer, HandsOutWhole, Makes};
+impl<L: Ledger, E: Events<A>, A: Allocator + Copy> Locked<L, E, A> {
+    ghost use Rattle.fa_core_calls.specs.Calls.{FitsAnswer, HandsOutWhole, Makes};
     ghost use Rattle.fa_laws.specs.Counted.{HasHistory};
     ghost use Rattle.fa_shared_lock.specs.Locked.{LockedState};
     ghost use Rattle.fa_shared_lock.specs.Only.{IsAdvance, MakesOnly, MayNotAdvance};
@@ -78,21 +75,21 @@ impl<L: Ledger, M: Map + Drop, A: Allocator + Copy> Locked<L, M, A> {
 
     /// An array with a ledger of 257 parts that nothing else names. The book begins with the Commits that were made before. Where memory is
     /// refused, or so many Commits were made that a count of 64 bits does not tell them, the array is handed back.
-    pub fn new(alloc: A, blank: Blank, array: Array<M, A>) -> Result<Locked<L, M, A>, Array<M, A>>
+    pub fn new(alloc: A, blank: Blank, array: E) -> Result<Locked<L, E, A>, E>
         requires name { blank.name ≡ L.name }
         requires parts { (blank.parts ≡ L.parts) × (blank.parts ≡ 257) }
-        requires whole { IsWhole M.view array }
+        requires whole { E.whole array }
         ensures locked { IfOk result (λ locked. locked ≡ record {
-          core = state_of M.view array;
-          number = array_number array;
-          book = (rule_counts (state_of M.view array)).0;
+          core = E.core array;
+          number = E.number array;
+          book = (rule_counts (E.core array)).0;
           out = 0;
-          gathered = (rule_counts (state_of M.view array)).0;
+          gathered = (rule_counts (E.core array)).0;
           stopping = false;
         }) }
         ensures refused { IfErr result (λ back. back ≡ array) }
     {
-        let commits = array.counts().0;
+        let commits = array.commits();
         if commits == u64::MAX {
             return Err(array);
         }
@@ -123,7 +120,9 @@ impl<L: Ledger, M: Map + Drop, A: Allocator + Copy> Locked<L, M, A> {
         ensures fits { FitsAnswer self.old.core.page_map.geometry self.old.number call.entry result }
         ensures handed { HandsOutWhole self.old.core call.entry result }
     {
-        let answer = self.array.step(self.alloc, seat.number, call);
+        let mut call = call;
+        let answer = self.array.step(self.alloc, seat.number, &mut call);
+        drop(call);
         if is_commit(&answer) {
             self.book.add(&mut seat.share, 1);
         }
@@ -162,14 +161,15 @@ impl<L: Ledger, M: Map + Drop, A: Allocator + Copy> Locked<L, M, A> {
     pub fn give_back(&mut self, buffers: Vec<(Page, Vec<u8, A>), A>)
         ensures { self.new ≡ self.old }
     {
-        self.array.give_back(buffers);
+        let mut buffers = buffers;
+        self.array.give_back(self.alloc, &mut buffers);
     }
 
     /// A plan that nobody wants any more comes back, and plans to come are made in its memory. It is no event.
     pub fn give_back_plan(&mut self, planned: Planned<A>)
         ensures { self.new ≡ self.old }
     {
-        self.array.give_back_plan(planned);
+        self.array.give_back_plan(&mut Some(planned));
     }
 
     /// The plan that waits longest for who checks it. It is no event.
@@ -183,7 +183,7 @@ impl<L: Ledger, M: Map + Drop, A: Allocator + Copy> Locked<L, M, A> {
     pub fn give_back_note(&mut self, note: PlanNote<A>)
         ensures { self.new ≡ self.old }
     {
-        self.array.give_back_note(note);
+        self.array.give_back_note(&mut Some(note));
     }
 
     /// Something has changed that others may wait for.
@@ -259,7 +259,7 @@ impl<L: Ledger, M: Map + Drop, A: Allocator + Copy> Locked<L, M, A> {
         take_in(&mut self.rest, seats);
         self.out = 0;
         self.book.audit(&mut self.rest);
-        Ok(self.array.counts().0)
+        Ok(self.array.commits())
     }
 
     /// Whether many who make jobs of dies sleep, so that whoever is awake is to take those of all dies. It is a matter of speed alone, and
@@ -283,19 +283,19 @@ impl<L: Ledger, M: Map + Drop, A: Allocator + Copy> Locked<L, M, A> {
     }
 
     /// The array itself, for whoever only looks.
-    pub fn array(&self) -> &Array<M, A>
-        ensures whole { IsWhole M.view result.now }
-        ensures state { state_of M.view result.now ≡ self.now.core }
-        ensures number { array_number result.now ≡ self.now.number }
+    pub fn array(&self) -> &E
+        ensures whole { E.whole result.now }
+        ensures state { E.core result.now ≡ self.now.core }
+        ensures number { E.number result.now ≡ self.now.number }
     {
         &self.array
     }
 
     /// The array, shared no more.
-    pub fn into_array(self) -> Array<M, A>
-        ensures whole { IsWhole M.view result }
-        ensures state { state_of M.view result ≡ self.core }
-        ensures number { array_number result ≡ self.number }
+    pub fn into_array(self) -> E
+        ensures whole { E.whole result }
+        ensures state { E.core result ≡ self.core }
+        ensures number { E.number result ≡ self.number }
     {
         let Locked { array, .. } = self;
         array

@@ -1,20 +1,19 @@
 //! What all events have in common that are no Commits.
 ghost use Rattle.std.specs.Prelude.{◌≡◌};
-ghost use Rattle.fa_core.specs.Calls.{FitsAnswer, Makes};
+ghost use Rattle.fa_core_calls.specs.Calls.{FitsAnswer, Makes};
 ghost use Rattle.fa_shared_lock.specs.Seats.{commits_with, number_of};
 ghost use Rattle.fa_shared_lock.specs.Accounts.{IsAccounted};
 ghost use Rattle.fa_shared_lock.specs.Rest.{IsNoCommit, LeavesRest};
 
 use crate::locked::Locked;
 use crate::seat::Seat;
-use fa_core::{Answer, Call};
-use fa_map_calls::Map;
+use fa_core_calls::{Answer, Call, Events};
 use std::alloc::Allocator;
 use std::sync::ledger::Ledger;
 
 /// An event that is no Commit.
-pub fn make<L: Ledger, M: Map + Drop, A: Allocator + Copy>(
-    locked: &mut Locked<L, M, A>,
+pub fn make<L: Ledger, E: Events<A>, A: Allocator + Copy>(
+    locked: &mut Locked<L, E, A>,
     seat: &mut Seat<L>,
     call: Call<'_, A>,
 ) -> Answer<A>

@@ -1,11 +1,8 @@
 //! Who sleeps until the array has changed, and for what.
-ghost use Rattle.fa_core.specs.Array.{IsWhole};
-
 use crate::homes::{DieSet, has_come};
 use crate::locked::MAX_SEATS;
-use fa_core::Array;
+use fa_core_calls::Looks;
 use fa_machine::{BatchId, ClaimId, Flush, FlushState, ReadState};
-use fa_map_calls::Map;
 use fa_types::Die;
 use std::alloc::{AllocError, Allocator, Global};
 use std::mem::replace;
@@ -163,8 +160,8 @@ impl<A: Allocator> Sleepers<A> {
     /// Those for whom it is time, as the array is. They are counted as awake. Where dies whose workers sleep have jobs, and somebody who
     /// helps sleeps, one of these is woken in the place of all the workers: it takes the jobs of several dies in one hold. It leaves those of
     /// a die that collects to the die's worker, unless many help.
-    pub(crate) fn due<M: Map, B: Allocator + Clone>(&mut self, array: &Array<M, B>) -> SeatSet
-        requires { IsWhole M.view array.now }
+    pub(crate) fn due<E: Looks>(&mut self, array: &E) -> SeatSet
+        requires { E.whole array.now }
     {
         let changed = replace(&mut self.changed, false);
         let are_many = self.helpers() > MANY_OTHERS;
@@ -205,11 +202,7 @@ impl<A: Allocator> Sleepers<A> {
 }
 
 /// Whether somebody who helps takes the jobs that are waited for so, where many help or not.
-fn can_be_led<M: Map, A: Allocator + Clone>(
-    array: &Array<M, A>,
-    are_many: bool,
-    awaits: Awaits,
-) -> bool {
+fn can_be_led<E: Looks>(array: &E, are_many: bool, awaits: Awaits) -> bool {
     match awaits {
         Awaits::Job(die) => are_many || !array.has_window(die),
         _ => false,
@@ -217,12 +210,8 @@ fn can_be_led<M: Map, A: Allocator + Clone>(
 }
 
 /// Whether it is time for somebody who waits so, where something has changed or not.
-pub(crate) fn is_due<M: Map, A: Allocator + Clone>(
-    array: &Array<M, A>,
-    changed: bool,
-    awaits: Awaits,
-) -> bool
-    requires { IsWhole M.view array.now }
+pub(crate) fn is_due<E: Looks>(array: &E, changed: bool, awaits: Awaits) -> bool
+    requires { E.whole array.now }
 {
     match awaits {
         Awaits::Batch(batch) => !matches!(array.results(batch), ReadState::Waiting),

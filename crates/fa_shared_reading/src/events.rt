@@ -1,25 +1,24 @@
 //! The events by which batches of pages are read.
 ghost use Rattle.std.specs.Prelude.{◌≡◌, ◌&&◌, false, nat_le, length, map, IfNone, IfSome};
 ghost use Rattle.std.specs.List.{list_all};
-ghost use Rattle.fa_core_read.specs.Answers.{admit_answer, plan_answer};
+ghost use Rattle.fa_core_calls.specs.Answers.{admit_answer, plan_answer};
 ghost use Rattle.fa_machine.specs.Conditions.{batch_open};
 ghost use Rattle.fa_machine.specs.Step.{Admit, EndBatch, Replan, Step, is_distinct, is_page};
 ghost use Rattle.fa_shared_lock.specs.Seats.{commits_with};
 ghost use Rattle.fa_shared_lock.specs.Accounts.{IsAccounted};
 ghost use Rattle.fa_shared_lock.specs.Rest.{LeavesRest};
 
-use fa_core::{Answer, Call, Planned};
-use fa_core_read::Admitted;
+use fa_core_calls::{Admitted, Answer, Call, Events};
 use fa_machine::{AdmitRefused, BatchId};
-use fa_map_calls::Map;
+use fa_plan::Planned;
 use fa_shared_lock::{Locked, Seat, make, plain};
 use fa_types::Page;
 use std::alloc::Allocator;
 use std::sync::ledger::Ledger;
 
 /// An Admit. None where these pages are no batch of the array.
-pub fn admit<L: Ledger, M: Map + Drop, A: Allocator + Copy>(
-    locked: &mut Locked<L, M, A>,
+pub fn admit<L: Ledger, E: Events<A>, A: Allocator + Copy>(
+    locked: &mut Locked<L, E, A>,
     seat: &mut Seat<L>,
     pages: &[Page],
 ) -> Option<Result<Admitted<A>, AdmitRefused>>
@@ -39,9 +38,9 @@ pub fn admit<L: Ledger, M: Map + Drop, A: Allocator + Copy>(
 }
 
 /// A Replan. None where the batch is not open.
-pub fn replan<L: Ledger, M: Map + Drop, A: Allocator + Copy>(
+pub fn replan<L: Ledger, E: Events<A>, A: Allocator + Copy>(
     alloc: A,
-    locked: &mut Locked<L, M, A>,
+    locked: &mut Locked<L, E, A>,
     seat: &mut Seat<L>,
     batch: BatchId,
 ) -> Option<Result<Planned<A>, AdmitRefused>>
@@ -58,9 +57,9 @@ pub fn replan<L: Ledger, M: Map + Drop, A: Allocator + Copy>(
 }
 
 /// An EndBatch. None where the batch is not open.
-pub fn end_batch<L: Ledger, M: Map + Drop, A: Allocator + Copy>(
+pub fn end_batch<L: Ledger, E: Events<A>, A: Allocator + Copy>(
     alloc: A,
-    locked: &mut Locked<L, M, A>,
+    locked: &mut Locked<L, E, A>,
     seat: &mut Seat<L>,
     batch: BatchId,
 ) -> Option<Vec<(Page, Vec<u8, A>), A>>

@@ -4,15 +4,14 @@ ghost use Rattle.fa_machine.specs.Reading.{results as rule_results};
 ghost use Rattle.fa_shared_lock.specs.Accounts.{IsAccounted};
 ghost use Rattle.fa_shared_lock.specs.Moves.{Turned};
 ghost use Rattle.fa_shared_steps.specs.Stages.{AfterAdmit, AfterPlanned};
-ghost use Rattle.fa_core_read.specs.Answers.{admit_answer, plan_answer};
+ghost use Rattle.fa_core_calls.specs.Answers.{admit_answer, plan_answer};
 ghost use Rattle.fa_shared_steps.specs.declared.request.Task.{Task};
 ghost use Rattle.fa_shared_steps.specs.declared.stage.Stage.TheVariants.{Asking, Leaving, Reading};
 
 use crate::events::{admit, end_batch, replan};
-use fa_core::Planned;
-use fa_core_read::Admitted;
+use fa_core_calls::{Admitted, Events};
 use fa_machine::{AdmitRefused, BatchId, ReadState};
-use fa_map_calls::Map;
+use fa_plan::Planned;
 use fa_shared_lock::{Locked, Seat};
 use fa_shared_steps::{PageList, Purpose, Stage, stopped};
 use fa_types::BlockFault;
@@ -20,8 +19,8 @@ use std::alloc::Allocator;
 use std::sync::ledger::Ledger;
 
 /// A batch of the pages is admitted.
-pub fn ask<L: Ledger, M: Map + Drop, A: Allocator + Copy>(
-    locked: &mut Locked<L, M, A>,
+pub fn ask<L: Ledger, E: Events<A>, A: Allocator + Copy>(
+    locked: &mut Locked<L, E, A>,
     seat: &mut Seat<L>,
     purpose: Purpose,
     pages: PageList<A>,
@@ -37,8 +36,8 @@ pub fn ask<L: Ledger, M: Map + Drop, A: Allocator + Copy>(
 }
 
 /// What the request does behind its Admit. A page that is lost is waited for, if it is to be. The plan goes back to the array.
-fn asked<L: Ledger, M: Map + Drop, A: Allocator + Copy>(
-    locked: &mut Locked<L, M, A>,
+fn asked<L: Ledger, E: Events<A>, A: Allocator + Copy>(
+    locked: &mut Locked<L, E, A>,
     purpose: Purpose,
     pages: PageList<A>,
     answer: Result<Admitted<A>, AdmitRefused>,
@@ -66,9 +65,9 @@ fn asked<L: Ledger, M: Map + Drop, A: Allocator + Copy>(
 }
 
 /// The batch goes on as it stands: it is waited for, or planned anew, or ended.
-pub fn read<L: Ledger, M: Map + Drop, A: Allocator + Copy>(
+pub fn read<L: Ledger, E: Events<A>, A: Allocator + Copy>(
     alloc: A,
-    locked: &mut Locked<L, M, A>,
+    locked: &mut Locked<L, E, A>,
     seat: &mut Seat<L>,
     purpose: Purpose,
     batch: BatchId,
@@ -84,9 +83,9 @@ pub fn read<L: Ledger, M: Map + Drop, A: Allocator + Copy>(
 }
 
 /// The batch, which is ready, is ended, and its answers are to be sorted.
-fn end<L: Ledger, M: Map + Drop, A: Allocator + Copy>(
+fn end<L: Ledger, E: Events<A>, A: Allocator + Copy>(
     alloc: A,
-    locked: &mut Locked<L, M, A>,
+    locked: &mut Locked<L, E, A>,
     seat: &mut Seat<L>,
     purpose: Purpose,
     batch: BatchId,
@@ -102,9 +101,9 @@ fn end<L: Ledger, M: Map + Drop, A: Allocator + Copy>(
 }
 
 /// What is left of the batch, which is torn, is planned anew.
-fn plan_anew<L: Ledger, M: Map + Drop, A: Allocator + Copy>(
+fn plan_anew<L: Ledger, E: Events<A>, A: Allocator + Copy>(
     alloc: A,
-    locked: &mut Locked<L, M, A>,
+    locked: &mut Locked<L, E, A>,
     seat: &mut Seat<L>,
     purpose: Purpose,
     batch: BatchId,
@@ -121,8 +120,8 @@ fn plan_anew<L: Ledger, M: Map + Drop, A: Allocator + Copy>(
 }
 
 /// What the request does behind its Replan. A page that is lost is waited for, if it is to be. The plan goes back to the array.
-fn planned_anew<L: Ledger, M: Map + Drop, A: Allocator + Copy>(
-    locked: &mut Locked<L, M, A>,
+fn planned_anew<L: Ledger, E: Events<A>, A: Allocator + Copy>(
+    locked: &mut Locked<L, E, A>,
     purpose: Purpose,
     batch: BatchId,
     answer: Result<Planned<A>, AdmitRefused>,
@@ -150,9 +149,9 @@ fn planned_anew<L: Ledger, M: Map + Drop, A: Allocator + Copy>(
 }
 
 /// The batch is ended, whatever it answers.
-pub fn leave<L: Ledger, M: Map + Drop, A: Allocator + Copy>(
+pub fn leave<L: Ledger, E: Events<A>, A: Allocator + Copy>(
     alloc: A,
-    locked: &mut Locked<L, M, A>,
+    locked: &mut Locked<L, E, A>,
     seat: &mut Seat<L>,
     purpose: Purpose,
     batch: BatchId,

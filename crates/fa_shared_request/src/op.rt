@@ -1,8 +1,8 @@
 //! A request, from its beginning to its answer.
 
 use crate::preparing::{answer_len, memory_for, prepare_stage};
+use fa_core_calls::Events;
 use fa_machine::ReadState;
-use fa_map_calls::Map;
 use fa_shared_lock::{Awaits, Locked, homes_to_come, lacks_home};
 use fa_shared_steps::{Fill, Request, Stage, Task, begin, content, fill_with};
 use fa_tag::Payload;
@@ -126,7 +126,7 @@ impl<A: Allocator + Copy, B: Allocator> Op<A, B> {
     }
 
     /// Gives the array the buffers back that its last batch handed out, where their bytes are in the answer. It is no event.
-    pub fn give_back<L: Ledger, M: Map + Drop>(&mut self, locked: &mut Locked<L, M, A>)
+    pub fn give_back<L: Ledger, E: Events<A>>(&mut self, locked: &mut Locked<L, E, A>)
         ensures op { self.new ≡ self.old }
         ensures locked { locked.new ≡ locked.old }
     {
@@ -229,7 +229,7 @@ impl<A: Allocator + Copy, B: Allocator> Op<A, B> {
 
     /// Whether it is about to reserve copies of a page, and a die has no room that one of these would go to. What is told is a matter of
     /// speed alone, and in no clause.
-    pub fn lacks_home<L: Ledger, M: Map + Drop>(&self, locked: &Locked<L, M, A>) -> bool {
+    pub fn lacks_home<L: Ledger, E: Events<A>>(&self, locked: &Locked<L, E, A>) -> bool {
         match &self.stage {
             Stage::Reserving(held, _) => lacks_home(locked.array(), held.page),
             _ => false,
@@ -238,7 +238,7 @@ impl<A: Allocator + Copy, B: Allocator> Op<A, B> {
 
     /// Whether such a die gets room before long, so that it is better to wait than to write the copy to another die, where its program is
     /// to be synced. What is told is a matter of speed alone, and in no clause.
-    pub fn may_wait_for_home<L: Ledger, M: Map + Drop>(&self, locked: &Locked<L, M, A>) -> bool {
+    pub fn may_wait_for_home<L: Ledger, E: Events<A>>(&self, locked: &Locked<L, E, A>) -> bool {
         match &self.stage {
             Stage::Reserving(held, _) => !homes_to_come(locked.array(), held.page).is_empty(),
             _ => false,
@@ -267,7 +267,7 @@ impl<A: Allocator + Copy, B: Allocator> Op<A, B> {
 
     /// What it waits for, where it waits: its batch, the programs of its claim, its flush, dies that get room, or any change. A
     /// batch that is to be planned anew waits for other requests. What is answered settles who is woken when, and is in no clause.
-    pub fn awaits<L: Ledger, M: Map + Drop>(&self, locked: &Locked<L, M, A>) -> Awaits {
+    pub fn awaits<L: Ledger, E: Events<A>>(&self, locked: &Locked<L, E, A>) -> Awaits {
         match &self.stage {
             Stage::Reading(_, batch) => match locked.array().results(*batch) {
                 ReadState::Waiting => Awaits::Batch(*batch),

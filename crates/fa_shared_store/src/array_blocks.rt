@@ -3,7 +3,7 @@ ghost use Rattle.std.specs.Prelude.{◌≤◌};
 
 use crate::context::Context;
 use crate::running::{finish, run, run_read, store_bytes};
-use fa_map_calls::Map;
+use fa_core_calls::Events;
 use fa_shared::Shared;
 use fa_shared_lock::{Hands, Seat};
 use fa_shared_request::{Lent, Op};
@@ -21,11 +21,11 @@ pub struct ArrayBlocks<
     'a,
     R: Wait + Clock,
     L: Ledger,
-    M: Map + Drop,
+    E: Events<A>,
     A: Allocator + Copy,
-    H: Hands<L, M, A> + Drop,
+    H: Hands<L, E, A> + Drop,
 > {
-    context: Context<'a, R, L, M, A>,
+    context: Context<'a, R, L, E, A>,
     seat: Seat<L>,
     hands: H,
     // Buffers of the array that its last read was lent.
@@ -38,10 +38,10 @@ impl<
     'a,
     R: Wait + Clock,
     L: Ledger,
-    M: Map + Drop,
+    E: Events<A>,
     A: Allocator + Copy,
-    H: Hands<L, M, A> + Drop,
-> ArrayBlocks<'a, R, L, M, A, H> {
+    H: Hands<L, E, A> + Drop,
+> ArrayBlocks<'a, R, L, E, A, H> {
     ghost use Rattle.std.specs.Prelude.{◌≡◌, true, is_none, is_some, unwrap_or};
     ghost use Rattle.fa_shared_request.specs.Counts.{IsMade, is_served};
     ghost use Rattle.fa_shared_request.specs.Ops.{ended, stage_of, task_in};
@@ -52,10 +52,10 @@ impl<
     pub fn new(
         rt: &'a R,
         alloc: A,
-        shared: &'a Shared<L, M, A>,
+        shared: &'a Shared<L, E, A>,
         seat: Seat<L>,
         hands: H,
-    ) -> ArrayBlocks<'a, R, L, M, A, H>
+    ) -> ArrayBlocks<'a, R, L, E, A, H>
         ensures { result.seat ≡ seat }
     {
         let guard = shared.lock(rt);
@@ -108,10 +108,10 @@ impl<
     'a,
     R: Wait + Clock,
     L: Ledger,
-    M: Map + Drop,
+    E: Events<A>,
     A: Allocator + Copy,
-    H: Hands<L, M, A> + Drop,
-> Blocks for ArrayBlocks<'a, R, L, M, A, H> {
+    H: Hands<L, E, A> + Drop,
+> Blocks for ArrayBlocks<'a, R, L, E, A, H> {
     ghost use Rattle.std.specs.Prelude.{◌≡◌};
     ghost use Rattle.fa_shared_request.specs.Counts.{IsMade, is_accepted, pages_of};
     ghost use Rattle.fa_shared_request.specs.SharedStore.{shared_meets, shared_view, shared_whole};

@@ -8,7 +8,7 @@ ghost use Rattle.fa_shared_steps.specs.Tasks.{end_of, task_of};
 
 use crate::context::Context;
 use crate::running::pass_time;
-use fa_map_calls::Map;
+use fa_core_calls::Events;
 use fa_shared_lock::{Hands, Seat};
 use fa_shared_request::{Part, fault_of, has_ended, parts_of, prepare};
 use fa_shared_steps::Request;
@@ -23,11 +23,11 @@ use std::time::Clock;
 pub(crate) fn run_parts<
     R: Wait + Clock,
     L: Ledger,
-    M: Map + Drop,
+    E: Events<A>,
     A: Allocator + Copy,
-    H: Hands<L, M, A>,
+    H: Hands<L, E, A>,
 >(
-    context: &Context<'_, R, L, M, A>,
+    context: &Context<'_, R, L, E, A>,
     seat: &mut Seat<L>,
     hands: &mut H,
     request: Request,
@@ -43,8 +43,8 @@ pub(crate) fn run_parts<
 }
 
 /// Goes on with parts until all have ended. The fault is that of the first one that was refused.
-fn finish_parts<R: Wait + Clock, L: Ledger, M: Map + Drop, A: Allocator + Copy, H: Hands<L, M, A>>(
-    context: &Context<'_, R, L, M, A>,
+fn finish_parts<R: Wait + Clock, L: Ledger, E: Events<A>, A: Allocator + Copy, H: Hands<L, E, A>>(
+    context: &Context<'_, R, L, E, A>,
     seat: &mut Seat<L>,
     hands: &mut H,
     parts: &mut [Part<A>],
@@ -65,8 +65,8 @@ fn finish_parts<R: Wait + Clock, L: Ledger, M: Map + Drop, A: Allocator + Copy, 
 }
 
 /// Makes turns until a part has something to prepare, or all have ended. The lock is free while all wait, and behind.
-fn make_turns<R: Wait + Clock, L: Ledger, M: Map + Drop, A: Allocator + Copy, H: Hands<L, M, A>>(
-    context: &Context<'_, R, L, M, A>,
+fn make_turns<R: Wait + Clock, L: Ledger, E: Events<A>, A: Allocator + Copy, H: Hands<L, E, A>>(
+    context: &Context<'_, R, L, E, A>,
     seat: &mut Seat<L>,
     hands: &mut H,
     parts: &mut [Part<A>],

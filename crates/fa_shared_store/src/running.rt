@@ -1,5 +1,5 @@
 //! Requests over an array that is shared, from their beginning to their end.
-ghost use Rattle.std.specs.Prelude.{◌≡◌, ◌+◌, ◌*◌, ◌^◌, ◌≤◌, length, true, is_ok, IfOk, IfErr, None};
+ghost use Rattle.std.specs.Prelude.{◌≡◌, ◌+◌, ◌*◌, ◌^◌, ◌≤◌, length, true, is_ok, Err, IfOk, IfErr, IfSome, None};
 ghost use Rattle.fa_shared_request.specs.Counts.{GoesOn, IsMade};
 ghost use Rattle.fa_shared_request.specs.Ops.{ended, stage_of};
 ghost use Rattle.fa_shared_request.specs.Tallies.{pages_in};
@@ -9,7 +9,7 @@ ghost use Rattle.fa_types.specs.declared.blocks.BlockFault.TheVariants.{NoRoom};
 
 use crate::context::Context;
 use crate::parts::run_parts;
-use fa_map_calls::Map;
+use fa_core_calls::Events;
 use fa_shared_lock::{Awaits, Hands, Locked, Seat};
 use fa_shared_request::{Lent, Op};
 use fa_shared_steps::Request;
@@ -34,8 +34,8 @@ pub(crate) fn store_bytes(geometry: Geometry) -> (u64, u32)
 }
 
 /// A request that answers no bytes, done page by page.
-fn run_whole<R: Wait + Clock, L: Ledger, M: Map + Drop, A: Allocator + Copy, H: Hands<L, M, A>>(
-    context: &Context<'_, R, L, M, A>,
+fn run_whole<R: Wait + Clock, L: Ledger, E: Events<A>, A: Allocator + Copy, H: Hands<L, E, A>>(
+    context: &Context<'_, R, L, E, A>,
     seat: &mut Seat<L>,
     hands: &mut H,
     request: Request,
@@ -58,7 +58,9 @@ fn run_whole<R: Wait + Clock, L: Ledger, M: Map + Drop, A: Allocator + Copy, H: 
 
 /// What is told of a request that has ended so.
 fn result_of(end: Option<BlockFault>) -> Result<(), BlockFault>
-    ensures { is_ok result ≡ true → end ≡ None }
+    ensures ended { is_ok result ≡ true → end ≡ None }
+    ensures well { end ≡ None → is_ok result ≡ true }
+    ensures refused { IfSome end (λ fault. result ≡ Err fault) }
 {
     match end {
         None => Ok(()),
@@ -67,14 +69,8 @@ fn result_of(end: Option<BlockFault>) -> Result<(), BlockFault>
 }
 
 /// A request that answers no bytes. One on several pages is done in parts, side by side, and then flushed, if it is to be.
-pub(crate) fn run<
-    R: Wait + Clock,
-    L: Ledger,
-    M: Map + Drop,
-    A: Allocator + Copy,
-    H: Hands<L, M, A>,
->(
-    context: &Context<'_, R, L, M, A>,
+pub(crate) fn run<R: Wait + Clock, L: Ledger, E: Events<A>, A: Allocator + Copy, H: Hands<L, E, A>>(
+    context: &Context<'_, R, L, E, A>,
     seat: &mut Seat<L>,
     hands: &mut H,
     request: Request,
@@ -97,12 +93,12 @@ pub(crate) fn run<
 pub(crate) fn run_read<
     R: Wait + Clock,
     L: Ledger,
-    M: Map + Drop,
+    E: Events<A>,
     A: Allocator + Copy,
-    H: Hands<L, M, A>,
+    H: Hands<L, E, A>,
     B: Allocator,
 >(
-    context: &Context<'_, R, L, M, A>,
+    context: &Context<'_, R, L, E, A>,
     seat: &mut Seat<L>,
     hands: &mut H,
     lent: &mut Lent<A>,
@@ -171,12 +167,12 @@ fn of_read(fault: BlockFault) -> BlockFault
 pub(crate) fn finish<
     R: Wait + Clock,
     L: Ledger,
-    M: Map + Drop,
+    E: Events<A>,
     A: Allocator + Copy,
     B: Allocator,
-    H: Hands<L, M, A>,
+    H: Hands<L, E, A>,
 >(
-    context: &Context<'_, R, L, M, A>,
+    context: &Context<'_, R, L, E, A>,
     seat: &mut Seat<L>,
     hands: &mut H,
     op: &mut Op<A, B>,
@@ -200,11 +196,11 @@ pub(crate) fn finish<
 fn go_on<
     R: Wait + Clock,
     L: Ledger,
-    M: Map + Drop,
+    E: Events<A>,
     A: Allocator + Copy,
     B: Allocator,
-    H: Hands<L, M, A>,
->(context: &Context<'_, R, L, M, A>, seat: &mut Seat<L>, hands: &mut H, op: &mut Op<A, B>)
+    H: Hands<L, E, A>,
+>(context: &Context<'_, R, L, E, A>, seat: &mut Seat<L>, hands: &mut H, op: &mut Op<A, B>)
     ensures { GoesOn seat.old op.old seat.new op.new }
 {
     if op.ended().is_some() && !op.lends_many() {
@@ -218,11 +214,11 @@ fn go_on<
 fn make_turns<
     R: Wait + Clock,
     L: Ledger,
-    M: Map + Drop,
+    E: Events<A>,
     A: Allocator + Copy,
     B: Allocator,
-    H: Hands<L, M, A>,
->(context: &Context<'_, R, L, M, A>, seat: &mut Seat<L>, hands: &mut H, op: &mut Op<A, B>)
+    H: Hands<L, E, A>,
+>(context: &Context<'_, R, L, E, A>, seat: &mut Seat<L>, hands: &mut H, op: &mut Op<A, B>)
     ensures { GoesOn seat.old op.old seat.new op.new }
 {
     let mut guard = context.shared.lock(context.rt);
@@ -242,16 +238,16 @@ pub(crate) fn pass_time<
     'a,
     R: Wait + Clock,
     L: Ledger,
-    M: Map + Drop,
+    E: Events<A>,
     A: Allocator + Copy,
-    H: Hands<L, M, A>,
+    H: Hands<L, E, A>,
 >(
-    context: &Context<'a, R, L, M, A>,
+    context: &Context<'a, R, L, E, A>,
     seat: &mut Seat<L>,
     hands: &mut H,
     awaits: Awaits,
-    guard: MutexGuard<'a, Locked<L, M, A>>,
-) -> MutexGuard<'a, Locked<L, M, A>>
+    guard: MutexGuard<'a, Locked<L, E, A>>,
+) -> MutexGuard<'a, Locked<L, E, A>>
     ensures commits { commits_with seat.new ≡ commits_with seat.old }
     ensures number { number_of seat.new ≡ number_of seat.old }
 {

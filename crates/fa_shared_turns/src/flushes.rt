@@ -5,17 +5,16 @@ ghost use Rattle.fa_shared_lock.specs.Seats.{commits_with};
 ghost use Rattle.fa_shared_lock.specs.Accounts.{IsAccounted};
 ghost use Rattle.fa_shared_lock.specs.Rest.{LeavesRest};
 
-use fa_core::{Answer, Call};
+use fa_core_calls::{Answer, Call, Events};
 use fa_machine::{Flush, FlushRefused, FlushState};
-use fa_map_calls::Map;
 use fa_shared_lock::{Locked, Seat, make, plain};
 use std::alloc::Allocator;
 use std::sync::ledger::Ledger;
 
 /// A FlushBegin.
-pub(crate) fn flush_begin<L: Ledger, M: Map + Drop, A: Allocator + Copy>(
+pub(crate) fn flush_begin<L: Ledger, E: Events<A>, A: Allocator + Copy>(
     alloc: A,
-    locked: &mut Locked<L, M, A>,
+    locked: &mut Locked<L, E, A>,
     seat: &mut Seat<L>,
 ) -> Result<Flush, FlushRefused>
     ensures event { Step locked.old.core (FlushBegin result) locked.new.core }
@@ -30,9 +29,9 @@ pub(crate) fn flush_begin<L: Ledger, M: Map + Drop, A: Allocator + Copy>(
 }
 
 /// A FlushState.
-pub(crate) fn flush_state<L: Ledger, M: Map + Drop, A: Allocator + Copy>(
+pub(crate) fn flush_state<L: Ledger, E: Events<A>, A: Allocator + Copy>(
     alloc: A,
-    locked: &mut Locked<L, M, A>,
+    locked: &mut Locked<L, E, A>,
     seat: &mut Seat<L>,
     flush: Flush,
 ) -> FlushState

@@ -3,7 +3,7 @@ ghost use Rattle.fa_shared_request.specs.PartCounts.{PartsGoOn};
 
 use crate::turn::Turn;
 use crate::turning::turn_on;
-use fa_map_calls::Map;
+use fa_core_calls::Events;
 use fa_shared_lock::{Awaits, DieSet, Locked, Seat};
 use fa_shared_request::{Op, Part, SIDE_BY_SIDE};
 use std::alloc::Allocator;
@@ -23,11 +23,11 @@ struct Stand {
 
 impl Stand {
     /// One part more, whose last turn came to this.
-    fn count<L: Ledger, M: Map + Drop, A: Allocator + Copy>(
+    fn count<L: Ledger, E: Events<A>, A: Allocator + Copy>(
         &mut self,
         turn: Turn,
         op: &Op<A, A>,
-        locked: &Locked<L, M, A>,
+        locked: &Locked<L, E, A>,
     ) {
         match turn {
             Turn::Prepare => self.prepares = self.prepares.saturating_add(1),
@@ -41,10 +41,10 @@ impl Stand {
 }
 
 /// Makes turns of each part while each leads to the next, and answers what is next for them together.
-pub fn turn_all<R: Wait, L: Ledger, M: Map + Drop, A: Allocator + Copy>(
+pub fn turn_all<R: Wait, L: Ledger, E: Events<A>, A: Allocator + Copy>(
     rt: &R,
     parts: &mut [Part<A>],
-    locked: &mut Locked<L, M, A>,
+    locked: &mut Locked<L, E, A>,
     seat: &mut Seat<L>,
 ) -> Turn
     ensures { PartsGoOn seat.old parts.old seat.new parts.new }
@@ -83,9 +83,9 @@ fn next_for(stand: Stand) -> Turn {
 /// What parts wait for: what dies do for one that waits for that, or else what others hold up. It is the one behind which as many parts
 /// have a page to hash as are hashed side by side, if so many wait: dies make programs in the order in which they were reserved, and before
 /// that there is little to do.
-pub fn awaits_of<L: Ledger, M: Map + Drop, A: Allocator + Copy>(
+pub fn awaits_of<L: Ledger, E: Events<A>, A: Allocator + Copy>(
     parts: &[Part<A>],
-    locked: &Locked<L, M, A>,
+    locked: &Locked<L, E, A>,
 ) -> Awaits {
     let mut ready = parts.iter().filter(|part| part.op.has_content()).count();
     let mut last = None;

@@ -4,7 +4,7 @@ ghost use Rattle.fa_shared_lock.specs.Moves.{Turned};
 ghost use Rattle.fa_shared_steps.specs.Ranges.{IsRange};
 
 use crate::syncing::{begin_flush, flush};
-use fa_map_calls::Map;
+use fa_core_calls::Events;
 use fa_shared_lock::{Locked, Seat};
 use fa_shared_reading::{ask, leave, read};
 use fa_shared_steps::{Stage, Task};
@@ -13,9 +13,9 @@ use std::alloc::Allocator;
 use std::sync::ledger::Ledger;
 
 /// A turn of a request that is so far.
-pub(crate) fn turn_stage<L: Ledger, M: Map + Drop, A: Allocator + Copy>(
+pub(crate) fn turn_stage<L: Ledger, E: Events<A>, A: Allocator + Copy>(
     alloc: A,
-    locked: &mut Locked<L, M, A>,
+    locked: &mut Locked<L, E, A>,
     seat: &mut Seat<L>,
     task: Task,
     stage: Stage<A>,

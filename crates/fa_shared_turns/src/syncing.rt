@@ -5,17 +5,17 @@ ghost use Rattle.fa_shared_steps.specs.declared.request.Task.{Task};
 ghost use Rattle.fa_shared_steps.specs.declared.stage.Stage.TheVariants.{BeginningFlush, Flushing};
 
 use crate::flushes::{flush_begin, flush_state};
+use fa_core_calls::Events;
 use fa_machine::Flush;
-use fa_map_calls::Map;
 use fa_shared_lock::{Locked, Seat};
 use fa_shared_steps::{Stage, begun, flushed};
 use std::alloc::Allocator;
 use std::sync::ledger::Ledger;
 
 /// A flush is begun.
-pub(crate) fn begin_flush<L: Ledger, M: Map + Drop, A: Allocator + Copy>(
+pub(crate) fn begin_flush<L: Ledger, E: Events<A>, A: Allocator + Copy>(
     alloc: A,
-    locked: &mut Locked<L, M, A>,
+    locked: &mut Locked<L, E, A>,
     seat: &mut Seat<L>,
 ) -> Stage<A>
     ensures turned { (t : Task) → Turned t seat.old seat.new locked.old.core BeginningFlush locked.new.core result }
@@ -25,9 +25,9 @@ pub(crate) fn begin_flush<L: Ledger, M: Map + Drop, A: Allocator + Copy>(
 }
 
 /// The flush is waited for, until each die that was live when it began has synced or is out.
-pub(crate) fn flush<L: Ledger, M: Map + Drop, A: Allocator + Copy>(
+pub(crate) fn flush<L: Ledger, E: Events<A>, A: Allocator + Copy>(
     alloc: A,
-    locked: &mut Locked<L, M, A>,
+    locked: &mut Locked<L, E, A>,
     seat: &mut Seat<L>,
     asked: Flush,
 ) -> Stage<A>

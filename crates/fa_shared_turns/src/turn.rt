@@ -6,7 +6,7 @@ ghost use Rattle.fa_shared_request.specs.Ops.{answer_of, stage_of, task_in};
 
 use crate::kinds::{kind_of, turn_from};
 use crate::stages::turn_stage;
-use fa_map_calls::Map;
+use fa_core_calls::Events;
 use fa_shared_lock::{Locked, Seat};
 use fa_shared_request::Op;
 use std::alloc::Allocator;
@@ -27,9 +27,9 @@ pub enum Turn {
 
 /// A turn, with a seat of the array. Where the request has something to prepare, or has ended, nothing is done. What is answered says whom
 /// to ask next, and is in no clause.
-pub fn make_turn<L: Ledger, M: Map + Drop, A: Allocator + Copy, B: Allocator>(
+pub fn make_turn<L: Ledger, E: Events<A>, A: Allocator + Copy, B: Allocator>(
     op: &mut Op<A, B>,
-    locked: &mut Locked<L, M, A>,
+    locked: &mut Locked<L, E, A>,
     seat: &mut Seat<L>,
 ) -> Turn
     ensures turned { Turned (task_in op.old) seat.old seat.new locked.old.core (stage_of op.old) locked.new.core (stage_of op.new) }

@@ -2,7 +2,7 @@
 ghost use Rattle.fa_shared_request.specs.Counts.{GoesOn};
 
 use crate::turn::{Turn, make_turn};
-use fa_map_calls::Map;
+use fa_core_calls::Events;
 use fa_shared_lock::{Locked, Seat};
 use fa_shared_request::Op;
 use std::alloc::Allocator;
@@ -10,10 +10,10 @@ use std::sync::Wait;
 use std::sync::ledger::Ledger;
 
 /// Gives back what a batch of the request handed out, and makes its turns while each leads to the next.
-pub fn turn_on<R: Wait, L: Ledger, M: Map + Drop, A: Allocator + Copy, B: Allocator>(
+pub fn turn_on<R: Wait, L: Ledger, E: Events<A>, A: Allocator + Copy, B: Allocator>(
     rt: &R,
     op: &mut Op<A, B>,
-    locked: &mut Locked<L, M, A>,
+    locked: &mut Locked<L, E, A>,
     seat: &mut Seat<L>,
 ) -> Turn
     ensures { GoesOn seat.old op.old seat.new op.new }
@@ -24,10 +24,10 @@ pub fn turn_on<R: Wait, L: Ledger, M: Map + Drop, A: Allocator + Copy, B: Alloca
 
 /// Makes turns of a request while each leads to the next. It waits before it reserves where a die gets room before long that its page's
 /// copy belongs on.
-fn turn_further<R: Wait, L: Ledger, M: Map + Drop, A: Allocator + Copy, B: Allocator>(
+fn turn_further<R: Wait, L: Ledger, E: Events<A>, A: Allocator + Copy, B: Allocator>(
     rt: &R,
     op: &mut Op<A, B>,
-    locked: &mut Locked<L, M, A>,
+    locked: &mut Locked<L, E, A>,
     seat: &mut Seat<L>,
 ) -> Turn
     ensures { GoesOn seat.old op.old seat.new op.new }

@@ -7,9 +7,8 @@ ghost use Rattle.fa_shared_lock.specs.Seats.{commits_with, number_of};
 ghost use Rattle.fa_shared_lock.specs.Accounts.{IsAccounted, commits_in};
 ghost use Rattle.fa_shared_lock.specs.Rest.{LeavesRest};
 
-use fa_core::{Answer, Call};
+use fa_core_calls::{Answer, Call, Events};
 use fa_machine::{AbandonRefused, ClaimId, ClaimRefused, CommitRefused, ReserveRefused};
-use fa_map_calls::Map;
 use fa_shared_lock::{Locked, Seat, make, plain};
 use fa_tag::Payload;
 use fa_types::{Page, Seq};
@@ -17,9 +16,9 @@ use std::alloc::Allocator;
 use std::sync::ledger::Ledger;
 
 /// A Claim. None of a page that is none of the array.
-pub fn claim<L: Ledger, M: Map + Drop, A: Allocator + Copy>(
+pub fn claim<L: Ledger, E: Events<A>, A: Allocator + Copy>(
     alloc: A,
-    locked: &mut Locked<L, M, A>,
+    locked: &mut Locked<L, E, A>,
     seat: &mut Seat<L>,
     page: Page,
 ) -> Option<Result<ClaimId, ClaimRefused>>
@@ -36,9 +35,9 @@ pub fn claim<L: Ledger, M: Map + Drop, A: Allocator + Copy>(
 }
 
 /// A Release. Whether it was made: it is not where the claim is not open, or something is reserved under it.
-pub fn release<L: Ledger, M: Map + Drop, A: Allocator + Copy>(
+pub fn release<L: Ledger, E: Events<A>, A: Allocator + Copy>(
     alloc: A,
-    locked: &mut Locked<L, M, A>,
+    locked: &mut Locked<L, E, A>,
     seat: &mut Seat<L>,
     claim: ClaimId,
 ) -> Option<()>
@@ -56,8 +55,8 @@ pub fn release<L: Ledger, M: Map + Drop, A: Allocator + Copy>(
 }
 
 /// A Reserve of a payload.
-pub fn reserve<L: Ledger, M: Map + Drop, A: Allocator + Copy>(
-    locked: &mut Locked<L, M, A>,
+pub fn reserve<L: Ledger, E: Events<A>, A: Allocator + Copy>(
+    locked: &mut Locked<L, E, A>,
     seat: &mut Seat<L>,
     claim: ClaimId,
     payload: &Payload<A>,
@@ -76,8 +75,8 @@ pub fn reserve<L: Ledger, M: Map + Drop, A: Allocator + Copy>(
 }
 
 /// A Reserve of a payload on fewer dies.
-pub fn reserve_fewer<L: Ledger, M: Map + Drop, A: Allocator + Copy>(
-    locked: &mut Locked<L, M, A>,
+pub fn reserve_fewer<L: Ledger, E: Events<A>, A: Allocator + Copy>(
+    locked: &mut Locked<L, E, A>,
     seat: &mut Seat<L>,
     claim: ClaimId,
     payload: &Payload<A>,
@@ -96,9 +95,9 @@ pub fn reserve_fewer<L: Ledger, M: Map + Drop, A: Allocator + Copy>(
 }
 
 /// A Reserve of a hole.
-pub fn reserve_hole<L: Ledger, M: Map + Drop, A: Allocator + Copy>(
+pub fn reserve_hole<L: Ledger, E: Events<A>, A: Allocator + Copy>(
     alloc: A,
-    locked: &mut Locked<L, M, A>,
+    locked: &mut Locked<L, E, A>,
     seat: &mut Seat<L>,
     claim: ClaimId,
 ) -> Option<Result<Seq, ReserveRefused>>
@@ -116,9 +115,9 @@ pub fn reserve_hole<L: Ledger, M: Map + Drop, A: Allocator + Copy>(
 }
 
 /// A Commit. None where nothing is reserved under the claim; the history has room for it.
-pub fn commit<L: Ledger, M: Map + Drop, A: Allocator + Copy>(
+pub fn commit<L: Ledger, E: Events<A>, A: Allocator + Copy>(
     alloc: A,
-    locked: &mut Locked<L, M, A>,
+    locked: &mut Locked<L, E, A>,
     seat: &mut Seat<L>,
     claim: ClaimId,
 ) -> Option<Result<Seq, CommitRefused>>
@@ -137,9 +136,9 @@ pub fn commit<L: Ledger, M: Map + Drop, A: Allocator + Copy>(
 }
 
 /// An Abandon. None where nothing is reserved under the claim.
-pub fn abandon<L: Ledger, M: Map + Drop, A: Allocator + Copy>(
+pub fn abandon<L: Ledger, E: Events<A>, A: Allocator + Copy>(
     alloc: A,
-    locked: &mut Locked<L, M, A>,
+    locked: &mut Locked<L, E, A>,
     seat: &mut Seat<L>,
     claim: ClaimId,
 ) -> Option<Result<(), AbandonRefused>>

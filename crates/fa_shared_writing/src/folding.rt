@@ -6,16 +6,15 @@ ghost use Rattle.fa_shared_lock.specs.Seats.{commits_with};
 ghost use Rattle.fa_shared_lock.specs.Accounts.{IsAccounted};
 ghost use Rattle.fa_shared_lock.specs.Rest.{Folds, LeavesRest};
 
-use fa_core::Call;
-use fa_map_calls::Map;
+use fa_core_calls::{Call, Events};
 use fa_shared_lock::{Locked, Seat, make, plain};
 use std::alloc::Allocator;
 use std::sync::ledger::Ledger;
 
 /// A Fold.
-pub(crate) fn fold<L: Ledger, M: Map + Drop, A: Allocator + Copy>(
+pub(crate) fn fold<L: Ledger, E: Events<A>, A: Allocator + Copy>(
     alloc: A,
-    locked: &mut Locked<L, M, A>,
+    locked: &mut Locked<L, E, A>,
     seat: &mut Seat<L>,
 )
     ensures event { Step locked.old.core Fold locked.new.core }
@@ -27,9 +26,9 @@ pub(crate) fn fold<L: Ledger, M: Map + Drop, A: Allocator + Copy>(
 }
 
 /// The history is folded, if it is full.
-pub fn make_room<L: Ledger, M: Map + Drop, A: Allocator + Copy>(
+pub fn make_room<L: Ledger, E: Events<A>, A: Allocator + Copy>(
     alloc: A,
-    locked: &mut Locked<L, M, A>,
+    locked: &mut Locked<L, E, A>,
     seat: &mut Seat<L>,
 )
     ensures folds { Folds locked.old.core locked.new.core }

@@ -1,18 +1,16 @@
 //! Whether a write may get room if it waits.
 ghost use Rattle.std.specs.Prelude.{◌≡◌, ◌<◌, false};
-ghost use Rattle.fa_core.specs.Array.{state_of};
 ghost use Rattle.fa_shared_lock.specs.Founded.{may_collect, may_free as rule_free};
 
-use fa_core::Array;
+use fa_core_calls::Looks;
 use fa_machine::JobKind;
-use fa_map_calls::Map;
 use fa_types::Die;
 use std::alloc::Allocator;
 
 /// Whether slots may become free, or what is reserved may be given back: a copy is under way, a die programs, or a live die without room
 /// has a victim or is at a step of its collector. Where none may, no die has a block to collect; which other write waits is in no clause.
-pub(crate) fn may_get_room<M: Map, A: Allocator + Copy>(array: &Array<M, A>) -> bool
-    ensures { result ≡ false → may_collect (state_of M.view array.now).page_map ≡ false }
+pub(crate) fn may_get_room<E: Looks>(array: &E) -> bool
+    ensures { result ≡ false → may_collect (E.core array.now).page_map ≡ false }
 {
     if array.copy_open() {
         return true;
@@ -26,9 +24,9 @@ pub(crate) fn may_get_room<M: Map, A: Allocator + Copy>(array: &Array<M, A>) -> 
 }
 
 /// Whether this die may.
-fn may_free<M: Map, A: Allocator + Copy>(array: &Array<M, A>, die: Die) -> bool
-    requires { die.0 < (state_of M.view array.now).page_map.geometry.dies }
-    ensures { result ≡ false → rule_free (state_of M.view array.now).page_map die.0 ≡ false }
+fn may_free<E: Looks>(array: &E, die: Die) -> bool
+    requires { die.0 < (E.core array.now).page_map.geometry.dies }
+    ensures { result ≡ false → rule_free (E.core array.now).page_map die.0 ≡ false }
 {
     if !array.is_live(die) {
         return false;

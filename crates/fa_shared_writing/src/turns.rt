@@ -9,7 +9,7 @@ ghost use Rattle.fa_shared_steps.specs.declared.stage.Stage.TheVariants.{Abandon
 use crate::events::{abandon, claim, commit, release, reserve, reserve_fewer, reserve_hole};
 use crate::folding::fold;
 use crate::room::may_get_room;
-use fa_map_calls::Map;
+use fa_core_calls::Events;
 use fa_shared_lock::{Locked, Seat};
 use fa_shared_steps::{
     PageClaim, Stage, Task, Wish, abandoned, claimed, committed, released, reserved,
@@ -20,9 +20,9 @@ use std::alloc::Allocator;
 use std::sync::ledger::Ledger;
 
 /// The page is claimed.
-pub fn claim_page<L: Ledger, M: Map + Drop, A: Allocator + Copy>(
+pub fn claim_page<L: Ledger, E: Events<A>, A: Allocator + Copy>(
     alloc: A,
-    locked: &mut Locked<L, M, A>,
+    locked: &mut Locked<L, E, A>,
     seat: &mut Seat<L>,
     task: Task,
     page: Page,
@@ -38,9 +38,9 @@ pub fn claim_page<L: Ledger, M: Map + Drop, A: Allocator + Copy>(
 }
 
 /// A number and slots are reserved for what is to be written.
-pub fn reserve_wish<L: Ledger, M: Map + Drop, A: Allocator + Copy>(
+pub fn reserve_wish<L: Ledger, E: Events<A>, A: Allocator + Copy>(
     alloc: A,
-    locked: &mut Locked<L, M, A>,
+    locked: &mut Locked<L, E, A>,
     seat: &mut Seat<L>,
     held: PageClaim,
     wish: Wish<A>,
@@ -56,8 +56,8 @@ pub fn reserve_wish<L: Ledger, M: Map + Drop, A: Allocator + Copy>(
 }
 
 /// A number and slots are reserved for a page's bytes.
-fn reserve_data<L: Ledger, M: Map + Drop, A: Allocator + Copy>(
-    locked: &mut Locked<L, M, A>,
+fn reserve_data<L: Ledger, E: Events<A>, A: Allocator + Copy>(
+    locked: &mut Locked<L, E, A>,
     seat: &mut Seat<L>,
     held: PageClaim,
     payload: Payload<A>,
@@ -73,8 +73,8 @@ fn reserve_data<L: Ledger, M: Map + Drop, A: Allocator + Copy>(
 }
 
 /// A number and slots are reserved for a page's bytes, on fewer dies.
-fn reserve_on_fewer<L: Ledger, M: Map + Drop, A: Allocator + Copy>(
-    locked: &mut Locked<L, M, A>,
+fn reserve_on_fewer<L: Ledger, E: Events<A>, A: Allocator + Copy>(
+    locked: &mut Locked<L, E, A>,
     seat: &mut Seat<L>,
     held: PageClaim,
     payload: Payload<A>,
@@ -90,9 +90,9 @@ fn reserve_on_fewer<L: Ledger, M: Map + Drop, A: Allocator + Copy>(
 }
 
 /// A number and slots are reserved for a hole.
-fn reserve_no_data<L: Ledger, M: Map + Drop, A: Allocator + Copy>(
+fn reserve_no_data<L: Ledger, E: Events<A>, A: Allocator + Copy>(
     alloc: A,
-    locked: &mut Locked<L, M, A>,
+    locked: &mut Locked<L, E, A>,
     seat: &mut Seat<L>,
     held: PageClaim,
 ) -> Stage<A>
@@ -107,9 +107,9 @@ fn reserve_no_data<L: Ledger, M: Map + Drop, A: Allocator + Copy>(
 }
 
 /// What is reserved is committed, behind a Fold where the history is full.
-pub fn commit_wish<L: Ledger, M: Map + Drop, A: Allocator + Copy>(
+pub fn commit_wish<L: Ledger, E: Events<A>, A: Allocator + Copy>(
     alloc: A,
-    locked: &mut Locked<L, M, A>,
+    locked: &mut Locked<L, E, A>,
     seat: &mut Seat<L>,
     held: PageClaim,
     wish: Wish<A>,
@@ -128,9 +128,9 @@ pub fn commit_wish<L: Ledger, M: Map + Drop, A: Allocator + Copy>(
 }
 
 /// What is reserved is committed. The history has room.
-fn commit_now<L: Ledger, M: Map + Drop, A: Allocator + Copy>(
+fn commit_now<L: Ledger, E: Events<A>, A: Allocator + Copy>(
     alloc: A,
-    locked: &mut Locked<L, M, A>,
+    locked: &mut Locked<L, E, A>,
     seat: &mut Seat<L>,
     held: PageClaim,
     wish: Wish<A>,
@@ -146,9 +146,9 @@ fn commit_now<L: Ledger, M: Map + Drop, A: Allocator + Copy>(
 }
 
 /// What is reserved is committed behind a Fold.
-fn commit_folded<L: Ledger, M: Map + Drop, A: Allocator + Copy>(
+fn commit_folded<L: Ledger, E: Events<A>, A: Allocator + Copy>(
     alloc: A,
-    locked: &mut Locked<L, M, A>,
+    locked: &mut Locked<L, E, A>,
     seat: &mut Seat<L>,
     held: PageClaim,
     wish: Wish<A>,
@@ -166,9 +166,9 @@ fn commit_folded<L: Ledger, M: Map + Drop, A: Allocator + Copy>(
 }
 
 /// What is reserved is given up, so that it may be reserved anew.
-pub fn abandon_wish<L: Ledger, M: Map + Drop, A: Allocator + Copy>(
+pub fn abandon_wish<L: Ledger, E: Events<A>, A: Allocator + Copy>(
     alloc: A,
-    locked: &mut Locked<L, M, A>,
+    locked: &mut Locked<L, E, A>,
     seat: &mut Seat<L>,
     held: PageClaim,
     wish: Wish<A>,
@@ -183,9 +183,9 @@ pub fn abandon_wish<L: Ledger, M: Map + Drop, A: Allocator + Copy>(
 }
 
 /// The page is released. What is reserved under its claim is given up first.
-pub fn release_page<L: Ledger, M: Map + Drop, A: Allocator + Copy>(
+pub fn release_page<L: Ledger, E: Events<A>, A: Allocator + Copy>(
     alloc: A,
-    locked: &mut Locked<L, M, A>,
+    locked: &mut Locked<L, E, A>,
     seat: &mut Seat<L>,
     task: Task,
     held: PageClaim,
@@ -208,9 +208,9 @@ pub fn release_page<L: Ledger, M: Map + Drop, A: Allocator + Copy>(
 }
 
 /// What is reserved under the claim is given up, before the page is released.
-fn give_up<L: Ledger, M: Map + Drop, A: Allocator + Copy>(
+fn give_up<L: Ledger, E: Events<A>, A: Allocator + Copy>(
     alloc: A,
-    locked: &mut Locked<L, M, A>,
+    locked: &mut Locked<L, E, A>,
     seat: &mut Seat<L>,
     held: PageClaim,
     fault: Option<BlockFault>,

@@ -29,28 +29,28 @@ abbrev pub of_refusal : ReserveCopyRefused → Rebuilt
 of_refusal Gone = Tried
 of_refusal refused = Stopped
 
-module _ {L M I A : Type 0} (made : I → ImageCall → ImageAnswer → I → Type 0) where
+module _ {L E I A : Type 0} (made : I → ImageCall → ImageAnswer → I → Type 0) where
   -- There is no thin page that has a place to go; or one was read; or something stopped this, or a copy was looked at in vain 2^64 - 1
   -- times.
-  abbrev pub Rebuilds : Rebuilt → Inner L M I A → Inner L M I A → Type 0
+  abbrev pub Rebuilds : Rebuilt → Inner L E I A → Inner L E I A → Type 0
   Rebuilds Nothing old new = (new ≡ old) × (next_thin old.locked.core.copies old.locked.core.page_map ≡ None)
   Rebuilds Tried old new = TidiesBy made 1 old new
   Rebuilds Stopped old new = Halts made old new ⊎ TidiesBy made (2 ^ 64 - 1) old new
 
   -- One more copy of a page was reserved of what was answered, and is seen through.
-  pub record TriesCopy (page seq : ℕ) (answers : List (ℕ × List ℕ)) (old new : Inner L M I A) : Type 0 where
-    pub middle : Inner L M I A
+  pub record TriesCopy (page seq : ℕ) (answers : List (ℕ × List ℕ)) (old new : Inner L E I A) : Type 0 where
+    pub middle : Inner L E I A
     pub asked : AsksCopy page seq answers (Ok tt) old middle
     pub settled : SettlesCopy made middle new
 
   -- how often it was looked at in vain
-  abbrev pub vain_looks : (page seq : ℕ) (answers : List (ℕ × List ℕ)) (old new : Inner L M I A) → TriesCopy page seq answers old new → ℕ
+  abbrev pub vain_looks : (page seq : ℕ) (answers : List (ℕ × List ℕ)) (old new : Inner L E I A) → TriesCopy page seq answers old new → ℕ
   vain_looks page seq answers old new tries =
       looks_of made tries.middle.locked.number tries.middle.dies.items (number_of tries.middle.seat) (house_of tries.middle) (house_of new)
       tries.settled.settles
 
   -- The same of a page that was read.
-  abbrev pub Copies : (page seq : ℕ) → List (ℕ × List ℕ) → Rebuilt → Inner L M I A → Inner L M I A → Type 0
+  abbrev pub Copies : (page seq : ℕ) → List (ℕ × List ℕ) → Rebuilt → Inner L E I A → Inner L E I A → Type 0
   Copies page seq answers Nothing old new = ⊥
   Copies page seq answers Tried old new = Does made IsForOrder old new ⊎ TriesCopy page seq answers old new
   Copies page seq answers Stopped old new =

@@ -8,9 +8,9 @@ ghost use Rattle.fa_solo_job.specs.Inner.{Does, Halts, TidiesBy};
 ghost use Rattle.fa_solo_job.specs.Orders.{WantsNoWindow};
 
 use crate::jobs::work_off;
+use fa_core_calls::Events;
 use fa_image::Image;
 use fa_machine::WindowRefused;
-use fa_map_calls::Map;
 use fa_shared::window;
 use fa_solo_job::Inner;
 use fa_types::{Die, Round};
@@ -29,8 +29,8 @@ pub(crate) enum Windows {
 }
 
 /// Gives windows and makes their steps until no live die wants a window. False where a die that wants one was refused it.
-pub(crate) fn collect<L: Ledger, M: Map + Drop, I: Image, A: Allocator + Copy>(
-    inner: &mut Inner<L, M, I, A>,
+pub(crate) fn collect<L: Ledger, E: Events<A>, I: Image, A: Allocator + Copy>(
+    inner: &mut Inner<L, E, I, A>,
 ) -> bool
     ensures does { Does I.made IsForDies inner.old inner.new }
     ensures unwanted { result ≡ true → WantsNoWindow inner.new.locked.core }
@@ -47,8 +47,8 @@ pub(crate) fn collect<L: Ledger, M: Map + Drop, I: Image, A: Allocator + Copy>(
 }
 
 /// Gives windows and makes their steps. Once more, where none was wanted before, and the jobs left a die that wants one.
-fn collect_once<L: Ledger, M: Map + Drop, I: Image, A: Allocator + Copy>(
-    inner: &mut Inner<L, M, I, A>,
+fn collect_once<L: Ledger, E: Events<A>, I: Image, A: Allocator + Copy>(
+    inner: &mut Inner<L, E, I, A>,
 ) -> Windows
     ensures does { Does I.made IsForDies inner.old inner.new }
     ensures collects { Collects I.made result inner.old inner.new }
@@ -64,8 +64,8 @@ fn collect_once<L: Ledger, M: Map + Drop, I: Image, A: Allocator + Copy>(
 }
 
 /// Gives windows, and makes what there is to be done then.
-fn step_windows<L: Ledger, M: Map + Drop, I: Image, A: Allocator + Copy>(
-    inner: &mut Inner<L, M, I, A>,
+fn step_windows<L: Ledger, E: Events<A>, I: Image, A: Allocator + Copy>(
+    inner: &mut Inner<L, E, I, A>,
 ) -> Windows
     ensures does { Does I.made IsForDies inner.old inner.new }
     ensures steps { Steps I.made result inner.old inner.new }
@@ -76,8 +76,8 @@ fn step_windows<L: Ledger, M: Map + Drop, I: Image, A: Allocator + Copy>(
 }
 
 /// Whether no die wants a window.
-fn is_unwanted<L: Ledger, M: Map + Drop, I: Image, A: Allocator + Copy>(
-    inner: &Inner<L, M, I, A>,
+fn is_unwanted<L: Ledger, E: Events<A>, I: Image, A: Allocator + Copy>(
+    inner: &Inner<L, E, I, A>,
 ) -> bool
     ensures yes { result ≡ true → WantsNoWindow inner.now.locked.core }
     ensures no { result ≡ false → WantsNoWindow inner.now.locked.core → ⊥ }
@@ -91,8 +91,8 @@ fn is_unwanted<L: Ledger, M: Map + Drop, I: Image, A: Allocator + Copy>(
 }
 
 /// Gives a window to each die that wants one and has none. Where a write waits for room those are asked alone that have none.
-pub(crate) fn give_windows<L: Ledger, M: Map + Drop, I: Image, A: Allocator + Copy>(
-    inner: &mut Inner<L, M, I, A>,
+pub(crate) fn give_windows<L: Ledger, E: Events<A>, I: Image, A: Allocator + Copy>(
+    inner: &mut Inner<L, E, I, A>,
     for_room: bool,
 ) -> Windows
     ensures does { Does I.made IsForDies inner.old inner.new }
@@ -120,8 +120,8 @@ fn both(one: Windows, other: Windows) -> Windows
 }
 
 /// Gives a window to a die, if it wants one and has none.
-fn give_window<L: Ledger, M: Map + Drop, I: Image, A: Allocator + Copy>(
-    inner: &mut Inner<L, M, I, A>,
+fn give_window<L: Ledger, E: Events<A>, I: Image, A: Allocator + Copy>(
+    inner: &mut Inner<L, E, I, A>,
     die: Die,
     for_room: bool,
 ) -> Windows
@@ -135,8 +135,8 @@ fn give_window<L: Ledger, M: Map + Drop, I: Image, A: Allocator + Copy>(
 }
 
 /// Asks for a window for a die that wants one.
-fn ask_window<L: Ledger, M: Map + Drop, I: Image, A: Allocator + Copy>(
-    inner: &mut Inner<L, M, I, A>,
+fn ask_window<L: Ledger, E: Events<A>, I: Image, A: Allocator + Copy>(
+    inner: &mut Inner<L, E, I, A>,
     die: Die,
 ) -> Windows
     requires die { is_die inner.old.locked.core die.0 ≡ true }
@@ -176,8 +176,8 @@ fn windows_of(answer: Result<Round, WindowRefused>) -> Windows
 }
 
 /// Whether the die wants a window, and, where a write waits for room, has no room.
-fn is_wanted<L: Ledger, M: Map + Drop, I: Image, A: Allocator + Copy>(
-    inner: &Inner<L, M, I, A>,
+fn is_wanted<L: Ledger, E: Events<A>, I: Image, A: Allocator + Copy>(
+    inner: &Inner<L, E, I, A>,
     die: Die,
     for_room: bool,
 ) -> bool

@@ -1,15 +1,13 @@
 //! All work that dies have.
 ghost use Rattle.std.specs.Prelude.{◌≡◌, true, false, IfSome};
-ghost use Rattle.fa_core.specs.Array.{IsWhole, state_of};
 ghost use Rattle.fa_machine.specs.Reading.{results as rule_results};
 ghost use Rattle.fa_solo.specs.Rebuilding.{IsStuck};
 ghost use Rattle.fa_solo_job.specs.Deeds.{IsAwaited, IsForDies, IsForRequests};
 ghost use Rattle.fa_solo_job.specs.Inner.{Does};
 
-use fa_core::Array;
+use fa_core_calls::{Events, Looks};
 use fa_image::Image;
 use fa_machine::{BatchId, ReadState};
-use fa_map_calls::Map;
 use fa_shared::{advance, bring_in_spare};
 use fa_solo_job::{Inner, run_next};
 use fa_types::Die;
@@ -18,8 +16,8 @@ use std::sync::ledger::Ledger;
 
 /// Makes a job of each die that has one, and behind these the round passes, if the batch awaits a later one and if it may. Where no die had
 /// a job it passes too if one is awaited for a step of a collector. Whether anything was done.
-pub(crate) fn work<L: Ledger, M: Map + Drop, I: Image, A: Allocator + Copy>(
-    inner: &mut Inner<L, M, I, A>,
+pub(crate) fn work<L: Ledger, E: Events<A>, I: Image, A: Allocator + Copy>(
+    inner: &mut Inner<L, E, I, A>,
     batch: Option<BatchId>,
 ) -> bool
     ensures does { Does I.made IsForDies inner.old inner.new }
@@ -37,8 +35,8 @@ pub(crate) fn work<L: Ledger, M: Map + Drop, I: Image, A: Allocator + Copy>(
 }
 
 /// The same until the batch, if one is awaited, has all of its answers, or there is nothing to be done. Whether anything was done.
-pub(crate) fn work_for<L: Ledger, M: Map + Drop, I: Image, A: Allocator + Copy>(
-    inner: &mut Inner<L, M, I, A>,
+pub(crate) fn work_for<L: Ledger, E: Events<A>, I: Image, A: Allocator + Copy>(
+    inner: &mut Inner<L, E, I, A>,
     batch: Option<BatchId>,
 ) -> bool
     ensures { Does I.made IsForDies inner.old inner.new }
@@ -55,8 +53,8 @@ pub(crate) fn work_for<L: Ledger, M: Map + Drop, I: Image, A: Allocator + Copy>(
 }
 
 /// The same once, if the batch has not all of its answers.
-fn work_again<L: Ledger, M: Map + Drop, I: Image, A: Allocator + Copy>(
-    inner: &mut Inner<L, M, I, A>,
+fn work_again<L: Ledger, E: Events<A>, I: Image, A: Allocator + Copy>(
+    inner: &mut Inner<L, E, I, A>,
     batch: Option<BatchId>,
 ) -> bool
     ensures { Does I.made IsForDies inner.old inner.new }
@@ -68,10 +66,10 @@ fn work_again<L: Ledger, M: Map + Drop, I: Image, A: Allocator + Copy>(
 }
 
 /// Whether a later round is awaited: the batch has not all of its answers, or a die that has a window has a block to collect.
-fn is_awaited<M: Map, A: Allocator + Copy>(array: &Array<M, A>, batch: Option<BatchId>) -> bool
-    requires whole { IsWhole M.view array.now }
-    ensures yes { result ≡ true → IsAwaited (state_of M.view array.now) }
-    ensures no { result ≡ false → IfSome batch (λ batch. rule_results (state_of M.view array.now) batch.0 ≡ ReadState.Waiting → ⊥) }
+fn is_awaited<E: Looks>(array: &E, batch: Option<BatchId>) -> bool
+    requires whole { E.whole array.now }
+    ensures yes { result ≡ true → IsAwaited (E.core array.now) }
+    ensures no { result ≡ false → IfSome batch (λ batch. rule_results (E.core array.now) batch.0 ≡ ReadState.Waiting → ⊥) }
 {
     if is_read(array, batch) {
         return true;
@@ -80,10 +78,10 @@ fn is_awaited<M: Map, A: Allocator + Copy>(array: &Array<M, A>, batch: Option<Ba
 }
 
 /// Whether the batch has not all of its answers.
-fn is_read<M: Map, A: Allocator + Copy>(array: &Array<M, A>, batch: Option<BatchId>) -> bool
-    requires whole { IsWhole M.view array.now }
-    ensures yes { result ≡ true → IsAwaited (state_of M.view array.now) }
-    ensures no { result ≡ false → IfSome batch (λ batch. rule_results (state_of M.view array.now) batch.0 ≡ ReadState.Waiting → ⊥) }
+fn is_read<E: Looks>(array: &E, batch: Option<BatchId>) -> bool
+    requires whole { E.whole array.now }
+    ensures yes { result ≡ true → IsAwaited (E.core array.now) }
+    ensures no { result ≡ false → IfSome batch (λ batch. rule_results (E.core array.now) batch.0 ≡ ReadState.Waiting → ⊥) }
 {
     let Some(batch) = batch else {
         return false;
@@ -96,8 +94,8 @@ fn is_read<M: Map, A: Allocator + Copy>(array: &Array<M, A>, batch: Option<Batch
 }
 
 /// Whether some live die that has a window has a block to collect.
-fn is_collected<M: Map, A: Allocator + Copy>(array: &Array<M, A>) -> bool
-    ensures { result ≡ true → IsAwaited (state_of M.view array.now) }
+fn is_collected<E: Looks>(array: &E) -> bool
+    ensures { result ≡ true → IsAwaited (E.core array.now) }
 {
     for die in 0..array.geometry().dies {
         if has_step(array, Die(die as u8)) {
@@ -108,8 +106,8 @@ fn is_collected<M: Map, A: Allocator + Copy>(array: &Array<M, A>) -> bool
 }
 
 /// Whether the die is live, has a window, and has a block to collect.
-fn has_step<M: Map, A: Allocator + Copy>(array: &Array<M, A>, die: Die) -> bool
-    ensures { result ≡ true → IsAwaited (state_of M.view array.now) }
+fn has_step<E: Looks>(array: &E, die: Die) -> bool
+    ensures { result ≡ true → IsAwaited (E.core array.now) }
 {
     if !array.is_die(die) {
         return false;
@@ -124,8 +122,8 @@ fn has_step<M: Map, A: Allocator + Copy>(array: &Array<M, A>, die: Die) -> bool
 }
 
 /// The same until there is nothing to be done.
-pub(crate) fn work_off<L: Ledger, M: Map + Drop, I: Image, A: Allocator + Copy>(
-    inner: &mut Inner<L, M, I, A>,
+pub(crate) fn work_off<L: Ledger, E: Events<A>, I: Image, A: Allocator + Copy>(
+    inner: &mut Inner<L, E, I, A>,
 )
     ensures { Does I.made IsForDies inner.old inner.new }
 {
@@ -137,8 +135,8 @@ pub(crate) fn work_off<L: Ledger, M: Map + Drop, I: Image, A: Allocator + Copy>(
 }
 
 /// Makes a job of each die that has one. Whether a die had one.
-fn make_jobs<L: Ledger, M: Map + Drop, I: Image, A: Allocator + Copy>(
-    inner: &mut Inner<L, M, I, A>,
+fn make_jobs<L: Ledger, E: Events<A>, I: Image, A: Allocator + Copy>(
+    inner: &mut Inner<L, E, I, A>,
 ) -> bool
     ensures { Does I.made IsForDies inner.old inner.new }
 {
@@ -152,8 +150,8 @@ fn make_jobs<L: Ledger, M: Map + Drop, I: Image, A: Allocator + Copy>(
 }
 
 /// Brings in a spare, where one is wanted.
-pub(crate) fn bring_in<L: Ledger, M: Map + Drop, I: Image, A: Allocator + Copy>(
-    inner: &mut Inner<L, M, I, A>,
+pub(crate) fn bring_in<L: Ledger, E: Events<A>, I: Image, A: Allocator + Copy>(
+    inner: &mut Inner<L, E, I, A>,
 )
     ensures { Does I.made IsForRequests inner.old inner.new }
 {
@@ -161,8 +159,8 @@ pub(crate) fn bring_in<L: Ledger, M: Map + Drop, I: Image, A: Allocator + Copy>(
 }
 
 /// Lets the round pass, if the batch has not all of its answers and if it may.
-fn pass_for<L: Ledger, M: Map + Drop, I: Image, A: Allocator + Copy>(
-    inner: &mut Inner<L, M, I, A>,
+fn pass_for<L: Ledger, E: Events<A>, I: Image, A: Allocator + Copy>(
+    inner: &mut Inner<L, E, I, A>,
     batch: Option<BatchId>,
 )
     ensures { Does I.made IsForDies inner.old inner.new }
@@ -174,8 +172,8 @@ fn pass_for<L: Ledger, M: Map + Drop, I: Image, A: Allocator + Copy>(
 }
 
 /// Lets the round pass, if it may. Whether it passed.
-fn pass_round<L: Ledger, M: Map + Drop, I: Image, A: Allocator + Copy>(
-    inner: &mut Inner<L, M, I, A>,
+fn pass_round<L: Ledger, E: Events<A>, I: Image, A: Allocator + Copy>(
+    inner: &mut Inner<L, E, I, A>,
 ) -> bool
     requires { IsAwaited inner.old.locked.core }
     ensures does { Does I.made IsForDies inner.old inner.new }

@@ -6,7 +6,7 @@ ghost use Rattle.fa_machine.specs.Looks.{next_thin as rule_thin};
 ghost use Rattle.fa_machine.specs.Placement.{is_thin};
 ghost use Rattle.fa_machine.specs.Reading.{Planned, results as rule_results};
 ghost use Rattle.fa_machine.specs.Step.{Admit, EndBatch, ReserveCopy, is_page};
-ghost use Rattle.fa_core_read.specs.Answers.{admit_answer};
+ghost use Rattle.fa_core_calls.specs.Answers.{admit_answer};
 ghost use Rattle.fa_shared_lock.specs.Seats.{number_of};
 ghost use Rattle.fa_solo.specs.Rebuilding.{Copies, IsStuck, Rebuilds, of_copy, of_refusal};
 ghost use Rattle.fa_solo_job.specs.Deeds.{IsForDies, IsForOrder};
@@ -15,10 +15,9 @@ ghost use Rattle.fa_solo_job.specs.Orders.{looks_of};
 
 use crate::collecting::collect;
 use crate::jobs::{bring_in, work, work_off};
-use fa_core_read::Admitted;
+use fa_core_calls::{Admitted, Events};
 use fa_image::Image;
 use fa_machine::{AdmitRefused, BatchId, CommitCopyRefused, Copied, ReadState, ReserveCopyRefused};
-use fa_map_calls::Map;
 use fa_shared::{commit_copy, reserve_copy};
 use fa_shared_lock::Locked;
 use fa_shared_reading::{admit, end_batch};
@@ -48,8 +47,8 @@ pub(crate) enum Rebuilt {
 
 /// Brings in a spare where one is wanted, collects until no live die wants a window, and makes copies until no page is thin that has a
 /// place to go. A refusal ends this, and the jobs that are left are made then. A copy that was begun is seen through.
-pub(crate) fn tidy<L: Ledger, M: Map + Drop, I: Image, A: Allocator + Copy>(
-    inner: &mut Inner<L, M, I, A>,
+pub(crate) fn tidy<L: Ledger, E: Events<A>, I: Image, A: Allocator + Copy>(
+    inner: &mut Inner<L, E, I, A>,
 )
     ensures { PutsInOrder I.made inner.old inner.new }
 {
@@ -60,8 +59,8 @@ pub(crate) fn tidy<L: Ledger, M: Map + Drop, I: Image, A: Allocator + Copy>(
 }
 
 /// The same, but that jobs may be left to do where something ended this. Whether nothing is left.
-fn put_in_order<L: Ledger, M: Map + Drop, I: Image, A: Allocator + Copy>(
-    inner: &mut Inner<L, M, I, A>,
+fn put_in_order<L: Ledger, E: Events<A>, I: Image, A: Allocator + Copy>(
+    inner: &mut Inner<L, E, I, A>,
 ) -> bool
     ensures yes { result ≡ true → PutsInOrder I.made inner.old inner.new }
     ensures no { result ≡ false → Halts I.made inner.old inner.new ⊎ TidiesBy I.made (2 ^ 64 - 1) inner.old inner.new }
@@ -81,8 +80,8 @@ fn put_in_order<L: Ledger, M: Map + Drop, I: Image, A: Allocator + Copy>(
 }
 
 /// Gives the next thin page one more copy.
-fn rebuild_next<L: Ledger, M: Map + Drop, I: Image, A: Allocator + Copy>(
-    inner: &mut Inner<L, M, I, A>,
+fn rebuild_next<L: Ledger, E: Events<A>, I: Image, A: Allocator + Copy>(
+    inner: &mut Inner<L, E, I, A>,
 ) -> Rebuilt
     ensures { Rebuilds I.made result inner.old inner.new }
 {
@@ -102,8 +101,8 @@ fn rebuild_next<L: Ledger, M: Map + Drop, I: Image, A: Allocator + Copy>(
 }
 
 /// A batch of the page alone, if it is admitted.
-fn ask<L: Ledger, M: Map + Drop, I: Image, A: Allocator + Copy>(
-    inner: &mut Inner<L, M, I, A>,
+fn ask<L: Ledger, E: Events<A>, I: Image, A: Allocator + Copy>(
+    inner: &mut Inner<L, E, I, A>,
     page: Page,
 ) -> Option<BatchId>
     requires page { is_page inner.old.locked.core page.0 ≡ true }
@@ -130,8 +129,8 @@ fn batch_of<A: Allocator>(answer: Result<Admitted<A>, AdmitRefused>) -> Option<B
 }
 
 /// What the batch gave, which is ended.
-fn end<L: Ledger, M: Map + Drop, I: Image, A: Allocator + Copy>(
-    inner: &mut Inner<L, M, I, A>,
+fn end<L: Ledger, E: Events<A>, I: Image, A: Allocator + Copy>(
+    inner: &mut Inner<L, E, I, A>,
     batch: BatchId,
 ) -> Vec<(Page, Vec<u8, A>), A>
     requires { batch_open inner.old.locked.core batch.0 ≡ true }
@@ -144,8 +143,8 @@ fn end<L: Ledger, M: Map + Drop, I: Image, A: Allocator + Copy>(
 }
 
 /// The next thin page that has a place to go.
-fn find_thin<L: Ledger, M: Map + Drop, A: Allocator + Copy>(
-    locked: &Locked<L, M, A>,
+fn find_thin<L: Ledger, E: Events<A>, A: Allocator + Copy>(
+    locked: &Locked<L, E, A>,
 ) -> Option<ThinPage>
     ensures page { IfSome result (λ thin. is_page locked.now.core thin.page.0 ≡ true) }
     ensures number { IfSome result (λ thin. option_map (λ version. version.seq) (get locked.now.core.page_map.versions thin.page.0)
@@ -164,8 +163,8 @@ fn find_thin<L: Ledger, M: Map + Drop, A: Allocator + Copy>(
 }
 
 /// Makes the reads of a batch, and tells how it stands then.
-fn wait_for<L: Ledger, M: Map + Drop, I: Image, A: Allocator + Copy>(
-    inner: &mut Inner<L, M, I, A>,
+fn wait_for<L: Ledger, E: Events<A>, I: Image, A: Allocator + Copy>(
+    inner: &mut Inner<L, E, I, A>,
     batch: BatchId,
 ) -> ReadState
     ensures waits { (looks : ℕ) × (AwaitsBatch I.made batch.0 looks inner.old inner.new × (result ≡ ReadState.Waiting
@@ -186,8 +185,8 @@ fn wait_for<L: Ledger, M: Map + Drop, I: Image, A: Allocator + Copy>(
 }
 
 /// Makes a copy of what was read of a page. Where the page has become lost or whole meanwhile, or has another number, that is none.
-fn copy<L: Ledger, M: Map + Drop, I: Image, A: Allocator + Copy>(
-    inner: &mut Inner<L, M, I, A>,
+fn copy<L: Ledger, E: Events<A>, I: Image, A: Allocator + Copy>(
+    inner: &mut Inner<L, E, I, A>,
     thin: ThinPage,
     answers: Vec<(Page, Vec<u8, A>), A>,
 ) -> Rebuilt
@@ -226,8 +225,8 @@ fn after_refusal(refused: ReserveCopyRefused) -> Rebuilt
 }
 
 /// Reserves a slot for a copy of what was answered last, and tells the answer. None where it was not asked for.
-fn reserve_last<L: Ledger, M: Map + Drop, I: Image, A: Allocator + Copy>(
-    inner: &mut Inner<L, M, I, A>,
+fn reserve_last<L: Ledger, E: Events<A>, I: Image, A: Allocator + Copy>(
+    inner: &mut Inner<L, E, I, A>,
     thin: ThinPage,
     answers: Vec<(Page, Vec<u8, A>), A>,
 ) -> Option<Result<(), ReserveCopyRefused>>
@@ -246,8 +245,8 @@ fn reserve_last<L: Ledger, M: Map + Drop, I: Image, A: Allocator + Copy>(
 }
 
 /// Reserves a slot for the copy, and tells the answer. None where these are no bytes of a page.
-fn reserve<L: Ledger, M: Map + Drop, I: Image, A: Allocator + Copy>(
-    inner: &mut Inner<L, M, I, A>,
+fn reserve<L: Ledger, E: Events<A>, I: Image, A: Allocator + Copy>(
+    inner: &mut Inner<L, E, I, A>,
     thin: ThinPage,
     payload: &Payload<A>,
 ) -> Option<Result<(), ReserveCopyRefused>>
@@ -259,8 +258,8 @@ fn reserve<L: Ledger, M: Map + Drop, I: Image, A: Allocator + Copy>(
 }
 
 /// Makes the program of the copy that is under way, and ends it. Whether it ended.
-fn see_through<L: Ledger, M: Map + Drop, I: Image, A: Allocator + Copy>(
-    inner: &mut Inner<L, M, I, A>,
+fn see_through<L: Ledger, E: Events<A>, I: Image, A: Allocator + Copy>(
+    inner: &mut Inner<L, E, I, A>,
 ) -> bool
     ensures { (settled : SettlesCopy I.made inner.old inner.new) × (result ≡ false → 2 ^ 64 - 1 ≤ looks_of I.made inner.old.locked.number
         inner.old.dies.items (number_of inner.old.seat) (house_of inner.old) (house_of inner.new) settled.settles) }

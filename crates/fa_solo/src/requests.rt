@@ -2,7 +2,6 @@
 ghost use Rattle.std.specs.Prelude.{◌≡◌, ◌+◌, ◌-◌, ◌^◌, ◌≤◌, ℕ, IsTrue, List, [], length, is_ok, true, false, IfOk, IfErr, IfSome, Some};
 ghost use Rattle.std.specs.Prelude.{None};
 ghost use Rattle.fa_shared_request.specs.Counts.{IsMade};
-ghost use Rattle.fa_core.specs.Array.{state_of};
 ghost use Rattle.fa_machine.specs.Reading.{is_late as rule_late};
 ghost use Rattle.fa_shared_request.specs.Ops.{answer_of, ended, stage_of, task_in};
 ghost use Rattle.fa_shared_request.specs.Tallies.{pages_in};
@@ -18,10 +17,9 @@ ghost use Rattle.fa_types.specs.declared.blocks.BlockFault.TheVariants.{Lost, No
 
 use crate::collecting::{Windows, give_windows};
 use crate::jobs::{bring_in, work, work_for};
-use fa_core::Array;
+use fa_core_calls::{Events, Looks};
 use fa_image::Image;
 use fa_machine::{BatchId, WindowRefused};
-use fa_map_calls::Map;
 use fa_shared_lock::Awaits;
 use fa_shared_request::Op;
 use fa_shared_steps::Request;
@@ -35,8 +33,8 @@ use std::sync::ledger::Ledger;
 const LAST_ROUND: u64 = (1 << 56) - (1 << 24);
 
 /// A request that answers no bytes.
-pub(crate) fn run<L: Ledger, M: Map + Drop, I: Image, A: Allocator + Copy>(
-    inner: &mut Inner<L, M, I, A>,
+pub(crate) fn run<L: Ledger, E: Events<A>, I: Image, A: Allocator + Copy>(
+    inner: &mut Inner<L, E, I, A>,
     page_bytes: u32,
     request: Request,
     bytes: &[u8],
@@ -59,8 +57,8 @@ pub(crate) fn run<L: Ledger, M: Map + Drop, I: Image, A: Allocator + Copy>(
 }
 
 /// A read. It is never refused for want of room.
-pub(crate) fn run_read<L: Ledger, M: Map + Drop, I: Image, A: Allocator + Copy, B: Allocator>(
-    inner: &mut Inner<L, M, I, A>,
+pub(crate) fn run_read<L: Ledger, E: Events<A>, I: Image, A: Allocator + Copy, B: Allocator>(
+    inner: &mut Inner<L, E, I, A>,
     page_bytes: u32,
     offset: u64,
     len: u64,
@@ -116,8 +114,8 @@ fn of_read(fault: BlockFault) -> BlockFault
 }
 
 /// Goes on with a request until it has ended, and tells how. None where it has not ended within 2^64 - 1 turns.
-fn finish<L: Ledger, M: Map + Drop, I: Image, A: Allocator + Copy, B: Allocator>(
-    inner: &mut Inner<L, M, I, A>,
+fn finish<L: Ledger, E: Events<A>, I: Image, A: Allocator + Copy, B: Allocator>(
+    inner: &mut Inner<L, E, I, A>,
     op: &mut Op<A, B>,
     bytes: &[u8],
 ) -> Option<Option<BlockFault>>
@@ -135,8 +133,8 @@ fn finish<L: Ledger, M: Map + Drop, I: Image, A: Allocator + Copy, B: Allocator>
 }
 
 /// A turn of a request. Where it comes to waiting, what there is to be done for dies is made.
-fn step<L: Ledger, M: Map + Drop, I: Image, A: Allocator + Copy, B: Allocator>(
-    inner: &mut Inner<L, M, I, A>,
+fn step<L: Ledger, E: Events<A>, I: Image, A: Allocator + Copy, B: Allocator>(
+    inner: &mut Inner<L, E, I, A>,
     op: &mut Op<A, B>,
 )
     ensures { (bytes : List ℕ) → (runs : RunsOn I.made bytes inner.old op.old inner.new op.new) × (1 ≤ runs.turns) }
@@ -150,8 +148,8 @@ fn step<L: Ledger, M: Map + Drop, I: Image, A: Allocator + Copy, B: Allocator>(
 
 /// Has dies collected that have no room, where the request is about to reserve and its page's copies belong on such a die. Where that gives
 /// none the request reserves at once.
-fn wait_for_home<L: Ledger, M: Map + Drop, I: Image, A: Allocator + Copy, B: Allocator>(
-    inner: &mut Inner<L, M, I, A>,
+fn wait_for_home<L: Ledger, E: Events<A>, I: Image, A: Allocator + Copy, B: Allocator>(
+    inner: &mut Inner<L, E, I, A>,
     op: &Op<A, B>,
 )
     ensures { (bytes : List ℕ) → RunsOn I.made bytes inner.old op.now inner.new op.now }
@@ -166,8 +164,8 @@ fn wait_for_home<L: Ledger, M: Map + Drop, I: Image, A: Allocator + Copy, B: All
 }
 
 /// The same for a request that may have to wait.
-fn collect_home<L: Ledger, M: Map + Drop, I: Image, A: Allocator + Copy, B: Allocator>(
-    inner: &mut Inner<L, M, I, A>,
+fn collect_home<L: Ledger, E: Events<A>, I: Image, A: Allocator + Copy, B: Allocator>(
+    inner: &mut Inner<L, E, I, A>,
     op: &Op<A, B>,
 )
     ensures { Does I.made (IsMeanwhile false) inner.old inner.new }
@@ -183,8 +181,8 @@ fn collect_home<L: Ledger, M: Map + Drop, I: Image, A: Allocator + Copy, B: Allo
 }
 
 /// Gives windows to dies without room, and makes what there is to be done then. Whether a die may get room that the request waits for.
-fn collect_more<L: Ledger, M: Map + Drop, I: Image, A: Allocator + Copy, B: Allocator>(
-    inner: &mut Inner<L, M, I, A>,
+fn collect_more<L: Ledger, E: Events<A>, I: Image, A: Allocator + Copy, B: Allocator>(
+    inner: &mut Inner<L, E, I, A>,
     op: &Op<A, B>,
 ) -> bool
     ensures { Does I.made (IsMeanwhile false) inner.old inner.new }
@@ -197,8 +195,8 @@ fn collect_more<L: Ledger, M: Map + Drop, I: Image, A: Allocator + Copy, B: Allo
 }
 
 /// A turn of a request. What its last batch handed out is given back first.
-fn turn<L: Ledger, M: Map + Drop, I: Image, A: Allocator + Copy, B: Allocator>(
-    inner: &mut Inner<L, M, I, A>,
+fn turn<L: Ledger, E: Events<A>, I: Image, A: Allocator + Copy, B: Allocator>(
+    inner: &mut Inner<L, E, I, A>,
     op: &mut Op<A, B>,
 ) -> Turn
     ensures { (bytes : List ℕ) → (runs : RunsOn I.made bytes inner.old op.old inner.new op.new) × (1 ≤ runs.turns) }
@@ -209,8 +207,8 @@ fn turn<L: Ledger, M: Map + Drop, I: Image, A: Allocator + Copy, B: Allocator>(
 
 /// Makes what there is to be done for dies, where the request may have to wait. Where there is nothing, and it wants room, dies without
 /// room are collected.
-fn pass_time<L: Ledger, M: Map + Drop, I: Image, A: Allocator + Copy, B: Allocator>(
-    inner: &mut Inner<L, M, I, A>,
+fn pass_time<L: Ledger, E: Events<A>, I: Image, A: Allocator + Copy, B: Allocator>(
+    inner: &mut Inner<L, E, I, A>,
     op: &mut Op<A, B>,
 )
     ensures { (bytes : List ℕ) → RunsOn I.made bytes inner.old op.old inner.new op.new }
@@ -232,9 +230,9 @@ fn pass_time<L: Ledger, M: Map + Drop, I: Image, A: Allocator + Copy, B: Allocat
 }
 
 /// The batch that a request waits for, if it waits for one.
-fn batch_of<L: Ledger, M: Map + Drop, I: Image, A: Allocator + Copy, B: Allocator>(
+fn batch_of<L: Ledger, E: Events<A>, I: Image, A: Allocator + Copy, B: Allocator>(
     op: &Op<A, B>,
-    inner: &Inner<L, M, I, A>,
+    inner: &Inner<L, E, I, A>,
 ) -> Option<BatchId> {
     match op.awaits(&inner.locked) {
         Awaits::Batch(batch) => Some(batch),
@@ -243,8 +241,8 @@ fn batch_of<L: Ledger, M: Map + Drop, I: Image, A: Allocator + Copy, B: Allocato
 }
 
 /// Makes what there is to be done for dies. Behind jobs a spare is brought in, where one is wanted. Whether anything was done.
-fn work_at_once<L: Ledger, M: Map + Drop, I: Image, A: Allocator + Copy>(
-    inner: &mut Inner<L, M, I, A>,
+fn work_at_once<L: Ledger, E: Events<A>, I: Image, A: Allocator + Copy>(
+    inner: &mut Inner<L, E, I, A>,
     batch: Option<BatchId>,
 ) -> bool
     ensures { Does I.made (IsMeanwhile false) inner.old inner.new }
@@ -255,8 +253,8 @@ fn work_at_once<L: Ledger, M: Map + Drop, I: Image, A: Allocator + Copy>(
 }
 
 /// Gives windows to dies without room, for a request that wants some. Where that is refused, so is the request.
-fn collect_for<L: Ledger, M: Map + Drop, I: Image, A: Allocator + Copy, B: Allocator>(
-    inner: &mut Inner<L, M, I, A>,
+fn collect_for<L: Ledger, E: Events<A>, I: Image, A: Allocator + Copy, B: Allocator>(
+    inner: &mut Inner<L, E, I, A>,
     op: &mut Op<A, B>,
 )
     requires waits { waits (stage_of op.old) ≡ true }
@@ -269,8 +267,8 @@ fn collect_for<L: Ledger, M: Map + Drop, I: Image, A: Allocator + Copy, B: Alloc
 }
 
 /// Gives windows to dies without room. Why a request is refused that waits for room, if none was given.
-fn give_room<L: Ledger, M: Map + Drop, I: Image, A: Allocator + Copy>(
-    inner: &mut Inner<L, M, I, A>,
+fn give_room<L: Ledger, E: Events<A>, I: Image, A: Allocator + Copy>(
+    inner: &mut Inner<L, E, I, A>,
 ) -> Option<BlockFault>
     ensures does { Does I.made IsForDies inner.old inner.new }
     ensures cause { IfSome result (λ fault. HasNoWindow inner.new.locked.core fault) }
@@ -289,8 +287,8 @@ fn give_room<L: Ledger, M: Map + Drop, I: Image, A: Allocator + Copy>(
 }
 
 /// Whether so few rounds are left that no window is given.
-fn is_late<M: Map, A: Allocator + Copy>(array: &Array<M, A>) -> bool
-    ensures { result ≡ rule_late (state_of M.view array.now).calendar }
+fn is_late<E: Looks>(array: &E) -> bool
+    ensures { result ≡ rule_late (E.core array.now).calendar }
 {
     LAST_ROUND < array.now().0
 }

@@ -1,13 +1,12 @@
 //! The store of one thread.
 ghost use Rattle.std.specs.Prelude.{◌≡◌, ◌*◌, ◌^◌, ◌≤◌, IfErr, IfOk};
-ghost use Rattle.fa_core.specs.Array.{IsWhole, number_of as array_number};
 ghost use Rattle.fa_faults.specs.Faults.{faults_of};
 ghost use Rattle.fa_solo_job.specs.Inner.{house_in, house_of};
 
 use crate::whole::{call, call_flush, call_read};
+use fa_core_calls::Events;
 use fa_faults::Fault;
 use fa_image::Image;
-use fa_map_calls::Map;
 use fa_shared_steps::Request;
 use fa_solo_job::{Inner, Parts};
 use fa_types::{BlockFault, Blocks, Geometry, Round};
@@ -17,8 +16,8 @@ use std::sync::ledger::{Blank, Ledger};
 /// A block store over an array that nobody else uses, and over its images. All is done within its calls, by the thread that makes them:
 /// the jobs of dies, the windows of the collector, spares, and copies of thin pages.
 #[derive(Drop)]
-pub struct Solo<L: Ledger, M: Map + Drop, I: Image, A: Allocator + Copy = Global> {
-    inner: Inner<L, M, I, A>,
+pub struct Solo<L: Ledger, E: Events<A>, I: Image, A: Allocator + Copy = Global> {
+    inner: Inner<L, E, I, A>,
     bytes: u64,
     page_bytes: u32,
     ghost some_bytes: { 1 ≤ page_bytes },
@@ -26,29 +25,29 @@ pub struct Solo<L: Ledger, M: Map + Drop, I: Image, A: Allocator + Copy = Global
     ghost few_bytes: { bytes ≤ 4294967296 },
 }
 
-impl<L: Ledger, M: Map + Drop, I: Image, A: Allocator + Copy> Solo<L, M, I, A> {
+impl<L: Ledger, E: Events<A>, I: Image, A: Allocator + Copy> Solo<L, E, I, A> {
     /// The store of an array over the images from which it was mounted, with a ledger of 257 parts that nothing else names. No job, claim,
     /// batch or copy of the array is open. A window of the collector has so many rounds, 1 to 64. Where memory is refused the array and the
     /// images are handed back.
     pub fn new(
         alloc: A,
         blank: Blank,
-        parts: Parts<M, I, A>,
+        parts: Parts<E, I, A>,
         window_rounds: u64,
-    ) -> Result<Solo<L, M, I, A>, Parts<M, I, A>>
+    ) -> Result<Solo<L, E, I, A>, Parts<E, I, A>>
         requires name { blank.name ≡ L.name }
         requires parts { (blank.parts ≡ L.parts) × (blank.parts ≡ 257) }
-        requires whole { IsWhole M.view parts.mounted.array }
+        requires whole { E.whole parts.array }
         requires window { (1 ≤ window_rounds) × (window_rounds ≤ 64) }
-        ensures house { IfOk result (λ store. house_of store.inner ≡ house_in M.view parts) }
-        ensures number { IfOk result (λ store. store.inner.locked.number ≡ array_number parts.mounted.array) }
-        ensures dies { IfOk result (λ store. store.inner.dies ≡ parts.mounted.dies) }
+        ensures house { IfOk result (λ store. house_of store.inner ≡ house_in E.core parts) }
+        ensures number { IfOk result (λ store. store.inner.locked.number ≡ E.number parts.array) }
+        ensures dies { IfOk result (λ store. store.inner.dies ≡ parts.dies) }
         ensures bytes { IfOk result (λ store. store.bytes ≡ store.inner.locked.core.page_map.geometry.pages
             * store.inner.locked.core.page_map.geometry.page_bytes) }
         ensures page { IfOk result (λ store. store.page_bytes ≡ store.inner.locked.core.page_map.geometry.page_bytes) }
         ensures refused { IfErr result (λ back. back ≡ parts) }
     {
-        let (bytes, page_bytes) = store_bytes(parts.mounted.array.geometry());
+        let (bytes, page_bytes) = store_bytes(parts.array.geometry());
         match Inner::new(alloc, blank, parts, window_rounds) {
             Ok(inner) => Ok(Solo {
                 inner,
@@ -60,11 +59,11 @@ impl<L: Ledger, M: Map + Drop, I: Image, A: Allocator + Copy> Solo<L, M, I, A> {
     }
 
     /// The array and its images.
-    pub fn into_parts(self) -> Parts<M, I, A>
-        ensures whole { IsWhole M.view result.mounted.array }
-        ensures house { house_in M.view result ≡ house_of self.inner }
-        ensures number { array_number result.mounted.array ≡ self.inner.locked.number }
-        ensures dies { result.mounted.dies ≡ self.inner.dies }
+    pub fn into_parts(self) -> Parts<E, I, A>
+        ensures whole { E.whole result.array }
+        ensures house { house_in E.core result ≡ house_of self.inner }
+        ensures number { E.number result.array ≡ self.inner.locked.number }
+        ensures dies { result.dies ≡ self.inner.dies }
     {
         let Solo { inner, .. } = self;
         inner.into_parts()
@@ -97,7 +96,7 @@ fn store_bytes(geometry: Geometry) -> (u64, u32)
     (bytes, geometry.page_bytes)
 }
 
-impl<L: Ledger, M: Map + Drop, I: Image, A: Allocator + Copy> Blocks for Solo<L, M, I, A> {
+impl<L: Ledger, E: Events<A>, I: Image, A: Allocator + Copy> Blocks for Solo<L, E, I, A> {
     ghost use Rattle.fa_shared_request.specs.SharedStore.{shared_meets, shared_view, shared_whole};
     ghost use Rattle.fa_solo.specs.Stores.{StoreMakes};
 

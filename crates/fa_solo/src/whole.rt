@@ -14,8 +14,8 @@ ghost use Rattle.fa_types.specs.declared.blocks.BlockFault.TheVariants.{NoMemory
 use crate::jobs::bring_in;
 use crate::rebuilding::tidy;
 use crate::requests::{run, run_read};
+use fa_core_calls::Events;
 use fa_image::Image;
-use fa_map_calls::Map;
 use fa_shared_steps::Request;
 use fa_solo_job::Inner;
 use fa_types::BlockFault;
@@ -23,8 +23,8 @@ use std::alloc::Allocator;
 use std::sync::ledger::Ledger;
 
 /// A call that answers no bytes. Behind it all is done that the array wants, save where there was no room.
-pub(crate) fn call<L: Ledger, M: Map + Drop, I: Image, A: Allocator + Copy>(
-    inner: &mut Inner<L, M, I, A>,
+pub(crate) fn call<L: Ledger, E: Events<A>, I: Image, A: Allocator + Copy>(
+    inner: &mut Inner<L, E, I, A>,
     page_bytes: u32,
     request: Request,
     bytes: &[u8],
@@ -44,8 +44,8 @@ pub(crate) fn call<L: Ledger, M: Map + Drop, I: Image, A: Allocator + Copy>(
 }
 
 /// A read. Behind it all is done that the array wants.
-pub(crate) fn call_read<L: Ledger, M: Map + Drop, I: Image, A: Allocator + Copy, B: Allocator>(
-    inner: &mut Inner<L, M, I, A>,
+pub(crate) fn call_read<L: Ledger, E: Events<A>, I: Image, A: Allocator + Copy, B: Allocator>(
+    inner: &mut Inner<L, E, I, A>,
     page_bytes: u32,
     offset: u64,
     len: u64,
@@ -69,8 +69,8 @@ pub(crate) fn call_read<L: Ledger, M: Map + Drop, I: Image, A: Allocator + Copy,
 }
 
 /// A flush. Behind it all is done that the array wants. It is never refused for want of room or memory.
-pub(crate) fn call_flush<L: Ledger, M: Map + Drop, I: Image, A: Allocator + Copy>(
-    inner: &mut Inner<L, M, I, A>,
+pub(crate) fn call_flush<L: Ledger, E: Events<A>, I: Image, A: Allocator + Copy>(
+    inner: &mut Inner<L, E, I, A>,
     page_bytes: u32,
 ) -> Result<(), BlockFault>
     requires some { 1 ≤ page_bytes }
@@ -87,8 +87,8 @@ pub(crate) fn call_flush<L: Ledger, M: Map + Drop, I: Image, A: Allocator + Copy
 }
 
 /// The request of a flush. It is never refused for want of room or memory.
-fn run_flush<L: Ledger, M: Map + Drop, I: Image, A: Allocator + Copy>(
-    inner: &mut Inner<L, M, I, A>,
+fn run_flush<L: Ledger, E: Events<A>, I: Image, A: Allocator + Copy>(
+    inner: &mut Inner<L, E, I, A>,
     page_bytes: u32,
 ) -> Result<(), BlockFault>
     requires some { 1 ≤ page_bytes }
@@ -126,8 +126,8 @@ fn has_no_room(answer: Result<(), BlockFault>) -> bool
 }
 
 /// Does what the array wants, unless there was no room.
-fn tidy_unless<L: Ledger, M: Map + Drop, I: Image, A: Allocator + Copy>(
-    inner: &mut Inner<L, M, I, A>,
+fn tidy_unless<L: Ledger, E: Events<A>, I: Image, A: Allocator + Copy>(
+    inner: &mut Inner<L, E, I, A>,
     is_full: bool,
 )
     ensures tidies { (tidies : Tidies I.made inner.old inner.new)

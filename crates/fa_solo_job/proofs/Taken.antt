@@ -19,7 +19,7 @@ use Rattle.fa_shared_lock.proofs.Holds.{join_rest}
 use Rattle.fa_solo_job.specs.Deeds.{IsForDies, Runs, Stays}
 use Rattle.fa_solo_job.specs.Inner.{Does, EndsAt, house_of}
 use Rattle.fa_solo_job.specs.declared.inner.Inner.{Inner}
-use Rattle.fa_core_dispatch.specs.Fits.{IsJobFor}
+use Rattle.fa_core_outcome.specs.Fits.{IsJobFor}
 use Rattle.fa_types.specs.declared.geometry.Geometry.{Geometry}
 use Rattle.fa_shared_lock.specs.Rest.{LeavesRest}
 use Rattle.fa_jobs.specs.Made.{Ran}

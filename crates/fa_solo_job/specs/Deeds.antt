@@ -15,7 +15,7 @@ use Rattle.fa_machine.specs.Taking.{Handed}
 use Rattle.fa_machine.specs.declared.answers.ReadState.TheVariants.{Waiting}
 use Rattle.fa_mount.specs.Standings.{place_on}
 use Rattle.fa_solo_job.specs.House.{House}
-use Rattle.fa_core_dispatch.specs.Fits.{IsJobFor}
+use Rattle.fa_core_outcome.specs.Fits.{IsJobFor}
 use Rattle.fa_jobs.specs.Made.{Ran}
 use Rattle.fa_shared.specs.Spares.{wants_spare}
 

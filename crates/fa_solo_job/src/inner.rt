@@ -1,12 +1,10 @@
 //! What a store of one thread owns.
 ghost use Rattle.std.specs.Prelude.{◌≡◌, ◌+◌, true, IfErr, IfOk, length};
-ghost use Rattle.fa_core.specs.Array.{IsWhole, number_of as array_number, state_of};
 ghost use Rattle.fa_mount.specs.Standings.{place_on};
 
+use fa_core_calls::Events;
 use fa_faults::Faults;
 use fa_image::Image;
-use fa_map_calls::Map;
-use fa_mount::MountedArray;
 use fa_mount_headers::{Standing, place_of};
 use fa_shared_lock::{Locked, Seat};
 use fa_types::{Die, Geometry, TAG_BYTES};
@@ -15,20 +13,22 @@ use std::sync::ledger::{Blank, Ledger};
 
 /// An array with the images that it was mounted from, in their order.
 #[derive(Drop)]
-pub struct Parts<M: Map + Drop, I: Image, A: Allocator = Global> {
-    /// The array, with the places of its dies' images in the list.
-    pub mounted: MountedArray<M, A>,
+pub struct Parts<E: Events<A>, I: Image, A: Allocator + Copy = Global> {
+    /// The array.
+    pub array: E,
+    /// The places of its dies' images in the list.
+    pub dies: Vec<Standing, A>,
     /// The images.
     pub images: Vec<I, A>,
 }
 
 /// An array that nobody else uses, with its images and what their jobs want.
 #[derive(Drop)]
-pub struct Inner<L: Ledger, M: Map + Drop, I: Image, A: Allocator + Copy> {
+pub struct Inner<L: Ledger, E: Events<A>, I: Image, A: Allocator + Copy> {
     /// Where memory for requests comes from.
     pub alloc: A,
     /// The array.
-    pub locked: Locked<L, M, A>,
+    pub locked: Locked<L, E, A>,
     /// The one seat of the array.
     pub seat: Seat<L>,
     /// The places of the dies' images.
@@ -53,7 +53,7 @@ struct Memory<A: Allocator> {
     faults: Faults<A>,
 }
 
-impl<L: Ledger, M: Map + Drop, I: Image, A: Allocator + Copy> Inner<L, M, I, A> {
+impl<L: Ledger, E: Events<A>, I: Image, A: Allocator + Copy> Inner<L, E, I, A> {
     ghost use Rattle.std.specs.Prelude.{◌≡◌, IfSome};
     ghost use Rattle.fa_solo_job.specs.Inner.{IsPlaced};
 
@@ -61,21 +61,24 @@ impl<L: Ledger, M: Map + Drop, I: Image, A: Allocator + Copy> Inner<L, M, I, A> 
     pub fn new(
         alloc: A,
         blank: Blank,
-        parts: Parts<M, I, A>,
+        parts: Parts<E, I, A>,
         window_rounds: u64,
-    ) -> Result<Inner<L, M, I, A>, Parts<M, I, A>>
+    ) -> Result<Inner<L, E, I, A>, Parts<E, I, A>>
         requires name { blank.name ≡ L.name }
         requires parts { (blank.parts ≡ L.parts) × (blank.parts ≡ 257) }
-        requires whole { IsWhole M.view parts.mounted.array }
-        ensures core { IfOk result (λ inner. inner.locked.core ≡ state_of M.view parts.mounted.array) }
-        ensures number { IfOk result (λ inner. inner.locked.number ≡ array_number parts.mounted.array) }
-        ensures dies { IfOk result (λ inner. inner.dies ≡ parts.mounted.dies) }
+        requires whole { E.whole parts.array }
+        ensures core { IfOk result (λ inner. inner.locked.core ≡ E.core parts.array) }
+        ensures number { IfOk result (λ inner. inner.locked.number ≡ E.number parts.array) }
+        ensures dies { IfOk result (λ inner. inner.dies ≡ parts.dies) }
         ensures images { IfOk result (λ inner. inner.images ≡ parts.images) }
         ensures rounds { IfOk result (λ inner. inner.window_rounds ≡ window_rounds) }
         ensures refused { IfErr result (λ back. back ≡ parts) }
     {
-        let Parts { mounted, images } = parts;
-        let MountedArray { array, dies } = mounted;
+        let Parts {
+            array,
+            dies,
+            images,
+        } = parts;
         let Ok(
             Memory {
                 scratch,
@@ -85,7 +88,8 @@ impl<L: Ledger, M: Map + Drop, I: Image, A: Allocator + Copy> Inner<L, M, I, A> 
         ) = memory_for(alloc, array.geometry().page_bytes)
         else {
             return Err(Parts {
-                mounted: MountedArray { array, dies },
+                array,
+                dies,
                 images,
             });
         };
@@ -103,18 +107,19 @@ impl<L: Ledger, M: Map + Drop, I: Image, A: Allocator + Copy> Inner<L, M, I, A> 
                 window_rounds,
             )),
             Err(array) => Err(Parts {
-                mounted: MountedArray { array, dies },
+                array,
+                dies,
                 images,
             }),
         }
     }
 
     /// The array and its images.
-    pub fn into_parts(self) -> Parts<M, I, A>
-        ensures core { state_of M.view result.mounted.array ≡ self.locked.core }
-        ensures number { array_number result.mounted.array ≡ self.locked.number }
-        ensures whole { IsWhole M.view result.mounted.array }
-        ensures dies { result.mounted.dies ≡ self.dies }
+    pub fn into_parts(self) -> Parts<E, I, A>
+        ensures core { E.core result.array ≡ self.locked.core }
+        ensures number { E.number result.array ≡ self.locked.number }
+        ensures whole { E.whole result.array }
+        ensures dies { result.dies ≡ self.dies }
         ensures images { result.images ≡ self.images }
     {
         let Inner {
@@ -124,10 +129,8 @@ impl<L: Ledger, M: Map + Drop, I: Image, A: Allocator + Copy> Inner<L, M, I, A> 
             ..
         } = self;
         Parts {
-            mounted: MountedArray {
-                array: locked.into_array(),
-                dies,
-            },
+            array: locked.into_array(),
+            dies,
             images,
         }
     }
@@ -172,14 +175,14 @@ fn place_at(dies: &[Standing], die: usize) -> Option<usize>
 }
 
 /// Takes the one seat of an array that is locked for one thread.
-fn seated<L: Ledger, M: Map + Drop, I: Image, A: Allocator + Copy>(
+fn seated<L: Ledger, E: Events<A>, I: Image, A: Allocator + Copy>(
     alloc: A,
-    locked: Locked<L, M, A>,
+    locked: Locked<L, E, A>,
     dies: Vec<Standing, A>,
     images: Vec<I, A>,
     memory: Memory<A>,
     window_rounds: u64,
-) -> Inner<L, M, I, A>
+) -> Inner<L, E, I, A>
     requires { locked.out ≡ 0 }
     ensures core { result.locked.core ≡ locked.core }
     ensures number { result.locked.number ≡ locked.number }

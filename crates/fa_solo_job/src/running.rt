@@ -6,17 +6,16 @@ ghost use Rattle.fa_machine.specs.Conditions.{history_full};
 ghost use Rattle.fa_machine.specs.Step.{is_die};
 ghost use Rattle.fa_solo_job.specs.Deeds.{IsForDies};
 ghost use Rattle.fa_solo_job.specs.Inner.{Does, EndsAt, HasMemory, IsPlaced, RanAt};
-ghost use Rattle.fa_core_dispatch.specs.Fits.{IsJobFor};
-ghost use Rattle.fa_core_dispatch.specs.Handed.{handed_of};
+ghost use Rattle.fa_core_outcome.specs.Fits.{IsJobFor};
+ghost use Rattle.fa_core_outcome.specs.Handed.{handed_of};
 
 use crate::inner::Inner;
-use fa_core_dispatch::Job;
-use fa_core_outcome::Outcome;
+use fa_core_calls::Events;
+use fa_core_outcome::{Job, Outcome};
 use fa_faults::fault_of;
 use fa_image::Image;
 use fa_jobs::{Open, run_job};
 use fa_laws::steps::the_geometry_is_kept;
-use fa_map_calls::Map;
 use fa_shared::{done, take};
 use fa_shared_writing::make_room;
 use fa_types::{Die, TAG_BYTES};
@@ -25,8 +24,8 @@ use std::mem::replace;
 use std::sync::ledger::Ledger;
 
 /// Takes the next job of a die, if it has one, makes its calls on the die's image, and ends it. Whether the die had one.
-pub fn run_next<L: Ledger, M: Map + Drop, I: Image, A: Allocator + Copy>(
-    inner: &mut Inner<L, M, I, A>,
+pub fn run_next<L: Ledger, E: Events<A>, I: Image, A: Allocator + Copy>(
+    inner: &mut Inner<L, E, I, A>,
     die: Die,
 ) -> bool
     ensures { Does I.made IsForDies inner.old inner.new }
@@ -45,8 +44,8 @@ pub fn run_next<L: Ledger, M: Map + Drop, I: Image, A: Allocator + Copy>(
 }
 
 /// Whether the die is one of the array.
-fn is_of_array<L: Ledger, M: Map + Drop, I: Image, A: Allocator + Copy>(
-    inner: &Inner<L, M, I, A>,
+fn is_of_array<L: Ledger, E: Events<A>, I: Image, A: Allocator + Copy>(
+    inner: &Inner<L, E, I, A>,
     die: Die,
 ) -> bool
     ensures { result ≡ true → is_die inner.now.locked.core die.0 ≡ true }
@@ -55,8 +54,8 @@ fn is_of_array<L: Ledger, M: Map + Drop, I: Image, A: Allocator + Copy>(
 }
 
 /// Whether there is memory of the right sizes for a job's calls.
-fn has_memory<L: Ledger, M: Map + Drop, I: Image, A: Allocator + Copy>(
-    inner: &Inner<L, M, I, A>,
+fn has_memory<L: Ledger, E: Events<A>, I: Image, A: Allocator + Copy>(
+    inner: &Inner<L, E, I, A>,
 ) -> bool
     ensures scratch { result ≡ true → length inner.now.scratch.items ≡ inner.now.locked.core.page_map.geometry.page_bytes + 64 }
     ensures buffer { result ≡ true → length inner.now.buffer.items ≡ inner.now.locked.core.page_map.geometry.page_bytes }
@@ -72,7 +71,7 @@ fn has_memory<L: Ledger, M: Map + Drop, I: Image, A: Allocator + Copy>(
 }
 
 /// The history is folded, if it is full.
-fn fold_full<L: Ledger, M: Map + Drop, I: Image, A: Allocator + Copy>(inner: &mut Inner<L, M, I, A>)
+fn fold_full<L: Ledger, E: Events<A>, I: Image, A: Allocator + Copy>(inner: &mut Inner<L, E, I, A>)
     ensures does { Does I.made IsForDies inner.old inner.new }
     ensures room { history_full inner.new.locked.core ≡ false }
     ensures geometry { inner.new.locked.core.page_map.geometry ≡ inner.old.locked.core.page_map.geometry }
@@ -83,8 +82,8 @@ fn fold_full<L: Ledger, M: Map + Drop, I: Image, A: Allocator + Copy>(inner: &mu
 
 /// Takes the next job of a die, if it has one, and makes it on the image at this place. The history has room for it. Whether the die had
 /// one.
-fn run_here<L: Ledger, M: Map + Drop, I: Image, A: Allocator + Copy>(
-    inner: &mut Inner<L, M, I, A>,
+fn run_here<L: Ledger, E: Events<A>, I: Image, A: Allocator + Copy>(
+    inner: &mut Inner<L, E, I, A>,
     die: Die,
     place: usize,
 ) -> bool
@@ -105,8 +104,8 @@ fn run_here<L: Ledger, M: Map + Drop, I: Image, A: Allocator + Copy>(
 }
 
 /// Makes the calls of a job that was taken, ends it, and notes why its die went out, if it did.
-fn run_noted<L: Ledger, M: Map + Drop, I: Image, A: Allocator + Copy>(
-    inner: &mut Inner<L, M, I, A>,
+fn run_noted<L: Ledger, E: Events<A>, I: Image, A: Allocator + Copy>(
+    inner: &mut Inner<L, E, I, A>,
     die: Die,
     place: usize,
     job: &Job<A>,
@@ -123,8 +122,8 @@ fn run_noted<L: Ledger, M: Map + Drop, I: Image, A: Allocator + Copy>(
 }
 
 /// Makes the calls of a job that was taken, and ends it. How it ended.
-fn run_taken<L: Ledger, M: Map + Drop, I: Image, A: Allocator + Copy>(
-    inner: &mut Inner<L, M, I, A>,
+fn run_taken<L: Ledger, E: Events<A>, I: Image, A: Allocator + Copy>(
+    inner: &mut Inner<L, E, I, A>,
     die: Die,
     place: usize,
     job: &Job<A>,
@@ -151,8 +150,8 @@ fn run_taken<L: Ledger, M: Map + Drop, I: Image, A: Allocator + Copy>(
 }
 
 /// Notes why a die went out whose job ended so, if it was live and is out.
-fn note_fault<L: Ledger, M: Map + Drop, I: Image, A: Allocator + Copy>(
-    inner: &mut Inner<L, M, I, A>,
+fn note_fault<L: Ledger, E: Events<A>, I: Image, A: Allocator + Copy>(
+    inner: &mut Inner<L, E, I, A>,
     was_live: bool,
     die: Die,
     outcome: Outcome,
@@ -166,8 +165,8 @@ fn note_fault<L: Ledger, M: Map + Drop, I: Image, A: Allocator + Copy>(
 }
 
 /// Makes the calls of a job on an image.
-fn call_image<L: Ledger, M: Map + Drop, I: Image, A: Allocator + Copy>(
-    inner: &mut Inner<L, M, I, A>,
+fn call_image<L: Ledger, E: Events<A>, I: Image, A: Allocator + Copy>(
+    inner: &mut Inner<L, E, I, A>,
     die: Die,
     place: usize,
     job: &Job<A>,

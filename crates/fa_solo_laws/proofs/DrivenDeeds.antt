@@ -15,7 +15,7 @@ use Rattle.fa_solo_job.specs.Deeds.{Goes, IsForDies, IsForOrder, IsForRequests, 
 use Rattle.fa_solo_job.proofs.Chains.{awaits_goes, goes_more, goes_wider}
 use Rattle.fa_solo_job.specs.House.{House}
 use Rattle.fa_solo_job.specs.Orders.{Commits, Endless, IsOver, Looks, NoLook, OneMore, ReadsPage, Settles}
-use Rattle.fa_core_dispatch.specs.Fits.{IsJobFor}
+use Rattle.fa_core_outcome.specs.Fits.{IsJobFor}
 use Rattle.fa_types.specs.declared.geometry.Geometry.{Geometry}
 use Rattle.fa_jobs.specs.Made.{Ran}
 use Rattle.std.proofs.Common.{List, None, Ok, Err, Option, Some, [], ap, inl, inr, map, refl, slice_get, slice_set, subst, suc, sym, zero, ℕ}

@@ -28,7 +28,7 @@ use Rattle.fa_solo_job.specs.Deeds.{Goes, Makes, MakesJob, Runs, Stays}
 use Rattle.fa_solo_job.specs.House.{House}
 use Rattle.fa_solo_job.specs.Orders.{CopiesPage}
 use Rattle.fa_solo.specs.Turns.{Asking, Asks}
-use Rattle.fa_core_dispatch.specs.Fits.{IsJobFor}
+use Rattle.fa_core_outcome.specs.Fits.{IsJobFor}
 use Rattle.fa_types.specs.declared.geometry.Geometry.{Geometry}
 use Rattle.fa_jobs.specs.Made.{Ran}
 use Rattle.std.proofs.Common.{Bool, IsTrue, List, Some, [], ap, false, map, refl, subst, suc, sym, true, ℕ, ◌∙◌, ◌∷◌, ◌≡◌}

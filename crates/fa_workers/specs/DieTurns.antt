@@ -11,7 +11,7 @@ use Rattle.fa_machine.specs.declared.refusals.AdvanceRefused.{AdvanceRefused}
 use Rattle.fa_machine.specs.declared.refusals.AdvanceRefused.TheVariants.{Pending}
 use Rattle.fa_faults.specs.Causes.{fault_of}
 use Rattle.fa_faults.specs.declared.faults.Fault.{Fault}
-use Rattle.fa_core_dispatch.specs.Handed.{handed_of}
+use Rattle.fa_core_outcome.specs.Handed.{handed_of}
 use Rattle.fa_types.specs.declared.numbers.Die.{Die}
 use Rattle.fa_types.specs.declared.numbers.Round.{Round}
 use Rattle.fa_shared_lock.specs.Rest.{MakesFolded}

@@ -1,13 +1,11 @@
 //! The worker that gives dies their windows.
 ghost use Rattle.std.specs.Prelude.{◌≡◌, ◌<◌, false, if◌then◌else◌};
-ghost use Rattle.fa_core.specs.Array.{state_of};
-ghost use Rattle.fa_core.specs.Windows.{is_window_due};
+ghost use Rattle.fa_core_calls.specs.Windows.{is_window_due};
 ghost use Rattle.fa_shared_lock.specs.Rest.{LeavesRest};
 ghost use Rattle.fa_shared_lock.specs.declared.sleepers.Awaits.TheVariants.{Change, Window};
 ghost use Rattle.fa_workers.specs.Windows.{GivesWindow, GivesWindows};
 
-use fa_core::Array;
-use fa_map_calls::Map;
+use fa_core_calls::{Events, Looks};
 use fa_shared::{Shared, window};
 use fa_shared_lock::{Awaits, Locked, Seat};
 use fa_types::Die;
@@ -18,10 +16,10 @@ use std::time::Clock;
 
 /// Gives each live die that wants one a window of so many rounds, 1 to 64, until the array is to end. It sleeps
 /// behind each look at the dies until one wants a window; and where one was refused, until something has changed.
-pub fn collector_worker<R: Wait + Clock, L: Ledger, M: Map + Drop, A: Allocator + Copy>(
+pub fn collector_worker<R: Wait + Clock, L: Ledger, E: Events<A>, A: Allocator + Copy>(
     rt: &R,
     alloc: A,
-    shared: &Shared<L, M, A>,
+    shared: &Shared<L, E, A>,
     seat: &mut Seat<L>,
     window_rounds: u64,
 ) {
@@ -38,8 +36,8 @@ pub fn collector_worker<R: Wait + Clock, L: Ledger, M: Map + Drop, A: Allocator 
 }
 
 /// What the collector waits for behind a look: that a die wants a window, or any change, where one that wants it was refused.
-fn next_look<M: Map, A: Allocator + Clone>(array: &Array<M, A>) -> Awaits
-    ensures { result ≡ (if is_window_due (state_of M.view array.now) then Change else Window) }
+fn next_look<E: Looks>(array: &E) -> Awaits
+    ensures { result ≡ (if is_window_due (E.core array.now) then Change else Window) }
 {
     if array.is_window_due() {
         Awaits::Change
@@ -49,9 +47,9 @@ fn next_look<M: Map, A: Allocator + Clone>(array: &Array<M, A>) -> Awaits
 }
 
 /// A Window for each die that wants one. Whether one was accepted.
-fn give_windows<L: Ledger, M: Map + Drop, A: Allocator + Copy>(
+fn give_windows<L: Ledger, E: Events<A>, A: Allocator + Copy>(
     alloc: A,
-    locked: &mut Locked<L, M, A>,
+    locked: &mut Locked<L, E, A>,
     seat: &mut Seat<L>,
     rounds: u64,
 ) -> bool
@@ -69,9 +67,9 @@ fn give_windows<L: Ledger, M: Map + Drop, A: Allocator + Copy>(
 }
 
 /// A Window for a die whose last one has ended, if it wants another.
-pub(crate) fn give_next_window<L: Ledger, M: Map + Drop, A: Allocator + Copy>(
+pub(crate) fn give_next_window<L: Ledger, E: Events<A>, A: Allocator + Copy>(
     alloc: A,
-    locked: &mut Locked<L, M, A>,
+    locked: &mut Locked<L, E, A>,
     seat: &mut Seat<L>,
     die: Die,
     rounds: u64,
@@ -82,9 +80,9 @@ pub(crate) fn give_next_window<L: Ledger, M: Map + Drop, A: Allocator + Copy>(
 }
 
 /// A Window for a die, if it wants one. Whether it was accepted.
-fn give_window<L: Ledger, M: Map + Drop, A: Allocator + Copy>(
+fn give_window<L: Ledger, E: Events<A>, A: Allocator + Copy>(
     alloc: A,
-    locked: &mut Locked<L, M, A>,
+    locked: &mut Locked<L, E, A>,
     seat: &mut Seat<L>,
     die: Die,
     rounds: u64,

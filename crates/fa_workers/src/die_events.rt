@@ -4,18 +4,17 @@ ghost use Rattle.fa_machine.specs.Conditions.{history_full};
 ghost use Rattle.fa_machine.specs.Step.{Step, Take, is_die};
 ghost use Rattle.fa_shared_lock.specs.Only.{TakesJobs};
 ghost use Rattle.fa_shared_lock.specs.Seats.{number_of};
-ghost use Rattle.fa_core_dispatch.specs.Handed.{handed_of};
+ghost use Rattle.fa_core_outcome.specs.Handed.{handed_of};
 ghost use Rattle.fa_workers.specs.DieTurns.{Ends, Rests, TakesNext, Turns};
 ghost use Rattle.fa_workers.specs.DieTurns.{after_look as rule_look, noted};
 ghost use Rattle.fa_workers.specs.Held.{die_taken, order_in as rule_order};
 ghost use Rattle.fa_shared_lock.specs.Rest.{LeavesRest};
 
 use crate::order::{Order, order_of};
-use fa_core::Array;
+use fa_core_calls::{Events, Looks};
 use fa_core_outcome::Outcome;
 use fa_faults::{Fault, fault_of};
 use fa_machine::AdvanceRefused;
-use fa_map_calls::Map;
 use fa_shared::{advance, done, take};
 use fa_shared_lock::{Locked, Seat};
 use fa_shared_writing::make_room;
@@ -47,9 +46,9 @@ pub(crate) struct Ended<A: Allocator = Global> {
 ///
 /// A Take drops a booking that cannot be read, and then answers no job. The round was pending before and may be so no longer, and whoever
 /// waits for that read is to be told.
-pub(crate) fn turn<L: Ledger, M: Map + Drop, A: Allocator + Copy>(
+pub(crate) fn turn<L: Ledger, E: Events<A>, A: Allocator + Copy>(
     alloc: A,
-    locked: &mut Locked<L, M, A>,
+    locked: &mut Locked<L, E, A>,
     seat: &mut Seat<L>,
     die: Die,
 ) -> Next<A>
@@ -66,9 +65,9 @@ pub(crate) fn turn<L: Ledger, M: Map + Drop, A: Allocator + Copy>(
 }
 
 /// The next job of a die, if it has one that nobody is at.
-pub(crate) fn take_job<L: Ledger, M: Map + Drop, A: Allocator + Copy>(
+pub(crate) fn take_job<L: Ledger, E: Events<A>, A: Allocator + Copy>(
     alloc: A,
-    locked: &mut Locked<L, M, A>,
+    locked: &mut Locked<L, E, A>,
     seat: &mut Seat<L>,
     die: Die,
 ) -> Option<Order<A>>
@@ -95,14 +94,14 @@ fn order_in<A: Allocator>(next: Next<A>) -> Option<Order<A>>
 }
 
 /// Whether the die is one of the array and has a job that nobody is at.
-fn has_job<M: Map, A: Allocator + Copy>(array: &Array<M, A>, die: Die) -> bool {
+fn has_job<E: Looks>(array: &E, die: Die) -> bool {
     array.is_die(die) && array.has_job(die)
 }
 
 /// The die takes its next job, where the round was refused so.
-fn take_next<L: Ledger, M: Map + Drop, A: Allocator + Copy>(
+fn take_next<L: Ledger, E: Events<A>, A: Allocator + Copy>(
     alloc: A,
-    locked: &mut Locked<L, M, A>,
+    locked: &mut Locked<L, E, A>,
     seat: &mut Seat<L>,
     die: Die,
     refused: AdvanceRefused,
@@ -119,9 +118,9 @@ fn take_next<L: Ledger, M: Map + Drop, A: Allocator + Copy>(
 }
 
 /// The die has no job. Where the round was pending and is so no longer, a booking was dropped.
-fn rest<L: Ledger, M: Map + Drop, A: Allocator + Copy>(
+fn rest<L: Ledger, E: Events<A>, A: Allocator + Copy>(
     alloc: A,
-    locked: &mut Locked<L, M, A>,
+    locked: &mut Locked<L, E, A>,
     seat: &mut Seat<L>,
     refused: AdvanceRefused,
 ) -> Next<A>
@@ -146,9 +145,9 @@ fn after_look<A: Allocator>(answer: Result<Round, AdvanceRefused>) -> Next<A>
 }
 
 /// A Take of a die of the array, with all that its job's calls want. The history has room for it.
-fn take_order<L: Ledger, M: Map + Drop, A: Allocator + Copy>(
+fn take_order<L: Ledger, E: Events<A>, A: Allocator + Copy>(
     alloc: A,
-    locked: &mut Locked<L, M, A>,
+    locked: &mut Locked<L, E, A>,
     seat: &mut Seat<L>,
     die: Die,
 ) -> Option<Order<A>>
@@ -166,9 +165,9 @@ fn take_order<L: Ledger, M: Map + Drop, A: Allocator + Copy>(
 }
 
 /// A Done, with the buffer that has what a read gave.
-pub(crate) fn end_job<L: Ledger, M: Map + Drop, A: Allocator + Copy>(
+pub(crate) fn end_job<L: Ledger, E: Events<A>, A: Allocator + Copy>(
     alloc: A,
-    locked: &mut Locked<L, M, A>,
+    locked: &mut Locked<L, E, A>,
     seat: &mut Seat<L>,
     die: Die,
     outcome: Outcome,

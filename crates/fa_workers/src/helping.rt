@@ -12,11 +12,11 @@ use crate::bench::{Bench, MadeJob, Task};
 use crate::die_events::{Ended, end_job, take_job};
 use crate::image_table::ImageTable;
 use crate::job_memory::JobMemory;
+use fa_core_calls::Events;
 use fa_core_outcome::Outcome;
 use fa_faults::Fault;
 use fa_image::Image;
 use fa_jobs::{Gate, hand_over};
-use fa_map_calls::Map;
 use fa_shared::Shared;
 use fa_shared_lock::{Hands, Locked, Seat};
 use fa_tag::{Opened, open, open_all};
@@ -72,14 +72,14 @@ pub struct Helper<
     'a,
     R: Wait + Clock,
     L: Ledger,
-    M: Map + Drop,
+    E: Events<A>,
     A: Allocator + Copy,
     I: Image + Drop,
     G: Gate,
 > {
     rt: &'a R,
     alloc: A,
-    shared: &'a Shared<L, M, A>,
+    shared: &'a Shared<L, E, A>,
     image_table: &'a ImageTable<I, A>,
     gate: &'a G,
     memory: HelperMemory<A>,
@@ -91,20 +91,20 @@ impl<
     'a,
     R: Wait + Clock,
     L: Ledger,
-    M: Map + Drop,
+    E: Events<A>,
     A: Allocator + Copy,
     I: Image + Drop,
     G: Gate,
-> Helper<'a, R, L, M, A, I, G> {
+> Helper<'a, R, L, E, A, I, G> {
     /// Somebody who helps at the dies of this array, whose images are these.
     pub fn new(
         rt: &'a R,
         alloc: A,
-        shared: &'a Shared<L, M, A>,
+        shared: &'a Shared<L, E, A>,
         image_table: &'a ImageTable<I, A>,
         gate: &'a G,
         memory: HelperMemory<A>,
-    ) -> Helper<'a, R, L, M, A, I, G> {
+    ) -> Helper<'a, R, L, E, A, I, G> {
         Helper {
             rt,
             alloc,
@@ -121,11 +121,11 @@ impl<
     'a,
     R: Wait + Clock,
     L: Ledger,
-    M: Map + Drop,
+    E: Events<A>,
     A: Allocator + Copy,
     I: Image + Drop,
     G: Gate,
-> Hands<L, M, A> for Helper<'a, R, L, M, A, I, G> {
+> Hands<L, E, A> for Helper<'a, R, L, E, A, I, G> {
     ghost use Rattle.std.specs.Prelude.{map};
     ghost use Rattle.fa_workers.specs.Held.{numbers_of, told_of};
 
@@ -133,7 +133,7 @@ impl<
 
     ghost told = { λ helper. map told_of helper.memory.made.items };
 
-    fn take(&mut self, locked: &mut Locked<L, M, A>, seat: &mut Seat<L>) -> bool {
+    fn take(&mut self, locked: &mut Locked<L, E, A>, seat: &mut Seat<L>) -> bool {
         locked.settle(seat);
         let most = if self.is_quick { MAX_JOBS } else { 1 };
         let bench = self.image_table.bench();
@@ -162,7 +162,7 @@ impl<
         self.memory.made = made;
     }
 
-    fn end(&mut self, locked: &mut Locked<L, M, A>, seat: &mut Seat<L>) {
+    fn end(&mut self, locked: &mut Locked<L, E, A>, seat: &mut Seat<L>) {
         let HelperMemory { dies, made, faults } = &mut self.memory;
         let bench = self.image_table.bench();
         for _ in 0..made.len() {
@@ -256,10 +256,10 @@ fn keep<A: Allocator>(faults: &mut Vec<Fault, A>, fault: Option<Fault>) {
 }
 
 /// Ends a job that was made, with the buffer of its memory, which goes back to its place. Why the die went out, if it did.
-fn end_made<R: Wait, L: Ledger, M: Map + Drop, A: Allocator + Copy>(
+fn end_made<R: Wait, L: Ledger, E: Events<A>, A: Allocator + Copy>(
     rt: &R,
     alloc: A,
-    locked: &mut Locked<L, M, A>,
+    locked: &mut Locked<L, E, A>,
     seat: &mut Seat<L>,
     bench: &Bench<A>,
     job: MadeJob<A>,
@@ -291,10 +291,10 @@ fn is_quick<R: Clock>(rt: &R, start: Option<Instant>, jobs: usize) -> bool {
 
 /// Takes the next jobs of dies that have one, this many at most, as long as there is memory for one more, and lays them on the bench. A die
 /// that collects is left to its worker, so that no request waits for its moves, unless many who help sleep.
-fn take_jobs<R: Wait, L: Ledger, M: Map + Drop, A: Allocator + Copy>(
+fn take_jobs<R: Wait, L: Ledger, E: Events<A>, A: Allocator + Copy>(
     rt: &R,
     alloc: A,
-    locked: &mut Locked<L, M, A>,
+    locked: &mut Locked<L, E, A>,
     seat: &mut Seat<L>,
     most: usize,
     bench: &Bench<A>,

@@ -1,14 +1,13 @@
 //! A job with all that its calls want.
 ghost use Rattle.std.specs.Prelude.{◌≡◌, ◌+◌, IfSome, length, option_map};
 ghost use Rattle.fa_core_outcome.specs.Outcomes.{outcome_of};
-ghost use Rattle.fa_core_dispatch.specs.Fits.{IsJobFor};
-ghost use Rattle.fa_core_dispatch.specs.Handed.{handed_of};
+ghost use Rattle.fa_core_outcome.specs.Fits.{IsJobFor};
+ghost use Rattle.fa_core_outcome.specs.Handed.{handed_of};
 ghost use Rattle.fa_workers.specs.Begun.{Begins};
 ghost use Rattle.fa_jobs.specs.Made.{Ran};
 ghost use Rattle.fa_jobs.specs.Orders.{IsJobFor-prop};
 
-use fa_core_dispatch::Job;
-use fa_core_outcome::Outcome;
+use fa_core_outcome::{Job, Outcome};
 use fa_image::{Image, ImageFault};
 use fa_jobs::{Gate, begin_read, run_job};
 use fa_machine::Flight;

@@ -1,14 +1,13 @@
 //! What the rebuilder does while it holds the array's lock.
 ghost use Rattle.std.specs.Prelude.{◌≡◌, false, map, IfSome};
-ghost use Rattle.fa_core_read.specs.Answers.{admit_answer};
+ghost use Rattle.fa_core_calls.specs.Answers.{admit_answer};
 ghost use Rattle.fa_shared_lock.specs.Rest.{LeavesRest};
 ghost use Rattle.fa_workers.specs.Rebuilding.{AfterBatch, IsNumbered, Rebuilds, after_admit, after_commit as rule_commit, after_reserve};
 ghost use Rattle.fa_workers.specs.declared.rebuild_stage.RebuildStage.TheVariants.{Looking, Pausing, Reading, Reserving, Copying};
 
 use crate::rebuild_stage::{RebuildStage, ThinPage};
-use fa_core::Admitted;
+use fa_core_calls::{Admitted, Events};
 use fa_machine::{AdmitRefused, BatchId, CommitCopyRefused, Copied, ReadState, ReserveCopyRefused};
-use fa_map_calls::Map;
 use fa_shared::{bring_in_spare, commit_copy, reserve_copy};
 use fa_shared_lock::{Locked, Seat};
 use fa_shared_reading::{admit, end_batch};
@@ -36,9 +35,9 @@ pub(crate) struct Turned<A: Allocator = Global> {
 }
 
 /// A turn, with at most one event that is accepted.
-pub(crate) fn turn<L: Ledger, M: Map + Drop, A: Allocator + Copy>(
+pub(crate) fn turn<L: Ledger, E: Events<A>, A: Allocator + Copy>(
     alloc: A,
-    locked: &mut Locked<L, M, A>,
+    locked: &mut Locked<L, E, A>,
     seat: &mut Seat<L>,
     stage: RebuildStage<A>,
 ) -> Turned<A>
@@ -62,9 +61,9 @@ fn comes_to<A: Allocator>(stage: RebuildStage<A>, came: Came) -> Turned<A>
 }
 
 /// A spare is brought in, or else the next thin page is read.
-fn look<L: Ledger, M: Map + Drop, A: Allocator + Copy>(
+fn look<L: Ledger, E: Events<A>, A: Allocator + Copy>(
     alloc: A,
-    locked: &mut Locked<L, M, A>,
+    locked: &mut Locked<L, E, A>,
     seat: &mut Seat<L>,
 ) -> Turned<A>
     ensures rebuilds { Rebuilds locked.old Looking locked.new.core result.stage }
@@ -83,7 +82,7 @@ fn look<L: Ledger, M: Map + Drop, A: Allocator + Copy>(
 }
 
 /// Something has to change first.
-fn pause<L: Ledger, M: Map + Drop, A: Allocator + Copy>(locked: &Locked<L, M, A>) -> Turned<A>
+fn pause<L: Ledger, E: Events<A>, A: Allocator + Copy>(locked: &Locked<L, E, A>) -> Turned<A>
     ensures { Rebuilds locked.now Pausing locked.now.core result.stage }
 {
     if locked.is_stopping() {
@@ -94,8 +93,8 @@ fn pause<L: Ledger, M: Map + Drop, A: Allocator + Copy>(locked: &Locked<L, M, A>
 }
 
 /// The next thin page that has a place to go.
-fn find_thin<L: Ledger, M: Map + Drop, A: Allocator + Copy>(
-    locked: &Locked<L, M, A>,
+fn find_thin<L: Ledger, E: Events<A>, A: Allocator + Copy>(
+    locked: &Locked<L, E, A>,
 ) -> Option<ThinPage>
     ensures { IfSome result (λ thin. IsNumbered locked.now.core thin) }
 {
@@ -108,8 +107,8 @@ fn find_thin<L: Ledger, M: Map + Drop, A: Allocator + Copy>(
 }
 
 /// A batch of the page alone is admitted.
-fn ask<L: Ledger, M: Map + Drop, A: Allocator + Copy>(
-    locked: &mut Locked<L, M, A>,
+fn ask<L: Ledger, E: Events<A>, A: Allocator + Copy>(
+    locked: &mut Locked<L, E, A>,
     seat: &mut Seat<L>,
     thin: ThinPage,
 ) -> Turned<A>
@@ -135,9 +134,9 @@ fn asked<A: Allocator>(thin: ThinPage, answer: Result<Admitted<A>, AdmitRefused>
 }
 
 /// The batch goes on as it stands: it is waited for, or ended.
-fn read<L: Ledger, M: Map + Drop, A: Allocator + Copy>(
+fn read<L: Ledger, E: Events<A>, A: Allocator + Copy>(
     alloc: A,
-    locked: &mut Locked<L, M, A>,
+    locked: &mut Locked<L, E, A>,
     seat: &mut Seat<L>,
     thin: ThinPage,
     batch: BatchId,
@@ -175,8 +174,8 @@ fn after_batch<A: Allocator>(
 }
 
 /// A slot is reserved for the copy.
-fn reserve<L: Ledger, M: Map + Drop, A: Allocator + Copy>(
-    locked: &mut Locked<L, M, A>,
+fn reserve<L: Ledger, E: Events<A>, A: Allocator + Copy>(
+    locked: &mut Locked<L, E, A>,
     seat: &mut Seat<L>,
     thin: ThinPage,
     payload: Payload<A>,
@@ -213,9 +212,9 @@ fn reserved<A: Allocator>(
 }
 
 /// The copy is waited for until it has ended, whether the array is to end or not.
-fn copy<L: Ledger, M: Map + Drop, A: Allocator + Copy>(
+fn copy<L: Ledger, E: Events<A>, A: Allocator + Copy>(
     alloc: A,
-    locked: &mut Locked<L, M, A>,
+    locked: &mut Locked<L, E, A>,
     seat: &mut Seat<L>,
 ) -> Turned<A>
     ensures rebuilds { Rebuilds locked.old Copying locked.new.core result.stage }

@@ -1,7 +1,7 @@
 //! The worker that makes thin pages whole.
 use crate::rebuild_events::{Came, turn};
 use crate::rebuild_stage::{RebuildStage, ThinPage};
-use fa_map_calls::Map;
+use fa_core_calls::Events;
 use fa_shared::Shared;
 use fa_shared_lock::{Awaits, Seat};
 use fa_tag::Payload;
@@ -16,10 +16,10 @@ use std::time::Clock;
 /// It reads a thin page by a batch of its own, hashes what it read with no lock held, reserves one more copy of the write that it saw
 /// before the read, and waits until that copy is current. A batch that is open as the array is to end is ended at once; a copy that is
 /// under way is seen through. Where it has nothing to do, or memory is refused, it waits for a change.
-pub fn rebuild_worker<R: Wait + Clock, L: Ledger, M: Map + Drop, A: Allocator + Copy>(
+pub fn rebuild_worker<R: Wait + Clock, L: Ledger, E: Events<A>, A: Allocator + Copy>(
     rt: &R,
     alloc: A,
-    shared: &Shared<L, M, A>,
+    shared: &Shared<L, E, A>,
     seat: &mut Seat<L>,
 ) {
     let mut stage = RebuildStage::Looking;
@@ -33,10 +33,10 @@ pub fn rebuild_worker<R: Wait + Clock, L: Ledger, M: Map + Drop, A: Allocator + 
 }
 
 /// Makes turns until there is a page to be hashed, or the rebuilder has ended. The lock is free while it waits, and behind.
-fn make_turns<R: Wait + Clock, L: Ledger, M: Map + Drop, A: Allocator + Copy>(
+fn make_turns<R: Wait + Clock, L: Ledger, E: Events<A>, A: Allocator + Copy>(
     rt: &R,
     alloc: A,
-    shared: &Shared<L, M, A>,
+    shared: &Shared<L, E, A>,
     seat: &mut Seat<L>,
     stage: RebuildStage<A>,
 ) -> RebuildStage<A> {

@@ -6,10 +6,10 @@ use crate::helping::open_read;
 use crate::image_table::ImageTable;
 use crate::job_memory::JobMemory;
 use crate::order::Order;
+use fa_core_calls::Events;
 use fa_core_outcome::Outcome;
 use fa_image::Image;
 use fa_jobs::Gate;
-use fa_map_calls::Map;
 use fa_shared::Shared;
 use fa_shared_lock::{Awaits, Seat};
 use fa_types::Die;
@@ -40,14 +40,14 @@ struct Behind<A: Allocator = Global> {
 pub fn die_worker<
     R: Wait + Clock,
     L: Ledger,
-    M: Map + Drop,
+    E: Events<A>,
     A: Allocator + Copy,
     I: Image + Drop,
     G: Gate,
 >(
     rt: &R,
     alloc: A,
-    shared: &Shared<L, M, A>,
+    shared: &Shared<L, E, A>,
     seat: &mut Seat<L>,
     die: Die,
     image_table: &ImageTable<I, A>,
@@ -74,10 +74,10 @@ pub fn die_worker<
 }
 
 /// The job that was taken already, or the next one, which is waited for. None where there is none and the array is to end.
-fn next_job<R: Wait + Clock, L: Ledger, M: Map + Drop, A: Allocator + Copy>(
+fn next_job<R: Wait + Clock, L: Ledger, E: Events<A>, A: Allocator + Copy>(
     rt: &R,
     alloc: A,
-    shared: &Shared<L, M, A>,
+    shared: &Shared<L, E, A>,
     seat: &mut Seat<L>,
     die: Die,
     bench: &Bench<A>,
@@ -91,10 +91,10 @@ fn next_job<R: Wait + Clock, L: Ledger, M: Map + Drop, A: Allocator + Copy>(
 }
 
 /// Waits for the die's next job, or for one that lies on the bench. None where there is none and the array is to end.
-fn wait_for_job<R: Wait + Clock, L: Ledger, M: Map + Drop, A: Allocator + Copy>(
+fn wait_for_job<R: Wait + Clock, L: Ledger, E: Events<A>, A: Allocator + Copy>(
     rt: &R,
     alloc: A,
-    shared: &Shared<L, M, A>,
+    shared: &Shared<L, E, A>,
     seat: &mut Seat<L>,
     die: Die,
     bench: &Bench<A>,
@@ -123,10 +123,10 @@ fn wait_for_job<R: Wait + Clock, L: Ledger, M: Map + Drop, A: Allocator + Copy>(
 
 /// Ends a job and makes the die's next turn, and more where the round has risen, in one hold. Where a window of the die has ended and it
 /// wants another one, it has that at once, unless the array is to end. Behind the hold it notes why the die went out, if it did.
-fn finish<R: Wait, L: Ledger, M: Map + Drop, A: Allocator + Copy>(
+fn finish<R: Wait, L: Ledger, E: Events<A>, A: Allocator + Copy>(
     rt: &R,
     alloc: A,
-    shared: &Shared<L, M, A>,
+    shared: &Shared<L, E, A>,
     seat: &mut Seat<L>,
     die: Die,
     window_rounds: u64,

@@ -11,7 +11,7 @@ use fa_shared::discard;
 use flasharr_lab_array::show_mounted;
 use flasharr_lab_lines::{Lab, Script, Shape, array_over, over_array};
 use flasharr_lab_parts::{DieImage, Heap, Yard, show_unmounted};
-use std::alloc::AllocError;
+use std::alloc::{AllocError, Allocator};
 use std::marker::Brand;
 use std::sync::ledger::Blank;
 
@@ -99,6 +99,11 @@ fn own<'a, M: Map + Drop, I: DieImage>(
             None => break 'stores,
         }
     }
+    give_up(mounted);
+}
+
+/// An array over any allocator is given up.
+fn give_up<M: Map + Drop, A: Allocator + Copy>(mounted: MountedArray<M, A>) {
     let MountedArray { array, .. } = mounted;
     discard(array);
 }

@@ -1,7 +1,7 @@
 //! The jobs of an array's dies: they are taken, made and ended.
 ghost use Rattle.std.specs.Prelude.{◌≡◌};
 ghost use Rattle.fa_core.specs.Array.{IsWhole};
-ghost use Rattle.fa_core.specs.Calls.{FitsAnswer};
+ghost use Rattle.fa_core_calls.specs.Calls.{FitsAnswer};
 
 use crate::answers::show_short;
 use crate::desk::Desk;

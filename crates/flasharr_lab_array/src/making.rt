@@ -1,6 +1,6 @@
 //! An event that is made.
 ghost use Rattle.fa_core.specs.Array.{IsWhole, number_of, state_of};
-ghost use Rattle.fa_core.specs.Calls.{FitsAnswer};
+ghost use Rattle.fa_core_calls.specs.Calls.{FitsAnswer};
 
 use crate::answers::show_answer;
 use crate::desk::Desk;

@@ -1,6 +1,6 @@
 //! A job that a die has taken, with all that its calls want.
-ghost use Rattle.fa_core_dispatch.specs.Fits.{IsJobFor};
-ghost use Rattle.fa_core_dispatch.specs.Handed.{handed_of};
+ghost use Rattle.fa_core_outcome.specs.Fits.{IsJobFor};
+ghost use Rattle.fa_core_outcome.specs.Handed.{handed_of};
 ghost use Rattle.fa_jobs.specs.Orders.{IsJobFor-prop};
 
 use fa_core::{Job, Outcome};

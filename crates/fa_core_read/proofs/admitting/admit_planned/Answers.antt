@@ -9,7 +9,7 @@ use Rattle.fa_machine.specs.State.{Core, OpenBatch}
 use Rattle.fa_core_read.proofs.Opening.{contains_inserted, opened_inserted}
 use Rattle.fa_core_read.proofs.Others.{gone_again}
 use Rattle.fa_core_read.proofs.admitting.admit_planned.Goals as goal
-use Rattle.fa_core_read.specs.Answers.{planned_of}
+use Rattle.fa_core_calls.specs.Answers.{planned_of}
 use Rattle.fa_core_read.specs.Opened.{new_batch, opened_state}
 use Rattle.fa_core_state.specs.Core.{core_of}
 use Rattle.fa_types.specs.Open.{FewClosed}

@@ -13,7 +13,7 @@ use Rattle.fa_core_read.proofs.Handed.{handed_out}
 use Rattle.fa_core_read.proofs.Planned.{planned_against}
 use Rattle.fa_core_read.proofs.Sound.{sound_of}
 use Rattle.fa_core_read.proofs.planning.plan_written.Goals as goal
-use Rattle.fa_core_read.specs.Answers.{planned_of}
+use Rattle.fa_core_calls.specs.Answers.{planned_of}
 use Rattle.fa_types.specs.declared.numbers.Page.{Page}
 use Rattle.std.proofs.Common.{None, Option, Some, ap, length, map, refl, subst, sym, true, ◌∙◌, ◌≡◌}
 use Rattle.std.proofs.lemmas.Bool.{false≢true}

@@ -9,7 +9,7 @@ use Rattle.fa_core_read.proofs.Answered.{ok_both}
 use Rattle.fa_core_read.proofs.Handed.{handed_out}
 use Rattle.fa_core_read.proofs.Planned.{planned_against}
 use Rattle.fa_core_read.proofs.replanning.plan_left.Goals as goal
-use Rattle.fa_core_read.specs.Answers.{planned_of}
+use Rattle.fa_core_calls.specs.Answers.{planned_of}
 use Rattle.fa_core_state.specs.Core.{core_of}
 use Rattle.std.proofs.Common.{List, ap, length, subst, ℕ, ◌∙◌}
 use Rattle.std.proofs.lemmas.List.{length-map}

@@ -3,7 +3,7 @@ use Rattle.fa_core_bookings.specs.Bookings.{calendar_of}
 use Rattle.fa_machine.specs.Reading.{booked, released}
 use Rattle.fa_machine.specs.Rounds.{is_taken_with}
 use Rattle.fa_core_read.proofs.replanning.replan_with.Goals as goal
-use Rattle.fa_core_read.specs.Answers.{planned_of}
+use Rattle.fa_core_calls.specs.Answers.{planned_of}
 use Rattle.fa_core_state.specs.Core.{core_of}
 use Rattle.fa_types.specs.Open.{FewClosed}
 use Rattle.fa_types.specs.Windows.{IsFull}

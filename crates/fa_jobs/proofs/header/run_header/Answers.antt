@@ -1,6 +1,6 @@
 use Rattle.std.proofs.Common.{◌∙◌, ap, refl, sym, Some}
 use Rattle.fa_tag.specs.HeaderGrammar.{header_bytes}
-use Rattle.fa_core_dispatch.specs.Fits.{header_of}
+use Rattle.fa_core_outcome.specs.Fits.{header_of}
 use Rattle.fa_image.specs.Image.{WritingHeader, Done, Refused as RefusedBy}
 use Rattle.fa_machine.specs.World.{WritesHeader, Accepted, Refused}
 use Rattle.fa_machine.specs.Cells.{Fault}

@@ -12,7 +12,7 @@ pub returns : goal.returns
 returns g c array dies core images begins =
     let first = seen_of c.args.store in
     let last = seen_of c.serve_stream-end.new.blocks in
-    let house = c.into_parts-mounted.ensures.house in
+    let house = c.into_parts-array.ensures.house in
     let its_core = ap (λ (h : House g.row.I.Denot). h.core) house in
     let its_images = c.as_mut_slice.ensures.value ∙ ap (λ (h : House g.row.I.Denot). h.images) house in (
       faults_of last.inner.faults,
@@ -26,10 +26,10 @@ returns g c array dies core images begins =
             (session_seen _ (StoreMakes g.I.Image.made) seen_of (λ before after call answer it. it) _ _ _ _ _ _ c.serve_stream-end.ensures);
         kept = refl;
         epoch = (
-          subst (λ (k : Core). 1 ≤ k.epoch) its_core c.into_parts-mounted.ensures.whole.ready.epoch,
-          subst (λ (k : Core). k.epoch + len k.page_map.live ≤ 2 ^ 62) its_core (let room = c.into_parts-mounted.ensures.whole.fitted.epoch in omega (arith, room)),
+          subst (λ (k : Core). 1 ≤ k.epoch) its_core c.into_parts-array.ensures.whole.ready.epoch,
+          subst (λ (k : Core). k.epoch + len k.page_map.live ≤ 2 ^ 62) its_core (let room = c.into_parts-array.ensures.whole.fitted.epoch in omega (arith, room)),
         );
-        closes = closes_by g.I.Image.made _ _ _ _ _ _ _ _ _ _ its_core c.into_parts-mounted.ensures.number (ap (λ v. v.items) c.into_parts-mounted.ensures.dies) its_images
+        closes = closes_by g.I.Image.made _ _ _ _ _ _ _ _ _ _ its_core c.into_parts-array.ensures.number (ap (λ v. v.items) c.into_parts-array.ensures.dies) its_images
             c.close-closed.ensures.closes;
         slots = c.close-closed.ensures.slots ∙ ap (map (λ image. (g.I.Image.view image).slots)) its_images;
         as_honest = c.close-closed.ensures.honest ∙ ap (map g.I.Image.honest) its_images;

@@ -1,6 +1,5 @@
 use Rattle.std.proofs.Common.{◌≡◌, ◌∙◌, ◌+◌, Bool, ap, arith, cond, false, sym, true, ℕ}
 use Rattle.std.specs.List.{count_by}
-use Rattle.fa_core.specs.Array.{state_of}
 use Rattle.fa_machine.specs.Maps.{below}
 use Rattle.fa_machine.specs.State.{is_live}
 use Rattle.fa_map_calls.proofs.Ranges.{count_more}
@@ -17,7 +16,7 @@ counted f n live next b is here e =
 
 pub loop-die-preserved : goal.loop-die-preserved
 loop-die-preserved g c =
-    let m = (state_of g.M.Map.view c.args.array.now).page_map in
+    let m = (g.E.Looks.core c.args.array.now).page_map in
     let here = c.loop-die.invariant.count in let low = c.loop-die.invariant.most in elim c.if-is_live.branch [
       | then-is_live w ↦ record {
         count = counted (is_live m) c.loop-die.die _ _ true (sym c.is_live.ensures ∙ w.if-is_live.true) here (omega (arith, w.live-is));

@@ -3,7 +3,7 @@ use Rattle.std.specs.List.{list_all}
 use Rattle.std.specs.Prelude.{◌&&◌, nat_le}
 use Rattle.fa_machine.specs.Step.{Admit, Step, is_distinct, is_page}
 use Rattle.fa_shared_lock.specs.Moves.{Moved, Strayed}
-use Rattle.fa_core_read.specs.Answers.{admit_answer}
+use Rattle.fa_core_calls.specs.Answers.{admit_answer}
 use Rattle.fa_types.specs.declared.numbers.Page.{Page}
 use Rattle.fa_shared_lock.proofs.Turns.{no_rise}
 use Rattle.fa_shared_reading.proofs.turns.ask.Goals as goal

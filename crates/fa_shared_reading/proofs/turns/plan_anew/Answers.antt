@@ -1,7 +1,7 @@
 use Rattle.std.proofs.Common.{refl, subst, sym}
 use Rattle.fa_machine.specs.Step.{Replan, Step}
 use Rattle.fa_shared_lock.specs.Moves.{Moved}
-use Rattle.fa_core_read.specs.Answers.{plan_answer}
+use Rattle.fa_core_calls.specs.Answers.{plan_answer}
 use Rattle.fa_shared_lock.proofs.Turns.{no_rise}
 use Rattle.fa_shared_reading.proofs.turns.plan_anew.Goals as goal
 

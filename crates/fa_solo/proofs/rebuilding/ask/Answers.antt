@@ -1,5 +1,5 @@
 use Rattle.std.proofs.Common.{refl}
-use Rattle.fa_core_read.specs.Answers.{admit_answer}
+use Rattle.fa_core_calls.specs.Answers.{admit_answer}
 use Rattle.fa_solo.proofs.Orders.{asked_for, unasked}
 use Rattle.fa_solo.proofs.Thin.{may_admit}
 use Rattle.fa_solo.proofs.rebuilding.ask.Goals as goal

@@ -1,5 +1,5 @@
 use Rattle.std.proofs.Common.{ap}
-use Rattle.fa_core_read.specs.Answers.{admit_answer}
+use Rattle.fa_core_calls.specs.Answers.{admit_answer}
 use Rattle.fa_solo.proofs.rebuilding.batch_of.Goals as goal
 
 pub returns-in-Ok-clause-some : goal.returns-in-Ok-clause-some

@@ -1,5 +1,5 @@
 use Rattle.std.proofs.Common.{◌∙◌, ◌+◌, None, ap, refl, sym}
-use Rattle.fa_core_dispatch.specs.Handed.{handed_of}
+use Rattle.fa_core_outcome.specs.Handed.{handed_of}
 use Rattle.fa_solo_job.proofs.Chains.{does_event}
 use Rattle.fa_machine.specs.Step.{Take}
 use Rattle.fa_shared_lock.specs.Locked.{LockedState}

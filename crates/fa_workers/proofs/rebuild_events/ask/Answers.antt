@@ -1,6 +1,6 @@
 use Rattle.std.proofs.Common.{[], ◌∷◌, refl}
 use Rattle.fa_machine.specs.Step.{Admit}
-use Rattle.fa_core_read.specs.Answers.{admit_answer}
+use Rattle.fa_core_calls.specs.Answers.{admit_answer}
 use Rattle.fa_workers.specs.Rebuilding.{Moved}
 use Rattle.fa_workers.proofs.rebuild_events.ask.Goals as goal
 

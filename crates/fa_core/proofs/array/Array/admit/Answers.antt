@@ -2,7 +2,7 @@ use Rattle.fa_core.proofs.Allowed.{may_admit}
 use Rattle.fa_core.proofs.Whole.{whole_after}
 use Rattle.fa_core.specs.Array.{state_of}
 use Rattle.fa_machine.specs.Step.{Admit}
-use Rattle.fa_core_read.specs.Answers.{admit_answer}
+use Rattle.fa_core_calls.specs.Answers.{admit_answer}
 use Rattle.fa_types.specs.declared.numbers.Page.{Page}
 use Rattle.std.proofs.Common.{map, refl}
 use Rattle.fa_core.proofs.array.Array.admit.Goals as goal

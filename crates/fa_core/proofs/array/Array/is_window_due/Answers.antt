@@ -1,6 +1,6 @@
 use Rattle.fa_core.proofs.array.Array.is_window_due.Goals as goal
 use Rattle.fa_core.specs.Array.{state_of}
-use Rattle.fa_core.specs.Windows.{lacks_window}
+use Rattle.fa_core_calls.specs.Windows.{lacks_window}
 use Rattle.fa_core_state.proofs.Below.{any_fails, any_passes}
 use Rattle.fa_types.specs.declared.geometry.Geometry.{Geometry}
 use Rattle.std.proofs.Common.{◌≡◌, ◌<◌, ◌∙◌, ap, arith, false, inl, inr, subst, sym}

@@ -1,6 +1,6 @@
 use Rattle.fa_core.specs.Array.{state_of}
 use Rattle.fa_machine.specs.Step.{Take}
-use Rattle.fa_core_dispatch.specs.Handed.{handed_of}
+use Rattle.fa_core_outcome.specs.Handed.{handed_of}
 use Rattle.std.specs.Prelude.{option_map}
 use Rattle.fa_core.proofs.array.Array.make_take.Goals as goal
 

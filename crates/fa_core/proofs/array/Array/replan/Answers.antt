@@ -1,6 +1,6 @@
 use Rattle.fa_core.proofs.Whole.{whole_after}
 use Rattle.fa_machine.specs.Step.{Replan}
-use Rattle.fa_core_read.specs.Answers.{plan_answer}
+use Rattle.fa_core_calls.specs.Answers.{plan_answer}
 use Rattle.std.proofs.Common.{refl, rules}
 use Rattle.fa_core.proofs.array.Array.replan.Goals as goal
 

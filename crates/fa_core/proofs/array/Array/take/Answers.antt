@@ -1,13 +1,13 @@
 use Rattle.fa_core.proofs.Whole.{whole_after}
 use Rattle.std.proofs.Math.Nat.{mul-le-mul}
 use Rattle.fa_machine.specs.Step.{Take}
-use Rattle.fa_core_dispatch.specs.Handed.{handed_of}
+use Rattle.fa_core_outcome.specs.Handed.{handed_of}
 use Rattle.fa_core.specs.Array.{number_of, state_of}
 use Rattle.fa_machine.specs.Taking.{Takes}
 use Rattle.std.proofs.Common.{IfSome, None, Option, Some, arith, refl, rules, subst, ◌*◌, ◌<◌, ◌≡◌, ◌≤◌, ◌^◌}
 use Rattle.fa_machine.specs.State.{Core}
 use Rattle.fa_core_state.specs.Core.{core_of}
-use Rattle.fa_core_dispatch.specs.Fits.{HasLimits}
+use Rattle.fa_core_dispatch.specs.Limits.{HasLimits}
 use Rattle.fa_types.specs.declared.geometry.Geometry.{Geometry}
 use Rattle.std.specs.Prelude.{option_map}
 use Rattle.fa_core.proofs.array.Array.take.Goals as goal

@@ -1,5 +1,5 @@
-use Rattle.fa_core.specs.Calls.{Makes}
-use Rattle.fa_core.specs.declared.call.Call.{Call}
+use Rattle.fa_core_calls.specs.Calls.{Makes}
+use Rattle.fa_core_calls.specs.declared.call.Call.{Call}
 use Rattle.fa_shared_lock.proofs.Only.{next_round, none_passes, one_advance}
 use Rattle.fa_shared_lock.proofs.locked.Locked.pass.Goals as goal
 use Rattle.fa_shared_lock.specs.Seats.{number_of}

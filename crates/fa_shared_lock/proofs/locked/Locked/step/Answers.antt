@@ -1,5 +1,5 @@
 use Rattle.std.proofs.Common.{subst}
-use Rattle.fa_core.specs.Calls.{FitsAnswer, HandsOutWhole}
+use Rattle.fa_core_calls.specs.Calls.{FitsAnswer, HandsOutWhole}
 use Rattle.fa_shared_lock.specs.Locked.{LockedState}
 use Rattle.fa_shared_lock.proofs.locked.Locked.step.Goals as goal
 

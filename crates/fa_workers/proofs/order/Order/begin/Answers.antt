@@ -1,5 +1,5 @@
 use Rattle.std.proofs.Common.{refl}
-use Rattle.fa_core_dispatch.specs.Handed.{handed_of}
+use Rattle.fa_core_outcome.specs.Handed.{handed_of}
 use Rattle.fa_image.specs.Image.{ReadingSlot}
 use Rattle.fa_jobs.proofs.Openings.{refused_ran}
 use Rattle.fa_jobs.proofs.Deeds.{refused_by}

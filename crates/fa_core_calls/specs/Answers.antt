@@ -3,7 +3,7 @@ use Rattle.std.specs.Prelude.{◌≡◌, ℕ, ◌+◌, ◌*◌, ◌≤◌, Resul
 use Rattle.fa_machine.specs.Reading.{Admitted as AdmittedBatch, Planned as PlannedBatch}
 use Rattle.fa_machine.specs.declared.refusals.AdmitRefused.{AdmitRefused}
 use Rattle.fa_plan.specs.declared.planner.Planned.{Planned}
-use Rattle.fa_core_read.specs.declared.admitting.Admitted.{Admitted}
+use Rattle.fa_core_calls.specs.declared.admitted.Admitted.{Admitted}
 
 module _ {A : Type 0} where
   abbrev pub planned_of : Planned A → PlannedBatch

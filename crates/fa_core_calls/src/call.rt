@@ -1,6 +1,6 @@
 //! An event as one value, and its answer.
-use crate::{Job, Outcome};
-use fa_core_read::Admitted;
+use crate::admitted::Admitted;
+use fa_core_outcome::{Job, Outcome};
 use fa_machine::{
     AbandonRefused, AdmitRefused, AdvanceRefused, BatchId, ClaimId, ClaimRefused,
     CommitCopyRefused, CommitRefused, Copied, Flush, FlushRefused, FlushState, ReserveCopyRefused,
@@ -14,45 +14,45 @@ use std::alloc::{Allocator, Global};
 /// An event of the array that is asked for.
 #[derive(Drop)]
 pub enum Call<'a, A: Allocator = Global> {
-    /// [`crate::Array::claim`].
+    /// [`fa_core::Array::claim`].
     Claim(Page),
-    /// [`crate::Array::release`].
+    /// [`fa_core::Array::release`].
     Release(ClaimId),
-    /// [`crate::Array::reserve`], of this payload.
+    /// [`fa_core::Array::reserve`], of this payload.
     Reserve(ClaimId, &'a Payload<A>),
-    /// [`crate::Array::reserve_hole`].
+    /// [`fa_core::Array::reserve_hole`].
     ReserveHole(ClaimId),
-    /// [`crate::Array::reserve_fewer`], of this payload.
+    /// [`fa_core::Array::reserve_fewer`], of this payload.
     ReserveFewer(ClaimId, &'a Payload<A>),
-    /// [`crate::Array::commit`].
+    /// [`fa_core::Array::commit`].
     Commit(ClaimId),
-    /// [`crate::Array::abandon`].
+    /// [`fa_core::Array::abandon`].
     Abandon(ClaimId),
-    /// [`crate::Array::admit`].
+    /// [`fa_core::Array::admit`].
     Admit(&'a [Page]),
-    /// [`crate::Array::replan`].
+    /// [`fa_core::Array::replan`].
     Replan(BatchId),
-    /// [`crate::Array::end_batch`].
+    /// [`fa_core::Array::end_batch`].
     EndBatch(BatchId),
-    /// [`crate::Array::take`].
+    /// [`fa_core::Array::take`].
     Take(Die),
-    /// [`crate::Array::done`], with the buffer that has what a read gave.
+    /// [`fa_core::Array::done`], with the buffer that has what a read gave.
     Done(Die, Outcome, Vec<u8, A>),
-    /// [`crate::Array::window`], of so many rounds.
+    /// [`fa_core::Array::window`], of so many rounds.
     Window(Die, u64),
-    /// [`crate::Array::advance`].
+    /// [`fa_core::Array::advance`].
     Advance,
-    /// [`crate::Array::spare_in`].
+    /// [`fa_core::Array::spare_in`].
     SpareIn(Die),
-    /// [`crate::Array::reserve_copy`], of this payload.
+    /// [`fa_core::Array::reserve_copy`], of this payload.
     ReserveCopy(Page, Seq, &'a Payload<A>),
-    /// [`crate::Array::commit_copy`].
+    /// [`fa_core::Array::commit_copy`].
     CommitCopy,
-    /// [`crate::Array::flush_begin`].
+    /// [`fa_core::Array::flush_begin`].
     FlushBegin,
-    /// [`crate::Array::flush_state`].
+    /// [`fa_core::Array::flush_state`].
     FlushState(Flush),
-    /// [`crate::Array::fold`].
+    /// [`fa_core::Array::fold`].
     Fold,
 }
 

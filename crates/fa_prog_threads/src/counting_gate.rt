@@ -5,7 +5,7 @@ use fa_types::Die;
 
 /// A gate that lets each call of an image through, and counts it as it begins and as it ends.
 #[derive(Clone, Copy)]
-pub struct CountingGate<'a> {
+pub(crate) struct CountingGate<'a> {
     /// Where they are counted.
     pub counts: &'a Counts,
 }

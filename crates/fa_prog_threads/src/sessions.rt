@@ -1,7 +1,7 @@
 //! A session of the server over the array: it serves one client after another, and works for the dies while their requests wait.
+use crate::counting_gate::CountingGate;
+use fa_core_calls::Events;
 use fa_image::Image;
-use fa_map_calls::Map;
-use fa_prog_array::{CountingGate, Served};
 use fa_prog_clients::{ConnectionMemory, Networked, Service, serve_clients};
 use fa_prog_counts::CountingStore;
 use fa_prog_listen::Listening;
@@ -45,11 +45,12 @@ impl<'a, L: Ledger> Session<'a, L> {
 
 /// Serves an array to one client after another until the accept queue is closed, and hands the session's seat back. It blocks its thread:
 /// while its clients' requests wait it makes jobs of the dies whose images are in this table.
-pub(crate) fn serve_array<R: Networked, L: Ledger, M: Map + Drop, I: Image + Drop>(
+pub(crate) fn serve_array<R: Networked, L: Ledger, E: Events<Global>, W: Watched, I: Image + Drop>(
     rt: &R,
     listening: &Listening<'_>,
     losses: &Losses<'_>,
-    shared: &Shared<L, M>,
+    shared: &Shared<L, E>,
+    watched: &W,
     image_table: &ImageTable<I>,
     session: Session<'_, L>,
 ) -> Seat<L> {
@@ -64,25 +65,31 @@ pub(crate) fn serve_array<R: Networked, L: Ledger, M: Map + Drop, I: Image + Dro
     };
     let helper = Helper::new(rt, rt.alloc(), shared, image_table, &gate, memory);
     serve_with(
-        rt, listening, losses, shared, service, connection, seat, helper,
+        rt, listening, losses, shared, watched, service, connection, seat, helper,
     )
 }
 
 /// The same over the shared array, with somebody who makes jobs of its dies while a request waits. It is a function of its own, so that no
 /// type is written that has the helper's inside of the store's.
-fn serve_with<R: Networked, L: Ledger, M: Map + Drop, H: Hands<L, M, Global> + Drop>(
+fn serve_with<
+    R: Networked,
+    L: Ledger,
+    E: Events<Global>,
+    W: Watched,
+    H: Hands<L, E, Global> + Drop,
+>(
     rt: &R,
     listening: &Listening<'_>,
     losses: &Losses<'_>,
-    shared: &Shared<L, M>,
+    shared: &Shared<L, E>,
+    watched: &W,
     service: Service<'_>,
     connection: ConnectionMemory,
     seat: Seat<L>,
     hands: H,
 ) -> Seat<L> {
     let blocks = ArrayBlocks::new(rt, rt.alloc(), shared, seat, hands);
-    let served = Served::new(rt, shared);
-    let blocks = serve_telling(rt, listening, losses, &served, service, connection, blocks);
+    let blocks = serve_telling(rt, listening, losses, watched, service, connection, blocks);
     blocks.into_seat()
 }
 

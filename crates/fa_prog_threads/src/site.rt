@@ -2,18 +2,17 @@
 use crate::die_workers::{collect, rebuild, work_die};
 use crate::sessions::serve_array;
 use crate::tasks::Task;
-use fa_core::Array;
+use fa_core_calls::{Events, Looks};
 use fa_image::Image;
-use fa_map_calls::Map;
-use fa_prog_array::Served;
 use fa_prog_clients::{Networked, accept_clients};
 use fa_prog_listen::{Listening, Workplace};
 use fa_prog_looks::{LooksHost, serve_looks};
-use fa_prog_watch::{Looking, Losses, Subject, watch, write_plans};
+use fa_prog_watch::{Looking, Losses, Subject, Watched, watch, write_plans};
 use fa_shared::Shared;
 use fa_shared_lock::Seat;
 use fa_types::Die;
 use fa_workers::ImageTable;
+use std::alloc::Global;
 use std::sync::ledger::Ledger;
 use std::thread;
 use std::time::Duration;
@@ -25,18 +24,23 @@ const COLLECT_MILLISECONDS: u64 = 10;
 
 /// A shared array, with what its threads work with.
 #[derive(Drop)]
-pub(crate) struct Site<'a, L: Ledger, M: Map + Drop, I: Image + Drop> {
-    pub(crate) shared: &'a Shared<L, M>,
+pub(crate) struct Site<'a, L: Ledger, E: Events<Global>, W, I: Image + Drop> {
+    pub(crate) shared: &'a Shared<L, E>,
+    pub(crate) watched: &'a W,
     pub(crate) image_table: &'a ImageTable<I>,
     pub(crate) listening: &'a Listening<'a>,
     pub(crate) losses: &'a Losses<'a>,
 }
 
-impl<'a, 'b, R: Networked + LooksHost, L: Ledger, M: Map + Drop, I: Image + Drop> Workplace<
-    R,
-    Task<'b, L>,
-    Option<Seat<L>>,
-> for Site<'a, L, M, I> {
+impl<
+    'a,
+    'b,
+    R: Networked + LooksHost,
+    L: Ledger,
+    E: Events<Global>,
+    W: Watched,
+    I: Image + Drop,
+> Workplace<R, Task<'b, L>, Option<Seat<L>>> for Site<'a, L, E, W, I> {
     fn work(&self, rt: &R, task: Task<'b, L>) -> Option<Seat<L>> {
         let listening = self.listening;
         match task {
@@ -53,7 +57,7 @@ impl<'a, 'b, R: Networked + LooksHost, L: Ledger, M: Map + Drop, I: Image + Drop
             Task::Watch(seen) => {
                 watch(
                     rt,
-                    &Served::new(rt, self.shared),
+                    self.watched,
                     self.losses,
                     &listening.counts,
                     listening.paths.as_slice(),
@@ -63,8 +67,7 @@ impl<'a, 'b, R: Networked + LooksHost, L: Ledger, M: Map + Drop, I: Image + Drop
                 None
             }
             Task::WritePlans(file) => {
-                let served = Served::new(rt, self.shared);
-                write_plans(rt, &served, listening.counts.plans(), file);
+                write_plans(rt, self.watched, listening.counts.plans(), file);
                 None
             }
             Task::Serve(session) => Some(serve_array(
@@ -72,13 +75,13 @@ impl<'a, 'b, R: Networked + LooksHost, L: Ledger, M: Map + Drop, I: Image + Drop
                 listening,
                 self.losses,
                 self.shared,
+                self.watched,
                 self.image_table,
                 session,
             )),
             Task::Look(looker) => {
                 if let Some(listener) = listening.looks {
-                    let served = Served::new(rt, self.shared);
-                    let subject = subject_of(&served, listening);
+                    let subject = subject_of(self.watched, listening);
                     serve_looks(rt, listener, Looking::new(rt, subject, looker));
                 }
                 None
@@ -114,7 +117,7 @@ fn subject_of<'a, W>(watched: &'a W, listening: &'a Listening<'_>) -> Subject<'a
 }
 
 /// Waits until no die wants a window of the collector, or until a second has passed.
-fn let_collect<R: Networked, L: Ledger, M: Map + Drop>(rt: &R, shared: &Shared<L, M>) {
+fn let_collect<R: Networked, L: Ledger, E: Events<Global>>(rt: &R, shared: &Shared<L, E>) {
     for _ in 0..COLLECT_LOOKS {
         if shared.stopped(rt) || !is_collecting(rt, shared) {
             return;
@@ -124,7 +127,10 @@ fn let_collect<R: Networked, L: Ledger, M: Map + Drop>(rt: &R, shared: &Shared<L
 }
 
 /// Whether a die of a shared array wants a window of the collector.
-fn is_collecting<R: Networked, L: Ledger, M: Map + Drop>(rt: &R, shared: &Shared<L, M>) -> bool {
+fn is_collecting<R: Networked, L: Ledger, E: Events<Global>>(
+    rt: &R,
+    shared: &Shared<L, E>,
+) -> bool {
     let guard = shared.lock(rt);
     let wants = wants_window(guard.array());
     shared.let_go(guard);
@@ -132,7 +138,7 @@ fn is_collecting<R: Networked, L: Ledger, M: Map + Drop>(rt: &R, shared: &Shared
 }
 
 /// Whether a live die has less room than a block, and a victim.
-fn wants_window<M: Map>(array: &Array<M>) -> bool {
+fn wants_window<E: Looks>(array: &E) -> bool {
     for number in 0..array.geometry().dies {
         if array.wants_window(Die(number as u8)) {
             return true;

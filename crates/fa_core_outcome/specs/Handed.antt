@@ -1,7 +1,7 @@
 -- What contracts see of a job that is handed out: the machine's own.
 use Rattle.std.specs.Prelude.{[], unwrap_or}
 use Rattle.fa_machine.specs.Taking.{Handed}
-use Rattle.fa_core_dispatch.specs.declared.job.Job.{Job}
+use Rattle.fa_core_outcome.specs.declared.job.Job.{Job}
 
 module _ {A : Type 0} where
   abbrev pub handed_of : Job A → Handed

@@ -3,18 +3,18 @@ use Rattle.std.specs.FinMap.{get}
 use Rattle.std.specs.List.{list_all}
 use Rattle.std.specs.Option.{option_map_or}
 use Rattle.std.specs.Prelude.{◌≡◌, ◌&&◌, ℕ, Bool, true, false, not, nat_le, length, map, option_map, List, Ok, Some}
-use Rattle.fa_core.specs.declared.call.Answer.{Answer}
-use Rattle.fa_core.specs.declared.call.Answer.TheVariants.{Stranger, Claim as GaveClaim, Release as GaveRelease, Reserve as GaveReserve}
-use Rattle.fa_core.specs.declared.call.Answer.TheVariants.{Commit as GaveCommit, Abandon as GaveAbandon, Admit as GaveAdmit}
-use Rattle.fa_core.specs.declared.call.Answer.TheVariants.{Replan as GaveReplan, EndBatch as GaveEndBatch, Take as GaveTake}
-use Rattle.fa_core.specs.declared.call.Answer.TheVariants.{Done as GaveDone, Window as GaveWindow, Advance as GaveAdvance}
-use Rattle.fa_core.specs.declared.call.Answer.TheVariants.{SpareIn as GaveSpareIn, ReserveCopy as GaveReserveCopy}
-use Rattle.fa_core.specs.declared.call.Answer.TheVariants.{CommitCopy as GaveCommitCopy, FlushBegin as GaveFlushBegin}
-use Rattle.fa_core.specs.declared.call.Answer.TheVariants.{FlushState as GaveFlushState, Fold as GaveFold}
-use Rattle.fa_core.specs.declared.call.Call.{Call}
-use Rattle.fa_core.specs.declared.call.Call.TheVariants.{Claim, Release, Reserve, ReserveHole, ReserveFewer, Commit, Abandon, Admit}
-use Rattle.fa_core.specs.declared.call.Call.TheVariants.{Replan, EndBatch, Take, Done, Window, Advance, SpareIn, ReserveCopy, CommitCopy}
-use Rattle.fa_core.specs.declared.call.Call.TheVariants.{FlushBegin, FlushState, Fold}
+use Rattle.fa_core_calls.specs.declared.call.Answer.{Answer}
+use Rattle.fa_core_calls.specs.declared.call.Answer.TheVariants.{Stranger, Claim as GaveClaim, Release as GaveRelease, Reserve as GaveReserve}
+use Rattle.fa_core_calls.specs.declared.call.Answer.TheVariants.{Commit as GaveCommit, Abandon as GaveAbandon, Admit as GaveAdmit}
+use Rattle.fa_core_calls.specs.declared.call.Answer.TheVariants.{Replan as GaveReplan, EndBatch as GaveEndBatch, Take as GaveTake}
+use Rattle.fa_core_calls.specs.declared.call.Answer.TheVariants.{Done as GaveDone, Window as GaveWindow, Advance as GaveAdvance}
+use Rattle.fa_core_calls.specs.declared.call.Answer.TheVariants.{SpareIn as GaveSpareIn, ReserveCopy as GaveReserveCopy}
+use Rattle.fa_core_calls.specs.declared.call.Answer.TheVariants.{CommitCopy as GaveCommitCopy, FlushBegin as GaveFlushBegin}
+use Rattle.fa_core_calls.specs.declared.call.Answer.TheVariants.{FlushState as GaveFlushState, Fold as GaveFold}
+use Rattle.fa_core_calls.specs.declared.call.Call.{Call}
+use Rattle.fa_core_calls.specs.declared.call.Call.TheVariants.{Claim, Release, Reserve, ReserveHole, ReserveFewer, Commit, Abandon, Admit}
+use Rattle.fa_core_calls.specs.declared.call.Call.TheVariants.{Replan, EndBatch, Take, Done, Window, Advance, SpareIn, ReserveCopy, CommitCopy}
+use Rattle.fa_core_calls.specs.declared.call.Call.TheVariants.{FlushBegin, FlushState, Fold}
 use Rattle.fa_core_outcome.specs.Outcomes.{outcome_of}
 use Rattle.fa_machine.specs.Cells.{is_of_kind}
 use Rattle.fa_machine.specs.Conditions.{batch_open, claim_open, copy_open, history_full, is_reserved}
@@ -26,9 +26,9 @@ use Rattle.fa_machine.specs.Step.{Commit as ActCommit, Abandon as ActAbandon, Ad
 use Rattle.fa_machine.specs.Step.{EndBatch as ActEndBatch, Take as ActTake, Done as ActDone, Window as ActWindow, Advance as ActAdvance}
 use Rattle.fa_machine.specs.Step.{SpareIn as ActSpareIn, ReserveCopy as ActReserveCopy, CommitCopy as ActCommitCopy}
 use Rattle.fa_machine.specs.Step.{FlushBegin as ActFlushBegin, FlushState as ActFlushState, Fold as ActFold}
-use Rattle.fa_core_read.specs.Answers.{IsHandedOut, admit_answer, plan_answer}
-use Rattle.fa_core_dispatch.specs.Fits.{IsJobFor}
-use Rattle.fa_core_dispatch.specs.Handed.{handed_of}
+use Rattle.fa_core_calls.specs.Answers.{IsHandedOut, admit_answer, plan_answer}
+use Rattle.fa_core_outcome.specs.Fits.{IsJobFor}
+use Rattle.fa_core_outcome.specs.Handed.{handed_of}
 use Rattle.fa_types.specs.declared.geometry.Geometry.{Geometry}
 use Rattle.fa_types.specs.declared.numbers.Page.{Page}
 

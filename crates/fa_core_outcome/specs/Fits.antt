@@ -1,6 +1,5 @@
 -- Which jobs fit a die: what its image can be asked to do.
-use Rattle.std.specs.Prelude.{◌≡◌, ℕ, ◌*◌, ◌^◌, ◌<◌, ◌≤◌, List, false, length}
-use Rattle.fa_machine.specs.State.{Core}
+use Rattle.std.specs.Prelude.{◌≡◌, ℕ, ◌*◌, ◌<◌, List, false, length}
 use Rattle.fa_machine.specs.Taking.{Handed}
 use Rattle.fa_machine.specs.declared.jobs.Flight.{Flight}
 use Rattle.fa_machine.specs.declared.jobs.Flight.TheVariants.{Header as HeaderJob, Move, Erase, Read, Program, Sync}
@@ -53,11 +52,3 @@ IsFlightFor geometry array die payload (Sync flushes) = Unit {0}
 
 abbrev pub IsJobFor : Geometry → List ℕ → ℕ → Handed → Type 0
 IsJobFor geometry array die job = IsFlightFor geometry array die job.payload job.flight
-
--- the limits of a geometry, of the numbers and of the epoch
-pub record HasLimits (core : Core) : Type 0 where
-  pub dies : core.page_map.geometry.dies ≤ 64
-  pub pages : core.page_map.geometry.pages ≤ 1048576
-  pub slots : core.page_map.geometry.blocks * core.page_map.geometry.slots ≤ 1048576
-  pub last : core.last < 2 ^ 62
-  pub epoch : core.epoch ≤ 2 ^ 62

@@ -1,14 +1,14 @@
 //! Those who work for the dies of the array.
+use crate::counting_gate::CountingGate;
+use fa_core_calls::Events;
 use fa_image::Image;
-use fa_map_calls::Map;
-use fa_prog_array::CountingGate;
 use fa_prog_clients::Networked;
 use fa_prog_counts::Counts;
 use fa_shared::Shared;
 use fa_shared_lock::Seat;
 use fa_types::Die;
 use fa_workers::{ImageTable, JobMemory, collector_worker, die_worker, rebuild_worker};
-use std::alloc::AllocError;
+use std::alloc::{AllocError, Global};
 use std::sync::ledger::Ledger;
 
 /// What the worker of a die has of its own.
@@ -20,9 +20,9 @@ pub(crate) struct DieTask<L: Ledger> {
 }
 
 /// The task of a die's worker. The error is out of memory, or of seats.
-pub(crate) fn die_task<R: Networked, L: Ledger, M: Map + Drop>(
+pub(crate) fn die_task<R: Networked, L: Ledger, E: Events<Global>>(
     rt: &R,
-    shared: &Shared<L, M>,
+    shared: &Shared<L, E>,
     die: Die,
     page_bytes: u32,
 ) -> Result<DieTask<L>, AllocError> {
@@ -32,9 +32,9 @@ pub(crate) fn die_task<R: Networked, L: Ledger, M: Map + Drop>(
 }
 
 /// Works for a die until the array is to end, and hands the seat back. The calls of its image are counted.
-pub(crate) fn work_die<R: Networked, L: Ledger, M: Map + Drop, I: Image + Drop>(
+pub(crate) fn work_die<R: Networked, L: Ledger, E: Events<Global>, I: Image + Drop>(
     rt: &R,
-    shared: &Shared<L, M>,
+    shared: &Shared<L, E>,
     image_table: &ImageTable<I>,
     counts: &Counts,
     task: DieTask<L>,
@@ -60,9 +60,9 @@ pub(crate) fn work_die<R: Networked, L: Ledger, M: Map + Drop, I: Image + Drop>(
 }
 
 /// Collects until the array is to end, and hands the seat back.
-pub(crate) fn collect<R: Networked, L: Ledger, M: Map + Drop>(
+pub(crate) fn collect<R: Networked, L: Ledger, E: Events<Global>>(
     rt: &R,
-    shared: &Shared<L, M>,
+    shared: &Shared<L, E>,
     mut seat: Seat<L>,
     window_rounds: u64,
 ) -> Seat<L> {
@@ -71,9 +71,9 @@ pub(crate) fn collect<R: Networked, L: Ledger, M: Map + Drop>(
 }
 
 /// Rebuilds until the array is to end, and hands the seat back.
-pub(crate) fn rebuild<R: Networked, L: Ledger, M: Map + Drop>(
+pub(crate) fn rebuild<R: Networked, L: Ledger, E: Events<Global>>(
     rt: &R,
-    shared: &Shared<L, M>,
+    shared: &Shared<L, E>,
     mut seat: Seat<L>,
 ) -> Seat<L> {
     rebuild_worker(rt, rt.alloc(), shared, &mut seat);

@@ -1,16 +1,15 @@
 //! What the threads of a server are to do.
 use crate::die_workers::{DieTask, die_task};
 use crate::sessions::Session;
-use fa_map_calls::Map;
-use fa_prog_array::Served;
+use fa_core_calls::Events;
 use fa_prog_clients::{Networked, Service};
 use fa_prog_host::PlanFile;
 use fa_prog_listen::ThreadPlan;
-use fa_prog_watch::{Looker, Sight, Watched};
+use fa_prog_watch::{Looker, Sight};
 use fa_shared::Shared;
 use fa_shared_lock::Seat;
 use fa_types::Die;
-use std::alloc::AllocError;
+use std::alloc::{AllocError, Global};
 use std::sync::ledger::Ledger;
 
 /// What a thread is to do.
@@ -45,11 +44,12 @@ pub(crate) struct Tasks<'a, L: Ledger> {
     pub(crate) seats: Vec<Seat<L>>,
 }
 
-/// A task for each of these dies, for the collector, the rebuilder and the watch, for the one who writes plans, if there is one, for each
+/// A task for each of these dies, for the collector, the rebuilder and the watch of an array that stands so, for the one who writes plans, if there is one, for each
 /// session, for the one who answers those who look, if there is one, and for the one who accepts. The error is out of memory, or of seats.
-pub(crate) fn tasks_of<'a, R: Networked, L: Ledger, M: Map + Drop>(
+pub(crate) fn tasks_of<'a, R: Networked, L: Ledger, E: Events<Global>>(
     rt: &R,
-    shared: &Shared<L, M>,
+    shared: &Shared<L, E>,
+    sight: Sight,
     dies: &[Die],
     plan: ThreadPlan<'a>,
     plan_file: Option<PlanFile>,
@@ -57,7 +57,7 @@ pub(crate) fn tasks_of<'a, R: Networked, L: Ledger, M: Map + Drop>(
     let count = dies.len().saturating_add(plan.sessions).saturating_add(6);
     let seats = Vec::with_capacity(rt.alloc(), count)?;
     let mut tasks = Vec::with_capacity(rt.alloc(), count)?;
-    let workers = add_all(rt, shared, dies, plan, plan_file, &mut tasks)?;
+    let workers = add_all(rt, shared, sight, dies, plan, plan_file, &mut tasks)?;
     Ok(Tasks {
         tasks,
         workers,
@@ -67,9 +67,10 @@ pub(crate) fn tasks_of<'a, R: Networked, L: Ledger, M: Map + Drop>(
 
 /// Adds the tasks of all, for which there is memory, and answers how many are of those who work for the array or watch it. It stands apart from
 /// whoever owns the tasks, so that no exit of it drops them. The error is out of memory, or of seats.
-fn add_all<'a, R: Networked, L: Ledger, M: Map + Drop>(
+fn add_all<'a, R: Networked, L: Ledger, E: Events<Global>>(
     rt: &R,
-    shared: &Shared<L, M>,
+    shared: &Shared<L, E>,
+    sight: Sight,
     dies: &[Die],
     plan: ThreadPlan<'a>,
     plan_file: Option<PlanFile>,
@@ -78,7 +79,7 @@ fn add_all<'a, R: Networked, L: Ledger, M: Map + Drop>(
     if let Some(file) = plan_file {
         add(tasks, Task::WritePlans(file));
     }
-    add_workers(rt, shared, dies, plan, tasks)?;
+    add_workers(rt, shared, sight, dies, plan, tasks)?;
     let workers = tasks.len();
     add_sessions(rt, shared, plan, tasks)?;
     if plan.has_looks {
@@ -89,9 +90,10 @@ fn add_all<'a, R: Networked, L: Ledger, M: Map + Drop>(
 }
 
 /// Adds a task for each die, for the collector, for the rebuilder and for the watch.
-fn add_workers<'a, R: Networked, L: Ledger, M: Map + Drop>(
+fn add_workers<'a, R: Networked, L: Ledger, E: Events<Global>>(
     rt: &R,
-    shared: &Shared<L, M>,
+    shared: &Shared<L, E>,
+    sight: Sight,
     dies: &[Die],
     plan: ThreadPlan<'a>,
     tasks: &mut Vec<Task<'a, L>>,
@@ -104,15 +106,14 @@ fn add_workers<'a, R: Networked, L: Ledger, M: Map + Drop>(
     add(tasks, Task::Collect(collector));
     let rebuilder = shared.seat(rt).ok_or(AllocError)?;
     add(tasks, Task::Rebuild(rebuilder));
-    let sight = Served::new(rt, shared).sight(plan.copies);
     add(tasks, Task::Watch(sight));
     Ok(())
 }
 
 /// Adds a task for each session.
-fn add_sessions<'a, R: Networked, L: Ledger, M: Map + Drop>(
+fn add_sessions<'a, R: Networked, L: Ledger, E: Events<Global>>(
     rt: &R,
-    shared: &Shared<L, M>,
+    shared: &Shared<L, E>,
     plan: ThreadPlan<'a>,
     tasks: &mut Vec<Task<'a, L>>,
 ) -> Result<(), AllocError> {

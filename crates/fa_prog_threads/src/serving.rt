@@ -5,15 +5,15 @@ use crate::images_at_work::{ImagesAtWork, images_again};
 use crate::ready::Ready;
 use crate::site::Site;
 use crate::tasks::Tasks;
+use fa_core_calls::Events;
 use fa_image::Image;
-use fa_map_calls::Map;
-use fa_prog_array::Ended;
 use fa_prog_clients::Networked;
 use fa_prog_host::tell;
-use fa_prog_listen::{ServerHost, StopWaiter, work_side_by_side};
+use fa_prog_listen::{Ended, ServerHost, StopWaiter, work_side_by_side};
+use fa_prog_watch::Watched;
 use fa_shared::Shared;
 use fa_shared_lock::Seat;
-use std::alloc::AllocError;
+use std::alloc::{AllocError, Global};
 use std::io::Read;
 use std::sync::ledger::Ledger;
 
@@ -27,15 +27,17 @@ struct Back<L: Ledger> {
 }
 
 /// Serves clients until the input says stop, ends all threads, and gathers their seats. The error is out of memory.
-pub(crate) fn serve_ready<
+pub fn serve_ready<
     R: ServerHost,
     L: Ledger + Send,
-    M: Map + Send + Drop,
+    E: Events<Global> + Send,
+    W: Watched + Sync,
     I: Image + Send + Drop,
     N: Read,
 >(
     rt: &R,
-    shared: &Shared<L, M>,
+    shared: &Shared<L, E>,
+    watched: &W,
     ready: Ready<'_, L, I>,
     input: &mut N,
 ) -> Result<Ended<I>, AllocError>
@@ -49,6 +51,7 @@ pub(crate) fn serve_ready<
     } = ready;
     let site = Site {
         shared,
+        watched,
         image_table: &images.image_table,
         listening: &listening,
         losses: &losses,
@@ -58,9 +61,9 @@ pub(crate) fn serve_ready<
 }
 
 /// Takes the seats of all threads and the images back.
-fn ended_of<R: Networked, L: Ledger, M: Map + Drop, I: Drop>(
+fn ended_of<R: Networked, L: Ledger, E: Events<Global>, I: Drop>(
     rt: &R,
-    shared: &Shared<L, M>,
+    shared: &Shared<L, E>,
     images: ImagesAtWork<I>,
     back: Option<Back<L>>,
 ) -> Result<Ended<I>, AllocError>
@@ -75,9 +78,9 @@ fn ended_of<R: Networked, L: Ledger, M: Map + Drop, I: Drop>(
 }
 
 /// Takes the seats of all threads back.
-fn gather<R: Networked, L: Ledger, M: Map + Drop>(
+fn gather<R: Networked, L: Ledger, E: Events<Global>>(
     rt: &R,
-    shared: &Shared<L, M>,
+    shared: &Shared<L, E>,
     seats: Vec<Seat<L>>,
 )
     requires { L.parts ≡ 257 }
@@ -92,10 +95,11 @@ fn gather<R: Networked, L: Ledger, M: Map + Drop>(
 fn serve_shared<
     R: ServerHost,
     L: Ledger + Send,
-    M: Map + Send + Drop,
+    E: Events<Global> + Send,
+    W: Watched + Sync,
     I: Image + Send + Drop,
     N: Read,
->(rt: &R, site: &Site<'_, L, M, I>, tasks: Tasks<'_, L>, input: &mut N) -> Option<Back<L>> {
+>(rt: &R, site: &Site<'_, L, E, W, I>, tasks: Tasks<'_, L>, input: &mut N) -> Option<Back<L>> {
     let Tasks {
         tasks,
         workers,
