@@ -6,7 +6,7 @@ use fa_prog_status::{PageStatus, SlotCounts};
 use fa_types::{Die, Page};
 use std::alloc::AllocError;
 
-/// Counts those of so many pages that were written, from one on. The error is out of memory.
+/// Counts the written ones of `pages` pages from `first` on. The error is out of memory.
 pub(crate) fn count_pages<M: Map>(
     array: &Array<M>,
     first: u64,
@@ -25,7 +25,7 @@ pub(crate) fn count_pages<M: Map>(
     Ok(())
 }
 
-/// Adds the slots of so many blocks of a die, from one on.
+/// Adds the slots of `blocks` blocks of a die from `first` on.
 pub(crate) fn count_slots<M: Map>(
     array: &Array<M>,
     die: Die,

@@ -17,7 +17,7 @@ fn is_lost<M: Map>(array: &Array<M>, page: Page) -> bool
     array.is_page(page) && fa_core_read_pages::is_lost(array.page_map(), page)
 }
 
-/// Notes which of so many pages are lost, from one on. The error is out of memory.
+/// Notes the lost ones of `pages` pages from `first` on. The error is out of memory.
 pub(crate) fn note_lost<M: Map>(
     array: &Array<M>,
     first: u64,
@@ -33,7 +33,7 @@ pub(crate) fn note_lost<M: Map>(
     Ok(())
 }
 
-/// How many of so many pages are lost, from one on.
+/// How many of `pages` pages from `first` on are lost.
 pub(crate) fn count_lost<M: Map>(array: &Array<M>, first: u64, pages: u64) -> u64 {
     let mut lost = 0u64;
     let end = first.saturating_add(pages);

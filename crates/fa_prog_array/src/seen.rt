@@ -16,13 +16,13 @@ pub trait Seen {
     /// How a die stands, and whether it is behind.
     fn standing(&self, die: Die, has_image: bool) -> (DieState, bool);
 
-    /// Notes which of so many pages are lost, from one on. The error is out of memory.
+    /// Notes the lost ones of `pages` pages from `first` on. The error is out of memory.
     fn note_lost(&self, first: u64, pages: u64, lost: &mut LostPages) -> Result<(), AllocError>;
 
-    /// How many of so many pages are lost, from one on.
+    /// How many of `pages` pages from `first` on are lost.
     fn count_lost(&self, first: u64, pages: u64) -> u64;
 
-    /// Counts those of so many pages that were written, from one on. The error is out of memory.
+    /// Counts the written ones of `pages` pages from `first` on. The error is out of memory.
     fn count_pages(
         &self,
         first: u64,
@@ -30,6 +30,6 @@ pub trait Seen {
         counted: &mut PageStatus,
     ) -> Result<(), AllocError>;
 
-    /// Adds the slots of so many blocks of a die, from one on.
+    /// Adds the slots of `blocks` blocks of a die from `first` on.
     fn count_slots(&self, die: Die, first: u32, blocks: u32, counted: &mut SlotCounts);
 }

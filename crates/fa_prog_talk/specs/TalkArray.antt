@@ -56,6 +56,10 @@ TellsMounted view honest made L M export bytes array dies core mounted old new s
 abbrev pub MayBeServed : {A : Type 0} → Settings A → Type 0
 MayBeServed settings = (1 ≤ settings.window_rounds) × (settings.window_rounds ≤ 64) × (length (string_bytes settings.export) ≤ 4096)
 
+-- the array of the settings, as the store of one thread has it
+abbrev pub ServedArray : Type 0
+ServedArray = Kept (PageMap Global)
+
 module _ (L M : Type 0) {A : Type 0} (settings : Settings A) (terms : Terms) where
   -- Why images are not mounted: they were not opened, or they were, and this is why they were refused.
   abbrev pub IsNotMounted : MountFault → Type 0
@@ -104,4 +108,4 @@ abbrev pub RunsTalkArray : Type 0 → Terms → Streams → ℕ → Type 0
 RunsTalkArray A terms s status =
     (Reads s [] × (RefusesSettings A s.held_before s.held_after status ⊎ TellsNoMemory s.held_before s.held_after status))
     ⊎ ((text : List ℕ) × (settings : Settings A) × IsSettingsText text settings
-    × RunsOver (TellsLines Brand (Kept (PageMap Global)) settings terms) (codes "talk: cannot read" ++ 10 ∷ []) s status)
+    × RunsOver (TellsLines Brand ServedArray settings terms) (codes "talk: cannot read" ++ 10 ∷ []) s status)

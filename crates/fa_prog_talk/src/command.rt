@@ -1,13 +1,11 @@
 //! The command `talk --array`, from its settings to what it prints.
 ghost use Rattle.std.specs.Prelude.{◌≡◌, true, [], ◌∷◌, ◌++◌, List, IfOk, codes, length, string_bytes};
-ghost use Rattle.std.specs.declared.alloc.Global.{Global as Heap};
 ghost use Rattle.fa_core.specs.Array.{IsWhole, number_of, state_of};
 ghost use Rattle.fa_prog_array.specs.declared.kept.Kept.{Kept as KeptRecord};
 ghost use Rattle.fa_io.specs.Streams.{between};
-ghost use Rattle.fa_map.specs.declared.page_map.PageMap.{PageMap as PageTables};
 ghost use Rattle.fa_prog_host.specs.Opened.{AreOpened};
 ghost use Rattle.fa_prog_talk.specs.TalkArray.{MayBeServed, RunsTalkArray, TellsClient, TellsLines, TellsMounted, TellsSaid};
-ghost use Rattle.fa_prog_talk.specs.TalkArray.{said_text as text_of};
+ghost use Rattle.fa_prog_talk.specs.TalkArray.{ServedArray, said_text as text_of};
 ghost use Rattle.fa_prog_text.specs.Output.{RunsOver};
 ghost use Rattle.fa_faults.specs.declared.faults.Fault.{Fault};
 
@@ -76,7 +74,7 @@ fn hear<R: Host, N: Read, W: Write, A: Allocator + Copy>(
 ) -> u8
     requires served { MayBeServed settings.now }
     ensures { let streams = between (N.remaining input.old) (N.remaining input.new) (W.contents output.old) (W.contents output.new) in
-        RunsOver (TellsLines Brand (KeptRecord (PageTables Heap)) settings.now taken.entry.terms) (codes "talk: cannot read" ++ 10 ∷ []) streams result }
+        RunsOver (TellsLines Brand ServedArray settings.now taken.entry.terms) (codes "talk: cannot read" ++ 10 ∷ []) streams result }
 {
     match read_input(alloc, input) {
         Ok(text) => answer(rt, alloc, settings, taken, text.as_slice(), output),
@@ -94,7 +92,7 @@ fn answer<R: Host, W: Write, A: Allocator + Copy>(
     output: &mut W,
 ) -> u8
     requires served { MayBeServed settings.now }
-    ensures { TellsLines Brand (KeptRecord (PageTables Heap)) settings.now taken.entry.terms text.now (W.contents output.old) (W.contents output.new)
+    ensures { TellsLines Brand ServedArray settings.now taken.entry.terms text.now (W.contents output.old) (W.contents output.new)
         result }
 {
     match read_hex_lines(alloc, text) {
@@ -113,7 +111,7 @@ fn open<R: Host, W: Write, A: Allocator + Copy>(
     output: &mut W,
 ) -> u8
     requires served { MayBeServed settings.now }
-    ensures { TellsClient Brand (KeptRecord (PageTables Heap)) settings.now taken.entry.terms bytes.now (W.contents output.old) (W.contents output.new)
+    ensures { TellsClient Brand ServedArray settings.now taken.entry.terms bytes.now (W.contents output.old) (W.contents output.new)
         result }
 {
     let opening = Opening {
@@ -148,7 +146,7 @@ fn talk_over<R: Host, W: Write, A: Allocator + Copy>(
 ) -> u8
     requires served { MayBeServed settings.now }
     requires opened { AreOpened settings.now.geometry (length settings.now.images.items) taken.terms true places.now images.items }
-    ensures { TellsClient Brand (KeptRecord (PageTables Heap)) settings.now taken.entry.terms bytes.now (W.contents output.old) (W.contents output.new)
+    ensures { TellsClient Brand ServedArray settings.now taken.entry.terms bytes.now (W.contents output.old) (W.contents output.new)
         result }
 {
     a_conversation_is_right::<Brand, Kept<PageMap>, FileImage>();
@@ -186,9 +184,9 @@ fn talk_mounted<R: Host, M: Map + Drop, I: Image + Drop, W: Write, A: Allocator 
 ) -> u8
     requires served { MayBeServed settings.now }
     requires whole { IsWhole M.view parts.array.array }
-    ensures { TellsMounted I.view I.honest I.made Brand (KeptRecord M) (string_bytes settings.now.export) bytes.now (number_of parts.array.array)
-        parts.dies.items (state_of M.view parts.array.array) parts.images.items (W.contents output.old) (W.contents output.new)
-        result }
+    ensures { TellsMounted I.view I.honest I.made Brand (KeptRecord M) (string_bytes settings.now.export) bytes.now
+        (number_of parts.array.array) parts.dies.items (state_of M.view parts.array.array) parts.images.items
+        (W.contents output.old) (W.contents output.new) result }
 {
     match converse::<Brand, M, I, A>(rt.alloc(), alloc, Blank::new(257), parts, settings, bytes) {
         Ok(said) => {

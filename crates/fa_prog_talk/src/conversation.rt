@@ -73,7 +73,8 @@ fn served<L: Ledger, M: Map + Drop, I: Image + Drop, A: Allocator + Copy>(
 ) -> Said<A>
     requires { length (string_bytes settings.now.export) ≤ 4096 }
     ensures { (array : List ℕ) (dies : List Standing) (core : Core) (images : List I) → BeginsOver array dies core images (seen_of store)
-        → HasSaid I.view I.honest I.made L (KeptRecord M) (string_bytes settings.now.export) bytes.now array dies core images result }
+        → HasSaid I.view I.honest I.made L (KeptRecord M) (string_bytes settings.now.export) bytes.now array dies core images
+        result }
 {
     let mut store = store;
     let mut reader = bytes;
