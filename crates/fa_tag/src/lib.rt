@@ -16,5 +16,5 @@ pub use eights::open_all;
 pub use header::{Header, open_header, seal_header, seal_header_1};
 pub use payload::Payload;
 pub use payload_digest::PayloadDigest;
-pub use resealing::{open_begun, reseal};
+pub use resealing::{open_begun, open_four_begun, reseal};
 pub use tag::{Opened, Tag, open, seal, seal_1};

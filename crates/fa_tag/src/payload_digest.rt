@@ -104,7 +104,7 @@ impl PayloadDigest {
     }
 
     /// A payload that was hashed side by side with others.
-    fn among(begun: Begun, payload: &[u8]) -> PayloadDigest
+    pub(crate) fn among(begun: Begun, payload: &[u8]) -> PayloadDigest
         requires { IsBegun begun payload.now }
         ensures { result ≡ payload.now }
     {
