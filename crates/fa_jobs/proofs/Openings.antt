@@ -12,7 +12,7 @@ use Rattle.fa_machine.specs.Taking.{Handed}
 use Rattle.fa_machine.specs.World.{GaveCell, ReadsSlot, Refused}
 use Rattle.fa_machine.specs.declared.ids.BatchId.{BatchId}
 use Rattle.fa_machine.specs.declared.jobs.Flight.{Flight}
-use Rattle.fa_machine.specs.declared.jobs.Flight.TheVariants.{Read}
+use Rattle.fa_machine.specs.declared.jobs.Flight.TheVariants.{Move, Read}
 use Rattle.fa_machine.specs.declared.places.Version.{Version}
 use Rattle.fa_types.specs.declared.geometry.Geometry.{Geometry}
 use Rattle.fa_types.specs.declared.numbers.Page.{Page}
@@ -55,4 +55,16 @@ refused_ran made geometry array die job batch page version slot fault before aft
     (sym (ap (λ (f : Flight). record job { flight = f }) is))
     (ran_once _ _ (ReadsSlot slot.0) Refused _ _ refl
     (record { image_call = ReadingSlot slot.0; answer = RefusedBy fault; is_it = refl; given = tt; link = link })
+    (ap (λ n. Some (Fault n)) (sym same)))
+
+-- so it is of a move whose slot was refused
+pub refused_move_ran : {I : Type 0} (made : I → ImageCall → ImageAnswer → I → Type 0) (geometry : Geometry) (array : List ℕ) (die : ℕ)
+    (job : Handed) (page : Page) (version : Version) (from to : Slot) (fault : ImageFault) (before after : I)
+    → job.flight ≡ Move page version from to → made before (ReadingSlot from.0) (RefusedBy fault) after
+    → fault_number fault ≡ fault_number (fault_of (ReadingSlot from.0)) → Ran made geometry array die job (Fault (fault_number fault)) before after
+refused_move_ran made geometry array die job page version from to fault before after is link same =
+    subst (λ (j : Handed). Ran made geometry array die j (Fault (fault_number fault)) before after)
+    (sym (ap (λ (f : Flight). record job { flight = f }) is))
+    (ran_once _ _ (ReadsSlot from.0) Refused _ _ refl
+    (record { image_call = ReadingSlot from.0; answer = RefusedBy fault; is_it = refl; given = tt; link = link })
     (ap (λ n. Some (Fault n)) (sym same)))

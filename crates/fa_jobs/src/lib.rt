@@ -12,6 +12,7 @@ mod writing;
 
 pub use gate::{Gate, ImageCallKind, Open};
 pub use handing::hand_over;
+pub use moving::end_move;
 pub use opening::a_read_that_is_opened_has_run;
 pub use reading::begin_read;
 pub use running::run_job;
