@@ -7,7 +7,9 @@ use fa_prog_counts::Counts;
 use fa_shared::Shared;
 use fa_shared_lock::Seat;
 use fa_types::Die;
-use fa_workers::{ImageTable, JobMemory, collector_worker, die_worker, rebuild_worker};
+use fa_workers::{
+    Helper, HelperMemory, ImageTable, JobMemory, collector_worker, die_worker, rebuild_worker,
+};
 use std::alloc::{AllocError, Global};
 use std::sync::ledger::Ledger;
 
@@ -59,14 +61,38 @@ pub(crate) fn work_die<R: Networked, L: Ledger, E: Events<Global>, I: Image + Dr
     seat
 }
 
-/// Collects until the array is to end, and hands the seat back.
-pub(crate) fn collect<R: Networked, L: Ledger, E: Events<Global>>(
+/// What the collector has of its own.
+#[derive(Drop)]
+pub(crate) struct CollectTask<L: Ledger> {
+    seat: Seat<L>,
+    // Memory for the jobs that it makes of dies that collect.
+    memory: HelperMemory,
+}
+
+/// The task of the collector. The error is out of memory, or of seats.
+pub(crate) fn collect_task<R: Networked, L: Ledger, E: Events<Global>>(
     rt: &R,
     shared: &Shared<L, E>,
-    mut seat: Seat<L>,
+) -> Result<CollectTask<L>, AllocError> {
+    let memory = HelperMemory::new(rt.alloc())?;
+    let seat = shared.seat(rt).ok_or(AllocError)?;
+    Ok(CollectTask { seat, memory })
+}
+
+/// Collects until the array is to end, and hands the seat back. The calls of images are counted.
+pub(crate) fn collect<R: Networked, L: Ledger, E: Events<Global>, I: Image + Drop>(
+    rt: &R,
+    shared: &Shared<L, E>,
+    image_table: &ImageTable<I>,
+    counts: &Counts,
+    task: CollectTask<L>,
     window_rounds: u64,
 ) -> Seat<L> {
-    collector_worker(rt, rt.alloc(), shared, &mut seat, window_rounds);
+    let CollectTask { mut seat, memory } = task;
+    let gate = CountingGate { counts };
+    let helper = Helper::new(rt, rt.alloc(), shared, image_table, &gate, memory);
+    let mut hands = helper.collecting();
+    collector_worker(rt, rt.alloc(), shared, &mut seat, window_rounds, &mut hands);
     seat
 }
 

@@ -52,7 +52,14 @@ impl<
                 task,
                 listening.window_rounds,
             )),
-            Task::Collect(seat) => Some(collect(rt, self.shared, seat, listening.window_rounds)),
+            Task::Collect(task) => Some(collect(
+                rt,
+                self.shared,
+                self.image_table,
+                &listening.counts,
+                task,
+                listening.window_rounds,
+            )),
             Task::Rebuild(seat) => Some(rebuild(rt, self.shared, seat)),
             Task::Watch(seen) => {
                 watch(

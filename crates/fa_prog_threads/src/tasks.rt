@@ -1,5 +1,5 @@
 //! What the threads of a server are to do.
-use crate::die_workers::{DieTask, die_task};
+use crate::die_workers::{CollectTask, DieTask, collect_task, die_task};
 use crate::sessions::Session;
 use fa_core_calls::Events;
 use fa_prog_clients::{Networked, Service};
@@ -18,7 +18,7 @@ pub(crate) enum Task<'a, L: Ledger> {
     /// Work for a die.
     Die(DieTask<L>),
     /// Collect.
-    Collect(Seat<L>),
+    Collect(CollectTask<L>),
     /// Rebuild.
     Rebuild(Seat<L>),
     /// Tell what changes of the array, which stood so before anybody worked for it.
@@ -102,7 +102,7 @@ fn add_workers<'a, R: Networked, L: Ledger, E: Events<Global>>(
         let task = die_task(rt, shared, *die, plan.page_bytes)?;
         add(tasks, Task::Die(task));
     }
-    let collector = shared.seat(rt).ok_or(AllocError)?;
+    let collector = collect_task(rt, shared)?;
     add(tasks, Task::Collect(collector));
     let rebuilder = shared.seat(rt).ok_or(AllocError)?;
     add(tasks, Task::Rebuild(rebuilder));

@@ -201,8 +201,11 @@ fn make_parts<A: Allocator + Copy>(alloc: A) -> Result<(Faults<A>, Vec<Condvar, 
 /// How long somebody who waits so sleeps at most.
 fn limit_of(awaits: Awaits) -> Duration {
     match awaits {
-        Awaits::Job(_) | Awaits::Window | Awaits::ThinPage => Duration::from_millis(WORKER_SLEEP),
-        Awaits::Batch(_)
+        Awaits::Job(_) | Awaits::Window { was_refused: false } | Awaits::ThinPage => {
+            Duration::from_millis(WORKER_SLEEP)
+        }
+        Awaits::Window { was_refused: true }
+        | Awaits::Batch(_)
         | Awaits::Programs(_)
         | Awaits::Flush(_)
         | Awaits::Room(_)

@@ -4,6 +4,9 @@ use fa_core_calls::Looks;
 use fa_machine::JobKind;
 use fa_types::{Die, Page};
 
+/// How many dies an array has at most.
+pub(crate) const MAX_DIES: usize = 64;
+
 /// A set of dies, by their numbers, 0 to 63.
 #[derive(Clone, Copy)]
 pub struct DieSet {
@@ -19,22 +22,25 @@ impl DieSet {
         self.bits == 0
     }
 
-    /// The dies of both.
-    pub fn union(self, others: DieSet) -> DieSet {
-        DieSet {
-            bits: self.bits | others.bits,
-        }
-    }
-
     /// The die more.
-    fn insert(&mut self, die: Die) {
+    pub(crate) fn insert(&mut self, die: Die) {
         if die.0 < 64 {
             self.bits |= 1 << die.0;
         }
     }
 
+    /// The lowest die, which is in it no more.
+    pub(crate) fn pop(&mut self) -> Option<Die> {
+        if self.bits == 0 {
+            return None;
+        }
+        let die = Die(self.bits.trailing_zeros() as u8);
+        self.bits &= self.bits - 1;
+        Some(die)
+    }
+
     /// Whether the die is in it.
-    fn contains(self, die: Die) -> bool {
+    pub(crate) fn contains(self, die: Die) -> bool {
         die.0 < 64 && (self.bits >> die.0) & 1 == 1
     }
 }
@@ -49,31 +55,17 @@ pub fn lacks_home<E: Looks>(array: &E, page: Page) -> bool {
     false
 }
 
-/// Such dies that get room before long.
-pub fn homes_to_come<E: Looks>(array: &E, page: Page) -> DieSet {
-    let mut dies = DieSet::EMPTY;
-    for die in array.first_dies(page).as_slice() {
-        if is_to_come(array, *die) {
-            dies.insert(*die);
+/// Whether each of these dies has room, or gets none before long.
+pub(crate) fn have_come<E: Looks>(array: &E, dies: DieSet) -> bool {
+    let mut dies = dies;
+    for _ in 0..MAX_DIES {
+        match dies.pop() {
+            Some(die) if has_no_room(array, die) && is_collecting(array, die) => return false,
+            Some(_) => {}
+            None => return true,
         }
     }
-    dies
-}
-
-/// Whether one of these dies has room, or gets none before long.
-pub(crate) fn has_come<E: Looks>(array: &E, dies: DieSet) -> bool {
-    for number in 0..64u8 {
-        let die = Die(number);
-        if dies.contains(die) && !is_to_come(array, die) {
-            return true;
-        }
-    }
-    false
-}
-
-/// Whether a die has no room and gets some before long: it has a window, or is at a move or an erase.
-fn is_to_come<E: Looks>(array: &E, die: Die) -> bool {
-    has_no_room(array, die) && is_collecting(array, die)
+    true
 }
 
 /// Whether a die of the array has no room.
@@ -82,7 +74,7 @@ fn has_no_room<E: Looks>(array: &E, die: Die) -> bool {
 }
 
 /// Whether the die's collector has rounds, or is at a step.
-fn is_collecting<E: Looks>(array: &E, die: Die) -> bool {
+pub(crate) fn is_collecting<E: Looks>(array: &E, die: Die) -> bool {
     match array.job_kind(die) {
         Some(JobKind::Move | JobKind::Erase) => true,
         _ => array.has_window(die),

@@ -5,11 +5,12 @@ mod hands;
 mod homes;
 mod locked;
 mod making;
+mod rooms;
 mod seat;
 mod sleepers;
 
 pub use hands::Hands;
-pub use homes::{DieSet, homes_to_come, lacks_home};
+pub use homes::{DieSet, lacks_home};
 pub use locked::{Gathered, Locked, MAX_SEATS, plain};
 pub use making::make;
 pub use seat::Seat;

@@ -6,6 +6,7 @@ ghost use Rattle.fa_core_calls.specs.Calls.{commits_of_answer};
 ghost use Rattle.fa_shared_lock.specs.Only.{has_passed as rule_passed};
 ghost use Rattle.fa_shared_lock.specs.Seats.{commits_together};
 
+use crate::homes::DieSet;
 use crate::seat::Seat;
 use crate::sleepers::{Awaits, SeatSet, Sleepers, is_due};
 use fa_core_calls::{Answer, Call, Events};
@@ -219,6 +220,12 @@ impl<L: Ledger, E: Events<A>, A: Allocator + Copy> Locked<L, E, A> {
         is_due(&self.array, true, awaits)
     }
 
+    /// The dies that a write of the page would go to, made with this seat, if it is better to wait until each of them has room. It is a matter
+    /// of speed alone, and in no clause.
+    pub fn homes_to_come(&self, seat: u32, page: Page) -> DieSet {
+        self.sleepers.homes_to_come(&self.array, seat, page)
+    }
+
     /// What holds of the array whenever the lock is free: its numbers are the replay of its history since the last fold, in which each
     /// Start is legal, and the book is the count of its Commits.
     pub fn account(&self)
@@ -266,6 +273,19 @@ impl<L: Ledger, E: Events<A>, A: Allocator + Copy> Locked<L, E, A> {
     /// in no clause.
     pub fn do_many_help(&self) -> bool {
         self.sleepers.do_many_help()
+    }
+
+    /// Somebody makes the jobs of all dies that have a window, so that their workers need not be woken, or nobody does any more. It is a
+    /// matter of speed alone, and in no clause.
+    pub fn lead(&mut self, is_led: bool)
+        ensures { self.new ≡ self.old }
+    {
+        self.sleepers.lead(is_led);
+    }
+
+    /// Whether somebody makes the jobs of all dies that have a window.
+    pub fn is_led(&self) -> bool {
+        self.sleepers.is_led()
     }
 
     /// Whoever works for the array is to end.

@@ -7,4 +7,4 @@ mod parts;
 mod preparing;
 
 pub use op::{Lent, Op};
-pub use parts::{Part, SIDE_BY_SIDE, fault_of, has_ended, parts_of, prepare};
+pub use parts::{Part, TOGETHER, fault_of, has_ended, parts_of, prepare};

@@ -3,7 +3,7 @@
 use crate::preparing::{answer_len, memory_for, prepare_stage};
 use fa_core_calls::Events;
 use fa_machine::ReadState;
-use fa_shared_lock::{Awaits, Locked, homes_to_come, lacks_home};
+use fa_shared_lock::{Awaits, Locked, lacks_home};
 use fa_shared_steps::{Fill, Request, Stage, Task, begin, content, fill_with};
 use fa_tag::Payload;
 use fa_types::{BlockFault, Page};
@@ -236,11 +236,15 @@ impl<A: Allocator + Copy, B: Allocator> Op<A, B> {
         }
     }
 
-    /// Whether such a die gets room before long, so that it is better to wait than to write the copy to another die, where its program is
-    /// to be synced. What is told is a matter of speed alone, and in no clause.
-    pub fn may_wait_for_home<L: Ledger, E: Events<A>>(&self, locked: &Locked<L, E, A>) -> bool {
+    /// Whether such a die gets room before long, so that it is better for whoever has this seat to wait than to write the copy to another
+    /// die, where its program is to be synced. What is told is a matter of speed alone, and in no clause.
+    pub fn may_wait_for_home<L: Ledger, E: Events<A>>(
+        &self,
+        locked: &Locked<L, E, A>,
+        seat: u32,
+    ) -> bool {
         match &self.stage {
-            Stage::Reserving(held, _) => !homes_to_come(locked.array(), held.page).is_empty(),
+            Stage::Reserving(held, _) => !locked.homes_to_come(seat, held.page).is_empty(),
             _ => false,
         }
     }
@@ -265,16 +269,16 @@ impl<A: Allocator + Copy, B: Allocator> Op<A, B> {
         };
     }
 
-    /// What it waits for, where it waits: its batch, the programs of its claim, its flush, dies that get room, or any change. A
-    /// batch that is to be planned anew waits for other requests. What is answered settles who is woken when, and is in no clause.
-    pub fn awaits<L: Ledger, E: Events<A>>(&self, locked: &Locked<L, E, A>) -> Awaits {
+    /// What it waits for, where whoever has this seat waits for it: its batch, the programs of its claim, its flush, dies that get room, or any
+    /// change. A batch that is to be planned anew waits for other requests. What is answered settles who is woken when, and is in no clause.
+    pub fn awaits<L: Ledger, E: Events<A>>(&self, locked: &Locked<L, E, A>, seat: u32) -> Awaits {
         match &self.stage {
             Stage::Reading(_, batch) => match locked.array().results(*batch) {
                 ReadState::Waiting => Awaits::Batch(*batch),
                 ReadState::Ready | ReadState::Torn => Awaits::Change,
             },
             Stage::Reserving(held, _) => {
-                let dies = homes_to_come(locked.array(), held.page);
+                let dies = locked.homes_to_come(seat, held.page);
                 if dies.is_empty() {
                     Awaits::Change
                 } else {

@@ -13,10 +13,13 @@ use fa_types::BlockFault;
 use std::alloc::{AllocError, Allocator, Global};
 
 /// How many parts a request has at most.
-const PARTS: u64 = 16;
+const PARTS: u64 = 64;
 
 /// How many pages are hashed side by side.
-pub const SIDE_BY_SIDE: usize = 8;
+const SIDE_BY_SIDE: usize = 8;
+
+/// How many pages are prepared at a time at most: dies program what was prepared while the next ones are.
+pub const TOGETHER: usize = 16;
 
 /// A part of a request.
 #[derive(Drop)]
@@ -140,9 +143,11 @@ pub fn prepare<A: Allocator + Copy>(alloc: A, parts: &mut [Part<A>], bytes: &[u8
     }
 }
 
-/// How many pages are hashed now: all whose bytes are to be hashed, or where these are more than are hashed side by side, so many at a time.
+/// How many pages are hashed now: those whose bytes are to be hashed, as far as they are prepared at a time, and where these are more than are
+/// hashed side by side, so many at a time.
 fn hashed_now<A: Allocator + Copy>(parts: &[Part<A>]) -> usize {
     let ready = parts.iter().filter(|part| part.op.has_content()).count();
+    let ready = ready.min(TOGETHER);
     if ready > SIDE_BY_SIDE {
         ready.saturating_sub(ready % SIDE_BY_SIDE)
     } else {

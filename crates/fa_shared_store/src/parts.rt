@@ -78,7 +78,7 @@ fn make_turns<R: Wait + Clock, L: Ledger, E: Events<A>, A: Allocator + Copy, H: 
         if !matches!(turn_all(context.rt, parts, &mut guard, seat), Turn::Wait) {
             break;
         }
-        let awaits = awaits_of(parts, &guard);
+        let awaits = awaits_of(parts, &guard, seat.number());
         guard = pass_time(context, seat, hands, awaits, guard);
     }
     context.shared.release(seat, guard);

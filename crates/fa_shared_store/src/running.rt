@@ -226,7 +226,7 @@ fn make_turns<
         if !matches!(turn_on(context.rt, op, &mut guard, seat), Turn::Wait) {
             break;
         }
-        let awaits = op.awaits(&guard);
+        let awaits = op.awaits(&guard, seat.number());
         guard = pass_time(context, seat, hands, awaits, guard);
     }
     context.shared.release(seat, guard);

@@ -36,7 +36,7 @@ fn turn_further<R: Wait, L: Ledger, E: Events<A>, A: Allocator + Copy, B: Alloca
         return Turn::End;
     }
     for _ in rt.forever() {
-        if op.may_wait_for_home(locked) {
+        if op.may_wait_for_home(locked, seat.number()) {
             return Turn::Wait;
         }
         let turn = make_turn(op, locked, seat);

@@ -188,7 +188,8 @@ fn collect_more<L: Ledger, E: Events<A>, I: Image, A: Allocator + Copy, B: Alloc
     ensures { Does I.made (IsMeanwhile false) inner.old inner.new }
 {
     let windows = give_windows(inner, true);
-    if matches!(windows, Windows::Refused(_)) || !op.may_wait_for_home(&inner.locked) {
+    let seat = inner.seat.number();
+    if matches!(windows, Windows::Refused(_)) || !op.may_wait_for_home(&inner.locked, seat) {
         return false;
     }
     work_at_once(inner, None)
@@ -234,7 +235,7 @@ fn batch_of<L: Ledger, E: Events<A>, I: Image, A: Allocator + Copy, B: Allocator
     op: &Op<A, B>,
     inner: &Inner<L, E, I, A>,
 ) -> Option<BatchId> {
-    match op.awaits(&inner.locked) {
+    match op.awaits(&inner.locked, inner.seat.number()) {
         Awaits::Batch(batch) => Some(batch),
         _ => None,
     }

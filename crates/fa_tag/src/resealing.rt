@@ -1,5 +1,5 @@
 //! Payloads that are given another tag where they stand, and hashed once for that.
-ghost use Rattle.std.specs.Prelude.{◌≡◌, ◌×◌, ◌≤◌, length};
+ghost use Rattle.std.specs.Prelude.{◌≡◌, ◌≤◌, length};
 ghost use Rattle.sha2.specs.Sha256.{sha256};
 ghost use Rattle.fa_lanes.specs.Beginning.{IsBegun};
 ghost use Rattle.fa_lanes.specs.Lanes.{message};

@@ -1,32 +1,12 @@
--- Jobs whose calls were made, where what a read gave is opened behind them.
+-- Reads whose slots are opened behind them.
 use Rattle.std.specs.Prelude.{◌≡◌, ◌<◌, ◌≤◌, ℕ, zero, suc, List, [], ◌∷◌, length, slice_index_or}
-use Rattle.fa_core_outcome.specs.Outcomes.{outcome_of as end_of}
 use Rattle.fa_core_outcome.specs.declared.outcome.Outcome.{Outcome as JobOutcome}
 use Rattle.fa_core_outcome.specs.declared.outcome.Outcome.TheVariants.{Read as WasRead}
-use Rattle.fa_image.specs.Image.{Gave as GaveBytes, ImageAnswer, ImageCall, ReadingSlot}
-use Rattle.fa_machine.specs.Taking.{Handed}
-use Rattle.fa_machine.specs.declared.ids.BatchId.{BatchId}
-use Rattle.fa_machine.specs.declared.jobs.Flight.TheVariants.{Read}
-use Rattle.fa_machine.specs.declared.places.Version.{Version}
 use Rattle.fa_tag.specs.SlotGrammar.{IsOpened}
 use Rattle.fa_tag.specs.declared.tag.Opened.{Opened}
-use Rattle.fa_jobs.specs.Made.{Ran}
 use Rattle.fa_jobs.specs.Opens.{Opens}
-use Rattle.fa_tag.specs.declared.tag.Opened.TheVariants.{Bad}
-use Rattle.fa_types.specs.declared.geometry.Geometry.{Geometry}
-use Rattle.fa_types.specs.declared.numbers.Page.{Page}
-use Rattle.fa_types.specs.declared.numbers.Slot.{Slot}
 use Rattle.fa_workers.specs.declared.bench.MadeJob.{MadeJob}
 use Rattle.fa_workers.specs.declared.job_memory.JobMemory.{JobMemory}
-
-module _ {I : Type 0} (made : I → ImageCall → ImageAnswer → I → Type 0) (geometry : Geometry) (array : List ℕ) (die : ℕ) where
-  -- The job ran, or its slot was read into these bytes, and stands as a bad one until it is opened.
-  pub data Begins (job : Handed) (outcome : JobOutcome) (slot_bytes page_bytes : List ℕ) (before after : I) : Type 0 where
-    HasRun : Ran made geometry array die job (end_of outcome page_bytes) before after
-        → Begins job outcome slot_bytes page_bytes before after
-    HasRead : (batch : BatchId) (page : Page) (version : Version) (slot : Slot) → job.flight ≡ Read batch page version slot
-        → outcome ≡ WasRead Bad → made before (ReadingSlot slot.0) (GaveBytes slot_bytes) after
-        → Begins job outcome slot_bytes page_bytes before after
 
 module _ {A : Type 0} where
   -- What a read gave is opened, where its memory has room for the page. Every other outcome stays, with its memory.

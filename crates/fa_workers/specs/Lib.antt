@@ -1,3 +1,4 @@
+pub mod Beginning
 pub mod Begun
 pub mod DieTurns
 pub mod Held

@@ -2,6 +2,7 @@
 ghost use Rattle.std.specs.Prelude.{◌≡◌, IfSome};
 
 use crate::job_memory::JobMemory;
+use crate::moves::OpenedMove;
 use crate::order::Order;
 use fa_core_outcome::Outcome;
 use fa_types::Die;
@@ -29,25 +30,33 @@ pub(crate) struct MadeJob<A: Allocator = Global> {
 pub(crate) enum Lain<A: Allocator = Global> {
     /// A job that nobody has begun.
     Waiting(Order<A>),
+    /// A move whose slot was read.
+    SlotRead(Task<A>),
+    /// A move whose slot was read and opened.
+    Opened(OpenedMove<A>),
     /// How a job has ended that was made, and that nobody has told the array of.
     Made(Outcome),
 }
 
-/// A die's place.
+/// A die's place. At most one thing lies there beside the memory; what was begun has the memory within.
 #[derive(Drop)]
 struct Place<A: Allocator = Global> {
     // A job that nobody has begun.
     order: Option<Order<A>>,
+    // A move whose slot was read.
+    read: Option<Task<A>>,
+    // A move whose slot was read and opened.
+    opened: Option<OpenedMove<A>>,
     // How a job has ended that was made, and that nobody has told the array of.
     outcome: Option<Outcome>,
-    // Memory for such a job. None while somebody makes one or tells of it.
+    // Memory for such a job. None while somebody makes one or tells of it, or one lies begun.
     memory: Option<JobMemory<A>>,
 }
 
 /// A place for each die of an array. Who takes jobs of several dies in one hold of the array's lock lays them there, and makes one after
 /// the other; whoever comes first makes a job, the die's worker too, so that none waits for the calls of another die's image. So it is with
-/// the end of a job that was made. A die has one job at a time, and its place has the memory for it: where no job of the die is under way,
-/// the memory is there.
+/// a move between its two calls, and with the end of a job that was made. A die has one job at a time, and its place has the memory for it:
+/// where no job of the die is under way, the memory is there.
 #[derive(Drop)]
 pub(crate) struct Bench<A: Allocator = Global> {
     // By the numbers of the dies.
@@ -62,6 +71,8 @@ impl<A: Allocator + Copy> Bench<A> {
             let memory = JobMemory::new(alloc, page_bytes)?;
             places.push(Mutex::new(Place {
                 order: None,
+                read: None,
+                opened: None,
                 outcome: None,
                 memory: Some(memory),
             }))?;
@@ -92,6 +103,38 @@ impl<A: Allocator> Bench<A> {
         let memory = place.memory.take()?;
         let order = place.order.take()?;
         Some(Task { order, memory })
+    }
+
+    /// Lays a move whose slot was read at the place of its die.
+    pub(crate) fn lay_read<R: Wait>(&self, rt: &R, task: Task<A>) {
+        if let Some(lock) = self.places.get(usize::from(task.order.die().0)) {
+            lock.lock(rt).read = Some(task);
+        }
+    }
+
+    /// The move whose slot was read, if that is what lies there.
+    pub(crate) fn lift_read<R: Wait>(&self, rt: &R, die: Die) -> Option<Task<A>> {
+        let mut place = self.places.get(usize::from(die.0))?.lock(rt);
+        if place.read.is_none() {
+            return None;
+        }
+        place.read.take()
+    }
+
+    /// Lays a move whose slot was read and opened at the place of its die.
+    pub(crate) fn lay_opened<R: Wait>(&self, rt: &R, opened: OpenedMove<A>) {
+        if let Some(lock) = self.places.get(usize::from(opened.die().0)) {
+            lock.lock(rt).opened = Some(opened);
+        }
+    }
+
+    /// The move whose slot was read and opened, if that is what lies there.
+    pub(crate) fn lift_opened<R: Wait>(&self, rt: &R, die: Die) -> Option<OpenedMove<A>> {
+        let mut place = self.places.get(usize::from(die.0))?.lock(rt);
+        if place.opened.is_none() {
+            return None;
+        }
+        place.opened.take()
     }
 
     /// Lays back how a job has ended, with the memory that it was made in.
@@ -139,6 +182,12 @@ impl<A: Allocator> Bench<A> {
         let mut place = self.places.get(usize::from(die.0))?.lock(rt);
         if let Some(order) = place.order.take() {
             return Some(Lain::Waiting(order));
+        }
+        if let Some(task) = place.read.take() {
+            return Some(Lain::SlotRead(task));
+        }
+        if let Some(opened) = place.opened.take() {
+            return Some(Lain::Opened(opened));
         }
         let outcome = place.outcome.take()?;
         if let Some(there) = &mut place.memory {

@@ -1,48 +1,74 @@
-//! The worker that gives dies their windows.
-ghost use Rattle.std.specs.Prelude.{◌≡◌, ◌<◌, false, if◌then◌else◌};
+//! The worker that gives dies their windows, and makes what they collect by.
+ghost use Rattle.std.specs.Prelude.{◌≡◌, ◌<◌, false};
 ghost use Rattle.fa_core_calls.specs.Windows.{is_window_due};
 ghost use Rattle.fa_shared_lock.specs.Rest.{LeavesRest};
-ghost use Rattle.fa_shared_lock.specs.declared.sleepers.Awaits.TheVariants.{Change, Window};
+ghost use Rattle.fa_shared_lock.specs.declared.sleepers.Awaits.TheVariants.{Window};
 ghost use Rattle.fa_workers.specs.Windows.{GivesWindow, GivesWindows};
 
 use fa_core_calls::{Events, Looks};
 use fa_shared::{Shared, window};
-use fa_shared_lock::{Awaits, Locked, Seat};
+use fa_shared_lock::{Awaits, Hands, Locked, Seat};
 use fa_types::Die;
 use std::alloc::Allocator;
 use std::sync::Wait;
 use std::sync::ledger::Ledger;
 use std::time::Clock;
 
-/// Gives each live die that wants one a window of so many rounds, 1 to 64, until the array is to end. It sleeps
-/// behind each look at the dies until one wants a window; and where one was refused, until something has changed.
-pub fn collector_worker<R: Wait + Clock, L: Ledger, E: Events<A>, A: Allocator + Copy>(
+/// Gives each live die that wants one a window of so many rounds, 1 to 64, and makes the jobs of dies that collect with these hands, until
+/// the array is to end. It sleeps where there are none, until a die wants a window or one that collects has a job; and where a window was
+/// refused, until something has changed.
+pub fn collector_worker<
+    R: Wait + Clock,
+    L: Ledger,
+    E: Events<A>,
+    A: Allocator + Copy,
+    H: Hands<L, E, A>,
+>(
     rt: &R,
     alloc: A,
     shared: &Shared<L, E, A>,
     seat: &mut Seat<L>,
     window_rounds: u64,
+    hands: &mut H,
 ) {
+    let mut is_noted = true;
     let mut guard = shared.lock(rt);
     for _ in rt.forever() {
         if guard.is_stopping() {
             break;
         }
-        give_windows(alloc, &mut guard, seat, window_rounds);
-        let awaits = next_look(guard.array());
-        guard = shared.sleep(rt, seat, awaits, false, guard);
+        let has_taken = hands.take(&mut guard, seat);
+        let has_given = give_windows(alloc, &mut guard, seat, window_rounds);
+        if has_taken {
+            shared.release(seat, guard);
+            hands.note();
+            hands.work();
+            guard = shared.lock(rt);
+            hands.end(&mut guard, seat);
+            is_noted = false;
+        } else if has_given {
+            continue;
+        } else if is_noted {
+            let awaits = next_look(guard.array());
+            guard = shared.sleep(rt, seat, awaits, false, guard);
+        } else {
+            shared.release(seat, guard);
+            hands.note();
+            is_noted = true;
+            guard = shared.lock(rt);
+        }
     }
-    shared.let_go(guard);
+    guard.lead(false);
+    shared.release(seat, guard);
+    hands.note();
 }
 
 /// What the collector waits for behind a look: that a die wants a window, or any change, where one that wants it was refused.
 fn next_look<E: Looks>(array: &E) -> Awaits
-    ensures { result ≡ (if is_window_due (E.core array.now) then Change else Window) }
+    ensures { result ≡ Window (is_window_due (E.core array.now)) }
 {
-    if array.is_window_due() {
-        Awaits::Change
-    } else {
-        Awaits::Window
+    Awaits::Window {
+        was_refused: array.is_window_due(),
     }
 }
 

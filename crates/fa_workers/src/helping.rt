@@ -12,11 +12,14 @@ use crate::bench::{Bench, MadeJob, Task};
 use crate::die_events::{Ended, end_job, take_job};
 use crate::image_table::ImageTable;
 use crate::job_memory::JobMemory;
-use fa_core_calls::Events;
+use crate::moves::open_moves;
+use crate::order::Begun;
+use fa_core_calls::{Events, Looks};
 use fa_core_outcome::Outcome;
 use fa_faults::Fault;
 use fa_image::Image;
 use fa_jobs::{Gate, hand_over};
+use fa_machine::JobKind;
 use fa_shared::Shared;
 use fa_shared_lock::{Hands, Locked, Seat};
 use fa_tag::{Opened, open, open_all};
@@ -48,6 +51,8 @@ const QUICK_MICROSECONDS: u64 = 50;
 pub struct HelperMemory<A: Allocator = Global> {
     // The dies whose jobs were taken.
     dies: Vec<Die, A>,
+    // The moves whose slots were read, while these are opened.
+    moves: Vec<Task<A>, A>,
     // The jobs that were made.
     made: Vec<MadeJob<A>, A>,
     faults: Vec<Fault, A>,
@@ -58,15 +63,42 @@ impl<A: Allocator + Copy> HelperMemory<A> {
     pub fn new(alloc: A) -> Result<HelperMemory<A>, AllocError> {
         Ok(HelperMemory {
             dies: Vec::with_capacity(alloc, MAX_JOBS)?,
+            moves: Vec::with_capacity(alloc, MAX_JOBS)?,
             made: Vec::with_capacity(alloc, MAX_JOBS)?,
             faults: Vec::with_capacity(alloc, MAX_JOBS)?,
         })
     }
 }
 
-/// Somebody who makes jobs of dies while a request waits for them: one at a time where the images are slow, so that others make those of
-/// the other dies beside it, and several in a row where they are quick. Jobs of several dies lie on the dies' bench until they are made and
-/// until they are ended, so that no die waits for another's image.
+/// Which jobs somebody who helps takes.
+#[derive(Clone, Copy)]
+struct Wanted {
+    // How many at most in one hold.
+    most: usize,
+    // Those of dies that collect, and no other.
+    collects: bool,
+}
+
+impl Wanted {
+    /// Whether a job of a die that collects, or of one that does not, is among these, where the jobs of all dies are to be taken or not.
+    fn has(self, takes_all: bool, has_window: bool) -> bool {
+        if self.collects {
+            has_window
+        } else {
+            takes_all || !has_window
+        }
+    }
+
+    /// Whether no more jobs are wanted beside those of these dies. Whoever takes those of dies that collect takes none beside a long one: others
+    /// make the next ones meanwhile.
+    fn are_enough<E: Looks>(self, array: &E, dies: &[Die]) -> bool {
+        dies.len() >= self.most || self.collects && !are_short(array, dies)
+    }
+}
+
+/// Somebody who makes jobs of dies, while a request waits for them, or for all dies that collect: one at a time where the images are slow, so
+/// that others make those of the other dies beside it, and several in a row where they are quick. Jobs of several dies lie on the dies' bench
+/// until they are made and until they are ended, moves between their two calls too, so that no die waits for another's image.
 #[derive(Drop)]
 pub struct Helper<
     'a,
@@ -83,6 +115,8 @@ pub struct Helper<
     image_table: &'a ImageTable<I, A>,
     gate: &'a G,
     memory: HelperMemory<A>,
+    // Those of dies that collect alone.
+    collects: bool,
     // The last calls of images took little time.
     is_quick: bool,
 }
@@ -112,8 +146,16 @@ impl<
             image_table,
             gate,
             memory,
+            collects: false,
             is_quick: false,
         }
+    }
+
+    /// The same, who makes the jobs of dies that collect, and no other.
+    pub fn collecting(self) -> Helper<'a, R, L, E, A, I, G> {
+        let mut helper = self;
+        helper.collects = true;
+        helper
     }
 }
 
@@ -134,25 +176,31 @@ impl<
     ghost told = { λ helper. map told_of helper.memory.made.items };
 
     fn take(&mut self, locked: &mut Locked<L, E, A>, seat: &mut Seat<L>) -> bool {
-        locked.settle(seat);
-        let most = if self.is_quick { MAX_JOBS } else { 1 };
+        let wanted = Wanted {
+            most: if self.is_quick { MAX_JOBS } else { 1 },
+            collects: self.collects,
+        };
         let bench = self.image_table.bench();
-        take_jobs(
-            self.rt,
-            self.alloc,
-            locked,
-            seat,
-            most,
-            bench,
-            &mut self.memory.dies,
-        );
+        let dies = &mut self.memory.dies;
+        if self.collects {
+            take_in_round(self.rt, self.alloc, locked, seat, wanted, bench, dies);
+        } else {
+            take_behind_rounds(self.rt, self.alloc, locked, seat, wanted, bench, dies);
+        }
+        if self.collects {
+            let leads = self.is_quick && are_short(locked.array(), self.memory.dies.as_slice());
+            locked.lead(leads);
+        }
         !self.memory.dies.is_empty()
     }
 
     fn work(&mut self) {
         let start = Instant::now(self.rt).ok();
         let dies = self.memory.dies.as_slice();
-        make_jobs(self.rt, self.image_table, dies, self.gate);
+        if begin_jobs(self.rt, self.image_table, dies, self.gate) {
+            let moves = &mut self.memory.moves;
+            go_on_with_moves(self.rt, self.image_table, dies, moves, self.gate);
+        }
         let is_quick = is_quick(self.rt, start, dies.len());
         let mut made = replace(&mut self.memory.made, Vec::new(self.alloc));
         let dies = self.memory.dies.as_slice();
@@ -163,7 +211,12 @@ impl<
     }
 
     fn end(&mut self, locked: &mut Locked<L, E, A>, seat: &mut Seat<L>) {
-        let HelperMemory { dies, made, faults } = &mut self.memory;
+        let HelperMemory {
+            dies,
+            made,
+            faults,
+            ..
+        } = &mut self.memory;
         let bench = self.image_table.bench();
         for _ in 0..made.len() {
             if let Some(job) = made.pop() {
@@ -182,38 +235,98 @@ impl<
     }
 }
 
-/// Makes the calls of the jobs of these dies that lie on the bench, one after the other.
-fn make_jobs<R: Wait, I: Image + Drop, A: Allocator, G: Gate>(
+/// Begins the jobs of these dies that lie on the bench, one after the other. Whether one is a move whose slot was read.
+fn begin_jobs<R: Wait, I: Image + Drop, A: Allocator, G: Gate>(
+    rt: &R,
+    image_table: &ImageTable<I, A>,
+    dies: &[Die],
+    gate: &G,
+) -> bool {
+    let mut has_move = false;
+    for die in dies {
+        if begin_job(rt, image_table, *die, gate) {
+            has_move = true;
+        }
+    }
+    has_move
+}
+
+/// Makes the first call of a die's job that lies on the bench, if nobody has begun it, and all of one that neither reads nor moves a page,
+/// and lays back how far it has come. Whether it is a move whose slot was read.
+fn begin_job<R: Wait, I: Image + Drop, A: Allocator, G: Gate>(
+    rt: &R,
+    image_table: &ImageTable<I, A>,
+    die: Die,
+    gate: &G,
+) -> bool {
+    let bench = image_table.bench();
+    let Some(Task { order, mut memory }) = bench.lift_task(rt, die) else {
+        return false;
+    };
+    match image_table.begin(rt, &order, &mut memory, gate) {
+        Begun::Over(outcome) => {
+            bench.lay_made(
+                rt,
+                MadeJob {
+                    die,
+                    outcome,
+                    memory,
+                },
+            );
+            false
+        }
+        Begun::SlotRead => {
+            bench.lay_read(rt, Task { order, memory });
+            true
+        }
+    }
+}
+
+/// Goes on with the moves of these dies that lie on the bench and whose slots were read: opens them side by side, and makes their second
+/// calls. They lie on the bench between two calls.
+fn go_on_with_moves<R: Wait, I: Image + Drop, A: Allocator, G: Gate>(
+    rt: &R,
+    image_table: &ImageTable<I, A>,
+    dies: &[Die],
+    moves: &mut Vec<Task<A>, A>,
+    gate: &G,
+) {
+    let bench = image_table.bench();
+    lift_moves(rt, bench, dies, moves);
+    open_moves(rt, bench, moves);
+    end_moves(rt, image_table, dies, gate);
+}
+
+/// Takes the moves of these dies that lie on the bench and whose slots were read, as long as there is memory for one more.
+fn lift_moves<R: Wait, A: Allocator>(
+    rt: &R,
+    bench: &Bench<A>,
+    dies: &[Die],
+    moves: &mut Vec<Task<A>, A>,
+) {
+    for die in dies {
+        if moves.len() >= moves.capacity() {
+            return;
+        }
+        if let Some(task) = bench.lift_read(rt, *die) {
+            add(moves, task);
+        }
+    }
+}
+
+/// Makes the second calls of the moves of these dies that lie on the bench, one after the other, and lays back how they have ended.
+fn end_moves<R: Wait, I: Image + Drop, A: Allocator, G: Gate>(
     rt: &R,
     image_table: &ImageTable<I, A>,
     dies: &[Die],
     gate: &G,
 ) {
-    for die in dies {
-        make_job(rt, image_table, *die, gate);
-    }
-}
-
-/// Makes the calls of a die's job that lies on the bench, if nobody has begun it, and lays back how it has ended.
-fn make_job<R: Wait, I: Image + Drop, A: Allocator, G: Gate>(
-    rt: &R,
-    image_table: &ImageTable<I, A>,
-    die: Die,
-    gate: &G,
-) {
     let bench = image_table.bench();
-    let Some(Task { order, mut memory }) = bench.lift_task(rt, die) else {
-        return;
-    };
-    let outcome = image_table.begin(rt, &order, &mut memory, gate);
-    bench.lay_made(
-        rt,
-        MadeJob {
-            die,
-            outcome,
-            memory,
-        },
-    );
+    for die in dies {
+        if let Some(opened) = bench.lift_opened(rt, *die) {
+            bench.lay_made(rt, image_table.end_move(rt, opened, gate));
+        }
+    }
 }
 
 /// Takes the jobs of these dies that were made and lie on the bench, in place of those that there are.
@@ -289,27 +402,80 @@ fn is_quick<R: Clock>(rt: &R, start: Option<Instant>, jobs: usize) -> bool {
     }
 }
 
-/// Takes the next jobs of dies that have one, this many at most, as long as there is memory for one more, and lays them on the bench. A die
-/// that collects is left to its worker, so that no request waits for its moves, unless many who help sleep.
-fn take_jobs<R: Wait, L: Ledger, E: Events<A>, A: Allocator + Copy>(
+/// Whether none of these dies is at a long job.
+fn are_short<E: Looks>(array: &E, dies: &[Die]) -> bool {
+    dies.iter().all(|die| is_short(array, *die))
+}
+
+/// Whether the die is at no job, or at one that writes one slot at most and does not wait until that lasts.
+fn is_short<E: Looks>(array: &E, die: Die) -> bool {
+    matches!(
+        array.job_kind(die),
+        None | Some(JobKind::Read | JobKind::Program | JobKind::Move)
+    )
+}
+
+/// Takes jobs of dies as [`take_jobs`] does, in this round if there are any, and else once the rounds have passed that may.
+fn take_in_round<R: Wait, L: Ledger, E: Events<A>, A: Allocator + Copy>(
     rt: &R,
     alloc: A,
     locked: &mut Locked<L, E, A>,
     seat: &mut Seat<L>,
-    most: usize,
+    wanted: Wanted,
     bench: &Bench<A>,
     dies: &mut Vec<Die, A>,
 )
     ensures takes { TakesJobs (number_of seat.old) locked.old.core (numbers_of dies.old.items) locked.new.core (numbers_of dies.new.items) }
     ensures account { LeavesRest locked.old seat.old locked.new seat.new }
 {
-    let takes_all = locked.do_many_help();
+    take_jobs(rt, alloc, locked, seat, wanted, bench, dies);
+    if dies.is_empty() {
+        take_behind_rounds(rt, alloc, locked, seat, wanted, bench, dies);
+    }
+}
+
+/// Takes jobs of dies as [`take_jobs`] does, once the rounds have passed that may.
+fn take_behind_rounds<R: Wait, L: Ledger, E: Events<A>, A: Allocator + Copy>(
+    rt: &R,
+    alloc: A,
+    locked: &mut Locked<L, E, A>,
+    seat: &mut Seat<L>,
+    wanted: Wanted,
+    bench: &Bench<A>,
+    dies: &mut Vec<Die, A>,
+)
+    ensures takes { TakesJobs (number_of seat.old) locked.old.core (numbers_of dies.old.items) locked.new.core (numbers_of dies.new.items) }
+    ensures account { LeavesRest locked.old seat.old locked.new seat.new }
+{
+    locked.settle(seat);
+    take_jobs(rt, alloc, locked, seat, wanted, bench, dies);
+}
+
+/// Takes the next jobs that are wanted of dies that have one, as long as there is memory for one more, and lays them on the bench. A die
+/// that collects is left to its worker, or to whoever makes the jobs of all such dies, so that no request waits for its moves, unless many
+/// who help sleep and nobody makes these.
+fn take_jobs<R: Wait, L: Ledger, E: Events<A>, A: Allocator + Copy>(
+    rt: &R,
+    alloc: A,
+    locked: &mut Locked<L, E, A>,
+    seat: &mut Seat<L>,
+    wanted: Wanted,
+    bench: &Bench<A>,
+    dies: &mut Vec<Die, A>,
+)
+    ensures takes { TakesJobs (number_of seat.old) locked.old.core (numbers_of dies.old.items) locked.new.core (numbers_of dies.new.items) }
+    ensures account { LeavesRest locked.old seat.old locked.new seat.new }
+{
+    let takes_all = locked.do_many_help() && !locked.is_led();
     for number in 0..locked.array().geometry().dies {
         let die = Die(number as u8);
-        if dies.len() >= most || dies.len() >= dies.capacity() || !bench.has_place(die) {
+        if wanted.are_enough(locked.array(), dies.as_slice()) {
             return;
         }
-        if !takes_all && locked.array().has_window(die) {
+        if dies.len() >= dies.capacity() || !bench.has_place(die) {
+            return;
+        }
+        if !wanted.has(takes_all, locked.array().has_window(die)) {
             continue;
         }
         if let Some(order) = take_job(alloc, locked, seat, die) {

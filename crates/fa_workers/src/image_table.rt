@@ -1,7 +1,8 @@
 //! The images of an array's dies, for all who work for the dies.
-use crate::bench::Bench;
+use crate::bench::{Bench, MadeJob};
 use crate::job_memory::JobMemory;
-use crate::order::Order;
+use crate::moves::OpenedMove;
+use crate::order::{Begun, Order};
 use fa_core_outcome::Outcome;
 use fa_image::Image;
 use fa_jobs::Gate;
@@ -55,22 +56,39 @@ impl<I: Drop, A: Allocator> ImageTable<I, A> {
 }
 
 impl<I: Image + Drop, A: Allocator> ImageTable<I, A> {
-    /// Makes the calls of a job on its die's image, which is locked meanwhile, and tells how the job ended. A read's slot is in the
-    /// memory's scratch behind it and is not opened: it stands as a bad one.
+    /// Makes the first call of a job on its die's image, which is locked meanwhile, and all of one that neither reads nor moves a page. What
+    /// it has read is in the memory's scratch behind it and is not opened.
     pub(crate) fn begin<R: Wait, B: Allocator, G: Gate>(
         &self,
         rt: &R,
         order: &Order<B>,
         memory: &mut JobMemory<B>,
         gate: &G,
-    ) -> Outcome {
+    ) -> Begun {
         let Some(lock) = self.images.get(order.die().0 as usize) else {
-            return order.refused();
+            return Begun::Over(order.refused());
         };
         let mut guard = lock.lock(rt);
         match &mut *guard {
             Some(image) => order.begin(image, &mut memory.scratch, &mut memory.buffer, gate),
-            None => order.refused(),
+            None => Begun::Over(order.refused()),
+        }
+    }
+
+    /// Makes the second call of a move on its die's image, which is locked meanwhile.
+    pub(crate) fn end_move<R: Wait, B: Allocator, G: Gate>(
+        &self,
+        rt: &R,
+        opened: OpenedMove<B>,
+        gate: &G,
+    ) -> MadeJob<B> {
+        let Some(lock) = self.images.get(opened.die().0 as usize) else {
+            return opened.refused();
+        };
+        let mut guard = lock.lock(rt);
+        match &mut *guard {
+            Some(image) => opened.end(image, gate),
+            None => opened.refused(),
         }
     }
 

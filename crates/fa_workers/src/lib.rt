@@ -7,6 +7,7 @@ mod die_events;
 mod helping;
 mod image_table;
 mod job_memory;
+mod moves;
 mod order;
 mod rebuild_events;
 mod rebuild_stage;

@@ -1,19 +1,30 @@
 //! A job with all that its calls want.
-ghost use Rattle.std.specs.Prelude.{◌≡◌, ◌+◌, IfSome, length, option_map};
+ghost use Rattle.std.specs.Prelude.{◌≡◌, ◌+◌, ◌<◌, IfErr, IfSome, OnOk, length, option_map};
 ghost use Rattle.fa_core_outcome.specs.Outcomes.{outcome_of};
 ghost use Rattle.fa_core_outcome.specs.Fits.{IsJobFor};
 ghost use Rattle.fa_core_outcome.specs.Handed.{handed_of};
-ghost use Rattle.fa_workers.specs.Begun.{Begins};
+ghost use Rattle.fa_image.specs.Image.{Gave, ReadingSlot, slot_count};
 ghost use Rattle.fa_jobs.specs.Made.{Ran};
 ghost use Rattle.fa_jobs.specs.Orders.{IsJobFor-prop};
+ghost use Rattle.fa_tag.specs.SlotGrammar.{IsOpened, payload_of};
+ghost use Rattle.fa_workers.specs.Beginning.{Begins, EndsMove, IsRefused};
 
 use fa_core_outcome::{Job, Outcome};
 use fa_image::{Image, ImageFault};
-use fa_jobs::{Gate, begin_read, run_job};
+use fa_jobs::{Gate, begin_read, end_move, run_job};
 use fa_machine::Flight;
-use fa_tag::Opened;
-use fa_types::{Die, Geometry, TAG_BYTES};
+use fa_tag::{Opened, PayloadDigest};
+use fa_types::{Die, Geometry, Slot, TAG_BYTES};
 use std::alloc::{Allocator, Global};
+
+/// How far a job has come by its first call.
+#[derive(Clone, Copy)]
+pub(crate) enum Begun {
+    /// It has ended so. A read's slot is not opened.
+    Over(Outcome),
+    /// The slot was read that is to be moved.
+    SlotRead,
+}
 
 /// A job that a die has taken, of an array of this geometry and number.
 #[derive(Drop)]
@@ -95,14 +106,15 @@ impl<A: Allocator> Order<A> {
         )
     }
 
-    /// The same, but that a read's slot is only read: it stands as a bad one, and is to be opened.
+    /// Makes the first call of a job on the image, and all of one that neither reads nor moves a page. What it has read is to be opened: a
+    /// read stands as one of a bad slot until then, and a move is to be gone on with, by [`Order::end_move`].
     pub(crate) fn begin<I: Image, G: Gate, B: Allocator>(
         &self,
         image: &mut I,
         scratch: &mut Vec<u8, B>,
         buffer: &mut Vec<u8, B>,
         gate: &G,
-    ) -> Outcome
+    ) -> Begun
         ensures begins { (I.view image.old).geometry ≡ self.now.geometry → length scratch.old.items ≡ self.now.geometry.page_bytes + 64
             → length buffer.old.items ≡ self.now.geometry.page_bytes
             → Begins I.made self.now.geometry self.now.array self.now.die.0 (handed_of self.now.job) result scratch.new.items
@@ -110,17 +122,86 @@ impl<A: Allocator> Order<A> {
         ensures scratch { length scratch.new.items ≡ length scratch.old.items }
         ensures buffer { length buffer.new.items ≡ length buffer.old.items }
     {
-        let Flight::Read { slot, .. } = self.job.flight else {
-            return self.run(image, scratch, buffer, gate);
+        match self.job.flight {
+            Flight::Read { slot, .. } => match self.read_slot(image, slot, scratch, gate) {
+                Ok(()) => Begun::Over(Outcome::Read(Opened::Bad)),
+                Err(outcome) => Begun::Over(outcome),
+            },
+            Flight::Move { from, .. } => match self.read_slot(image, from, scratch, gate) {
+                Ok(()) => Begun::SlotRead,
+                Err(outcome) => Begun::Over(outcome),
+            },
+            _ => Begun::Over(self.run(image, scratch, buffer, gate)),
+        }
+    }
+
+    /// Reads a slot of an image that is one for the array. The error is how a job ends whose slot is not read.
+    fn read_slot<I: Image, G: Gate, B: Allocator>(
+        &self,
+        image: &mut I,
+        slot: Slot,
+        scratch: &mut Vec<u8, B>,
+        gate: &G,
+    ) -> Result<(), Outcome>
+        requires { slot.0 < slot_count self.now.geometry }
+        ensures read { (I.view image.old).geometry ≡ self.now.geometry → length scratch.old.items ≡ self.now.geometry.page_bytes + 64
+            → OnOk result (I.made image.old (ReadingSlot slot.0) (Gave scratch.new.items) image.new) }
+        ensures refused { (I.view image.old).geometry ≡ self.now.geometry → length scratch.old.items ≡ self.now.geometry.page_bytes + 64
+            → IfErr result (λ outcome. IsRefused I.made slot.0 outcome image.old image.new) }
+        ensures scratch { length scratch.new.items ≡ length scratch.old.items }
+    {
+        let geometry = image.geometry();
+        if geometry != self.geometry || scratch.len() != self.slot_len() {
+            return Err(self.refused());
+        }
+        match begin_read(self.die, image, slot, scratch, gate) {
+            Ok(()) => Ok(()),
+            Err(fault) => Err(Outcome::Fault(fault)),
+        }
+    }
+
+    /// Goes on with a move whose slot was read and opened, with the digest of its payload begun, if the image is one for the array and the
+    /// memory has the right size, and tells how the job ended. Otherwise the image refuses the job.
+    pub(crate) fn end_move<I: Image, G: Gate, B: Allocator>(
+        &self,
+        image: &mut I,
+        opened: Opened,
+        digest: &PayloadDigest,
+        scratch: &mut Vec<u8, B>,
+        gate: &G,
+    ) -> Outcome
+        requires opened { IsOpened scratch.old.items opened }
+        requires begun { digest.now ≡ payload_of scratch.old.items }
+        ensures ends { (I.view image.old).geometry ≡ self.now.geometry → length scratch.old.items ≡ self.now.geometry.page_bytes + 64
+            → EndsMove I.made self.now.geometry self.now.array self.now.die.0 (handed_of self.now.job) result scratch.old.items
+            image.old image.new }
+        ensures scratch { length scratch.new.items ≡ length scratch.old.items }
+    {
+        let Flight::Move {
+            page,
+            version,
+            from,
+            to,
+        } = self.job.flight
+        else {
+            return self.refused();
         };
         let geometry = image.geometry();
         if geometry != self.geometry || scratch.len() != self.slot_len() {
             return self.refused();
         }
-        match begin_read(self.die, image, slot, scratch, gate) {
-            Ok(()) => Outcome::Read(Opened::Bad),
-            Err(fault) => Outcome::Fault(fault),
-        }
+        end_move(
+            self.die,
+            image,
+            page,
+            version,
+            from,
+            to,
+            opened,
+            digest,
+            scratch.as_mut_slice(),
+            gate,
+        )
     }
 
     /// How many bytes a slot has.

@@ -1,10 +1,11 @@
 //! The worker of a die.
-use crate::bench::{Bench, Lain};
+use crate::bench::{Bench, Lain, MadeJob};
 use crate::collecting::give_next_window;
 use crate::die_events::{Ended, Next, end_job, turn};
 use crate::helping::open_read;
 use crate::image_table::ImageTable;
 use crate::job_memory::JobMemory;
+use crate::moves::{OpenedMove, open_alone};
 use crate::order::Order;
 use fa_core_calls::Events;
 use fa_core_outcome::Outcome;
@@ -64,6 +65,8 @@ pub fn die_worker<
         };
         let outcome = match lain {
             Lain::Waiting(order) => image_table.run(rt, &order, &mut memory, gate),
+            Lain::SlotRead(task) => end_begun(rt, image_table, open_alone(task), gate),
+            Lain::Opened(opened) => end_begun(rt, image_table, opened, gate),
             Lain::Made(outcome) => open_read(&mut memory, outcome, None, 0),
         };
         let buffer = replace(&mut memory.buffer, Vec::new(alloc));
@@ -71,6 +74,22 @@ pub fn die_worker<
         memory.buffer = behind.buffer;
         next = behind.next;
     }
+}
+
+/// Goes on with a move that somebody else has begun, and gives the memory back that it was begun in. How it has ended.
+fn end_begun<R: Wait, A: Allocator, I: Image + Drop, G: Gate>(
+    rt: &R,
+    image_table: &ImageTable<I, A>,
+    opened: OpenedMove<A>,
+    gate: &G,
+) -> Outcome {
+    let MadeJob {
+        die,
+        outcome,
+        memory,
+    } = image_table.end_move(rt, opened, gate);
+    image_table.bench().give_back(rt, die, memory);
+    outcome
 }
 
 /// The job that was taken already, or the next one, which is waited for. None where there is none and the array is to end.
