@@ -8,7 +8,7 @@ from driving.stores import drive
 
 PROGRAM = "flasharr_lab"
 # The runs of the script, by what goes wrong in each.
-RUNS = {"each_image_call_fails": 229, "each_growth_refused": 564, "wrong_bytes_take_the_die_out": 146}
+RUNS = {"each_image_call_fails": 229, "each_growth_refused": 584, "wrong_bytes_take_the_die_out": 146}
 # The requests for memory of a read of one page.
 REQUESTS = 1
 CALLS = 20_000
