@@ -7,7 +7,7 @@ use crate::image_table::ImageTable;
 use crate::job_memory::JobMemory;
 use crate::moves::{OpenedMove, open_alone};
 use crate::order::Order;
-use fa_core_calls::Events;
+use fa_core_calls::{Events, Looks};
 use fa_core_outcome::Outcome;
 use fa_image::Image;
 use fa_jobs::Gate;
@@ -109,7 +109,8 @@ fn next_job<R: Wait + Clock, L: Ledger, E: Events<A>, A: Allocator + Copy>(
     }
 }
 
-/// Waits for the die's next job, or for one that lies on the bench. None where there is none and the array is to end.
+/// Waits for the die's next job, or for one that lies on the bench. None where there is none and the array is to end. Where it takes a job of
+/// a die that collects nobody leads any more: an image may hold up whoever did, who leads again with the next jobs that he takes.
 fn wait_for_job<R: Wait + Clock, L: Ledger, E: Events<A>, A: Allocator + Copy>(
     rt: &R,
     alloc: A,
@@ -123,6 +124,9 @@ fn wait_for_job<R: Wait + Clock, L: Ledger, E: Events<A>, A: Allocator + Copy>(
     for _ in rt.forever() {
         match turn(alloc, &mut guard, seat, die) {
             Next::Run(order) => {
+                if guard.array().has_window(die) {
+                    guard.lead(false);
+                }
                 shared.release(seat, guard);
                 return Some(Lain::Waiting(order));
             }
