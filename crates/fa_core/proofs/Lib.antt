@@ -1,5 +1,6 @@
 mod Allowed
 mod Alone
+mod Calls
 mod Rising
 mod Tests
 mod Whole

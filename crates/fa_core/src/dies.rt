@@ -1,5 +1,5 @@
-//! The calls of dies, each also with a test of its conditions.
-ghost use Rattle.std.specs.Prelude.{◌≡◌, length, true, false, option_map, IfSome, ℕ, ◌+◌};
+//! The calls of dies.
+ghost use Rattle.std.specs.Prelude.{◌≡◌, length, true, false, option_map, IfSome};
 ghost use Rattle.std.specs.FinMap.{get};
 ghost use Rattle.std.specs.Option.{option_map_or};
 ghost use Rattle.fa_core_outcome.specs.Outcomes.{outcome_of};
@@ -8,13 +8,11 @@ ghost use Rattle.fa_machine.specs.Conditions.{history_full};
 ghost use Rattle.fa_machine.specs.Step.{Done, Step, Take, is_die};
 ghost use Rattle.fa_core_outcome.specs.Fits.{IsJobFor};
 ghost use Rattle.fa_core_outcome.specs.Handed.{handed_of};
-ghost use Rattle.fa_machine.specs.Looks.{counts as rule_counts};
 
 use crate::array::Array;
-use fa_core_calls::{Answer, Call};
 use fa_core_dispatch::laws::what_is_handed_out_fits;
 use fa_core_outcome::{Job, Outcome};
-use fa_laws::invariants::{an_event_counts, an_event_keeps};
+use fa_laws::invariants::an_event_keeps;
 use fa_map_calls::Map;
 use fa_types::Die;
 use std::alloc::Allocator;
@@ -57,48 +55,6 @@ impl<M: Map, A: Allocator + Clone> Array<M, A> {
     {
         fa_core_complete::done(&mut self.state, die, outcome, buffer);
         an_event_keeps();
-    }
-}
-
-impl<M: Map, A: Allocator + Copy> Array<M, A> {
-    ghost use Rattle.fa_core.specs.Array.{IsWhole, number_of, state_of};
-    ghost use Rattle.fa_core_calls.specs.Calls.{FitsAnswer, Makes, commits_of_answer};
-
-    /// A Take, by the seat.
-    pub(crate) fn make_take(&mut self, die: Die, seat: u32) -> Answer<A>
-        requires { IsWhole M.view self.old }
-        ensures event { Makes (state_of M.view self.old) seat (Call.Take die) result (state_of M.view self.new) }
-        ensures number { number_of self.new ≡ number_of self.old }
-        ensures whole { IsWhole M.view self.new }
-        ensures fits { FitsAnswer (state_of M.view self.old).page_map.geometry (number_of self.old) (Call.Take die) result }
-        ensures commits { (rule_counts (state_of M.view self.new)).0
-            ≡ (rule_counts (state_of M.view self.old)).0 + commits_of_answer result }
-    {
-        if !self.may_take(die) {
-            return Answer::Stranger(None);
-        }
-        let job = self.take(die, seat);
-        an_event_counts();
-        Answer::Take(job)
-    }
-
-    /// A Done.
-    pub(crate) fn make_done(&mut self, die: Die, outcome: Outcome, buffer: Vec<u8, A>) -> Answer<A>
-        requires { IsWhole M.view self.old }
-        ensures event { (seat : ℕ) → Makes (state_of M.view self.old) seat (Call.Done die outcome buffer) result
-            (state_of M.view self.new) }
-        ensures number { number_of self.new ≡ number_of self.old }
-        ensures whole { IsWhole M.view self.new }
-        ensures commits { (rule_counts (state_of M.view self.new)).0
-            ≡ (rule_counts (state_of M.view self.old)).0 + commits_of_answer result }
-    {
-        if !self.may_end(die, outcome, &buffer) {
-            return Answer::Stranger(Some(buffer));
-        }
-        let mut buffer = buffer;
-        self.done(die, outcome, &mut buffer);
-        an_event_counts();
-        Answer::Done(buffer)
     }
 }
 

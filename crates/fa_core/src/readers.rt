@@ -1,5 +1,5 @@
-//! The calls of readers, each also with a test of its conditions.
-ghost use Rattle.std.specs.Prelude.{◌≡◌, ℕ, ◌<◌, ◌≤◌, length, map, true, IfOk, ◌+◌};
+//! The calls of readers.
+ghost use Rattle.std.specs.Prelude.{◌≡◌, ℕ, ◌<◌, ◌≤◌, length, map, true, IfOk};
 ghost use Rattle.std.specs.List.{All};
 ghost use Rattle.fa_closed.specs.Closed.{current_of, is_closed};
 ghost use Rattle.fa_machine.specs.Conditions.{batch_open};
@@ -7,12 +7,11 @@ ghost use Rattle.fa_machine.specs.Reading.{left_of, released, results as rule_re
 ghost use Rattle.fa_machine.specs.Rounds.{is_taken};
 ghost use Rattle.fa_machine.specs.Step.{Admit, EndBatch, Replan, Step, is_distinct};
 ghost use Rattle.fa_core_calls.specs.Answers.{IsHandedOut, admit_answer, plan_answer};
-ghost use Rattle.fa_machine.specs.Looks.{counts as rule_counts};
 
 use crate::array::Array;
 use fa_closed::Closed;
-use fa_core_calls::{Admitted, Answer, Call};
-use fa_laws::invariants::{an_event_counts, an_event_keeps};
+use fa_core_calls::Admitted;
+use fa_laws::invariants::an_event_keeps;
 use fa_machine::{AdmitRefused, BatchId, ReadState};
 use fa_map_calls::Map;
 use fa_plan::{PlanNote, Planned};
@@ -153,63 +152,5 @@ impl<M: Map, A: Allocator + Clone> Array<M, A> {
         ensures { result ≡ rule_results (state_of M.view self.now) batch.0 }
     {
         fa_core_read::results(&self.state, batch)
-    }
-}
-
-impl<M: Map, A: Allocator + Copy> Array<M, A> {
-    ghost use Rattle.fa_core.specs.Array.{IsWhole, number_of, state_of};
-    ghost use Rattle.fa_core_calls.specs.Calls.{HandsOutWhole, Makes, commits_of_answer};
-
-    /// An Admit.
-    pub(crate) fn make_admit(&mut self, alloc: A, pages: &[Page]) -> Answer<A>
-        requires { IsWhole M.view self.old }
-        ensures event { (seat : ℕ) → Makes (state_of M.view self.old) seat (Call.Admit pages.entry) result (state_of M.view self.new) }
-        ensures handed { HandsOutWhole (state_of M.view self.old) (Call.Admit pages.entry) result }
-        ensures number { number_of self.new ≡ number_of self.old }
-        ensures whole { IsWhole M.view self.new }
-        ensures commits { (rule_counts (state_of M.view self.new)).0
-            ≡ (rule_counts (state_of M.view self.old)).0 + commits_of_answer result }
-    {
-        if !self.may_admit(pages) {
-            return Answer::Stranger(None);
-        }
-        let answer = self.admit(alloc, pages);
-        an_event_counts();
-        Answer::Admit(answer)
-    }
-
-    /// A Replan.
-    pub(crate) fn make_replan(&mut self, alloc: A, batch: BatchId) -> Answer<A>
-        requires { IsWhole M.view self.old }
-        ensures event { (seat : ℕ) → Makes (state_of M.view self.old) seat (Call.Replan batch) result (state_of M.view self.new) }
-        ensures handed { HandsOutWhole (state_of M.view self.old) (Call.Replan batch) result }
-        ensures number { number_of self.new ≡ number_of self.old }
-        ensures whole { IsWhole M.view self.new }
-        ensures commits { (rule_counts (state_of M.view self.new)).0
-            ≡ (rule_counts (state_of M.view self.old)).0 + commits_of_answer result }
-    {
-        if !self.batch_open(batch) {
-            return Answer::Stranger(None);
-        }
-        let answer = self.replan(alloc, batch);
-        an_event_counts();
-        Answer::Replan(answer)
-    }
-
-    /// An EndBatch.
-    pub(crate) fn make_end_batch(&mut self, batch: BatchId) -> Answer<A>
-        requires { IsWhole M.view self.old }
-        ensures event { (seat : ℕ) → Makes (state_of M.view self.old) seat (Call.EndBatch batch) result (state_of M.view self.new) }
-        ensures number { number_of self.new ≡ number_of self.old }
-        ensures whole { IsWhole M.view self.new }
-        ensures commits { (rule_counts (state_of M.view self.new)).0
-            ≡ (rule_counts (state_of M.view self.old)).0 + commits_of_answer result }
-    {
-        if !self.batch_open(batch) {
-            return Answer::Stranger(None);
-        }
-        let answers = self.end_batch(batch);
-        an_event_counts();
-        Answer::EndBatch(answers)
     }
 }

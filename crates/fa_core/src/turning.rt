@@ -1,12 +1,10 @@
-//! The calls of the collector and of the rebuilder, each also with a test of its conditions.
-ghost use Rattle.std.specs.Prelude.{◌≡◌, ◌≤◌, true, ℕ, ◌+◌};
+//! The calls of the collector and of the rebuilder.
+ghost use Rattle.std.specs.Prelude.{◌≡◌, ◌≤◌, true};
 ghost use Rattle.fa_machine.specs.Conditions.{copy_open};
 ghost use Rattle.fa_machine.specs.Step.{Window, Advance, SpareIn, ReserveCopy, CommitCopy, Step, is_die, is_page, is_sized};
-ghost use Rattle.fa_machine.specs.Looks.{counts as rule_counts};
 
 use crate::array::Array;
-use fa_core_calls::{Answer, Call};
-use fa_laws::invariants::{an_event_counts, an_event_keeps};
+use fa_laws::invariants::an_event_keeps;
 use fa_machine::{
     AdvanceRefused, CommitCopyRefused, Copied, ReserveCopyRefused, SpareRefused, WindowRefused,
 };
@@ -91,98 +89,5 @@ impl<M: Map, A: Allocator + Clone> Array<M, A> {
         let answer = fa_core_upkeep::commit_copy(&mut self.state);
         an_event_keeps();
         answer
-    }
-}
-
-impl<M: Map, A: Allocator + Copy> Array<M, A> {
-    ghost use Rattle.fa_core.specs.Array.{IsWhole, number_of, state_of};
-    ghost use Rattle.fa_core_calls.specs.Calls.{Makes, commits_of_answer};
-
-    /// A Window.
-    pub(crate) fn make_window(&mut self, die: Die, rounds: u64) -> Answer<A>
-        requires { IsWhole M.view self.old }
-        ensures event { (seat : ℕ) → Makes (state_of M.view self.old) seat (Call.Window die rounds) result (state_of M.view self.new) }
-        ensures number { number_of self.new ≡ number_of self.old }
-        ensures whole { IsWhole M.view self.new }
-        ensures commits { (rule_counts (state_of M.view self.new)).0
-            ≡ (rule_counts (state_of M.view self.old)).0 + commits_of_answer result }
-    {
-        if !self.may_have_window(die, rounds) {
-            return Answer::Stranger(None);
-        }
-        let answer = self.window(die, rounds);
-        an_event_counts();
-        Answer::Window(answer)
-    }
-
-    /// An Advance.
-    pub(crate) fn make_advance(&mut self) -> Answer<A>
-        requires { IsWhole M.view self.old }
-        ensures event { (seat : ℕ) → Makes (state_of M.view self.old) seat Call.Advance result (state_of M.view self.new) }
-        ensures number { number_of self.new ≡ number_of self.old }
-        ensures whole { IsWhole M.view self.new }
-        ensures commits { (rule_counts (state_of M.view self.new)).0
-            ≡ (rule_counts (state_of M.view self.old)).0 + commits_of_answer result }
-    {
-        let answer = self.advance();
-        an_event_counts();
-        Answer::Advance(answer)
-    }
-
-    /// A SpareIn.
-    pub(crate) fn make_spare_in(&mut self, die: Die) -> Answer<A>
-        requires { IsWhole M.view self.old }
-        ensures event { (seat : ℕ) → Makes (state_of M.view self.old) seat (Call.SpareIn die) result (state_of M.view self.new) }
-        ensures number { number_of self.new ≡ number_of self.old }
-        ensures whole { IsWhole M.view self.new }
-        ensures commits { (rule_counts (state_of M.view self.new)).0
-            ≡ (rule_counts (state_of M.view self.old)).0 + commits_of_answer result }
-    {
-        if !self.is_die(die) {
-            return Answer::Stranger(None);
-        }
-        let answer = self.spare_in(die);
-        an_event_counts();
-        Answer::SpareIn(answer)
-    }
-
-    /// A ReserveCopy.
-    pub(crate) fn make_reserve_copy(
-        &mut self,
-        page: Page,
-        seq: Seq,
-        payload: &Payload<A>,
-    ) -> Answer<A>
-        requires { IsWhole M.view self.old }
-        ensures event { (seat : ℕ) → Makes (state_of M.view self.old) seat (Call.ReserveCopy page seq payload.entry) result
-            (state_of M.view self.new) }
-        ensures number { number_of self.new ≡ number_of self.old }
-        ensures whole { IsWhole M.view self.new }
-        ensures commits { (rule_counts (state_of M.view self.new)).0
-            ≡ (rule_counts (state_of M.view self.old)).0 + commits_of_answer result }
-    {
-        if !self.may_reserve_copy(page, payload) {
-            return Answer::Stranger(None);
-        }
-        let answer = self.reserve_copy(page, seq, payload);
-        an_event_counts();
-        Answer::ReserveCopy(answer)
-    }
-
-    /// A CommitCopy.
-    pub(crate) fn make_commit_copy(&mut self) -> Answer<A>
-        requires { IsWhole M.view self.old }
-        ensures event { (seat : ℕ) → Makes (state_of M.view self.old) seat Call.CommitCopy result (state_of M.view self.new) }
-        ensures number { number_of self.new ≡ number_of self.old }
-        ensures whole { IsWhole M.view self.new }
-        ensures commits { (rule_counts (state_of M.view self.new)).0
-            ≡ (rule_counts (state_of M.view self.old)).0 + commits_of_answer result }
-    {
-        if !self.copy_open() {
-            return Answer::Stranger(None);
-        }
-        let answer = self.commit_copy();
-        an_event_counts();
-        Answer::CommitCopy(answer)
     }
 }

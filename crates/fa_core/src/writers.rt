@@ -1,12 +1,10 @@
-//! The calls of writers, each also with a test of its conditions.
-ghost use Rattle.std.specs.Prelude.{◌≡◌, min, true, false, ℕ, ◌+◌};
+//! The calls of writers.
+ghost use Rattle.std.specs.Prelude.{◌≡◌, min, true, false};
 ghost use Rattle.fa_machine.specs.Conditions.{claim_open, history_full, is_reserved};
 ghost use Rattle.fa_machine.specs.Step.{Claim, Release, Reserve, ReserveHole, ReserveFewer, Commit, Abandon, Step, is_page, is_sized};
-ghost use Rattle.fa_machine.specs.Looks.{counts as rule_counts};
 
 use crate::array::Array;
-use fa_core_calls::{Answer, Call};
-use fa_laws::invariants::{an_event_counts, an_event_keeps};
+use fa_laws::invariants::an_event_keeps;
 use fa_machine::{AbandonRefused, ClaimId, ClaimRefused, CommitRefused, ReserveRefused};
 use fa_map_calls::Map;
 use fa_mirror::copies_asked;
@@ -129,130 +127,4 @@ fn one_of(asked: u32) -> u32
     ensures { result ≡ min 1 asked }
 {
     1.min(asked)
-}
-
-impl<M: Map, A: Allocator + Copy> Array<M, A> {
-    ghost use Rattle.fa_core.specs.Array.{IsWhole, number_of, state_of};
-    ghost use Rattle.fa_core_calls.specs.Calls.{Makes, commits_of_answer};
-
-    /// A Claim.
-    pub(crate) fn make_claim(&mut self, page: Page) -> Answer<A>
-        requires { IsWhole M.view self.old }
-        ensures event { (seat : ℕ) → Makes (state_of M.view self.old) seat (Call.Claim page) result (state_of M.view self.new) }
-        ensures number { number_of self.new ≡ number_of self.old }
-        ensures whole { IsWhole M.view self.new }
-        ensures commits { (rule_counts (state_of M.view self.new)).0
-            ≡ (rule_counts (state_of M.view self.old)).0 + commits_of_answer result }
-    {
-        if !self.is_page(page) {
-            return Answer::Stranger(None);
-        }
-        let answer = self.claim(page);
-        an_event_counts();
-        Answer::Claim(answer)
-    }
-
-    /// A Release.
-    pub(crate) fn make_release(&mut self, claim: ClaimId) -> Answer<A>
-        requires { IsWhole M.view self.old }
-        ensures event { (seat : ℕ) → Makes (state_of M.view self.old) seat (Call.Release claim) result (state_of M.view self.new) }
-        ensures number { number_of self.new ≡ number_of self.old }
-        ensures whole { IsWhole M.view self.new }
-        ensures commits { (rule_counts (state_of M.view self.new)).0
-            ≡ (rule_counts (state_of M.view self.old)).0 + commits_of_answer result }
-    {
-        if !self.may_reserve(claim) {
-            return Answer::Stranger(None);
-        }
-        self.release(claim);
-        an_event_counts();
-        Answer::Release
-    }
-
-    /// A Reserve.
-    pub(crate) fn make_reserve(&mut self, claim: ClaimId, payload: &Payload<A>) -> Answer<A>
-        requires { IsWhole M.view self.old }
-        ensures event { (seat : ℕ) → Makes (state_of M.view self.old) seat (Call.Reserve claim payload.entry) result
-            (state_of M.view self.new) }
-        ensures number { number_of self.new ≡ number_of self.old }
-        ensures whole { IsWhole M.view self.new }
-        ensures commits { (rule_counts (state_of M.view self.new)).0
-            ≡ (rule_counts (state_of M.view self.old)).0 + commits_of_answer result }
-    {
-        if !self.may_reserve_payload(claim, payload) {
-            return Answer::Stranger(None);
-        }
-        let answer = self.reserve(claim, payload);
-        an_event_counts();
-        Answer::Reserve(answer)
-    }
-
-    /// A ReserveHole.
-    pub(crate) fn make_reserve_hole(&mut self, claim: ClaimId) -> Answer<A>
-        requires { IsWhole M.view self.old }
-        ensures event { (seat : ℕ) → Makes (state_of M.view self.old) seat (Call.ReserveHole claim) result (state_of M.view self.new) }
-        ensures number { number_of self.new ≡ number_of self.old }
-        ensures whole { IsWhole M.view self.new }
-        ensures commits { (rule_counts (state_of M.view self.new)).0
-            ≡ (rule_counts (state_of M.view self.old)).0 + commits_of_answer result }
-    {
-        if !self.may_reserve(claim) {
-            return Answer::Stranger(None);
-        }
-        let answer = self.reserve_hole(claim);
-        an_event_counts();
-        Answer::Reserve(answer)
-    }
-
-    /// A ReserveFewer.
-    pub(crate) fn make_reserve_fewer(&mut self, claim: ClaimId, payload: &Payload<A>) -> Answer<A>
-        requires { IsWhole M.view self.old }
-        ensures event { (seat : ℕ) → Makes (state_of M.view self.old) seat (Call.ReserveFewer claim payload.entry) result
-            (state_of M.view self.new) }
-        ensures number { number_of self.new ≡ number_of self.old }
-        ensures whole { IsWhole M.view self.new }
-        ensures commits { (rule_counts (state_of M.view self.new)).0
-            ≡ (rule_counts (state_of M.view self.old)).0 + commits_of_answer result }
-    {
-        if !self.may_reserve_payload(claim, payload) {
-            return Answer::Stranger(None);
-        }
-        let answer = self.reserve_fewer(claim, payload);
-        an_event_counts();
-        Answer::Reserve(answer)
-    }
-
-    /// A Commit, by the seat.
-    pub(crate) fn make_commit(&mut self, claim: ClaimId, seat: u32) -> Answer<A>
-        requires { IsWhole M.view self.old }
-        ensures event { Makes (state_of M.view self.old) seat (Call.Commit claim) result (state_of M.view self.new) }
-        ensures number { number_of self.new ≡ number_of self.old }
-        ensures whole { IsWhole M.view self.new }
-        ensures commits { (rule_counts (state_of M.view self.new)).0
-            ≡ (rule_counts (state_of M.view self.old)).0 + commits_of_answer result }
-    {
-        if !self.may_commit(claim) {
-            return Answer::Stranger(None);
-        }
-        let answer = self.commit(claim, seat);
-        an_event_counts();
-        Answer::Commit(answer)
-    }
-
-    /// An Abandon.
-    pub(crate) fn make_abandon(&mut self, claim: ClaimId) -> Answer<A>
-        requires { IsWhole M.view self.old }
-        ensures event { (seat : ℕ) → Makes (state_of M.view self.old) seat (Call.Abandon claim) result (state_of M.view self.new) }
-        ensures number { number_of self.new ≡ number_of self.old }
-        ensures whole { IsWhole M.view self.new }
-        ensures commits { (rule_counts (state_of M.view self.new)).0
-            ≡ (rule_counts (state_of M.view self.old)).0 + commits_of_answer result }
-    {
-        if !self.is_reserved(claim) {
-            return Answer::Stranger(None);
-        }
-        let answer = self.abandon(claim);
-        an_event_counts();
-        Answer::Abandon(answer)
-    }
 }
