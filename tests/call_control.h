@@ -25,6 +25,8 @@ struct control {
     _Atomic uint64_t due;
     // The request for memory from now on, the first being 1, that is refused. With 0 none is.
     _Atomic uint64_t memory_due;
+    // How many reads of sockets brought bytes, and how many writes of sockets began (tests/socket_calls.c).
+    _Atomic uint64_t socket_reads, socket_writes;
 };
 
 extern struct control *control;

@@ -9,18 +9,19 @@ import sys
 HERE = os.path.dirname(os.path.abspath(__file__))
 # The numbers of tests/call_control.h, in their order.
 (REFUSED, SYNC_NANOSECONDS, SYNCS, WRITES, ERASES, PROGRAMS, IS_SHUT, HELD_READS, HELD_PROGRAMS, ENOUGH, BEGUN, IS_LATE, LYING,
- THREAD_WITHOUT_MEMORY, MEMORY_REFUSALS, DUE, MEMORY_DUE) = range(17)
+ THREAD_WITHOUT_MEMORY, MEMORY_REFUSALS, DUE, MEMORY_DUE, SOCKET_READS, SOCKET_WRITES) = range(19)
 CONTROL_BYTES = 4096
 # All dies, and more calls than ever begin.
 ALL = NEVER = (1 << 64) - 1
 
 
-def compiled(folder, *, refuses_memory=False):
-    """The path of the library, which `cc` makes in a folder. One that can refuse memory is before each request for memory too."""
+def compiled(folder, *, refuses_memory=False, counts_sockets=False):
+    """The path of the library, which `cc` makes in a folder. One that can refuse memory is before each request for memory too, and one that
+    counts the calls of sockets is before these."""
     if not shutil.which("cc"):
         sys.exit(f"{os.path.basename(sys.argv[0])}: it needs cc, a compiler of C: apt-get install gcc libc6-dev")
     path = os.path.join(folder, "call_log.so")
-    sources = ["call_log.c", *(["refused_memory.c"] if refuses_memory else [])]
+    sources = ["call_log.c", *(["refused_memory.c"] if refuses_memory else []), *(["socket_calls.c"] if counts_sockets else [])]
     words = ["cc", "-O2", "-Wall", "-Wextra", "-shared", "-fPIC", "-o", path]
     subprocess.run([*words, *(os.path.join(HERE, it) for it in sources)], check=True)
     return path

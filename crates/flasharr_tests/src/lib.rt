@@ -36,8 +36,6 @@ mod reopened;
 #[cfg(test)]
 mod rows;
 #[cfg(test)]
-mod sockets;
-#[cfg(test)]
 mod spelling;
 #[cfg(test)]
 mod texts;

@@ -3,11 +3,26 @@ ghost use Rattle.std.specs.Prelude.{◌≡◌, ◌<◌};
 
 use fa_machine::{Block, Version};
 use fa_map::PageMap;
-use fa_map_calls::Map;
+use fa_map_calls::{BlockCounts, Map};
 use fa_plain_map::PlainMap;
 use fa_types::{Die, Geometry, Kind, Page, Seq, Slot};
 use std::alloc::Global;
 use std::test::Fail;
+
+/// What a map answers of a page, of a slot and of a block.
+type PageLook = (
+    (Option<Version>, Option<Seq>),
+    u32,
+    (Option<(Die, Slot)>, Option<(Die, Slot)>),
+);
+
+type SlotLook = (u8, Option<(Page, Version)>);
+
+type BlockLook = (
+    (BlockCounts, bool),
+    (u32, u32),
+    (Option<Slot>, Option<Slot>),
+);
 
 /// Numbers that look random, the same in each run.
 #[derive(Drop)]
@@ -16,23 +31,20 @@ struct Draws {
 }
 
 impl Draws {
-    /// The next number below a limit.
-    fn below(&mut self, limit: u64) -> u64
-        requires { 0 < limit }
-        ensures { result < limit }
-    {
+    /// The next eight bytes.
+    fn next(&mut self) -> [u8; 8] {
         self.state = self
             .state
             .wrapping_mul(6_364_136_223_846_793_005)
             .wrapping_add(1_442_695_040_888_963_407);
-        (self.state >> 33) % limit
+        self.state.to_be_bytes()
     }
 }
 
 /// One call, by numbers that were drawn.
 #[derive(Clone, Copy)]
 struct Call {
-    kind: u64,
+    kind: u8,
     die: u8,
     slot: u32,
     block: u32,
@@ -41,12 +53,13 @@ struct Call {
 }
 
 fn drawn(draws: &mut Draws, seq: u64) -> Call {
+    let [kind, die, slot, block, page, ..] = draws.next();
     Call {
-        kind: draws.below(130),
-        die: draws.below(4) as u8,
-        slot: draws.below(48) as u32,
-        block: draws.below(12) as u32,
-        page: draws.below(64),
+        kind: kind % 130,
+        die: die % 4,
+        slot: u32::from(slot % 48),
+        block: u32::from(block % 12),
+        page: u64::from(page % 64),
         seq,
     }
 }
@@ -140,37 +153,23 @@ fn make<M: Map>(map: &mut M, call: Call) -> Option<Slot> {
     None
 }
 
-/// Whether two writes, or none, are the same.
-fn is_same_write(a: Option<Version>, b: Option<Version>) -> bool {
-    a == b
-}
-
 /// Whether two slots, or none, are the same.
 fn is_same_slot(a: Option<Slot>, b: Option<Slot>) -> bool {
     a == b
 }
 
-/// Whether two copies, or none, are the same.
-fn is_same_copy(a: Option<(Die, Slot)>, b: Option<(Die, Slot)>) -> bool {
-    a == b
-}
-
-/// Whether two slots hold the same copy, or none.
-fn is_same_content(a: Option<(Page, Version)>, b: Option<(Page, Version)>) -> bool {
-    a == b
-}
-
-/// Whether two maps answer of a page alike: its last write, and its first two copies.
-fn is_page_alike<A: Map, B: Map>(a: &A, b: &B, page: u64) -> bool {
-    if page >= a.geometry().pages || page >= b.geometry().pages {
-        return false;
+/// What a map answers of a page: its last write, how many copies of it are current, and the first two of them. None of a page that
+/// the map does not have.
+fn page_look<M: Map>(map: &M, page: u64) -> Option<PageLook> {
+    if page >= map.geometry().pages {
+        return None;
     }
     let page = Page(page);
-    is_same_write(a.version(page), b.version(page))
-        && a.seq(page) == b.seq(page)
-        && a.copies_of(page) == b.copies_of(page)
-        && is_same_copy(a.first_copy(page), b.first_copy(page))
-        && is_same_copy(second_copy(a, page), second_copy(b, page))
+    Some((
+        (map.version(page), map.seq(page)),
+        map.copies_of(page),
+        (map.first_copy(page), second_copy(map, page)),
+    ))
 }
 
 /// The second copy of a page.
@@ -193,58 +192,56 @@ fn has_few<M: Map>(map: &M, page: u64, few: (Option<Page>, Option<Page>)) -> boo
     few_from(map, page) == few
 }
 
-/// Whether two maps answer of a page's copy on a die alike.
-fn is_place_alike<A: Map, B: Map>(a: &A, b: &B, page: u64, die: u8) -> bool {
-    let (g, h) = (a.geometry(), b.geometry());
-    if page >= g.pages || die as u32 >= g.dies || page >= h.pages || die as u32 >= h.dies {
-        return false;
+/// The slot of a page's copy on a die, if it has one. None where the map does not have the page or the die.
+fn copy_look<M: Map>(map: &M, page: u64, die: u8) -> Option<Option<Slot>> {
+    let g = map.geometry();
+    if page >= g.pages || die as u32 >= g.dies {
+        return None;
     }
-    let (page, die) = (Page(page), Die(die));
-    is_same_slot(a.copy_on(page, die), b.copy_on(page, die))
+    Some(map.copy_on(Page(page), Die(die)))
 }
 
-/// Whether two maps answer of a slot alike.
-fn is_slot_alike<A: Map, B: Map>(a: &A, b: &B, die: u8, slot: u32) -> bool {
-    let (g, h) = (a.geometry(), b.geometry());
-    if die as u32 >= g.dies
-        || slot >= g.blocks * g.slots
-        || die as u32 >= h.dies
-        || slot >= h.blocks * h.slots
-    {
-        return false;
+/// What a map answers of a slot: its state, and what it holds. None where the map does not have it.
+fn slot_look<M: Map>(map: &M, die: u8, slot: u32) -> Option<SlotLook> {
+    let g = map.geometry();
+    if die as u32 >= g.dies || slot >= g.blocks * g.slots {
+        return None;
     }
     let (die, slot) = (Die(die), Slot(slot));
-    a.state(die, slot) == b.state(die, slot)
-        && is_same_content(a.copy_in(die, slot), b.copy_in(die, slot))
+    Some((map.state(die, slot) as u8, map.copy_in(die, slot)))
 }
 
-/// Whether two maps answer of a die and one of its blocks alike: the slots that they offer to a writer and for
-/// a move from the block too.
-fn is_block_alike<A: Map, B: Map>(a: &A, b: &B, die: u8, block: u32) -> bool {
-    let (g, h) = (a.geometry(), b.geometry());
-    if die as u32 >= g.dies || block >= g.blocks || die as u32 >= h.dies || block >= h.blocks {
-        return false;
+/// What a map answers of a die and one of its blocks: its slots by their states, whether the die is live, its erased slots and its
+/// room, and the slots that it offers to a writer and for a move from the block. None where the map does not have the block.
+fn block_look<M: Map>(map: &M, die: u8, block: u32) -> Option<BlockLook> {
+    let g = map.geometry();
+    if die as u32 >= g.dies || block >= g.blocks {
+        return None;
     }
     let (die, block) = (Die(die), Block(block));
-    a.counts(die, block) == b.counts(die, block)
-        && a.is_live(die) == b.is_live(die)
-        && a.free(die) == b.free(die)
-        && a.room(die) == b.room(die)
-        && is_same_slot(a.writers_slot(die), b.writers_slot(die))
-        && is_same_slot(a.slot_for_move(die, block), b.slot_for_move(die, block))
+    Some((
+        (map.counts(die, block), map.is_live(die)),
+        (map.free(die), map.room(die)),
+        (map.writers_slot(die), map.slot_for_move(die, block)),
+    ))
+}
+
+/// Whether two looks are the same, and are of what there is.
+fn is_same<T: PartialEq + Copy>(a: Option<T>, b: Option<T>) -> bool {
+    a.is_some() && a == b
 }
 
 /// Whether two maps of 64 pages, and of dies of 12 blocks of 4 slots, answer of a die alike.
 fn is_die_alike<A: Map, B: Map>(a: &A, b: &B, die: u8) -> bool {
     let mut alike = true;
     for page in 0..64u64 {
-        alike = alike && is_place_alike(a, b, page, die);
+        alike = alike && is_same(copy_look(a, page, die), copy_look(b, page, die));
     }
     for slot in 0..48u32 {
-        alike = alike && is_slot_alike(a, b, die, slot);
+        alike = alike && is_same(slot_look(a, die, slot), slot_look(b, die, slot));
     }
     for block in 0..12u32 {
-        alike = alike && is_block_alike(a, b, die, block);
+        alike = alike && is_same(block_look(a, die, block), block_look(b, die, block));
     }
     alike
 }
@@ -255,7 +252,9 @@ fn are_alike<A: Map, B: Map>(a: &A, b: &B) -> bool {
         && has_few(a, 64, (None, None))
         && has_few(b, u64::MAX, (None, None));
     for page in 0..64u64 {
-        alike = alike && is_page_alike(a, b, page) && has_few(a, page, few_from(b, page));
+        alike = alike
+            && is_same(page_look(a, page), page_look(b, page))
+            && has_few(a, page, few_from(b, page));
     }
     for die in 0..4u8 {
         alike = alike && is_die_alike(a, b, die);
@@ -296,37 +295,33 @@ fn ten_thousand_calls(rt: HostRuntime) -> Result<(), Fail> {
     answers_as_lists(rt.alloc(), &mut tables, geometry)
 }
 
-/// The slot that a writer takes of the die, if it is live.
-fn take<M: Map>(map: &mut M, die: Die) -> Option<Slot> {
-    if map.is_live(die) {
-        map.take_slot(die)
-    } else {
-        None
+/// The call of this kind of die 0.
+fn call_of(kind: u8) -> Call {
+    Call {
+        kind,
+        die: 0,
+        slot: 0,
+        block: 0,
+        page: 0,
+        seq: 1,
     }
 }
 
-/// Brings die 0 in, if it is out.
-fn bring_in<M: Map>(map: &mut M) {
-    if map.geometry().dies == 0 || map.is_live(Die(0)) {
-        return;
-    }
-    map.bring_in(Die(0));
+/// Whether a writer takes this slot of die 0, with as many looks.
+fn takes(map: &mut PageMap, slot: Option<Slot>, least: u32, most: u32) -> bool {
+    let taken = make(map, call_of(1));
+    let looks = map.last_looks();
+    is_same_slot(taken, slot) && least <= looks && looks <= most
 }
 
 /// Takes the slots of die 0 of a new map in their order, so many, each with this many looks, until the die has no
-/// room, which takes one look.
+/// room, which takes one look. The first call brings the die in.
 fn slots_come_in_order(map: &mut PageMap, slots: u32, least: u32, most: u32) -> Result<(), Fail> {
-    bring_in(map);
-    ensure!(map.last_looks() == 0);
+    ensure!(takes(map, None, 0, 0));
     for slot in 0..slots {
-        let taken = take(map, Die(0));
-        let looks = map.last_looks();
-        ensure!(
-            is_same_slot(taken, Some(Slot(slot))) && least <= looks && looks <= most,
-            at slot
-        );
+        ensure!(takes(map, Some(Slot(slot)), least, most), at slot);
     }
-    ensure!(take(map, Die(0)).is_none() && map.last_looks() == 1);
+    ensure!(takes(map, None, 1, 1));
     Ok(())
 }
 

@@ -77,12 +77,16 @@ fn refused_answers(
 
 /// In how many runs answers were refused, and how many of them in the last one. The small heap grows by little from run to run, so
 /// that each growth is refused in some run.
-fn refused_in_all(alloc: Global, input: &[u8], output: &[u8]) -> Result<(u32, u32), Fail> {
-    let large = LocalHeap::new(alloc, 16_384)?;
+fn refused_in_all(
+    alloc: Global,
+    large: &LocalHeap,
+    input: &[u8],
+    output: &[u8],
+) -> Result<(u32, u32), Fail> {
     let mut refused = 0u32;
     let mut refused_last = 1u32;
     for room in 0..64usize {
-        refused_last = refused_answers(alloc, &large, room * 16, input, output)?;
+        refused_last = refused_answers(alloc, large, room * 16, input, output)?;
         refused = refused.saturating_add(refused_last);
     }
     Ok((refused, refused_last))
@@ -106,7 +110,8 @@ fn refused_answers_are_said_later(rt: HostRuntime) -> Result<(), Fail> {
         0003e889045565a9 00000006 00000001 00000000
         0000000000008000 016d 00x124",
     )?;
-    let (refused, refused_last) = refused_in_all(rt.alloc(), &input, &output)?;
+    let large = LocalHeap::new(rt.alloc(), 16_384)?;
+    let (refused, refused_last) = refused_in_all(rt.alloc(), &large, &input, &output)?;
     ensure!(refused > 20 && refused_last == 0);
     Ok(())
 }

@@ -1,5 +1,5 @@
 //! Bytes written as words of hexadecimal digits. A word `11x512` is 512 bytes `11`.
-use std::alloc::Global;
+use std::alloc::{AllocError, Global};
 use std::test::Fail;
 
 /// Puts the bytes that a word spells behind others.
@@ -7,8 +7,13 @@ fn spell(alloc: Global, word: &str, bytes: &mut Vec<u8>) -> Result<(), Fail> {
     let (digits, count) = word.split_once('x').unwrap_or((word, "1"));
     let count = count.parse::<u32>()?;
     let part = hex::decode(alloc, digits)?;
+    Ok(append(&part, count, bytes)?)
+}
+
+/// Puts bytes behind others, so many times.
+fn append(part: &[u8], count: u32, bytes: &mut Vec<u8>) -> Result<(), AllocError> {
     for _ in 0..count {
-        bytes.extend_from_slice(part.as_slice())?;
+        bytes.extend_from_slice(part)?;
     }
     Ok(())
 }
@@ -23,7 +28,9 @@ pub fn spell_all(alloc: Global, text: &str, bytes: &mut Vec<u8>) -> Result<(), F
 
 /// The bytes that the words spell.
 pub fn spelled(alloc: Global, text: &str) -> Result<Vec<u8>, Fail> {
-    joined(alloc, &[text])
+    let mut bytes = Vec::new(alloc);
+    spell_all(alloc, text, &mut bytes)?;
+    Ok(bytes)
 }
 
 /// Texts, one behind the other.

@@ -1,4 +1,4 @@
-//! Connections whose streams fail, and one call for a reply with its data.
+//! Connections whose streams fail.
 use crate::rows::{FLAGS, GO, GONE, GREETING, served};
 use crate::spelling::joined;
 use fa_io::faulty::Faulty;
@@ -72,22 +72,5 @@ fn each_socket_call_fails(rt: HostRuntime) -> Result<(), Fail> {
     let answer = server(rt.alloc())?;
     let (reads, writes) = failing_calls(rt.alloc(), &said, &answer)?;
     ensure!(reads == 18 && writes == 26);
-    Ok(())
-}
-
-/// Whether so many bytes are said to a client, by so many calls of the writer, until its input ends.
-fn is_said_by(alloc: Global, said: &[u8], bytes: usize, calls: u64) -> bool {
-    let mut reader = said;
-    let mut writer = Faulty::piecewise(Vec::new(alloc), 1_000_000);
-    let ended = served(alloc, &mut reader, &mut writer);
-    ended == SessionEnd::InputEnded && writer.inner.len() == bytes && writer.calls == calls
-}
-
-// The greeting, the answer to GO, and then the reply with its data.
-#[test]
-fn a_reply_and_its_data_by_one_call(rt: HostRuntime) -> Result<(), Fail> {
-    let read = "25609513 0000 0000 0000000000000001 0000000000000000 00008000";
-    let said = joined(rt.alloc(), &[FLAGS, GO, read])?;
-    ensure!(is_said_by(rt.alloc(), &said, 18 + 52 + 16 + 32_768, 3));
     Ok(())
 }

@@ -13,5 +13,6 @@ pub returns : goal.returns
 returns g c honest =
     let programmed = of_ok c.program.result _ c.program.ensures.done (cc) in
     let synced = of_ok c.sync.result _ c.sync.ensures.done (cc) in
-    read_back c.in_ok-image.image c.program.new.self c.sync.new.self c.in_ok-again.again c.read.new.image c.args.slot.0 c.args.bytes.now
-    c.in_ok-found.found.items programmed synced c.in_ok-again.ensures.view c.in_ok-found.ensures honest
+    let gave = of_ok c.read_slot.result _ c.read_slot.ensures.gave (cc) in
+    read_back c.in_ok-image.image c.program.new.self c.sync.new.self c.in_ok-again.again c.read_slot.new.self c.args.slot.0 c.args.bytes.now
+    c.read_slot.new.into programmed synced c.in_ok-again.ensures.view gave honest

@@ -3,5 +3,5 @@ use Rattle.flasharr_tests.proofs.reopened.sealed_and_opened.Goals as goal
 
 pub returns : goal.returns
 returns g c honest =
-    c.open-opened.ensures.good c.args.tag c.args.payload.now
-    (c.requires.tag, c.requires.kind, inl (c.as_slice-2.ensures.value ∙ c.in_ok-image.ensures honest ∙ c.as_slice.ensures.value ∙ c.in_ok-bytes.ensures.slot))
+    c.open.ensures.good c.args.tag c.args.payload.now
+    (c.requires.tag, c.requires.kind, inl (c.in_ok-image.ensures honest ∙ c.seal.ensures))
