@@ -1,6 +1,6 @@
-// A part of the library of tests/call_log.c that looks at the sockets of a server. It counts the reads that brought bytes, and each
-// write before it is made, and lets no call move more than MOST bytes. A read of more than LONG bytes waits for all of them, so that how often a socket is
-// read does not depend on how the bytes come.
+// A part of the library of tests/call_log.c that looks at the sockets of a server. It counts the reads that brought bytes, and each write
+// before it is made, and lets no call move more than MOST bytes. A read of more than LONG bytes waits for all of them, so that how often a
+// socket is read does not depend on how the bytes come.
 #define _GNU_SOURCE
 #include <dlfcn.h>
 #include <errno.h>

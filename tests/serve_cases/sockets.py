@@ -44,7 +44,7 @@ def asks(client, said, wanted, what):
 
 @case
 def a_reply_and_its_data_by_one_call(make):
-    """The greeting and the answer to GO are a call each, and so is a reply with its data: one that is held, and one that is too long for that."""
+    """The greeting and the answer to GO are a call each, and so is a reply with its data: one that is held, and one that is too long."""
     counted = Counted(make(LONGEST))
     with counted.serve() as server:
         clients = []
@@ -53,7 +53,8 @@ def a_reply_and_its_data_by_one_call(make):
             content = bytes(range(251)) * 523
             client.write(0, content[:2 * HELD])
             for length in (1, 512, HELD // 2, HELD - 1, HELD, 2 * HELD):
-                work = asks(client, request_bytes(READ, 0, length, cookie=7), reply_bytes(7, data=content[:length]), f"a reply with {length} bytes")
+                said, wanted = request_bytes(READ, 0, length, cookie=7), reply_bytes(7, data=content[:length])
+                work = asks(client, said, wanted, f"a reply with {length} bytes")
                 equal(counted.calls(work)[1], 1, f"how many writes there are for a reply with {length} bytes")
             client.leave()
         server.stop()
@@ -66,9 +67,11 @@ def the_longest_read_and_write(make):
     data = b"".join(struct.pack(">Q", number) for number in range(MAX_LENGTH // 8))
     with counted.serve() as server:
         with server.client(seconds=120) as client:
-            reads, writes = counted.calls(asks(client, request_bytes(WRITE, 0, MAX_LENGTH, cookie=1) + data, reply_bytes(1), "the reply to a WRITE"))
+            said = request_bytes(WRITE, 0, MAX_LENGTH, cookie=1) + data
+            reads, writes = counted.calls(asks(client, said, reply_bytes(1), "the reply to a WRITE"))
             ensure(33 <= reads < 50 and writes == 1, f"there are {reads} reads and {writes} writes for the longest WRITE")
-            reads, writes = counted.calls(asks(client, request_bytes(READ, 0, MAX_LENGTH, cookie=2), reply_bytes(2, data=data), "the longest READ"))
+            said = request_bytes(READ, 0, MAX_LENGTH, cookie=2)
+            reads, writes = counted.calls(asks(client, said, reply_bytes(2, data=data), "the longest READ"))
             ensure(reads == 1 and 33 <= writes < 50, f"there are {reads} reads and {writes} writes for the longest READ")
             client.leave()
         server.stop()
@@ -76,15 +79,16 @@ def the_longest_read_and_write(make):
 
 @case
 def the_data_of_refused_writes(make):
-    """The data of a WRITE that is refused are dropped by few reads, 64 KiB at a time, and the next request is answered: one that reaches past
-    the end, and one that has a byte more than a WRITE may have."""
+    """The data of a WRITE that is refused are dropped by few reads, 64 KiB at a time, and the next request is answered: one that reaches
+    past the end, and one that has a byte more than a WRITE may have."""
     counted = Counted(make())
     end = counted.array.geometry.size - 512
     with counted.serve() as server:
         for offset, length, error, most in (end, 1_000_000, ENOSPC, 40), (0, MAX_LENGTH + 1, EINVAL, 540):
             with server.client(seconds=60) as client:
                 said = request_bytes(WRITE, offset, length, cookie=1) + b"\x11" * length + request_bytes(READ, 0, 1, cookie=2)
-                work = asks(client, said, reply_bytes(1, error) + reply_bytes(2, data=b"\0"), f"the replies to a WRITE of {length} bytes, and to a READ")
+                wanted = reply_bytes(1, error) + reply_bytes(2, data=b"\0")
+                work = asks(client, said, wanted, f"the replies to a WRITE of {length} bytes, and to a READ")
                 reads = counted.calls(work)[0]
                 ensure(length >> 16 <= reads < most, f"there are {reads} reads for a WRITE of {length} bytes that is refused")
                 client.leave()

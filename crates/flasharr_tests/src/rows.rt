@@ -89,10 +89,10 @@ fn in_pieces_of_each_length(rt: HostRuntime) -> Result<(), Fail> {
     Ok(())
 }
 
-/// The conversations. A row has what the client says, what the server says behind its greeting, and how the connection ends: 1 where the client
-/// has disconnected, 2 where it has aborted, 3 where it said what is wrong, and 4 where it says no more. The last rows are of flags that are
-/// unknown, an option with a wrong magic number, one that announces too much data, and another name. A list of rows as values would cost the
-/// prover twenty times as much as this text.
+/// The conversations. A row has what the client says, what the server says behind its greeting, and how the connection ends: 1 where
+/// the client has disconnected, 2 where it has aborted, 3 where it said what is wrong, and 4 where it says no more. The last rows are of
+/// flags that are unknown, an option with a wrong magic number, one that announces too much data, and another name. They are one text,
+/// since a list of values costs the prover more.
 const ROWS: &str = "
     00000003 49484156454f5054 00000007 00000006 00000000 0000
     / 0003e889045565a9 00000007 00000003 0000000c 0000 0000000000008000 016d
