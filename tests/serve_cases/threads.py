@@ -1,6 +1,6 @@
 """What the threads of a server do beside one another. A library counts and holds calls of images (tests/call_log.c), so that a case shows
-what runs side by side and does not rest on time: a call is held for ten seconds at most, and then the case is late and fails. One case alone
-rests on time, that of writes that wait for room.
+what runs side by side and does not rest on time: a call is held for ten seconds at most, and then the case is late and fails. Two cases alone
+rest on time: that of writes that wait for room, and that of writes beside a die that hangs while it collects.
 
 Sessions of the server make jobs of dies while they wait. So where one is held in a call of a die's image, the workers of the other dies
 make theirs."""
@@ -11,6 +11,7 @@ from concurrent.futures import ThreadPoolExecutor
 from call_log import ALL, LYING, MEMORY_REFUSALS
 from nbd_client import NO_HOLE, READ, WRITE
 from serve_cases import case
+from serve_cases.looks import ANYWHERE, document, looks_at
 from serve_cases.watched import LIMIT, User, Watched, written
 from servers import FAULT, Geometry, ensure, equal, same_bytes, wait_until
 
@@ -30,6 +31,12 @@ NEARLY_FULL = Geometry(dies=4, blocks=8, slots=16, pages=188)
 WRITERS, WRITES, TRIES, LOOKS_AGAIN = 8, 200, 5, 0.09
 # How many of these writes may take so long, where other work holds them up.
 MOST_LATE = WRITERS * WRITES // 40
+# Four dies of 256 slots each, of which the pages' copies take two thirds; how many writes are made before a die hangs, how many beside that,
+# how long each of these may take, in seconds, and how often that is tried. A worker that is not woken looks again behind a second.
+COLLECTING = Geometry(dies=4, blocks=8, slots=32, pages=340)
+WRITES_BEFORE, WRITES_BESIDE, SOON, HANGS = 800, 3, 0.5, 3
+# The die that hangs there.
+HUNG = 3
 
 
 def drawn(number):
@@ -203,6 +210,45 @@ def count_late(server, number):
             if late > MOST_LATE // 4:
                 break
     return late
+
+
+@case
+def hung_image_holds_up_no_write_to_dies_that_collect(make):
+    """All dies collect, and one hangs as a slot of it is read that is to be moved. Writes of pages on the others, whose collector may be in
+    that call, do not wait until their workers look again."""
+    watched = Watched(written(make(COLLECTING), COLLECTING.pages))
+    dies = {page: {die for die, _ in copies[2]} for page, copies in watched.array.dump().items()}
+    spoiled = [page for page in dies if HUNG in dies[page]]
+    for _ in range(HANGS):
+        with watched.serve(*ANYWHERE) as server, ThreadPoolExecutor(1) as pool:
+            write_pages(server, [13 * write % COLLECTING.pages for write in range(WRITES_BEFORE)])
+            watched.log.shut(reads=1 << HUNG)
+            spoils = pool.submit(write_pages, server, spoiled)
+            watched.await_begun(1)
+            roomy = dies_with_room(server)
+            took = write_pages(server, [page for page in dies if dies[page] <= roomy - {HUNG}][:WRITES_BESIDE])
+            watched.in_time()
+            watched.log.open()
+            spoils.result()
+            server.stop()
+        ensure(max(took, default=0) < SOON, f"writes of pages that the hung die does not have took {took} seconds")
+
+
+def write_pages(server, pages):
+    """How long a write of each of these pages takes, one behind the other, in seconds."""
+    took = []
+    with User(server, COLLECTING, seconds=2 * LIMIT) as user:
+        for page in pages:
+            began = time.monotonic()
+            user.write(page)
+            took.append(time.monotonic() - began)
+    return took
+
+
+def dies_with_room(server):
+    """The dies that have a slot for each of the writes, beside a block that is kept for moves."""
+    told = document(looks_at(server))["table"]
+    return {it["die"] for it in told if it["erased"] >= COLLECTING.slots + WRITES_BESIDE}
 
 
 @case

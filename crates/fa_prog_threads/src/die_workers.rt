@@ -7,9 +7,8 @@ use fa_prog_counts::Counts;
 use fa_shared::Shared;
 use fa_shared_lock::Seat;
 use fa_types::Die;
-use fa_workers::{
-    Helper, HelperMemory, ImageTable, JobMemory, collector_worker, die_worker, rebuild_worker,
-};
+use fa_workers::{Helper, HelperMemory, collector_worker, die_worker, rebuild_worker};
+use fa_workers_making::{ImageTable, JobMemory};
 use std::alloc::{AllocError, Global};
 use std::sync::ledger::Ledger;
 

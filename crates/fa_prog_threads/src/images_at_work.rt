@@ -3,7 +3,7 @@ use fa_mount_headers::Standing;
 use fa_prog_counts::die_of;
 use fa_prog_listen::{ImagePlaces, Parted, part_images};
 use fa_types::Die;
-use fa_workers::ImageTable;
+use fa_workers_making::ImageTable;
 use std::alloc::{AllocError, Global};
 
 /// The images of a server, while some of them are worked with.

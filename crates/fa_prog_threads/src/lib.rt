@@ -1,5 +1,5 @@
-//! The threads of a server: those who work for the dies, who collects, who rebuilds, who watches, who writes plans, who answers those who look, who
-//! accepts clients, and the sessions. They share an array of any kind, and whoever watches it sees it as a `Watched`.
+//! The threads of a server: those who work for the dies, who collects, who rebuilds, who watches, who writes plans, who answers those who
+//! look, who accepts clients, and the sessions. They share an array of any kind, and whoever watches it sees it as a `Watched`.
 #![tactic(auto)]
 
 mod counting_gate;

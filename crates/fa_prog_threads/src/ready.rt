@@ -23,7 +23,8 @@ pub struct Ready<'a, L: Ledger, I: Drop> {
     pub(crate) tasks: Tasks<'a, L>,
 }
 
-/// All that the server of a shared array needs, which is watched so, over the files that it has open. The error is out of memory, or of seats.
+/// All that the server of a shared array needs, which is watched so, over the files that it has open. The error is out of memory, or of
+/// seats.
 pub fn ready_of<'a, R: Networked, L: Ledger, E: Events<Global>, W: Watched, I: Drop, A: Allocator>(
     rt: &R,
     shared: &Shared<L, E>,

@@ -10,7 +10,8 @@ use fa_shared::Shared;
 use fa_shared_lock::{Hands, Seat};
 use fa_shared_store::ArrayBlocks;
 use fa_types::Blocks;
-use fa_workers::{Helper, HelperMemory, ImageTable};
+use fa_workers::{Helper, HelperMemory};
+use fa_workers_making::ImageTable;
 use std::alloc::{AllocError, Global};
 use std::sync::ledger::Ledger;
 
@@ -93,8 +94,8 @@ fn serve_with<
     blocks.into_seat()
 }
 
-/// The same over any store of an array that is watched, which is handed back. No client is told of a lost page before that stands in its file. It
-/// knows neither store nor array, so that no type is written that has both within.
+/// The same over any store of an array that is watched, which is handed back. No client is told of a lost page before that stands in its
+/// file. It knows neither store nor array, so that no type is written that has both within.
 fn serve_telling<R: Networked, W: Watched, B: Blocks + Drop>(
     rt: &R,
     listening: &Listening<'_>,

@@ -11,7 +11,7 @@ use fa_prog_watch::{Looking, Losses, Subject, Watched, watch, write_plans};
 use fa_shared::Shared;
 use fa_shared_lock::Seat;
 use fa_types::Die;
-use fa_workers::ImageTable;
+use fa_workers_making::ImageTable;
 use std::alloc::Global;
 use std::sync::ledger::Ledger;
 use std::thread;

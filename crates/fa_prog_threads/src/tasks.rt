@@ -44,8 +44,9 @@ pub(crate) struct Tasks<'a, L: Ledger> {
     pub(crate) seats: Vec<Seat<L>>,
 }
 
-/// A task for each of these dies, for the collector, the rebuilder and the watch of an array that stands so, for the one who writes plans, if there is one, for each
-/// session, for the one who answers those who look, if there is one, and for the one who accepts. The error is out of memory, or of seats.
+/// A task for each of these dies, for the collector, the rebuilder and the watch of an array that stands so, for the one who writes plans,
+/// if there is one, for each session, for the one who answers those who look, if there is one, and for the one who accepts. The error is
+/// out of memory, or of seats.
 pub(crate) fn tasks_of<'a, R: Networked, L: Ledger, E: Events<Global>>(
     rt: &R,
     shared: &Shared<L, E>,
@@ -65,8 +66,8 @@ pub(crate) fn tasks_of<'a, R: Networked, L: Ledger, E: Events<Global>>(
     })
 }
 
-/// Adds the tasks of all, for which there is memory, and answers how many are of those who work for the array or watch it. It stands apart from
-/// whoever owns the tasks, so that no exit of it drops them. The error is out of memory, or of seats.
+/// Adds the tasks of all, for which there is memory, and answers how many are of those who work for the array or watch it. It stands apart
+/// from whoever owns the tasks, so that no exit of it drops them. The error is out of memory, or of seats.
 fn add_all<'a, R: Networked, L: Ledger, E: Events<Global>>(
     rt: &R,
     shared: &Shared<L, E>,

@@ -5,16 +5,21 @@ ghost use Rattle.fa_shared_lock.specs.Seats.{commits_together, commits_with, num
 
 use fa_core_calls::{Events, Looks};
 use fa_faults::{Fault, Faults};
-use fa_shared_lock::{Awaits, Gathered, Locked, MAX_SEATS, Seat, SeatSet};
+use fa_shared_lock::{Gathered, Locked, Seat};
+use fa_shared_sleepers::{Awaits, MAX_SEATS, SeatSet};
 use std::alloc::{AllocError, Allocator, Global};
 use std::hint::spin_loop;
 use std::sync::ledger::{Blank, Ledger};
 use std::sync::{Condvar, CondvarTimeouts, Mutex, MutexGuard, Wait};
 use std::time::{Clock, Duration};
 
-/// How long a request sleeps at most before looking again, in milliseconds, and how long those who work for the array.
-const REQUEST_SLEEP: u64 = 100;
+/// How long a request sleeps at most before looking again, in milliseconds: first, and behind that. What it waits for is seldom as long on
+/// its way as the first, so somebody who has taken jobs of several dies may be held up by the image of one.
+const FIRST_SLEEP: u64 = 20;
 
+const REQUEST_SLEEP: u64 = 80;
+
+/// How long those sleep at most who work for the array, in milliseconds.
 const WORKER_SLEEP: u64 = 1000;
 
 /// How often somebody tries to take the lock before sleeping for it. Holds are short: most end within these tries, and a sleep and a wake
@@ -80,7 +85,7 @@ impl<L: Ledger, E: Events<A>, A: Allocator + Copy> Shared<L, E, A> {
 
     /// Frees the lock until what is awaited has come, or for no reason, and then takes it again. Rounds that may pass have passed before,
     /// and those for whom it is time are woken. One who helps may be woken to make jobs of dies. Nobody sleeps longer than a second, and a
-    /// request no longer than a tenth of one.
+    /// request no longer than a tenth of one; where a fifth of that has passed, workers look at what others have taken of their dies.
     pub fn sleep<'a, R: Wait + Clock>(
         &'a self,
         rt: &R,
@@ -102,10 +107,38 @@ impl<L: Ledger, E: Events<A>, A: Allocator + Copy> Shared<L, E, A> {
             return guard;
         };
         if !due.contains(number) {
-            guard = bell.wait_timeout(rt, guard, limit_of(awaits)).0;
+            guard = if is_request(awaits) {
+                self.wait_twice(rt, bell, number, guard)
+            } else {
+                bell.wait_timeout(rt, guard, Duration::from_millis(WORKER_SLEEP))
+                    .0
+            };
         }
         guard.get_up(number);
         guard
+    }
+
+    /// Waits at the bell of a request's seat. Behind a first while those are woken who may make what it waits for in the place of others.
+    fn wait_twice<'a, R: Wait + Clock>(
+        &'a self,
+        rt: &R,
+        bell: &Condvar,
+        number: u32,
+        guard: MutexGuard<'a, Locked<L, E, A>>,
+    ) -> MutexGuard<'a, Locked<L, E, A>> {
+        let first = Duration::from_millis(FIRST_SLEEP);
+        let (mut guard, waited) = bell.wait_timeout(rt, guard, first);
+        if !waited.timed_out() {
+            return guard;
+        }
+        guard.note_long_wait();
+        let due = guard.due();
+        self.wake(due);
+        if due.contains(number) {
+            return guard;
+        }
+        bell.wait_timeout(rt, guard, Duration::from_millis(REQUEST_SLEEP))
+            .0
     }
 
     /// Wakes those who have these seats.
@@ -183,7 +216,8 @@ impl<L: Ledger, E: Events<A>, A: Allocator + Copy> Shared<L, E, A> {
     }
 }
 
-/// An array is given up as it is. The parts of one are proved to be dropped in each crate that drops one, so other crates have it done here.
+/// An array is given up as it is. The parts of one are proved to be dropped in each crate that drops one, so other crates have it done
+/// here.
 pub fn discard<E: Looks>(array: E) {
     drop(array);
 }
@@ -198,17 +232,15 @@ fn make_parts<A: Allocator + Copy>(alloc: A) -> Result<(Faults<A>, Vec<Condvar, 
     Ok((faults, bells))
 }
 
-/// How long somebody who waits so sleeps at most.
-fn limit_of(awaits: Awaits) -> Duration {
+/// Whether a request waits so, or somebody who works for the array and was refused a window. Else somebody waits for work.
+fn is_request(awaits: Awaits) -> bool {
     match awaits {
-        Awaits::Job(_) | Awaits::Window { was_refused: false } | Awaits::ThinPage => {
-            Duration::from_millis(WORKER_SLEEP)
-        }
+        Awaits::Job(_) | Awaits::Window { was_refused: false } | Awaits::ThinPage => false,
         Awaits::Window { was_refused: true }
         | Awaits::Batch(_)
         | Awaits::Programs(_)
         | Awaits::Flush(_)
         | Awaits::Room(_)
-        | Awaits::Change => Duration::from_millis(REQUEST_SLEEP),
+        | Awaits::Change => true,
     }
 }

@@ -2,16 +2,11 @@
 #![tactic(auto)]
 
 mod hands;
-mod homes;
 mod locked;
 mod making;
-mod rooms;
 mod seat;
-mod sleepers;
 
 pub use hands::Hands;
-pub use homes::{DieSet, lacks_home};
-pub use locked::{Gathered, Locked, MAX_SEATS, plain};
+pub use locked::{Gathered, Locked, plain};
 pub use making::make;
 pub use seat::Seat;
-pub use sleepers::{Awaits, SeatSet};

@@ -6,18 +6,14 @@ ghost use Rattle.fa_core_calls.specs.Calls.{commits_of_answer};
 ghost use Rattle.fa_shared_lock.specs.Only.{has_passed as rule_passed};
 ghost use Rattle.fa_shared_lock.specs.Seats.{commits_together};
 
-use crate::homes::DieSet;
 use crate::seat::Seat;
-use crate::sleepers::{Awaits, SeatSet, Sleepers, is_due};
 use fa_core_calls::{Answer, Call, Events};
 use fa_plan::{PlanNote, Planned};
+use fa_shared_sleepers::{Awaits, DieSet, MAX_SEATS, SeatSet, Sleepers, is_due};
 use fa_types::Page;
 use std::alloc::{Allocator, Global};
 use std::marker::Model;
 use std::sync::ledger::{Blank, Book, Ledger, Share};
-
-/// How many seats may be out at once.
-pub const MAX_SEATS: u32 = 256;
 
 /// How many parts the ledger of an array has: one for each seat, and one that stays under the lock.
 const PARTS: u64 = MAX_SEATS as u64 + 1;
@@ -220,8 +216,8 @@ impl<L: Ledger, E: Events<A>, A: Allocator + Copy> Locked<L, E, A> {
         is_due(&self.array, true, awaits)
     }
 
-    /// The dies that a write of the page would go to, made with this seat, if it is better to wait until each of them has room. It is a matter
-    /// of speed alone, and in no clause.
+    /// The dies that a write of the page would go to, made with this seat, if it is better to wait until each of them has room. It is a
+    /// matter of speed alone, and in no clause.
     pub fn homes_to_come(&self, seat: u32, page: Page) -> DieSet {
         self.sleepers.homes_to_come(&self.array, seat, page)
     }
@@ -286,6 +282,22 @@ impl<L: Ledger, E: Events<A>, A: Allocator + Copy> Locked<L, E, A> {
     /// Whether somebody makes the jobs of all dies that have a window.
     pub fn is_led(&self) -> bool {
         self.sleepers.is_led()
+    }
+
+    /// Somebody has waited long for what others make, whom an image may hold up. The workers of dies look at what others have taken of
+    /// theirs. It is a matter of speed alone, and in no clause.
+    pub fn note_long_wait(&mut self)
+        ensures { self.new ≡ self.old }
+    {
+        self.sleepers.note_long_wait();
+    }
+
+    /// Whoever has this seat has waited in vain. A write that waited for room of its page's dies goes elsewhere. It is a matter of speed
+    /// alone, and in no clause.
+    pub fn give_up_waiting(&mut self, seat: u32)
+        ensures { self.new ≡ self.old }
+    {
+        self.sleepers.give_up_waiting(seat);
     }
 
     /// Whoever works for the array is to end.

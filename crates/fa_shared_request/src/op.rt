@@ -3,7 +3,8 @@
 use crate::preparing::{answer_len, memory_for, prepare_stage};
 use fa_core_calls::Events;
 use fa_machine::ReadState;
-use fa_shared_lock::{Awaits, Locked, lacks_home};
+use fa_shared_lock::Locked;
+use fa_shared_sleepers::{Awaits, lacks_home};
 use fa_shared_steps::{Fill, Request, Stage, Task, begin, content, fill_with};
 use fa_tag::Payload;
 use fa_types::{BlockFault, Page};
@@ -18,9 +19,9 @@ pub type Lent<A = Global> = Vec<(Page, Vec<u8, A>), A>;
 /// How many buffers may wait for a later request before they are given back.
 const MAX_LENT: usize = 16;
 
-/// A request of a block store over an array that others use too. Its turns are made with the array's lock held (`fa_shared_turns`), each with
-/// at most one event of the array, behind a Fold where the history is full. Between turns the lock is free, and [`Op::prepare`] does what
-/// wants no lock.
+/// A request of a block store over an array that others use too. Its turns are made with the array's lock held (`fa_shared_turns`), each
+/// with at most one event of the array, behind a Fold where the history is full. Between turns the lock is free, and [`Op::prepare`] does
+/// what wants no lock.
 #[derive(Drop)]
 pub struct Op<A: Allocator = Global, B: Allocator = Global> {
     alloc: A,
@@ -269,8 +270,9 @@ impl<A: Allocator + Copy, B: Allocator> Op<A, B> {
         };
     }
 
-    /// What it waits for, where whoever has this seat waits for it: its batch, the programs of its claim, its flush, dies that get room, or any
-    /// change. A batch that is to be planned anew waits for other requests. What is answered settles who is woken when, and is in no clause.
+    /// What it waits for, where whoever has this seat waits for it: its batch, the programs of its claim, its flush, dies that get room, or
+    /// any change. A batch that is to be planned anew waits for other requests. What is answered settles who is woken when, and is in no
+    /// clause.
     pub fn awaits<L: Ledger, E: Events<A>>(&self, locked: &Locked<L, E, A>, seat: u32) -> Awaits {
         match &self.stage {
             Stage::Reading(_, batch) => match locked.array().results(*batch) {

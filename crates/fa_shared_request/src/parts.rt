@@ -125,8 +125,8 @@ fn refusal<A: Allocator + Copy>(part: &Part<A>) -> Option<BlockFault>
     }
 }
 
-/// Prepares each part that has something to prepare. The pages' bytes are hashed side by side, where there is memory for that, and those that
-/// are left over wait for others, where there are as many as are hashed side by side.
+/// Prepares each part that has something to prepare. The pages' bytes are hashed side by side, where there is memory for that, and those
+/// that are left over wait for others, where there are as many as are hashed side by side.
 pub fn prepare<A: Allocator + Copy>(alloc: A, parts: &mut [Part<A>], bytes: &[u8])
     ensures { (commits : ℕ) → Counts (tally_of_parts commits parts.old) (tally_of_parts commits parts.new) }
 {
@@ -143,8 +143,8 @@ pub fn prepare<A: Allocator + Copy>(alloc: A, parts: &mut [Part<A>], bytes: &[u8
     }
 }
 
-/// How many pages are hashed now: those whose bytes are to be hashed, as far as they are prepared at a time, and where these are more than are
-/// hashed side by side, so many at a time.
+/// How many pages are hashed now: those whose bytes are to be hashed, as far as they are prepared at a time, and where these are more than
+/// are hashed side by side, so many at a time.
 fn hashed_now<A: Allocator + Copy>(parts: &[Part<A>]) -> usize {
     let ready = parts.iter().filter(|part| part.op.has_content()).count();
     let ready = ready.min(TOGETHER);

@@ -4,8 +4,9 @@ ghost use Rattle.fa_shared_request.specs.PartCounts.{PartsGoOn};
 use crate::turn::Turn;
 use crate::turning::turn_on;
 use fa_core_calls::Events;
-use fa_shared_lock::{Awaits, Locked, Seat};
+use fa_shared_lock::{Locked, Seat};
 use fa_shared_request::{Op, Part, TOGETHER};
+use fa_shared_sleepers::Awaits;
 use std::alloc::Allocator;
 use std::sync::Wait;
 use std::sync::ledger::Ledger;
@@ -81,9 +82,9 @@ fn next_for(stand: Stand) -> Turn {
     }
 }
 
-/// What parts wait for, where whoever has this seat waits for them: what dies do for one that waits for that, or else what others hold up. It
-/// is the one behind which as many parts have a page to hash as are prepared at a time, if so many wait: dies make programs in the order in
-/// which they were reserved, and before that there is little to do. Of those that wait for room it is the first.
+/// What parts wait for, where whoever has this seat waits for them: what dies do for one that waits for that, or else what others hold up.
+/// It is the one behind which as many parts have a page to hash as are prepared at a time, if so many wait: dies make programs in the order
+/// in which they were reserved, and before that there is little to do. Of those that wait for room it is the first.
 pub fn awaits_of<L: Ledger, E: Events<A>, A: Allocator + Copy>(
     parts: &[Part<A>],
     locked: &Locked<L, E, A>,

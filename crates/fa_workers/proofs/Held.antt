@@ -9,7 +9,7 @@ use Rattle.fa_types.specs.declared.numbers.Die.{Die}
 use Rattle.fa_types.specs.declared.numbers.Round.{Round}
 use Rattle.fa_workers.specs.DieTurns.{Ends, LooksAgain, Rests, TakesNext, Took, TookNone, WasOpen, after_look}
 use Rattle.fa_workers.specs.Held.{AddsPart, die_taken, numbers_of, order_in, told_of}
-use Rattle.fa_workers.specs.declared.bench.MadeJob.{MadeJob}
+use Rattle.fa_workers_making.specs.declared.bench.MadeJob.{MadeJob}
 use Rattle.fa_workers.specs.declared.die_events.Next.{Next}
 use Rattle.std.proofs.Common.{ap, inl, inr, refl, subst, sym, List, [], Err, None, Ok, Result, arith, length, map, slice_index_or, take, ℕ, ◌++◌, ◌+◌, ◌<◌, ◌∙◌, ◌∷◌, ◌≡◌}
 use Rattle.std.proofs.lemmas.List.{append-nil, append_assoc, get_or-map, length-map, take_more}

@@ -1,5 +1,5 @@
-mod Begun
 mod Dies
 mod Held
 mod Holds
+mod Opened
 mod Rebuilds

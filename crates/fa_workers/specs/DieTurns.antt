@@ -17,7 +17,7 @@ use Rattle.fa_types.specs.declared.numbers.Round.{Round}
 use Rattle.fa_shared_lock.specs.Rest.{MakesFolded}
 use Rattle.fa_workers.specs.declared.die_events.Next.{Next}
 use Rattle.fa_workers.specs.declared.die_events.Next.TheVariants.{Run, Again, Rest}
-use Rattle.fa_workers.specs.declared.order.Order.{Order}
+use Rattle.fa_workers_making.specs.declared.order.Order.{Order}
 
 module _ {A : Type 0} where
   -- The die rests where the round is pending, and others are told where it is so no longer.

@@ -4,10 +4,10 @@ use Rattle.std.specs.Prelude.{◌≡◌, ◌⊎◌, ℕ, List, [], ◌∷◌, �
 use Rattle.fa_core_outcome.specs.Outcomes.{outcome_of}
 use Rattle.fa_shared_lock.specs.Only.{Told}
 use Rattle.fa_types.specs.declared.numbers.Die.{Die}
-use Rattle.fa_workers.specs.declared.bench.MadeJob.{MadeJob}
+use Rattle.fa_workers_making.specs.declared.bench.MadeJob.{MadeJob}
 use Rattle.fa_workers.specs.declared.die_events.Next.{Next}
 use Rattle.fa_workers.specs.declared.die_events.Next.TheVariants.{Run}
-use Rattle.fa_workers.specs.declared.order.Order.{Order}
+use Rattle.fa_workers_making.specs.declared.order.Order.{Order}
 
 -- the numbers of dies
 abbrev pub numbers_of : List Die → List ℕ

@@ -1,7 +1,4 @@
-pub mod Beginning
-pub mod Begun
 pub mod DieTurns
 pub mod Held
-pub mod JobMemories
 pub mod Rebuilding
 pub mod Windows

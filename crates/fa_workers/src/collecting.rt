@@ -2,12 +2,13 @@
 ghost use Rattle.std.specs.Prelude.{◌≡◌, ◌<◌, false};
 ghost use Rattle.fa_core_calls.specs.Windows.{is_window_due};
 ghost use Rattle.fa_shared_lock.specs.Rest.{LeavesRest};
-ghost use Rattle.fa_shared_lock.specs.declared.sleepers.Awaits.TheVariants.{Window};
+ghost use Rattle.fa_shared_sleepers.specs.declared.sleepers.Awaits.TheVariants.{Window};
 ghost use Rattle.fa_workers.specs.Windows.{GivesWindow, GivesWindows};
 
 use fa_core_calls::{Events, Looks};
 use fa_shared::{Shared, window};
-use fa_shared_lock::{Awaits, Hands, Locked, Seat};
+use fa_shared_lock::{Hands, Locked, Seat};
+use fa_shared_sleepers::Awaits;
 use fa_types::Die;
 use std::alloc::Allocator;
 use std::sync::Wait;

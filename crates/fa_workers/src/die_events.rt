@@ -10,7 +10,6 @@ ghost use Rattle.fa_workers.specs.DieTurns.{after_look as rule_look, noted};
 ghost use Rattle.fa_workers.specs.Held.{die_taken, order_in as rule_order};
 ghost use Rattle.fa_shared_lock.specs.Rest.{LeavesRest};
 
-use crate::order::{Order, order_of};
 use fa_core_calls::{Events, Looks};
 use fa_core_outcome::Outcome;
 use fa_faults::{Fault, fault_of};
@@ -19,6 +18,7 @@ use fa_shared::{advance, done, take};
 use fa_shared_lock::{Locked, Seat};
 use fa_shared_writing::make_room;
 use fa_types::{Die, Round};
+use fa_workers_making::{Order, order_of};
 use std::alloc::{Allocator, Global};
 use std::sync::ledger::Ledger;
 

@@ -1,47 +1,27 @@
 //! Those who work for dies while they wait for something else.
-ghost use Rattle.std.specs.Prelude.{◌≡◌, ◌∷◌, ◌++◌, [], ◌<◌, ◌≤◌, IfSome, slice_index_or, length, map, take, vec_capacity};
+ghost use Rattle.std.specs.Prelude.{◌≡◌, ◌∷◌, ◌++◌, [], ◌<◌, length, map, vec_capacity};
 ghost use Rattle.fa_shared_lock.specs.Only.{EndsJob, IsPart, TakesJobs, dies_told};
 ghost use Rattle.fa_shared_lock.specs.Seats.{number_of};
 ghost use Rattle.fa_shared_lock.specs.Rest.{LeavesRest};
-ghost use Rattle.fa_tag.specs.SlotGrammar.{IsOpened};
-ghost use Rattle.fa_tag.specs.declared.tag.Opened.{Opened};
-ghost use Rattle.fa_workers.specs.Begun.{AreOpenedAt, OpensMade, OpensRead, OpensReads, bytes_at};
 ghost use Rattle.fa_workers.specs.Held.{AddsPart, numbers_of, told_of};
 
-use crate::bench::{Bench, MadeJob, Task};
 use crate::die_events::{Ended, end_job, take_job};
-use crate::image_table::ImageTable;
-use crate::job_memory::JobMemory;
-use crate::moves::open_moves;
-use crate::order::Begun;
 use fa_core_calls::{Events, Looks};
-use fa_core_outcome::Outcome;
 use fa_faults::Fault;
 use fa_image::Image;
-use fa_jobs::{Gate, hand_over};
+use fa_jobs::Gate;
 use fa_machine::JobKind;
 use fa_shared::Shared;
 use fa_shared_lock::{Hands, Locked, Seat};
-use fa_tag::{Opened, open, open_all};
 use fa_types::Die;
+use fa_workers_making::{
+    Bench, ImageTable, JobMemory, MAX_JOBS, MadeJob, Task, begin_jobs, go_on_with_moves, open_reads,
+};
 use std::alloc::{AllocError, Allocator, Global};
 use std::mem::replace;
 use std::sync::Wait;
 use std::sync::ledger::Ledger;
 use std::time::{Clock, Duration, Instant};
-
-/// How many jobs somebody who helps takes at most in one hold.
-const MAX_JOBS: usize = 8;
-
-/// How many slots are hashed side by side where there are no more jobs.
-const FEW_JOBS: usize = 4;
-
-/// From how many reads on they are hashed side by side, among more than four jobs: eight side by side take about the time of three one by
-/// one.
-const FEW_READS: usize = 4;
-
-/// The same among four jobs and fewer: four side by side take less than the time of two one by one.
-const FEWER_READS: usize = 2;
 
 /// How long the calls of a job take at most, in microseconds, that are said to take little time.
 const QUICK_MICROSECONDS: u64 = 50;
@@ -89,16 +69,16 @@ impl Wanted {
         }
     }
 
-    /// Whether no more jobs are wanted beside those of these dies. Whoever takes those of dies that collect takes none beside a long one: others
-    /// make the next ones meanwhile.
+    /// Whether no more jobs are wanted beside those of these dies. Whoever takes those of dies that collect takes none beside a long one:
+    /// others make the next ones meanwhile.
     fn are_enough<E: Looks>(self, array: &E, dies: &[Die]) -> bool {
         dies.len() >= self.most || self.collects && !are_short(array, dies)
     }
 }
 
-/// Somebody who makes jobs of dies, while a request waits for them, or for all dies that collect: one at a time where the images are slow, so
-/// that others make those of the other dies beside it, and several in a row where they are quick. Jobs of several dies lie on the dies' bench
-/// until they are made and until they are ended, moves between their two calls too, so that no die waits for another's image.
+/// Somebody who makes jobs of dies, while a request waits for them, or for all dies that collect: one at a time where the images are slow,
+/// so that others make those of the other dies beside it, and several in a row where they are quick. Jobs of several dies lie on the dies'
+/// bench until they are made and until they are ended, moves between their two calls too, so that no die waits for another's image.
 #[derive(Drop)]
 pub struct Helper<
     'a,
@@ -232,100 +212,6 @@ impl<
             self.shared.note_fault(self.rt, *fault);
         }
         self.memory.faults.clear();
-    }
-}
-
-/// Begins the jobs of these dies that lie on the bench, one after the other. Whether one is a move whose slot was read.
-fn begin_jobs<R: Wait, I: Image + Drop, A: Allocator, G: Gate>(
-    rt: &R,
-    image_table: &ImageTable<I, A>,
-    dies: &[Die],
-    gate: &G,
-) -> bool {
-    let mut has_move = false;
-    for die in dies {
-        if begin_job(rt, image_table, *die, gate) {
-            has_move = true;
-        }
-    }
-    has_move
-}
-
-/// Makes the first call of a die's job that lies on the bench, if nobody has begun it, and all of one that neither reads nor moves a page,
-/// and lays back how far it has come. Whether it is a move whose slot was read.
-fn begin_job<R: Wait, I: Image + Drop, A: Allocator, G: Gate>(
-    rt: &R,
-    image_table: &ImageTable<I, A>,
-    die: Die,
-    gate: &G,
-) -> bool {
-    let bench = image_table.bench();
-    let Some(Task { order, mut memory }) = bench.lift_task(rt, die) else {
-        return false;
-    };
-    match image_table.begin(rt, &order, &mut memory, gate) {
-        Begun::Over(outcome) => {
-            bench.lay_made(
-                rt,
-                MadeJob {
-                    die,
-                    outcome,
-                    memory,
-                },
-            );
-            false
-        }
-        Begun::SlotRead => {
-            bench.lay_read(rt, Task { order, memory });
-            true
-        }
-    }
-}
-
-/// Goes on with the moves of these dies that lie on the bench and whose slots were read: opens them side by side, and makes their second
-/// calls. They lie on the bench between two calls.
-fn go_on_with_moves<R: Wait, I: Image + Drop, A: Allocator, G: Gate>(
-    rt: &R,
-    image_table: &ImageTable<I, A>,
-    dies: &[Die],
-    moves: &mut Vec<Task<A>, A>,
-    gate: &G,
-) {
-    let bench = image_table.bench();
-    lift_moves(rt, bench, dies, moves);
-    open_moves(rt, bench, moves);
-    end_moves(rt, image_table, dies, gate);
-}
-
-/// Takes the moves of these dies that lie on the bench and whose slots were read, as long as there is memory for one more.
-fn lift_moves<R: Wait, A: Allocator>(
-    rt: &R,
-    bench: &Bench<A>,
-    dies: &[Die],
-    moves: &mut Vec<Task<A>, A>,
-) {
-    for die in dies {
-        if moves.len() >= moves.capacity() {
-            return;
-        }
-        if let Some(task) = bench.lift_read(rt, *die) {
-            add(moves, task);
-        }
-    }
-}
-
-/// Makes the second calls of the moves of these dies that lie on the bench, one after the other, and lays back how they have ended.
-fn end_moves<R: Wait, I: Image + Drop, A: Allocator, G: Gate>(
-    rt: &R,
-    image_table: &ImageTable<I, A>,
-    dies: &[Die],
-    gate: &G,
-) {
-    let bench = image_table.bench();
-    for die in dies {
-        if let Some(opened) = bench.lift_opened(rt, *die) {
-            bench.lay_made(rt, image_table.end_move(rt, opened, gate));
-        }
     }
 }
 
@@ -491,145 +377,4 @@ fn add<T: Drop, A: Allocator>(items: &mut Vec<T, A>, item: T)
     ensures { items.new.items ≡ items.old.items ++ item ∷ [] }
 {
     let _ = items.push(item);
-}
-
-/// Opens what reads gave, and hands out the payloads. A read whose slot is not opened yet stands as one of a bad slot. Where several jobs
-/// are reads their slots are hashed side by side.
-fn open_reads<A: Allocator>(made: &mut [MadeJob<A>])
-    ensures { OpensReads made.old made.new }
-{
-    let together = opened_together(made);
-    for index in 0..made.len() {
-        open_made(&mut made[index], together.as_ref(), index);
-    }
-}
-
-/// What stands in all memories, as slots, where several jobs are reads.
-fn opened_together<A: Allocator>(made: &[MadeJob<A>]) -> Option<[Opened; MAX_JOBS]>
-    ensures { IfSome result (λ all. AreOpenedAt made.now all) }
-{
-    let reads = made
-        .iter()
-        .filter(|job| matches!(job.outcome, Outcome::Read(_)))
-        .count();
-    let fewest = if made.len() <= FEW_JOBS {
-        FEWER_READS
-    } else {
-        FEW_READS
-    };
-    if reads < fewest {
-        None
-    } else {
-        Some(open_slots(made))
-    }
-}
-
-/// Opens what one job gave, if it is a read.
-fn open_made<A: Allocator>(
-    job: &mut MadeJob<A>,
-    together: Option<&[Opened; MAX_JOBS]>,
-    index: usize,
-)
-    requires { IfSome together (λ all. (d : Opened) → index < 8 → IsOpened job.old.memory.scratch.items (slice_index_or all.now index d)) }
-    ensures { OpensMade job.old job.new }
-{
-    job.outcome = open_read(&mut job.memory, job.outcome, together, index);
-}
-
-/// Opens what one read gave, and hands out its payload, where the memory has room for it. It is opened already where all were together.
-pub(crate) fn open_read<A: Allocator>(
-    memory: &mut JobMemory<A>,
-    outcome: Outcome,
-    together: Option<&[Opened; MAX_JOBS]>,
-    index: usize,
-) -> Outcome
-    requires { IfSome together (λ all. (d : Opened) → index < 8 → IsOpened memory.old.scratch.items (slice_index_or all.now index d)) }
-    ensures { OpensRead memory.old outcome memory.new result }
-{
-    match outcome {
-        Outcome::Read(_) => {
-            let opened = opened_at(together, index, memory.scratch.as_slice());
-            hand_out(memory);
-            Outcome::Read(opened)
-        }
-        other => other,
-    }
-}
-
-/// What these bytes are as a slot, which was opened already where all were together.
-fn opened_at(together: Option<&[Opened; MAX_JOBS]>, index: usize, bytes: &[u8]) -> Opened
-    requires { IfSome together (λ all. (d : Opened) → index < 8 → IsOpened bytes.now (slice_index_or all.now index d)) }
-    ensures { IsOpened bytes.now result }
-{
-    match together {
-        Some(all) if index < MAX_JOBS => all[index],
-        _ => open(bytes),
-    }
-}
-
-/// What stands in all memories, as slots, hashed side by side.
-fn open_slots<A: Allocator>(made: &[MadeJob<A>]) -> [Opened; MAX_JOBS]
-    ensures { AreOpenedAt made.now result }
-{
-    if made.len() <= FEW_JOBS {
-        return open_four_slots(made);
-    }
-    let mut opened = [Opened::Bad; MAX_JOBS];
-    open_all(
-        &[
-            slot_in(made, 0),
-            slot_in(made, 1),
-            slot_in(made, 2),
-            slot_in(made, 3),
-            slot_in(made, 4),
-            slot_in(made, 5),
-            slot_in(made, 6),
-            slot_in(made, 7),
-        ],
-        &mut opened,
-    );
-    opened
-}
-
-/// The same of four memories and fewer. What stands in the first one stands for the others too.
-fn open_four_slots<A: Allocator>(made: &[MadeJob<A>]) -> [Opened; MAX_JOBS]
-    requires { length made.now ≤ 4 }
-    ensures { AreOpenedAt made.now result }
-{
-    let mut opened = [Opened::Bad; FEW_JOBS];
-    open_all(
-        &[
-            slot_in(made, 0),
-            slot_in(made, 1),
-            slot_in(made, 2),
-            slot_in(made, 3),
-        ],
-        &mut opened,
-    );
-    let [first, second, third, fourth] = opened;
-    [first, second, third, fourth, first, first, first, first]
-}
-
-/// What stands for a slot in the memory of this place, or in the first one, where there are fewer: slots of one length alone are hashed
-/// side by side.
-fn slot_in<A: Allocator>(made: &[MadeJob<A>], place: usize) -> &[u8]
-    ensures { result.now ≡ bytes_at made.now place }
-{
-    if made.len() == 0 {
-        return &[];
-    }
-    if place >= made.len() {
-        return made[0].memory.scratch.as_slice();
-    }
-    made[place].memory.scratch.as_slice()
-}
-
-/// The payload of the slot that was read goes to where a read hands it out.
-fn hand_out<A: Allocator>(memory: &mut JobMemory<A>)
-    ensures { length memory.old.buffer.items ≤ length memory.old.scratch.items
-        → memory.new.buffer.items ≡ take (length memory.old.buffer.items) memory.old.scratch.items }
-{
-    if memory.buffer.len() <= memory.scratch.len() {
-        hand_over(&mut memory.scratch, &mut memory.buffer);
-    }
 }

@@ -1,19 +1,17 @@
 //! The worker of a die.
-use crate::bench::{Bench, Lain, MadeJob};
 use crate::collecting::give_next_window;
 use crate::die_events::{Ended, Next, end_job, turn};
-use crate::helping::open_read;
-use crate::image_table::ImageTable;
-use crate::job_memory::JobMemory;
-use crate::moves::{OpenedMove, open_alone};
-use crate::order::Order;
 use fa_core_calls::{Events, Looks};
 use fa_core_outcome::Outcome;
 use fa_image::Image;
 use fa_jobs::Gate;
 use fa_shared::Shared;
-use fa_shared_lock::{Awaits, Seat};
+use fa_shared_lock::Seat;
+use fa_shared_sleepers::Awaits;
 use fa_types::Die;
+use fa_workers_making::{
+    Bench, ImageTable, JobMemory, Lain, MadeJob, OpenedMove, Order, open_alone, open_read,
+};
 use std::alloc::{Allocator, Global};
 use std::mem::replace;
 use std::sync::Wait;
@@ -109,8 +107,7 @@ fn next_job<R: Wait + Clock, L: Ledger, E: Events<A>, A: Allocator + Copy>(
     }
 }
 
-/// Waits for the die's next job, or for one that lies on the bench. None where there is none and the array is to end. Where it takes a job of
-/// a die that collects nobody leads any more: an image may hold up whoever did, who leads again with the next jobs that he takes.
+/// Waits for the die's next job, or for one that lies on the bench. None where there is none and the array is to end.
 fn wait_for_job<R: Wait + Clock, L: Ledger, E: Events<A>, A: Allocator + Copy>(
     rt: &R,
     alloc: A,
@@ -124,9 +121,6 @@ fn wait_for_job<R: Wait + Clock, L: Ledger, E: Events<A>, A: Allocator + Copy>(
     for _ in rt.forever() {
         match turn(alloc, &mut guard, seat, die) {
             Next::Run(order) => {
-                if guard.array().has_window(die) {
-                    guard.lead(false);
-                }
                 shared.release(seat, guard);
                 return Some(Lain::Waiting(order));
             }

@@ -1,7 +1,7 @@
 use Rattle.std.proofs.Common.{length, map, subst, ◌≡◌}
 use Rattle.fa_shared_lock.specs.Only.{IsPart, dies_told}
-use Rattle.fa_workers.proofs.Begun.{opens_kept}
-use Rattle.fa_workers.specs.Begun.{OpensReads}
+use Rattle.fa_workers.proofs.Opened.{opens_kept}
+use Rattle.fa_workers_making.specs.Begun.{OpensReads}
 use Rattle.fa_workers.specs.Held.{numbers_of, told_of}
 use Rattle.fa_workers.proofs.helping.HelperHands.work.Goals as goal
 

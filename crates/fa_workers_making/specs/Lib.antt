@@ -1,0 +1,2 @@
+pub mod Beginning
+pub mod Begun
