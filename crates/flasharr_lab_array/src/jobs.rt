@@ -55,6 +55,12 @@ impl<'a> Jobs<'a> {
         }
     }
 
+    /// The job that a die has taken.
+    fn flying_of(&mut self, die: Die) -> Option<&mut Flying<'a>> {
+        let index = self.index_of(die);
+        self.flying.get_mut(index)
+    }
+
     /// The index of the job that a die has taken. Where there is none, how many there are.
     fn index_of(&self, die: Die) -> usize {
         let mut found = self.flying.len();
@@ -166,45 +172,32 @@ pub(crate) fn end_by_word<'a, M: Map>(
     let page_bytes = array.geometry().page_bytes;
     match desk.lent.page(heap, number_at(numbers, 1), page_bytes) {
         Ok(page) => {
-            let answer = step(array, &mut tools.meter, done_of(die, outcome, page, &heap));
-            show_short(&answer, &mut tools.output);
-            if is_done(&answer) {
+            if end(array, tools, &mut desk.lent, die, outcome, page) {
+                tools.output.word("done");
                 let _ = desk.jobs.land(die);
+            } else {
+                tools.output.word("stranger");
             }
-            keep_buffer(answer, tools, &mut desk.lent);
         }
         Err(_) => tools.output.fail(),
     }
 }
 
-/// Makes the calls of the job that a die has taken, and tells what came of them.
-pub fn make_job<'a, M: Map + Drop, I: Image>(
-    mounted: &MountedArray<M, &'a Heap>,
+/// Makes the calls of the job that a die has taken on the image at a place, and tells what came of them.
+pub fn make_job<'a, I: Image>(
+    place: Option<usize>,
     images: &mut [I],
     tools: &mut Tools<'a>,
     desk: &mut Desk<'a>,
     die: Die,
 ) {
-    match desk.jobs.land(die) {
-        Some(flying) => make_landed(mounted.image_of(die), images, tools, desk, flying),
+    match desk.jobs.flying_of(die) {
+        Some(flying) => {
+            make_calls(flying, place, images, &mut desk.lent, &mut tools.meter);
+            tools.output.word("made");
+            show_outcome(flying, &mut tools.output);
+        }
         None => tools.output.word("no job"),
-    }
-}
-
-/// Makes the calls of a job on the image at a place, tells what came of them, and keeps the job.
-fn make_landed<'a, I: Image>(
-    place: Option<usize>,
-    images: &mut [I],
-    tools: &mut Tools<'a>,
-    desk: &mut Desk<'a>,
-    flying: Flying<'a>,
-) {
-    let mut flying = flying;
-    make_calls(&mut flying, place, images, &mut desk.lent, &mut tools.meter);
-    tools.output.word("made");
-    show_outcome(&flying, &mut tools.output);
-    if desk.jobs.start(flying).is_err() {
-        tools.output.fail();
     }
 }
 
@@ -255,7 +248,15 @@ fn run_landed<'a, M: Map, I: Image>(
     make_calls(&mut flying, place, images, lent, &mut tools.meter);
     tools.output.word("done");
     show_outcome(&flying, &mut tools.output);
-    end_job(array, tools, lent, flying);
+    let Flying {
+        taken,
+        buffer,
+        outcome,
+    } = flying;
+    let outcome = outcome.unwrap_or(Outcome::Wrong);
+    if !end(array, tools, lent, taken.die(), outcome, buffer) {
+        tools.output.word("stranger");
+    }
 }
 
 /// Makes the calls of a job where they were not made yet.
@@ -299,32 +300,27 @@ fn outcome_of_calls<'a, I: Image>(
     }
 }
 
-/// Ends a job by what its calls came to.
-fn end_job<'a, M: Map>(
+/// Ends a die's job so, and keeps the buffer that comes back. Whether the array had that job.
+fn end<'a, M: Map>(
     array: &mut Array<M, &'a Heap>,
     tools: &mut Tools<'a>,
     lent: &mut Lent<'a>,
-    flying: Flying<'a>,
-)
+    die: Die,
+    outcome: Outcome,
+    buffer: Vec<u8, &'a Heap>,
+) -> bool
     requires { IsWhole M.view array.old }
     ensures { IsWhole M.view array.new }
 {
-    let Flying {
-        taken,
-        buffer,
-        outcome,
-    } = flying;
     let heap = tools.heap();
-    let outcome = outcome.unwrap_or(Outcome::Wrong);
     let answer = step(
         array,
         &mut tools.meter,
-        done_of(taken.die(), outcome, buffer, &heap),
+        done_of(die, outcome, buffer, &heap),
     );
-    if !is_done(&answer) {
-        tools.output.word("stranger");
-    }
+    let is_done = is_done(&answer);
     keep_buffer(answer, tools, lent);
+    is_done
 }
 
 /// Whether a Done was made.
@@ -383,17 +379,13 @@ fn work_one<'a, M: Map + Drop, I: Image>(
     requires { IsWhole M.view mounted.old.array }
     ensures { IsWhole M.view mounted.new.array }
 {
-    if !has_job(&mounted.array, die) {
+    if !mounted.array.is_die(die) || !mounted.array.has_job(die) {
         return 0;
     }
     take(&mut mounted.array, tools, desk, die);
     let is_run = run_job_of(mounted, images, tools, desk, die);
     tools.output.begin();
     u64::from(is_run)
-}
-
-fn has_job<M: Map, A: Allocator + Copy>(array: &Array<M, A>, die: Die) -> bool {
-    array.is_die(die) && array.has_job(die)
 }
 
 /// Tells how the calls of a job ended. What a read gave is in the buffer.

@@ -79,6 +79,9 @@ impl Records {
 
     /// What the die is at.
     pub(crate) fn flight(&self, die: Die) -> Option<Flight> {
-        self.flights.get(die.0 as usize).copied().flatten()
+        match self.flights.get(die.0 as usize) {
+            Some(flight) => *flight,
+            None => None,
+        }
     }
 }

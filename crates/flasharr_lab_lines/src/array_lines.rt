@@ -108,7 +108,7 @@ fn do_work<'a, M: Map + Drop, I: Image>(
 {
     let die = die_of(number_at(numbers, 0));
     match work {
-        Work::Make => make_job(mounted, images, tools, desk, die),
+        Work::Make => make_job(mounted.image_of(die), images, tools, desk, die),
         Work::Run => {
             let _ = run_job_of(mounted, images, tools, desk, die);
         }
