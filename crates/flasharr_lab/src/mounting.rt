@@ -1,8 +1,9 @@
-//! Arrays that are made and mounted. The page map is named here, and in `scanning` and `image_lines` of `flasharr_lab_lines`.
+//! Arrays that are made and mounted. The page map is named here, and in `scanning` and `image_lines` of `flasharr_lab_array`.
 use crate::owning::{own_made, own_mounted};
 use fa_map::PageMap;
 use fa_mount::mount;
-use flasharr_lab_lines::{Lab, Script, Shape, scan_together, shape_of, without_array};
+use flasharr_lab_array::{Shape, scan_together, shape_of, without_array};
+use flasharr_lab_lines::{Lab, Script};
 use flasharr_lab_parts::{DieImage, Yard, copies_of};
 use flasharr_lab_words::{Begin, Wish, number_at};
 use std::mem::replace;

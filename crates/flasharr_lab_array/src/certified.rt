@@ -88,7 +88,11 @@ fn show_verdict<A: Allocator + Copy>(
 }
 
 /// Plans pages as the array holds them, and admits nothing.
-pub fn plan_pages<'a, M: Map>(array: &Array<M, &'a Heap>, tools: &mut Tools<'a>, numbers: &[u64]) {
+pub(crate) fn plan_pages<'a, M: Map>(
+    array: &Array<M, &'a Heap>,
+    tools: &mut Tools<'a>,
+    numbers: &[u64],
+) {
     let heap = tools.heap();
     match array.closed(heap) {
         Ok(closed) => plan_against(array, heap, &closed, tools, numbers),

@@ -1,21 +1,21 @@
-//! An array in the laboratory: its events, the jobs of its dies, and looks at it, over any page map.
+//! What the laboratory's lines ask of images and of an array, over any page map: events, the jobs of dies, and looks. A store of one thread
+//! is above.
 #![tactic(auto)]
 
 mod answers;
+mod array_lines;
 mod certified;
-mod desk;
-mod endings;
+mod image_lines;
 mod jobs;
-mod lent;
 mod looks;
 mod making;
-mod records;
+mod no_array;
+mod scanning;
 mod seen;
-mod taken;
+mod shape;
 
-pub use certified::plan_pages;
-pub use desk::Desk;
-pub use jobs::{make_job, run_job_of, work_all};
-pub use looks::{show_look, show_map};
-pub use making::run_event;
+pub use array_lines::over_array;
+pub use no_array::without_array;
+pub use scanning::scan_together;
 pub use seen::show_mounted;
+pub use shape::{Shape, array_over, shape_of};

@@ -1,12 +1,12 @@
 //! Looks at an array.
 ghost use Rattle.fa_core.specs.Array.{IsWhole};
 
-use crate::desk::Desk;
 use crate::seen::{die_seen, live_mask, page_seen};
 use fa_core::Array;
 use fa_machine::{BatchId, ClaimId};
 use fa_map_calls::Map;
 use fa_types::{Die, Page};
+use flasharr_lab_lines::Desk;
 use flasharr_lab_parts::{Heap, Meter, Tools};
 use flasharr_lab_words::{
     Look, MAX_DIES, Output, die_of, number_at, show_batch_state, show_closed, show_counts,
@@ -15,7 +15,7 @@ use flasharr_lab_words::{
 use std::alloc::Allocator;
 
 /// Tells a look.
-pub fn show_look<'a, M: Map>(
+pub(crate) fn show_look<'a, M: Map>(
     array: &Array<M, &'a Heap>,
     tools: &mut Tools<'a>,
     desk: &Desk<'a>,
@@ -211,7 +211,7 @@ fn show_dies<M: Map, A: Allocator + Copy>(array: &Array<M, A>, output: &mut Outp
 }
 
 /// A word for each page.
-pub fn show_map<M: Map, A: Allocator + Copy>(array: &Array<M, A>, output: &mut Output) {
+pub(crate) fn show_map<M: Map, A: Allocator + Copy>(array: &Array<M, A>, output: &mut Output) {
     output.word("map");
     for page in 0..array.geometry().pages {
         show_page_word(&page_seen(array, Page(page)), output);

@@ -3,14 +3,10 @@ ghost use Rattle.fa_core.specs.Array.{IsWhole, number_of, state_of};
 ghost use Rattle.fa_core_calls.specs.Calls.{FitsAnswer};
 
 use crate::answers::show_answer;
-use crate::desk::Desk;
 use crate::jobs::{end_by_word, take};
-use crate::lent::Lent;
-use crate::records::Records;
 use fa_core::{Answer, Array, Call};
-use fa_machine::ClaimId;
 use fa_map_calls::Map;
-use fa_types::{Page, Seq};
+use flasharr_lab_lines::{Desk, Lent, Records, call_of};
 use flasharr_lab_parts::{Heap, Meter, Tools};
 use flasharr_lab_words::{Event, die_of, number_at};
 
@@ -18,7 +14,7 @@ use flasharr_lab_words::{Event, die_of, number_at};
 const SEAT: u32 = 0;
 
 /// Makes an event, and tells its answer.
-pub fn run_event<'a, M: Map>(
+pub(crate) fn run_event<'a, M: Map>(
     array: &mut Array<M, &'a Heap>,
     tools: &mut Tools<'a>,
     desk: &mut Desk<'a>,
@@ -118,38 +114,6 @@ pub(crate) fn step<'a, M: Map>(
     let answer = array.step(meter.heap, SEAT, call);
     meter.stop(start);
     answer
-}
-
-/// An event that is no job's as a call. None where it is lent nothing that it needs.
-fn call_of<'b, 'a>(
-    event: Event,
-    numbers: &[u64],
-    records: &Records,
-    lent: &'b Lent<'a>,
-) -> Option<Call<'b, &'a Heap>> {
-    let first = number_at(numbers, 0);
-    let second = number_at(numbers, 1);
-    Some(match event {
-        Event::Claim => Call::Claim(Page(first)),
-        Event::Release => Call::Release(ClaimId(first)),
-        Event::Reserve => Call::Reserve(ClaimId(first), lent.payload()?),
-        Event::ReserveHole => Call::ReserveHole(ClaimId(first)),
-        Event::ReserveFewer => Call::ReserveFewer(ClaimId(first), lent.payload()?),
-        Event::Commit => Call::Commit(ClaimId(first)),
-        Event::Abandon => Call::Abandon(ClaimId(first)),
-        Event::Admit => Call::Admit(lent.pages()),
-        Event::Replan => Call::Replan(records.batch(first)),
-        Event::EndBatch => Call::EndBatch(records.batch(first)),
-        Event::Window => Call::Window(die_of(first), second),
-        Event::Advance => Call::Advance,
-        Event::SpareIn => Call::SpareIn(die_of(first)),
-        Event::ReserveCopy => Call::ReserveCopy(Page(first), Seq(second), lent.payload()?),
-        Event::CommitCopy => Call::CommitCopy,
-        Event::FlushBegin => Call::FlushBegin,
-        Event::FlushState => Call::FlushState(records.flush(first)),
-        Event::Fold => Call::Fold,
-        Event::Take | Event::Done(_) => return None,
-    })
 }
 
 /// Gives a plan or buffers back to the array.

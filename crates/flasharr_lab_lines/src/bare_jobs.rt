@@ -2,7 +2,7 @@
 ghost use Rattle.std.specs.Prelude.{◌≡◌, ◌+◌, ◌<◌};
 ghost use Rattle.fa_types.specs.declared.kind.Kind.TheVariants.{Data};
 
-use fa_core::{Job, Outcome};
+use fa_core_outcome::{Job, Outcome};
 use fa_image::Image;
 use fa_jobs::{Open, run_job};
 use fa_machine::{BatchId, Flight, Version};

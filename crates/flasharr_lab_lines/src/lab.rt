@@ -1,5 +1,5 @@
 //! What is kept from one line to the next.
-use flasharr_lab_array::Desk;
+use crate::desk::Desk;
 use flasharr_lab_calls::Beside;
 use flasharr_lab_parts::{Heap, Tools};
 

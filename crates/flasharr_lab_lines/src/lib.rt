@@ -1,21 +1,31 @@
-//! The laboratory's lines: what they ask of images and of an array, over any page map. A store of one thread is above.
+//! The laboratory's lines as they are read, what is kept from one to the next, and the jobs that dies have taken. Nothing here has an array.
 #![tactic(auto)]
 
-mod array_lines;
+mod answers;
 mod bare_jobs;
-mod image_lines;
+mod calls;
+mod desk;
+mod endings;
+mod flying;
 mod lab;
-mod no_array;
-mod scanning;
+mod lent;
+mod records;
 mod script;
-mod shape;
+mod taken;
 mod turn;
 
-pub use array_lines::over_array;
+pub use answers::show_short;
 pub use bare_jobs::do_bare;
+pub use calls::call_of;
+pub use desk::Desk;
+pub use endings::outcome_of;
+pub use flying::{
+    Flying, Jobs, done_of, is_done, job_of_take, keep_buffer, keep_job, make_calls, make_job,
+    show_outcome, take_of,
+};
 pub use lab::Lab;
-pub use no_array::without_array;
-pub use scanning::scan_together;
+pub use lent::Lent;
+pub use records::Records;
 pub use script::Script;
-pub use shape::{Shape, array_over, shape_of};
+pub use taken::Taken;
 pub use turn::{FAULTY, Turn};

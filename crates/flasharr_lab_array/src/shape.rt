@@ -3,7 +3,7 @@ ghost use Rattle.std.specs.Prelude.{◌≡◌, ◌+◌, ◌-◌, ◌<◌, ◌≤
 ghost use Rattle.std.specs.FinMap.{empty, len};
 ghost use Rattle.fa_core.specs.Array.{IsWhole};
 ghost use Rattle.fa_set.specs.Members.{bound_of, members};
-ghost use Rattle.flasharr_lab_lines.specs.Apart.{AreApart};
+ghost use Rattle.flasharr_lab_array.specs.Apart.{AreApart};
 
 use fa_core::Array;
 use fa_map_calls::Map;

@@ -1,5 +1,5 @@
 //! How jobs end.
-use fa_core::Outcome;
+use fa_core_outcome::Outcome;
 use fa_image::ImageFault;
 use fa_machine::{Flight, Version};
 use fa_tag::{Opened, Tag};
@@ -7,7 +7,7 @@ use fa_types::{Die, Page, Slot};
 use flasharr_lab_words::Ending;
 
 /// How a die's job ends by a line's word.
-pub(crate) fn outcome_of(die: Die, flight: Option<Flight>, ending: Ending) -> Outcome {
+pub fn outcome_of(die: Die, flight: Option<Flight>, ending: Ending) -> Outcome {
     match ending {
         Ending::Well => outcome_without_data(flight),
         Ending::Data => Outcome::Read(slot_read(die, flight, 0)),

@@ -1,11 +1,12 @@
 //! Lines that are about images, whether an array is there or not.
+use crate::looks::show_map;
+use crate::seen::show_mounted;
 use fa_image::Image;
 use fa_map_calls::Map;
 use fa_mount::{MountedArray, mount, recover};
 use fa_mount_headers::MountRefused;
 use fa_shared::discard;
 use fa_types::Copies;
-use flasharr_lab_array::{show_map, show_mounted};
 use flasharr_lab_parts::{DieImage, Images, Tools, copies_of, show_unmounted, touch};
 use flasharr_lab_words::{Deed, Order, Output, number_at};
 use std::alloc::Allocator;

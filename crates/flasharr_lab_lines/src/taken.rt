@@ -3,7 +3,7 @@ ghost use Rattle.fa_core_outcome.specs.Fits.{IsJobFor};
 ghost use Rattle.fa_core_outcome.specs.Handed.{handed_of};
 ghost use Rattle.fa_jobs.specs.Orders.{IsJobFor-prop};
 
-use fa_core::{Job, Outcome};
+use fa_core_outcome::{Job, Outcome};
 use fa_image::Image;
 use fa_jobs::{Open, run_job};
 use fa_machine::Flight;
@@ -12,7 +12,7 @@ use flasharr_lab_parts::Heap;
 
 /// A job that a die has taken, of an array of this geometry and number.
 #[derive(Drop)]
-pub(crate) struct Taken<'a> {
+pub struct Taken<'a> {
     die: Die,
     geometry: Geometry,
     array: [u8; 16],
@@ -44,7 +44,7 @@ impl<'a> Taken<'a> {
     }
 
     /// The die.
-    pub(crate) fn die(&self) -> Die {
+    pub fn die(&self) -> Die {
         self.die
     }
 

@@ -1,12 +1,10 @@
 //! What is done while no array is there.
-use crate::bare_jobs::do_bare;
 use crate::image_lines::touch_images;
-use crate::lab::Lab;
 use crate::scanning::scan_alone;
 use crate::shape::geometry_of;
-use crate::turn::Turn;
 use fa_types::Geometry;
 use flasharr_lab_calls::do_free;
+use flasharr_lab_lines::{Lab, Turn, do_bare};
 use flasharr_lab_parts::{DieImage, Images, Tools, Yard, drop_image, new_images, swap};
 use flasharr_lab_words::{Begin, Order, Output, Wish, index_of, number_at};
 

@@ -1,5 +1,5 @@
 //! What is kept of an array from one line to the next.
-use crate::jobs::Jobs;
+use crate::flying::Jobs;
 use crate::lent::Lent;
 use crate::records::Records;
 use std::alloc::Global;
@@ -7,9 +7,9 @@ use std::alloc::Global;
 /// What is kept of an array: its answers, what its events are lent, and the jobs of its dies.
 #[derive(Drop)]
 pub struct Desk<'a> {
-    pub(crate) records: Records,
-    pub(crate) lent: Lent<'a>,
-    pub(crate) jobs: Jobs<'a>,
+    pub records: Records,
+    pub lent: Lent<'a>,
+    pub jobs: Jobs<'a>,
 }
 
 impl<'a> Desk<'a> {

@@ -7,7 +7,7 @@ use std::alloc::{AllocError, Global};
 
 /// The pages of a batch, the payload of a write, and buffers for jobs.
 #[derive(Drop)]
-pub(crate) struct Lent<'a> {
+pub struct Lent<'a> {
     pages: Vec<Page>,
     payload: Option<Payload<&'a Heap>>,
     /// Buffers of a page's bytes that no job has.
@@ -44,7 +44,7 @@ impl<'a> Lent<'a> {
     }
 
     /// What an event with these numbers is lent. The error is out of memory.
-    pub(crate) fn lend(
+    pub fn lend(
         &mut self,
         heap: &'a Heap,
         event: Event,
@@ -84,7 +84,7 @@ impl<'a> Lent<'a> {
     }
 
     /// A buffer with the page of a number. The error is out of memory.
-    pub(crate) fn page(
+    pub fn page(
         &mut self,
         heap: &'a Heap,
         number: u64,

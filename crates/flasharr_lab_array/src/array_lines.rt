@@ -2,16 +2,17 @@
 ghost use Rattle.std.specs.Prelude.{◌≡◌, ◌≤◌, IfSome, true};
 ghost use Rattle.fa_core.specs.Array.{IsWhole};
 
-use crate::bare_jobs::do_bare;
+use crate::certified::plan_pages;
 use crate::image_lines::touch_images;
-use crate::lab::Lab;
-use crate::script::Script;
+use crate::jobs::{run_job_of, work_all};
+use crate::looks::show_look;
+use crate::making::run_event;
 use fa_image::Image;
 use fa_map_calls::Map;
 use fa_mount::{CloseFault, MountedArray, close_clean};
 use fa_types::Die;
-use flasharr_lab_array::{Desk, make_job, plan_pages, run_event, run_job_of, show_look, work_all};
 use flasharr_lab_calls::do_free;
+use flasharr_lab_lines::{Desk, Lab, Script, do_bare, make_job};
 use flasharr_lab_parts::{DieImage, Heap, Tools, Yard};
 use flasharr_lab_words::{MAX_DIES, Order, Output, Wish, Work, die_of, number_at, show_live};
 use std::alloc::Allocator;

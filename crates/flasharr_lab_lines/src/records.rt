@@ -1,5 +1,5 @@
 //! What is kept of an array's answers for later events.
-use fa_core::Answer;
+use fa_core_calls::Answer;
 use fa_machine::{BatchId, Flight, Flush};
 use fa_types::Die;
 use flasharr_lab_words::{MAX_DIES, index_of};
@@ -7,7 +7,7 @@ use std::alloc::{AllocError, Allocator, Global};
 
 /// What the dies are at, the flushes that were begun, and the batches in the order in which they were admitted.
 #[derive(Drop)]
-pub(crate) struct Records {
+pub struct Records {
     flights: [Option<Flight>; MAX_DIES],
     flushes: Vec<Flush>,
     batches: Vec<BatchId>,
@@ -30,7 +30,7 @@ impl Records {
     }
 
     /// The batch that was admitted as the one of this number, from 0. No batch has the id that stands for one that was not.
-    pub(crate) fn batch(&self, number: u64) -> BatchId {
+    pub fn batch(&self, number: u64) -> BatchId {
         self.batches
             .get(index_of(number))
             .copied()
@@ -38,12 +38,12 @@ impl Records {
     }
 
     /// The number of the batch that was admitted last.
-    pub(crate) fn last_batch(&self) -> u64 {
+    pub fn last_batch(&self) -> u64 {
         (self.batches.len() as u64).saturating_sub(1)
     }
 
     /// The batches, by their numbers.
-    pub(crate) fn batches(&self) -> &[BatchId] {
+    pub fn batches(&self) -> &[BatchId] {
         self.batches.as_slice()
     }
 
@@ -61,7 +61,7 @@ impl Records {
     }
 
     /// Keeps what an event answered, as far as a later one asks for it. The error is out of memory.
-    pub(crate) fn keep<A: Allocator>(&mut self, answer: &Answer<A>) -> Result<(), AllocError> {
+    pub fn keep<A: Allocator>(&mut self, answer: &Answer<A>) -> Result<(), AllocError> {
         match answer {
             Answer::FlushBegin(Ok(flush)) => self.flushes.push(*flush)?,
             Answer::Admit(Ok(admitted)) => self.batches.push(admitted.batch)?,
@@ -78,7 +78,7 @@ impl Records {
     }
 
     /// What the die is at.
-    pub(crate) fn flight(&self, die: Die) -> Option<Flight> {
+    pub fn flight(&self, die: Die) -> Option<Flight> {
         match self.flights.get(die.0 as usize) {
             Some(flight) => *flight,
             None => None,
