@@ -11,6 +11,7 @@ mod lab;
 mod lent;
 mod records;
 mod script;
+mod store_lines;
 mod taken;
 mod turn;
 
@@ -27,5 +28,6 @@ pub use lab::Lab;
 pub use lent::Lent;
 pub use records::Records;
 pub use script::Script;
+pub use store_lines::ask_all;
 pub use taken::Taken;
 pub use turn::{FAULTY, Turn};
