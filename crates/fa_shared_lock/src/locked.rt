@@ -292,14 +292,6 @@ impl<L: Ledger, E: Events<A>, A: Allocator + Copy> Locked<L, E, A> {
         self.sleepers.note_long_wait();
     }
 
-    /// Whoever has this seat has waited in vain. A write that waited for room of its page's dies goes elsewhere. It is a matter of speed
-    /// alone, and in no clause.
-    pub fn give_up_waiting(&mut self, seat: u32)
-        ensures { self.new ≡ self.old }
-    {
-        self.sleepers.give_up_waiting(seat);
-    }
-
     /// Whoever works for the array is to end.
     pub fn stop(&mut self)
         ensures { self.new ≡ record self.old { stopping = true } }

@@ -143,8 +143,6 @@ pub struct Sleepers<A: Allocator = Global> {
     line: Vec<u32, A>,
     // Who was woken for room, and has not slept since.
     served: SeatSet,
-    // Who has waited for room in vain, and has not slept since.
-    hurried: SeatSet,
 }
 
 impl<A: Allocator + Copy> Sleepers<A> {
@@ -163,7 +161,6 @@ impl<A: Allocator + Copy> Sleepers<A> {
             is_held_up: false,
             line,
             served: SeatSet::new(),
-            hurried: SeatSet::new(),
         })
     }
 }
@@ -180,7 +177,6 @@ impl<A: Allocator> Sleepers<A> {
         }
         self.seats = self.seats.max(seat.saturating_add(1));
         self.served.remove(seat);
-        self.hurried.remove(seat);
         self.stand_in_line(seat, matches!(awaits, Awaits::Room(_)));
     }
 
@@ -258,14 +254,6 @@ impl<A: Allocator> Sleepers<A> {
     pub fn note_long_wait(&mut self) {
         self.is_led = false;
         self.is_held_up = true;
-    }
-
-    /// Whoever has this seat has waited in vain. Where that was for room, no more is waited for.
-    pub fn give_up_waiting(&mut self, seat: u32) {
-        if self.homes_of(seat, false).is_some() {
-            self.stand_in_line(seat, false);
-            self.hurried.insert(seat);
-        }
     }
 }
 
@@ -361,9 +349,6 @@ impl<A: Allocator> Sleepers<A> {
     /// room waits for nobody.
     pub fn homes_to_come<E: Looks>(&self, array: &E, seat: u32, page: Page) -> DieSet {
         let mut homes = DieSet::EMPTY;
-        if self.hurried.contains(seat) {
-            return homes;
-        }
         let mut is_to_come = false;
         for die in array.first_dies(page).as_slice() {
             homes.insert(*die);
