@@ -22,9 +22,9 @@ const REQUEST_SLEEP: u64 = 80;
 /// How long those sleep at most who work for the array, in milliseconds.
 const WORKER_SLEEP: u64 = 1000;
 
-/// How often somebody tries to take the lock before sleeping for it. Holds are short: most end within these tries, and a sleep and a wake
-/// cost more than they do.
-const TRIES: u32 = 100;
+/// How often somebody tries to take the lock before sleeping for it. Holds are short: most end within these tries, which take as long as a
+/// sleep and a wake.
+const TRIES: u32 = 800;
 
 /// An array that threads share, with the faults that took its dies out. Nobody holds its lock but for one event, or for two that belong
 /// together, and no page, image or socket is touched under it. The faults have a lock of their own.
