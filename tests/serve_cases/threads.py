@@ -1,12 +1,13 @@
 """What the threads of a server do beside one another. A library counts and holds calls of images (tests/call_log.c), so that a case shows
-what runs side by side and does not rest on time: a call is held for ten seconds at most, and then the case is late and fails. Two cases alone
-rest on time: that of writes that wait for room, and that of writes beside a die that hangs while it collects.
+what runs side by side and does not rest on time: a call is held for ten seconds at most, and then the case is late and fails. Only those cases
+rest on time that show that who waits is woken, and that of writes beside a die that hangs while it collects.
 
 Sessions of the server make jobs of dies while they wait. So where one is held in a call of a die's image, the workers of the other dies
 make theirs."""
 import os
 import time
 from concurrent.futures import ThreadPoolExecutor
+from threading import Barrier
 
 from call_log import ALL, LYING, MEMORY_REFUSALS
 from nbd_client import NO_HOLE, READ, WRITE
@@ -26,11 +27,16 @@ CALLS = 102
 FULL, MORE = 8, 6
 # Four dies of 128 slots each, of which the pages' copies take three quarters.
 NEARLY_FULL = Geometry(dies=4, blocks=8, slots=16, pages=188)
-# How many clients write them, how many writes each makes, how often that is tried, and how long a write takes at least that is not woken, in
-# seconds.
-WRITERS, WRITES, TRIES, LOOKS_AGAIN = 8, 200, 5, 0.09
-# How many of these writes may take so long, where other work holds them up.
-MOST_LATE = WRITERS * WRITES // 40
+# The same dies, of which they take a quarter.
+ROOMY = Geometry(dies=4, blocks=8, slots=16, pages=64)
+# How many clients ask for these pages, how many requests each makes, how often that is tried, and how long a request takes at least that is not
+# woken, in seconds.
+CLIENTS, REQUESTS, TRIES, LOOKS_AGAIN = 8, 200, 5, 0.09
+# How many of these requests may take so long, where other work holds them up.
+MOST_LATE = CLIENTS * REQUESTS // 40
+# How many requests each makes where all begin at once, how many pages one that reads is of, and how many of these may take so long.
+BURSTS, PAGES_READ = 50, 16
+MOST_LATE_OF_BURSTS = CLIENTS * BURSTS // 40
 # Four dies of 256 slots each, of which the pages' copies take two thirds; how many writes are made before a die hangs, how many beside that,
 # how long each of these may take, in seconds, and how often that is tried. A worker that is not woken looks again behind a second.
 COLLECTING = Geometry(dies=4, blocks=8, slots=32, pages=340)
@@ -189,27 +195,84 @@ def who_waits_for_room_is_woken(make):
     """Clients write pages of an array that is nearly full, so many writes wait for dies that collect. Whoever waits looks again a tenth of a
     second after that began, so a write that is not woken as a die has room takes that long. Other work may hold up writes as long, so it is
     tried more than once."""
-    with written(make(NEARLY_FULL), NEARLY_FULL.pages).serve() as server:
-        with ThreadPoolExecutor(WRITERS) as pool:
+    few_are_late(make, NEARLY_FULL, count_late_writes, MOST_LATE)
+
+
+@case
+def who_waits_for_programs_is_woken(make):
+    """Clients write pages at once, and dies program those of several clients one behind the other."""
+    few_are_late_at_once(make, lambda user, page: user.write(page))
+
+
+@case
+def who_waits_for_reads_is_woken(make):
+    """Clients read pages at once, and dies read those of several clients in a round."""
+    few_are_late_at_once(make, lambda user, page: user.reads(page % (ROOMY.pages - PAGES_READ), PAGES_READ))
+
+
+@case
+def who_waits_for_a_claim_is_woken(make):
+    """Clients write one page at once, which one of them at a time has claimed."""
+    few_are_late_at_once(make, lambda user, page: user.write(0))
+
+
+@case
+def who_waits_for_a_flush_is_woken(make):
+    """Clients write pages at once, and flush, which waits for the dies' syncs."""
+    few_are_late_at_once(make, write_and_flush)
+
+
+def write_and_flush(user, page):
+    """Writes a page, and flushes."""
+    user.write(page)
+    user.client.flush()
+
+
+def few_are_late_at_once(make, ask):
+    """Has all clients ask for a page each at once, again and again. Nobody asks for more until each has its answer, so nothing else wakes
+    whoever is not woken for what it waits for."""
+    together = Barrier(CLIENTS)
+    few_are_late(make, ROOMY, lambda server, number: count_late_of_bursts(server, number, ask, together), MOST_LATE_OF_BURSTS)
+
+
+def few_are_late(make, geometry, count, most):
+    """Has clients ask for pages of an array, each of which counts its late answers, until few are."""
+    with written(make(geometry), geometry.pages).serve() as server:
+        with ThreadPoolExecutor(CLIENTS) as pool:
             for _ in range(TRIES):
-                late = sum(pool.map(lambda number: count_late(server, number), range(WRITERS)))
-                if late <= MOST_LATE:
+                late = sum(pool.map(lambda number: count(server, number), range(CLIENTS)))
+                if late <= most:
                     break
         server.stop()
-    ensure(late <= MOST_LATE, f"{late} of at most {WRITERS * WRITES} writes took {LOOKS_AGAIN} seconds and more, and each time before")
+    ensure(late <= most, f"{late} requests took {LOOKS_AGAIN} seconds and more, where {most} may, and too many each time before")
 
 
-def count_late(server, number):
+def count_late_writes(server, number):
     """How many writes took as long as one that is not woken, of those of the client of this number. It ends once these are many for one client."""
     late = 0
     with User(server, NEARLY_FULL) as user:
-        for write in range(WRITES):
-            began = time.monotonic()
-            user.write((7 * number + 13 * write) % NEARLY_FULL.pages)
-            late += time.monotonic() - began >= LOOKS_AGAIN
+        for write in range(REQUESTS):
+            late += is_late(User.write, user, (7 * number + 13 * write) % NEARLY_FULL.pages)
             if late > MOST_LATE // 4:
                 break
     return late
+
+
+def count_late_of_bursts(server, number, ask, together):
+    """How many requests took as long, of those of the client of this number, each of which all clients begin at once."""
+    late = 0
+    with User(server, ROOMY, range(ROOMY.pages)) as user:
+        for burst in range(BURSTS):
+            together.wait()
+            late += is_late(ask, user, (7 * number + 13 * burst) % ROOMY.pages)
+    return late
+
+
+def is_late(ask, user, page):
+    """Whether a request takes as long as one that is not woken."""
+    began = time.monotonic()
+    ask(user, page)
+    return time.monotonic() - began >= LOOKS_AGAIN
 
 
 @case
