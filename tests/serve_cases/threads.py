@@ -231,7 +231,7 @@ def write_and_flush(user, page):
 def few_are_late_at_once(make, ask):
     """Has all clients ask for a page each at once, again and again. Nobody asks for more until each has its answer, so nothing else wakes
     whoever is not woken for what it waits for."""
-    together = Barrier(CLIENTS)
+    together = Barrier(CLIENTS, timeout=LIMIT)
     few_are_late(make, ROOMY, lambda server, number: count_late_of_bursts(server, number, ask, together), MOST_LATE_OF_BURSTS)
 
 
