@@ -8,8 +8,8 @@
 
 // Dies are a bit for each. A program is a write of a slot that does not erase it.
 struct control {
-    // The dies whose calls are refused with EIO and not made, and how many nanoseconds a sync waits before it is made.
-    _Atomic uint64_t refused, sync_nanoseconds;
+    // The dies whose calls are refused with EIO and not made, and how many nanoseconds a sync and a read of a slot wait before they are made.
+    _Atomic uint64_t refused, sync_nanoseconds, read_nanoseconds;
     // How many syncs and writes were made, how many of the writes were of ff bytes alone, and how many programs have ended.
     _Atomic uint64_t syncs, writes, erases, programs;
     // Whether the gate is shut. While it is, reads of slots of the first dies and programs of the second dies are counted and held, until

@@ -114,6 +114,12 @@ static void hold(uint64_t dies, int die) {
     control->is_late = 1;
 }
 
+static void wait_for(uint64_t nanoseconds) {
+    struct timespec left = {nanoseconds / 1000000000, nanoseconds % 1000000000};
+    while (nanoseconds && nanosleep(&left, &left) && errno == EINTR)
+        ;
+}
+
 // Whether a die's next read is to hand out wrong bytes, which this one does then.
 static int is_lie(int die) {
     uint64_t bit = (uint64_t)1 << die;
@@ -147,6 +153,7 @@ ssize_t pread(int file, void *data, size_t count, off_t offset) {
     if (die < 0 || offset < HEADER_END)
         return next_pread(file, data, count, offset);
     hold(control->held_reads, die);
+    wait_for(control->read_nanoseconds);
     ssize_t result = next_pread(file, data, count, offset);
     if (result > 0 && is_lie(die)) {
         unsigned char *bytes = data;
@@ -190,10 +197,7 @@ static int synced(int file, int (*next)(int)) {
     struct head head = {.kind = SYNC, .die = die, .call = calls++};
     append(head, NULL);
     control->syncs++;
-    uint64_t wait = control->sync_nanoseconds;
-    struct timespec left = {wait / 1000000000, wait % 1000000000};
-    while (wait && nanosleep(&left, &left) && errno == EINTR)
-        ;
+    wait_for(control->sync_nanoseconds);
     head.result = next(file);
     int error = errno;
     head.is_end = 1;

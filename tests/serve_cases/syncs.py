@@ -1,8 +1,9 @@
 """What the server syncs, as a library sees it that looks at its calls of images (tests/call_log.c). No clause can tell that a sync which is
 noted was made."""
 import subprocess
+from itertools import takewhile
 
-from call_log import CallLog, compiled
+from call_log import SYNC_NANOSECONDS, CallLog, compiled
 from children import CHILDREN
 from crashes import ERASE, REFUSED, SYNC, WRITE, records
 from images import ERASED, HEADER_END, header_bytes
@@ -14,6 +15,8 @@ from servers import ARRAY, SETTINGS, Geometry, ensure, equal, same_bytes
 DIES = 4
 SMALL = Geometry(dies=DIES, blocks=8, slots=8, pages=60)
 ALL = set(range(DIES))
+# How many flushes are looked at, and how long each sync takes, in nanoseconds.
+FLUSHES, LONG_SYNC = 4, 200_000_000
 
 
 def rewrites(client, times):
@@ -47,6 +50,25 @@ def a_flush_syncs_each_live_die(make):
                 else:
                     client.flush()
                 equal(watched.synced(place), ALL, f"the dies that were synced before a {'write with FUA' if flags else 'flush'} was answered")
+        server.stop()
+
+
+@case
+def a_flush_is_at_all_dies_at_once(make):
+    """The dies are synced side by side, also where the calls before were so quick that a session would take the jobs of several. No die
+    collects meanwhile."""
+    watched = Watched(make(SMALL))
+    with watched.serve() as server:
+        with server.client() as client:
+            watched.log.put(SYNC_NANOSECONDS, LONG_SYNC)
+            for number in range(FLUSHES):
+                for page in range(DIES):
+                    client.write(page * SMALL.page_bytes, bytes([number + 1]) * SMALL.page_bytes)
+                place = watched.log.place()
+                client.flush()
+                began = [it.die for it in takewhile(lambda it: not it.is_end, (it for it in watched.records(place) if it.kind == SYNC))]
+                equal(set(began), ALL, f"the dies whose syncs began before one ended, in flush {number}")
+            watched.log.put(SYNC_NANOSECONDS, 0)
         server.stop()
 
 

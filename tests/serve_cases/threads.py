@@ -9,7 +9,7 @@ import time
 from concurrent.futures import ThreadPoolExecutor
 from threading import Barrier
 
-from call_log import ALL, LYING, MEMORY_REFUSALS
+from call_log import ALL, LYING, MEMORY_REFUSALS, READ_NANOSECONDS
 from nbd_client import NO_HOLE, READ, WRITE
 from serve_cases import case
 from serve_cases.looks import ANYWHERE, document, looks_at
@@ -37,6 +37,10 @@ MOST_LATE = CLIENTS * REQUESTS // 40
 # How many requests each makes where all begin at once, how many pages one that reads is of, and how many of these may take so long.
 BURSTS, PAGES_READ = 50, 16
 MOST_LATE_OF_BURSTS = CLIENTS * BURSTS // 40
+# How long reads of slots take, in microseconds, where who waits for one is woken about when a request's first sleep ends; by how many clients and
+# how often they are asked for, and how many of these requests may take as long as one that is not woken.
+AS_A_SLEEP_ENDS, READERS, READ_BURSTS = (19_500, 19_700, 19_900, 20_200), 4, 12
+MOST_LATE_READS = len(AS_A_SLEEP_ENDS) * READERS * READ_BURSTS // 40
 # Four dies of 256 slots each, of which the pages' copies take two thirds; how many writes are made before a die hangs, how many beside that,
 # how long each of these may take, in seconds, and how often that is tried. A worker that is not woken looks again behind a second.
 COLLECTING = Geometry(dies=4, blocks=8, slots=32, pages=340)
@@ -222,6 +226,31 @@ def who_waits_for_a_flush_is_woken(make):
     few_are_late_at_once(make, write_and_flush)
 
 
+@case
+def who_is_woken_as_a_first_sleep_ends_goes_on(make):
+    """Clients read pages of two dies at once, half of them behind the reads of others, which take as long as a request sleeps before it has the
+    dies' workers look. Whoever is woken just as that sleep ends does not sleep on until it looks again."""
+    watched = Watched(written(make(TWO), len(FIRST)))
+    together = Barrier(READERS, timeout=LIMIT)
+    with watched.serve() as server, ThreadPoolExecutor(READERS) as pool:
+        for _ in range(TRIES):
+            late = 0
+            for microseconds in AS_A_SLEEP_ENDS:
+                watched.log.put(READ_NANOSECONDS, 1000 * microseconds)
+                late += sum(pool.map(lambda number: count_late_reads(server, number, together), range(READERS)))
+            if late <= MOST_LATE_READS:
+                break
+        server.stop()
+    ensure(late <= MOST_LATE_READS, f"{late} reads took {LOOKS_AGAIN} seconds and more, where {MOST_LATE_READS} may, and too many each time before")
+
+
+def count_late_reads(server, number, together):
+    """How many reads of a page took as long as one that is not woken, of those of the client of this number, each of which all clients begin at
+    once."""
+    with User(server, TWO, FIRST) as user:
+        return count_late_of_bursts(READ_BURSTS, together, lambda burst: user.reads((number + burst) % len(FIRST), 1))
+
+
 def write_and_flush(user, page):
     """Writes a page, and flushes."""
     user.write(page)
@@ -232,7 +261,7 @@ def few_are_late_at_once(make, ask):
     """Has all clients ask for a page each at once, again and again. Nobody asks for more until each has its answer, so nothing else wakes
     whoever is not woken for what it waits for."""
     together = Barrier(CLIENTS, timeout=LIMIT)
-    few_are_late(make, ROOMY, lambda server, number: count_late_of_bursts(server, number, ask, together), MOST_LATE_OF_BURSTS)
+    few_are_late(make, ROOMY, lambda server, number: count_late_at_once(server, number, ask, together), MOST_LATE_OF_BURSTS)
 
 
 def few_are_late(make, geometry, count, most):
@@ -252,26 +281,31 @@ def count_late_writes(server, number):
     late = 0
     with User(server, NEARLY_FULL) as user:
         for write in range(REQUESTS):
-            late += is_late(User.write, user, (7 * number + 13 * write) % NEARLY_FULL.pages)
+            late += is_late(lambda: user.write((7 * number + 13 * write) % NEARLY_FULL.pages))
             if late > MOST_LATE // 4:
                 break
     return late
 
 
-def count_late_of_bursts(server, number, ask, together):
+def count_late_at_once(server, number, ask, together):
     """How many requests took as long, of those of the client of this number, each of which all clients begin at once."""
-    late = 0
     with User(server, ROOMY, range(ROOMY.pages)) as user:
-        for burst in range(BURSTS):
-            together.wait()
-            late += is_late(ask, user, (7 * number + 13 * burst) % ROOMY.pages)
+        return count_late_of_bursts(BURSTS, together, lambda burst: ask(user, (7 * number + 13 * burst) % ROOMY.pages))
+
+
+def count_late_of_bursts(bursts, together, ask):
+    """How many of a client's requests took as long, one for each burst, which it begins as all others begin theirs."""
+    late = 0
+    for burst in range(bursts):
+        together.wait()
+        late += is_late(lambda: ask(burst))
     return late
 
 
-def is_late(ask, user, page):
+def is_late(ask):
     """Whether a request takes as long as one that is not woken."""
     began = time.monotonic()
-    ask(user, page)
+    ask()
     return time.monotonic() - began >= LOOKS_AGAIN
 
 

@@ -119,6 +119,7 @@ impl<L: Ledger, E: Events<A>, A: Allocator + Copy> Shared<L, E, A> {
     }
 
     /// Waits at the bell of a request's seat. Behind a first while those are woken who may make what it waits for in the place of others.
+    /// Whoever was woken by then, as that while ended, waits no longer: nobody rings twice.
     fn wait_twice<'a, R: Wait + Clock>(
         &'a self,
         rt: &R,
@@ -134,7 +135,7 @@ impl<L: Ledger, E: Events<A>, A: Allocator + Copy> Shared<L, E, A> {
         guard.note_long_wait();
         let due = guard.due();
         self.wake(due);
-        if due.contains(number) {
+        if guard.is_called(number) {
             return guard;
         }
         bell.wait_timeout(rt, guard, Duration::from_millis(REQUEST_SLEEP))

@@ -211,6 +211,11 @@ impl<L: Ledger, E: Events<A>, A: Allocator + Copy> Locked<L, E, A> {
         self.sleepers.due(&self.array)
     }
 
+    /// Whether whoever has this seat was woken, and is not up yet. It is a matter of speed alone, and in no clause.
+    pub fn is_called(&self, seat: u32) -> bool {
+        self.sleepers.is_called(seat)
+    }
+
     /// Whether somebody who waits so would be woken, had anything changed. It is a matter of speed alone, and in no clause.
     pub fn is_due(&self, awaits: Awaits) -> bool {
         is_due(&self.array, true, awaits)

@@ -205,6 +205,14 @@ impl<A: Allocator> Sleepers<A> {
         }
     }
 
+    /// Whether whoever has this seat was woken, and is not up yet.
+    pub fn is_called(&self, seat: u32) -> bool {
+        match self.sleepers.get(seat as usize) {
+            Some(Some(sleeper)) => sleeper.is_called,
+            _ => false,
+        }
+    }
+
     /// Whether many help beside one who is awake.
     pub fn do_many_help(&self) -> bool {
         self.helpers() >= MANY_OTHERS

@@ -69,10 +69,9 @@ impl Wanted {
         }
     }
 
-    /// Whether no more jobs are wanted beside those of these dies. Whoever takes those of dies that collect takes none beside a long one:
-    /// others make the next ones meanwhile.
+    /// Whether no more jobs are wanted beside those of these dies. None are beside a long one: others make the next ones meanwhile.
     fn are_enough<E: Looks>(self, array: &E, dies: &[Die]) -> bool {
-        dies.len() >= self.most || self.collects && !are_short(array, dies)
+        dies.len() >= self.most || !are_short(array, dies)
     }
 }
 
