@@ -9,6 +9,7 @@ ghost use Rattle.fa_shared_lock.specs.Seats.{commits_together};
 use crate::seat::Seat;
 use fa_core_calls::{Answer, Call, Events};
 use fa_plan::{PlanNote, Planned};
+use fa_shared_account::make_counted;
 use fa_shared_sleepers::{Awaits, DieSet, MAX_SEATS, SeatSet, Sleepers, is_due};
 use fa_types::Page;
 use std::alloc::{Allocator, Global};
@@ -117,13 +118,14 @@ impl<L: Ledger, E: Events<A>, A: Allocator + Copy> Locked<L, E, A> {
         ensures fits { FitsAnswer self.old.core.page_map.geometry self.old.number call.entry result }
         ensures handed { HandsOutWhole self.old.core call.entry result }
     {
-        let mut call = call;
-        let answer = self.array.step(self.alloc, seat.number, &mut call);
-        drop(call);
-        if is_commit(&answer) {
-            self.book.add(&mut seat.share, 1);
-        }
-        answer
+        make_counted(
+            self.alloc,
+            &mut self.array,
+            &mut self.book,
+            seat.number,
+            &mut seat.share,
+            call,
+        )
     }
 
     /// Lets rounds pass, with a seat of the array, until one is refused, and at most 4,294,967,295.
@@ -340,14 +342,6 @@ fn take_in<L: Ledger, B: Allocator>(rest: &mut Share<L>, seats: Vec<Seat<L>, B>)
         let Seat { share, .. } = seat;
         rest.merge(share);
     }
-}
-
-/// Whether a Commit was accepted.
-fn is_commit<A: Allocator>(answer: &Answer<A>) -> bool
-    ensures yes { result ≡ true → commits_of_answer answer.now ≡ 1 }
-    ensures no { result ≡ false → commits_of_answer answer.now ≡ 0 }
-{
-    matches!(answer, Answer::Commit(Ok(_)))
 }
 
 /// Whether a round passed.

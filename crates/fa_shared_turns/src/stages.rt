@@ -3,12 +3,12 @@ ghost use Rattle.fa_shared_lock.specs.Accounts.{IsAccounted};
 ghost use Rattle.fa_shared_lock.specs.Moves.{Turned};
 ghost use Rattle.fa_shared_steps.specs.Ranges.{IsRange};
 
+use crate::reading::{ask, leave, read};
 use crate::syncing::{begin_flush, flush};
+use crate::writing::{abandon_wish, claim_page, commit_wish, release_page, reserve_wish};
 use fa_core_calls::Events;
 use fa_shared_lock::{Locked, Seat};
-use fa_shared_reading::{ask, leave, read};
 use fa_shared_steps::{Stage, Task};
-use fa_shared_writing::{abandon_wish, claim_page, commit_wish, release_page, reserve_wish};
 use std::alloc::Allocator;
 use std::sync::ledger::Ledger;
 

@@ -20,7 +20,7 @@ use fa_image::Image;
 use fa_machine::{AdmitRefused, BatchId, CommitCopyRefused, Copied, ReadState, ReserveCopyRefused};
 use fa_shared::{commit_copy, reserve_copy};
 use fa_shared_lock::Locked;
-use fa_shared_reading::{admit, end_batch};
+use fa_shared_turns::{admit, end_batch};
 use fa_solo_job::Inner;
 use fa_tag::Payload;
 use fa_types::{Page, Seq};

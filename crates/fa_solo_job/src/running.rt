@@ -17,7 +17,7 @@ use fa_image::Image;
 use fa_jobs::{Open, run_job};
 use fa_laws::steps::the_geometry_is_kept;
 use fa_shared::{done, take};
-use fa_shared_writing::make_room;
+use fa_shared_turns::make_room;
 use fa_types::{Die, TAG_BYTES};
 use std::alloc::Allocator;
 use std::mem::replace;

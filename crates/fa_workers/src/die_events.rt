@@ -16,7 +16,7 @@ use fa_faults::{Fault, fault_of};
 use fa_machine::AdvanceRefused;
 use fa_shared::{advance, done, take};
 use fa_shared_lock::{Locked, Seat};
-use fa_shared_writing::make_room;
+use fa_shared_turns::make_room;
 use fa_types::{Die, Round};
 use fa_workers_making::{Order, order_of};
 use std::alloc::{Allocator, Global};

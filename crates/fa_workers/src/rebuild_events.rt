@@ -10,7 +10,7 @@ use fa_core_calls::{Admitted, Events};
 use fa_machine::{AdmitRefused, BatchId, CommitCopyRefused, Copied, ReadState, ReserveCopyRefused};
 use fa_shared::{bring_in_spare, commit_copy, reserve_copy};
 use fa_shared_lock::{Locked, Seat};
-use fa_shared_reading::{admit, end_batch};
+use fa_shared_turns::{admit, end_batch};
 use fa_tag::Payload;
 use fa_types::Page;
 use std::alloc::{Allocator, Global};
