@@ -10,9 +10,9 @@ use Rattle.fa_prog_images.specs.Array.{TellsLook}
 use Rattle.fa_prog_images.specs.Formatting.{TellsFormat}
 use Rattle.fa_prog_host.specs.Printing.{TellsNoMemory}
 use Rattle.fa_prog_images.specs.declared.look.Asked.TheVariants.{Check, Dump}
-use Rattle.fa_prog_serve.specs.Serving.{TellsServe}
+use Rattle.flasharr.specs.Serving.{TellsServe}
 use Rattle.fa_prog_looks.specs.Asking.{TellsStatus}
-use Rattle.fa_prog_talk.specs.TalkArray.{RunsTalkArray}
+use Rattle.flasharr.specs.TalkArray.{RunsTalkArray}
 use Rattle.flasharr.specs.Output.{ShowsUsage, ShowsText}
 use Rattle.fa_prog_text.specs.Plan.{RunsPlan}
 use Rattle.fa_prog_text.specs.Talk.{RunsTalk}

@@ -1,7 +1,12 @@
-//! The program: its arguments, its input and its output go to `start`, and it ends with the status that comes of them.
+//! The program: its arguments, its input and its output go to `start`, and it ends with the status that comes of them. The commands that mount
+//! an array and use it are here, `serve` and `talk --array`; the others are in crates of their own.
 #![tactic(auto)]
 
+mod conversation;
+pub mod laws;
 mod program;
+mod serve;
+mod talk;
 
 use crate::program::Status;
 use std::io::IsTerminal;

@@ -10,6 +10,8 @@ ghost use Rattle.flasharr.specs.Output.{ShowsUsage, ShowsText, ShowsMistake, Ref
 ghost use Rattle.fa_settings.specs.CommandLine.{Wanted, IsWanted};
 ghost use Rattle.flasharr.specs.Program.{Runs, RunsCommand};
 
+use crate::serve::{Serve, run_serve};
+use crate::talk::run_talk_array;
 use clap::Error;
 use clap::error::ErrorKind as Finding;
 use fa_io::send_all;
@@ -17,8 +19,6 @@ use fa_prog_host::printing::{DONE, FAULTY, print, refuse_for_memory};
 use fa_prog_images::{Asked, Look, run_format, run_look};
 use fa_prog_listen::ServerHost;
 use fa_prog_looks::{Ask, run_status};
-use fa_prog_serve::{Serve, run_serve};
-use fa_prog_talk::run_talk_array;
 use fa_prog_text::{run_plan, run_talk, run_verify, run_verify_log};
 use fa_settings::{Subcommand, command};
 use std::alloc::{AllocError, Allocator, Global};

@@ -11,8 +11,8 @@ use Rattle.fa_prog_images.specs.Array.{TellsLook}
 use Rattle.fa_prog_images.specs.Formatting.{TellsFormat}
 use Rattle.fa_prog_images.specs.declared.look.Asked.TheVariants.{Check as CheckAsked, Dump as DumpAsked}
 use Rattle.fa_prog_looks.specs.Asking.{TellsStatus}
-use Rattle.fa_prog_serve.specs.Serving.{TellsServe}
-use Rattle.fa_prog_talk.specs.TalkArray.{RunsTalkArray}
+use Rattle.flasharr.specs.Serving.{TellsServe}
+use Rattle.flasharr.specs.TalkArray.{RunsTalkArray}
 use Rattle.fa_prog_text.specs.VerifyLog.{TellsLog}
 use Rattle.flasharr.specs.Program.{RunsCommand}
 use Rattle.flasharr.proofs.program.obey.Goals as goal

@@ -1,5 +1,0 @@
-use Rattle.fa_prog_talk.proofs.command.talk_mounted.Given as goal
-
--- the ledger is that of the blank
-abbrev pub ghosts-converse : goal.ghosts-converse
-ghosts-converse g a = record { name = a.blank.name; parts = a.blank.parts }

@@ -1,3 +1,0 @@
-pub mod Conversation
-pub mod Right
-pub mod TalkArray

@@ -1,8 +1,0 @@
-//! The command `talk --array`: one NBD client of an array, whose bytes are given as text.
-#![tactic(auto)]
-
-mod command;
-mod conversation;
-pub mod laws;
-
-pub use command::run_talk_array;
