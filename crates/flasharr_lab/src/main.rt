@@ -1,8 +1,19 @@
 //! Makes images, an array over them and what an array does, as the lines of its input ask for it.
 #![tactic(auto)]
 
+mod answers;
+mod array_lines;
+mod certified;
+mod image_lines;
+mod jobs;
+mod looks;
+mod making;
 mod mounting;
+mod no_array;
 mod owning;
+mod scanning;
+mod seen;
+mod shape;
 mod store;
 
 use crate::mounting::run_lines;

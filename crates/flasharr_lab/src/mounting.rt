@@ -1,8 +1,10 @@
-//! Arrays that are made and mounted. The page map is named here, and in `scanning` and `image_lines` of `flasharr_lab_array`.
+//! Arrays that are made and mounted. The page map is named here, and in `scanning` and `image_lines`.
+use crate::no_array::without_array;
 use crate::owning::{own_made, own_mounted};
+use crate::scanning::scan_together;
+use crate::shape::{Shape, shape_of};
 use fa_map::PageMap;
 use fa_mount::mount;
-use flasharr_lab_array::{Shape, scan_together, shape_of, without_array};
 use flasharr_lab_lines::{Lab, Script};
 use flasharr_lab_parts::{DieImage, Yard, copies_of};
 use flasharr_lab_words::{Begin, Wish, number_at};

@@ -3,12 +3,14 @@ ghost use Rattle.std.specs.Prelude.{◌≡◌, IfOk};
 ghost use Rattle.std.specs.FinMap.{empty, len};
 ghost use Rattle.fa_core.specs.Array.{IsWhole};
 
+use crate::array_lines::over_array;
+use crate::seen::show_mounted;
+use crate::shape::{Shape, array_over};
 use crate::store::over_store;
 use fa_map_calls::Map;
 use fa_mount::MountedArray;
 use fa_mount_headers::MountRefused;
 use fa_shared::discard;
-use flasharr_lab_array::{Shape, array_over, over_array, show_mounted};
 use flasharr_lab_lines::{Lab, Script};
 use flasharr_lab_parts::{DieImage, Heap, Yard, show_unmounted};
 use std::alloc::{AllocError, Allocator};

@@ -4,7 +4,7 @@ use Rattle.std.proofs.lemmas.Bool.{false≢true}
 use Rattle.std.specs.FinMap.{FinMap, get, get-empty}
 use Rattle.std.specs.Ordering.{nat_cmp}
 use Rattle.std.specs.Prelude.{is_some}
-use Rattle.flasharr_lab_array.proofs.shape.array_over.Goals as goal
+use Rattle.flasharr_lab.proofs.shape.array_over.Goals as goal
 
 pub new-requires-clause-numbers : goal.new-requires-clause-numbers
 new-requires-clause-numbers g c page version is =

@@ -1,10 +1,10 @@
 use Rattle.fa_set.specs.Members.{members}
-use Rattle.flasharr_lab_array.proofs.Few.{one_apart, one_more}
-use Rattle.flasharr_lab_array.specs.Apart.{AreApart}
+use Rattle.flasharr_lab.proofs.Few.{one_apart, one_more}
+use Rattle.flasharr_lab.specs.Apart.{AreApart}
 use Rattle.fa_machine.specs.Maps.{Numbers}
 use Rattle.std.proofs.Common.{subst, sym, ◌+◌, ◌≤◌, ◌∙◌}
 use Rattle.std.specs.FinMap.{len}
-use Rattle.flasharr_lab_array.proofs.shape.add_spare.Goals as goal
+use Rattle.flasharr_lab.proofs.shape.add_spare.Goals as goal
 
 pub returns-then-not-is_live-clause-apart : goal.returns-then-not-is_live-clause-apart
 returns-then-not-is_live-clause-apart g c =

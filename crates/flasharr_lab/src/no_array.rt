@@ -9,7 +9,11 @@ use flasharr_lab_parts::{DieImage, Images, Tools, Yard, drop_image, new_images, 
 use flasharr_lab_words::{Begin, Order, Output, Wish, index_of, number_at};
 
 /// Does what a line asks for while no array is there.
-pub fn without_array<'a, I: DieImage>(turn: &mut Turn, lab: &mut Lab<'a>, yard: &mut Yard<'a, I>) {
+pub(crate) fn without_array<'a, I: DieImage>(
+    turn: &mut Turn,
+    lab: &mut Lab<'a>,
+    yard: &mut Yard<'a, I>,
+) {
     match turn.order.wish {
         Wish::Begin(Begin::Images { is_old }) => make_images(turn, &mut lab.tools, yard, is_old),
         _ => {

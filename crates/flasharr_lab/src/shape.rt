@@ -3,7 +3,7 @@ ghost use Rattle.std.specs.Prelude.{◌≡◌, ◌+◌, ◌-◌, ◌<◌, ◌≤
 ghost use Rattle.std.specs.FinMap.{empty, len};
 ghost use Rattle.fa_core.specs.Array.{IsWhole};
 ghost use Rattle.fa_set.specs.Members.{bound_of, members};
-ghost use Rattle.flasharr_lab_array.specs.Apart.{AreApart};
+ghost use Rattle.flasharr_lab.specs.Apart.{AreApart};
 
 use fa_core::Array;
 use fa_map_calls::Map;
@@ -20,7 +20,7 @@ const MAX_LAST: u64 = (1 << 62) - 1;
 
 /// What an array begins with.
 #[derive(Clone, Copy)]
-pub struct Shape {
+pub(crate) struct Shape {
     pub geometry: Geometry,
     copies: Copies,
     epoch: u64,
@@ -31,7 +31,7 @@ pub struct Shape {
 }
 
 /// The shape of these numbers. None where they are those of none that an array may have.
-pub fn shape_of(numbers: &[u64]) -> Option<Shape> {
+pub(crate) fn shape_of(numbers: &[u64]) -> Option<Shape> {
     let geometry = geometry_of(numbers)?;
     let Ok(copies) = Copies::new(small_at(numbers, 6), geometry) else {
         return None;
@@ -62,7 +62,7 @@ pub(crate) fn geometry_of(numbers: &[u64]) -> Option<Geometry> {
 
 /// The array of a shape over a new page map: no page was written, all dies but the spares are live, and nothing is under way. The error is
 /// out of memory.
-pub fn array_over<M: Map + Drop, A: Allocator + Copy>(
+pub(crate) fn array_over<M: Map + Drop, A: Allocator + Copy>(
     alloc: A,
     page_map: M,
     shape: Shape,

@@ -1,8 +1,8 @@
 use Rattle.fa_set.specs.Members.{bound_of, members}
-use Rattle.flasharr_lab_array.specs.Apart.{AreApart}
+use Rattle.flasharr_lab.specs.Apart.{AreApart}
 use Rattle.std.proofs.Common.{◌≡◌, ◌≤◌}
 use Rattle.std.specs.FinMap.{len}
-use Rattle.flasharr_lab_array.proofs.shape.spares_of.Given as goal
+use Rattle.flasharr_lab.proofs.shape.spares_of.Given as goal
 
 abbrev pub invariant-loop-die : goal.invariant-loop-die
 invariant-loop-die g l =

@@ -1,11 +1,11 @@
 use Rattle.fa_machine.specs.Maps.{Numbers}
 use Rattle.fa_types.specs.declared.geometry.Geometry.{Geometry}
-use Rattle.flasharr_lab_array.proofs.Few.{none_apart}
-use Rattle.flasharr_lab_array.specs.Apart.{AreApart}
+use Rattle.flasharr_lab.proofs.Few.{none_apart}
+use Rattle.flasharr_lab.specs.Apart.{AreApart}
 use Rattle.std.proofs.Common.{ap, arith, subst, sym, ◌∙◌}
 use Rattle.std.specs.FinMap.{len, len-empty}
 use Rattle.std.specs.Ordering.{nat_cmp}
-use Rattle.flasharr_lab_array.proofs.shape.spares_of.Goals as goal
+use Rattle.flasharr_lab.proofs.shape.spares_of.Goals as goal
 
 pub loop-die-init : goal.loop-die-init
 loop-die-init g c =

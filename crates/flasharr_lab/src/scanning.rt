@@ -10,7 +10,7 @@ use std::alloc::Allocator;
 use std::thread::Threads;
 
 /// Scans the images with a thread for each, and tells how many pages were written.
-pub fn scan_together<T: Threads + Sync, I: Image + Send>(
+pub(crate) fn scan_together<T: Threads + Sync, I: Image + Send>(
     threads: &T,
     numbers: &[u64],
     images: &mut [I],
@@ -25,7 +25,7 @@ pub fn scan_together<T: Threads + Sync, I: Image + Send>(
 }
 
 /// Scans the images in one thread, and tells how many pages were written.
-pub fn scan_alone<I: Image>(
+pub(crate) fn scan_alone<I: Image>(
     numbers: &[u64],
     images: &mut [I],
     tools: &mut Tools<'_>,

@@ -1,6 +1,6 @@
 use Rattle.std.proofs.Common.{◌≡◌, ◌≤◌}
 use Rattle.std.specs.FinMap.{len}
-use Rattle.flasharr_lab_array.proofs.shape.bring_all_in.Given as goal
+use Rattle.flasharr_lab.proofs.shape.bring_all_in.Given as goal
 
 abbrev pub invariant-loop-die : goal.invariant-loop-die
 invariant-loop-die g l =

@@ -1,8 +1,8 @@
 use Rattle.fa_machine.specs.State.{MapState}
-use Rattle.flasharr_lab_array.proofs.Few.{one_more}
+use Rattle.flasharr_lab.proofs.Few.{one_more}
 use Rattle.std.proofs.Common.{ap, subst, sym, ◌+◌, ◌≤◌, ℕ}
 use Rattle.std.specs.FinMap.{len}
-use Rattle.flasharr_lab_array.proofs.shape.bring_in.Goals as goal
+use Rattle.flasharr_lab.proofs.shape.bring_in.Goals as goal
 
 pub returns-then-not-is_live-clause-few : goal.returns-then-not-is_live-clause-few
 returns-then-not-is_live-clause-few g c =

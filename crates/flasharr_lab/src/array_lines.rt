@@ -22,7 +22,7 @@ const MAX_WINDOW_ROUNDS: u64 = 64;
 
 /// Does what lines ask of an array, up to one by which it is dropped, or one that asks for a store of it: then how many rounds its windows
 /// have.
-pub fn over_array<'a, M: Map + Drop, I: DieImage>(
+pub(crate) fn over_array<'a, M: Map + Drop, I: DieImage>(
     script: &mut Script,
     lab: &mut Lab<'a>,
     yard: &mut Yard<'a, I>,

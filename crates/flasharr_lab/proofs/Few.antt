@@ -2,7 +2,7 @@
 use Rattle.fa_machine.proofs.Maps.{get-insert_other}
 use Rattle.fa_machine.specs.Maps.{Numbers}
 use Rattle.fa_machine.specs.State.{MapState, is_live}
-use Rattle.flasharr_lab_array.specs.Apart.{AreApart}
+use Rattle.flasharr_lab.specs.Apart.{AreApart}
 use Rattle.std.proofs.Common.{Bool, ap, arith, cond, false, inl, inr, subst, sym, true, ℕ, ◌+◌, ◌≡◌, ◌≤◌, ◌∙◌}
 use Rattle.std.proofs.lemmas.Bool.{cases_eq, false≢true}
 use Rattle.std.specs.Cmp.{nat_cmp_total}

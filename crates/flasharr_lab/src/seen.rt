@@ -65,7 +65,7 @@ pub(crate) fn live_mask<M: Map, A: Allocator + Copy>(array: &Array<M, A>) -> u64
 }
 
 /// The live dies of an array that was mounted.
-pub fn show_mounted<M: Map, A: Allocator + Copy>(array: &Array<M, A>, output: &mut Output) {
+pub(crate) fn show_mounted<M: Map, A: Allocator + Copy>(array: &Array<M, A>, output: &mut Output) {
     output.word("mounted");
     show_live(live_mask(array), output);
 }
