@@ -59,6 +59,12 @@ def memory_of(pid):
         return next((int(line.split()[1]) << 10 for line in rollup if line.startswith("Pss:")), 0)
 
 
+def peak_of(pid):
+    """The most bytes of memory that a process has held by now, as the system noted it."""
+    with open(f"/proc/{pid}/status", encoding="ascii", errors="replace") as status:
+        return next((int(line.split()[1]) << 10 for line in status if line.startswith("VmHWM:")), 0)
+
+
 def part_of(pid):
     """The crate that a process checks, and what of it: its proofs, an edit or its tests. Others check no crate."""
     with open(f"/proc/{pid}/cmdline", encoding="utf-8", errors="replace") as cmdline:
