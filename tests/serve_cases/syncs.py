@@ -16,7 +16,7 @@ DIES = 4
 SMALL = Geometry(dies=DIES, blocks=8, slots=8, pages=60)
 ALL = set(range(DIES))
 # How many flushes are looked at, and how long each sync takes, in nanoseconds.
-FLUSHES, LONG_SYNC = 4, 200_000_000
+FLUSHES, LONG_SYNC = 3, 400_000_000
 
 
 def rewrites(client, times):
